@@ -1,0 +1,2 @@
+//! Definitions of texts: decimal numbers on the grid, lines and words.
+#![tactic(auto)]
