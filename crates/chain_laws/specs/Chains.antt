@@ -1,0 +1,117 @@
+-- Laws of chains of directed edges: odd functions, closed chains, equal boundaries.
+use Rattle.std.specs.Prelude.{◌≡◌, ℕ, ◌+◌, ◌<◌, ℤ, pos, neg_ℤ, ◌+ℤ◌, ◌-ℤ◌, List, [], ◌∷◌, ◌++◌, map, true, false, Bool, ◌==◌, ◌&&◌, count_by}
+use Rattle.std.specs.Bool.{Decides}
+use Rattle.std.proofs.Common.{arith, ap, refl, sym, ◌∙◌}
+use Rattle.std.proofs.lemmas.Int.{ints}
+use Rattle.std.proofs.lemmas.Bool.{and_parts, eqb-true, eq-eqb, and_from}
+use Rattle.chain_terms.specs.Sums.{total}
+use Rattle.chain_terms.specs.Chains.{is_edge, one_if, dir, IsClosed, boundary, edges, all_edges}
+use Rattle.chain_laws.specs.Sums.{total-append, total-map, total-same}
+use Rattle.chain_laws.specs.Counts.{count_by-cons, same_counts}
+
+-- f turns its sign with the direction
+pub record IsOdd (f : ℕ → ℕ → ℤ) : Type 0 where
+  pub turns : (a b : ℕ) → f a b +ℤ f b a ≡ pos 0
+
+-- f of an edge
+abbrev pub along : (ℕ → ℕ → ℤ) → (ℕ × ℕ) → ℤ
+along f e = f e.0 e.1
+
+-- the edge, and each edge, the other way
+abbrev pub turned_edge : (ℕ × ℕ) → ℕ × ℕ
+turned_edge e = (e.1, e.0)
+
+abbrev pub backward : List (ℕ × ℕ) → List (ℕ × ℕ)
+backward es = map turned_edge es
+
+-- every odd function has the same sum over both chains
+abbrev pub SameChain : List (ℕ × ℕ) → List (ℕ × ℕ) → Type 0
+SameChain es ms = (f : ℕ → ℕ → ℤ) → IsOdd f → total (along f) es ≡ total (along f) ms
+
+-- an edge that runs from a to b is that edge
+pub edge_is : (e : ℕ × ℕ) (a b : ℕ) → is_edge e a b ≡ true → (e.0 ≡ a) × (e.1 ≡ b)
+edge_is e a b h = let p = and_parts (e.0 == a) (e.1 == b) h in (eqb-true e.0 a p.0, eqb-true e.1 b p.1)
+
+pub is_self : (a b : ℕ) → is_edge (a, b) a b ≡ true
+is_self a b = and_from (a == a) (b == b) (eq-eqb a a refl) (eq-eqb b b refl)
+
+-- the test of two edges
+abbrev pub same_edge : (ℕ × ℕ) → (ℕ × ℕ) → Bool
+same_edge d e = is_edge e d.0 d.1
+
+pub edge_decides : (d e : ℕ × ℕ) → Decides (same_edge d e) (d ≡ e)
+edge_decides d e = (
+  (λ h. let p = edge_is e d.0 d.1 h in ap (λ x. (x, d.1)) (sym p.0) ∙ ap (λ y. (e.0, y)) (sym p.1)),
+  (λ h. ap (same_edge d) (sym h) ∙ is_self d.0 d.1),
+)
+
+pub and_turned : (x y : Bool) → (x && y) ≡ (y && x)
+and_turned true true = refl
+and_turned true false = refl
+and_turned false true = refl
+and_turned false false = refl
+
+pub edge_turned : (e : ℕ × ℕ) (a b : ℕ) → one_if (is_edge (turned_edge e) a b) ≡ one_if (is_edge e b a)
+edge_turned e a b = ap one_if (and_turned (e.1 == a) (e.0 == b))
+
+-- how often an edge occurs is std's count
+pub dir-count_by : (es : List (ℕ × ℕ)) (a b : ℕ) → dir es a b ≡ count_by (same_edge (a, b)) es
+dir-count_by [] a b = refl
+dir-count_by (e ∷ es) a b = omega (arith, dir-count_by es a b, count_by-cons (same_edge (a, b)) e es)
+
+-- how often an edge occurs in two chains, one after the other
+pub dir-append : (es ms : List (ℕ × ℕ)) (a b : ℕ) → dir (es ++ ms) a b ≡ dir es a b + dir ms a b
+dir-append [] ms a b = omega arith
+dir-append (e ∷ es) ms a b = omega (arith, dir-append es ms a b)
+
+-- in the turned chain an edge occurs as often as its reverse did
+pub dir-backward : (es : List (ℕ × ℕ)) (a b : ℕ) → dir (backward es) a b ≡ dir es b a
+dir-backward [] a b = refl
+dir-backward (e ∷ es) a b = omega (arith, dir-backward es a b, edge_turned e a b)
+
+-- chains in which each edge occurs equally often have the same sums
+pub total-same_dir : (g : (ℕ × ℕ) → ℤ) (es ms : List (ℕ × ℕ)) → ((a b : ℕ) → dir es a b ≡ dir ms a b) → total g es ≡ total g ms
+total-same_dir g es ms h =
+    same_counts same_edge edge_decides g es ms (λ e. omega (arith, dir-count_by es e.0 e.1, dir-count_by ms e.0 e.1, h e.0 e.1))
+
+-- the sum of an odd function over the turned chain is negated
+pub total-backward : (f : ℕ → ℕ → ℤ) → IsOdd f → (es : List (ℕ × ℕ)) → total (along f) (backward es) ≡ neg_ℤ (total (along f) es)
+total-backward f odd [] = refl
+total-backward f odd (e ∷ es) = omega (arith, ints, odd.turns e.0 e.1, total-backward f odd es)
+
+-- an odd function adds up to nothing over a closed chain
+pub odd_sum : (f : ℕ → ℕ → ℤ) → IsOdd f → (es : List (ℕ × ℕ)) → IsClosed es → total (along f) es ≡ pos 0
+odd_sum f odd es closed =
+    let r = total-same_dir (along f) es (backward es) (λ a b. omega (arith, closed a b, dir-backward es a b)) in
+    omega (arith, ints, r, total-backward f odd es)
+
+-- chains with the same boundary have the same sums of every odd function
+pub same_boundary : (es ms : List (ℕ × ℕ)) → ((a b : ℕ) → boundary es a b ≡ boundary ms a b) → SameChain es ms
+same_boundary es ms same f odd =
+    let closed : IsClosed (es ++ backward ms) =
+    λ a b. omega (arith, ints, same a b, dir-append es (backward ms) a b, dir-append es (backward ms) b a, dir-backward ms a b, dir-backward ms b a) in
+    omega (arith, ints, odd_sum f odd (es ++ backward ms) closed, total-append (along f) es (backward ms), total-backward f odd ms)
+
+-- how many more of the edges c→d, 0 or 1, run from a to b than back
+abbrev pub unit_edge : ℕ → ℕ → ℕ → ℕ → ℤ
+unit_edge a b c d = pos (one_if (is_edge (c, d) a b)) -ℤ pos (one_if (is_edge (c, d) b a))
+
+pub unit_edge_odd : (a b : ℕ) → IsOdd (unit_edge a b)
+unit_edge_odd a b = record { turns = λ c d. omega (arith, ints, edge_turned (c, d) a b, edge_turned (c, d) b a) }
+
+-- the boundary is a sum of an odd function
+pub boundary_sum : (es : List (ℕ × ℕ)) (a b : ℕ) → total (along (unit_edge a b)) es ≡ boundary es a b
+boundary_sum [] a b = refl
+boundary_sum (e ∷ es) a b = omega (arith, ints, boundary_sum es a b)
+
+-- chains with the same sums of every odd function have the same boundary
+pub boundary_same : (es ms : List (ℕ × ℕ)) → SameChain es ms → (a b : ℕ) → boundary es a b ≡ boundary ms a b
+boundary_same es ms same a b = sym (boundary_sum es a b) ∙ same (unit_edge a b) (unit_edge_odd a b) ∙ boundary_sum ms a b
+
+-- a chain is closed where every odd function adds up to nothing
+pub closed_from_sums : (es : List (ℕ × ℕ)) → SameChain es [] → IsClosed es
+closed_from_sums es same a b = let e = boundary_same es [] same a b in omega (arith, ints, e)
+
+-- over a closed chain every odd function adds up as over no edge
+pub sums_from_closed : (es : List (ℕ × ℕ)) → IsClosed es → SameChain es []
+sums_from_closed es closed f odd = odd_sum f odd es closed

@@ -1,0 +1,177 @@
+-- Signed lists: entries of a signed count and a mark "above". The number adds up the counts that are above.
+use Rattle.std.specs.Prelude.{◌≡◌, ◌≢◌, ℕ, zero, suc, ◌+◌, ◌<◌, ◌≤◌, ℤ, pos, negsuc, neg_ℤ, nat_abs, ◌+ℤ◌, ◌-ℤ◌, ◌≤ℤ◌, List, [], ◌∷◌, map, true, false, Bool, not, cond, ◌⊎◌}
+use Rattle.std.specs.List.{sum_by}
+use Rattle.std.specs.List.Sorted.{IsPermutation}
+use Rattle.std.proofs.Common.{arith, refl, inl, inr}
+use Rattle.std.proofs.lemmas.Int.{ints}
+use Rattle.std.proofs.lemmas.Bool.{cases_eq, cases_lt}
+use Rattle.std.proofs.lemmas.List.Sums.{sum_by-cons}
+use Rattle.std.proofs.lemmas.List.Sorted.{sum_by-IsPermutation}
+use Rattle.chain_terms.specs.Sums.{total}
+use Rattle.chain_terms.specs.Chains.{one_if}
+use Rattle.chain_laws.specs.Sums.{IsWithin, total-permutation}
+
+-- the count of an entry on one side, above (true) or not (false), else 0
+abbrev pub signed_at : Bool → (ℤ × Bool) → ℤ
+signed_at true e = cond e.1 e.0 (pos 0)
+signed_at false e = cond e.1 (pos 0) e.0
+
+-- its size there
+abbrev pub size_at : Bool → (ℤ × Bool) → ℕ
+size_at true e = cond e.1 (nat_abs e.0) 0
+size_at false e = cond e.1 0 (nat_abs e.0)
+
+-- the sum of all counts, and that of one side
+abbrev pub whole : List (ℤ × Bool) → ℤ
+whole es = total (λ e. e.0) es
+
+abbrev pub sum_at : Bool → List (ℤ × Bool) → ℤ
+sum_at b es = total (signed_at b) es
+
+-- the sum of the counts above
+abbrev pub number : List (ℤ × Bool) → ℤ
+number es = sum_at true es
+
+-- the sum of the sizes: for counts from -1 to 1 it is how many are not 0
+abbrev pub weight : List (ℤ × Bool) → ℕ
+weight es = sum_by (λ e. nat_abs e.0) es
+
+abbrev pub weight_at : Bool → List (ℤ × Bool) → ℕ
+weight_at b es = sum_by (size_at b) es
+
+-- the whole and the weight by sides
+pub whole_by_sides : (es : List (ℤ × Bool)) → whole es ≡ sum_at true es +ℤ sum_at false es
+whole_by_sides [] = refl
+whole_by_sides ((z, true) ∷ es) = omega (arith, ints, whole_by_sides es)
+whole_by_sides ((z, false) ∷ es) = omega (arith, ints, whole_by_sides es)
+
+pub weight_by_sides : (es : List (ℤ × Bool)) → weight es ≡ weight_at true es + weight_at false es
+weight_by_sides [] = refl
+weight_by_sides ((z, true) ∷ es) = omega (arith, weight_by_sides es, sum_by-cons (λ e. nat_abs e.0) (z, true) es, sum_by-cons (size_at true) (z, true) es, sum_by-cons (size_at false) (z, true) es)
+weight_by_sides ((z, false) ∷ es) = omega (arith, weight_by_sides es, sum_by-cons (λ e. nat_abs e.0) (z, false) es, sum_by-cons (size_at true) (z, false) es, sum_by-cons (size_at false) (z, false) es)
+
+-- what is counted up and what is counted down: the sum is their difference, the weight their sum
+pub record Parts (s : ℤ) (w : ℕ) : Type 0 where
+  pub up : ℕ
+  pub down : ℕ
+  pub sum : s ≡ pos up -ℤ pos down
+  pub weight : w ≡ up + down
+
+pub parts_of_one : (z : ℤ) → Parts z (nat_abs z)
+parts_of_one (pos n) = record { up = n; down = 0; sum = omega (arith, ints); weight = omega arith }
+parts_of_one (negsuc n) = record { up = 0; down = n + 1; sum = omega (arith, ints); weight = omega arith }
+
+pub parts_at_one : (b : Bool) (e : ℤ × Bool) → Parts (signed_at b e) (size_at b e)
+parts_at_one true (z, true) = parts_of_one z
+parts_at_one true (z, false) = parts_of_one (pos 0)
+parts_at_one false (z, true) = parts_of_one (pos 0)
+parts_at_one false (z, false) = parts_of_one z
+
+pub parts_at : (b : Bool) (es : List (ℤ × Bool)) → Parts (sum_at b es) (weight_at b es)
+parts_at b [] = parts_of_one (pos 0)
+parts_at b (e ∷ es) =
+    let one = parts_at_one b e in
+    let rest = parts_at b es in
+    record { up = one.up + rest.up; down = one.down + rest.down; sum = omega (arith, ints, one.sum, rest.sum); weight = omega (arith, one.weight, rest.weight, sum_by-cons (size_at b) e es) }
+
+-- twice the number differs from the whole by at most the weight
+pub number_within : (es : List (ℤ × Bool)) → IsWithin (number es +ℤ number es -ℤ whole es) (weight es)
+number_within es =
+    let above = parts_at true es in
+    let below = parts_at false es in
+    record {
+      low = omega (arith, ints, whole_by_sides es, weight_by_sides es, above.sum, above.weight, below.sum, below.weight);
+      high = omega (arith, ints, whole_by_sides es, weight_by_sides es, above.sum, above.weight, below.sum, below.weight);
+    }
+
+-- where the whole is 0: at a weight of at most 3 the number is from -1 to 1, at one of at most 5 from -2 to 2
+pub number_of_three : (es : List (ℤ × Bool)) → whole es ≡ pos 0 → weight es ≤ 3 → IsWithin (number es) 1
+number_of_three es none few = let h = number_within es in record { low = omega (arith, ints, none, few, h.low); high = omega (arith, ints, none, few, h.high) }
+
+pub number_of_five : (es : List (ℤ × Bool)) → whole es ≡ pos 0 → weight es ≤ 5 → IsWithin (number es) 2
+number_of_five es none few = let h = number_within es in record { low = omega (arith, ints, none, few, h.low); high = omega (arith, ints, none, few, h.high) }
+
+-- an odd weight has an odd sum and an even weight an even one
+pub record Even (z : ℤ) : Type 0 where
+  pub half : ℤ
+  pub twice : z ≡ half +ℤ half
+
+pub weight_parity : (es : List (ℤ × Bool)) → Even (pos (weight es) -ℤ whole es)
+weight_parity es =
+    let above = parts_at true es in
+    let below = parts_at false es in
+    record { half = pos (above.down + below.down); twice = omega (arith, ints, whole_by_sides es, weight_by_sides es, above.sum, above.weight, below.sum, below.weight) }
+
+-- where the whole is 0, a weight of at most 3 is 0 or 2
+pub weight_of_three : (es : List (ℤ × Bool)) → whole es ≡ pos 0 → weight es ≤ 3 → (weight es ≡ 0) ⊎ (weight es ≡ 2)
+weight_of_three es none few = by_half (weight_parity es) where
+  by_half : Even (pos (weight es) -ℤ whole es) → (weight es ≡ 0) ⊎ (weight es ≡ 2)
+  by_half e = elim (cases_eq (weight es) 0) as (λ _. (weight es ≡ 0) ⊎ (weight es ≡ 2)) [
+    | inl y ↦ inl y
+    | inr n ↦ inr (omega (arith, ints, none, few, n, e.twice))
+  ]
+
+-- a number that is not 0 has counts on both sides
+pub number_sides : (es : List (ℤ × Bool)) → whole es ≡ pos 0 → number es ≢ pos 0 → (b : Bool) → 0 < weight_at b es
+number_sides es none some true = let above = parts_at true es in elim (cases_lt 0 (weight_at true es)) as (λ _. 0 < weight_at true es) [
+  | inl l ↦ l
+  | inr z ↦ absurd (some (omega (arith, ints, z, above.sum, above.weight)))
+]
+number_sides es none some false = let below = parts_at false es in elim (cases_lt 0 (weight_at false es)) as (λ _. 0 < weight_at false es) [
+  | inl l ↦ l
+  | inr z ↦ absurd (some (omega (arith, ints, z, none, below.sum, below.weight, whole_by_sides es)))
+]
+
+-- at a weight of at most 3 there is then one count on each side
+pub one_on_each_side : (es : List (ℤ × Bool)) → whole es ≡ pos 0 → weight es ≤ 3 → number es ≢ pos 0 → (weight_at true es ≡ 1) × (weight_at false es ≡ 1)
+one_on_each_side es none few some =
+    let above = parts_at true es in
+    let below = parts_at false es in
+    let a = number_sides es none some true in
+    let b = number_sides es none some false in (
+      omega (arith, ints, none, few, a, b, whole_by_sides es, weight_by_sides es, above.sum, above.weight, below.sum, below.weight),
+      omega (arith, ints, none, few, a, b, whole_by_sides es, weight_by_sides es, above.sum, above.weight, below.sum, below.weight),
+    )
+
+-- an odd weight above makes a number that is not 0
+pub number_of_one : (es : List (ℤ × Bool)) → weight_at true es ≡ 1 → number es ≢ pos 0
+number_of_one es one = λ e. let above = parts_at true es in omega (arith, ints, one, e, above.sum, above.weight)
+
+-- every entry with a count is on side b
+abbrev pub AllAre : Bool → List (ℤ × Bool) → Type 0
+AllAre b [] = Unit {0}
+AllAre b (e ∷ es) = (e.0 ≢ pos 0 → e.1 ≡ b) × AllAre b es
+
+pub zero_or_not : (z : ℤ) → (z ≡ pos 0) ⊎ (z ≢ pos 0)
+zero_or_not (pos zero) = inl refl
+zero_or_not (pos (suc n)) = inr (λ e. omega (arith, ints, e))
+zero_or_not (negsuc n) = inr (λ e. omega (arith, ints, e))
+
+pub size_of_other : (b : Bool) (z : ℤ) (c : Bool) → (z ≢ pos 0 → c ≡ b) → size_at (not b) (z, c) ≡ 0
+size_of_other b z c h = elim (zero_or_not z) as (λ _. size_at (not b) (z, c) ≡ 0) [
+  | inl e ↦ rw e (nothing b c)
+  | inr n ↦ rw (h n) (other b)
+]
+  where
+    nothing : (b c : Bool) → size_at (not b) (pos 0, c) ≡ 0
+    nothing true true = refl
+    nothing true false = refl
+    nothing false true = refl
+    nothing false false = refl
+
+    other : (b : Bool) → size_at (not b) (z, b) ≡ 0
+    other true = refl
+    other false = refl
+
+-- then the other side has no weight
+pub weight_of_other : (b : Bool) (es : List (ℤ × Bool)) → AllAre b es → weight_at (not b) es ≡ 0
+weight_of_other b [] h = refl
+weight_of_other b (e ∷ es) h = omega (arith, size_of_other b e.0 e.1 h.0, weight_of_other b es h.1, sum_by-cons (size_at (not b)) e es)
+
+-- where all counts are above, the number is the whole
+pub number_all_above : (es : List (ℤ × Bool)) → AllAre true es → number es ≡ whole es
+number_all_above es h = let below = parts_at false es in omega (arith, ints, weight_of_other true es h, below.sum, below.weight, whole_by_sides es)
+
+-- where none is above, it is 0
+pub number_none_above : (es : List (ℤ × Bool)) → AllAre false es → number es ≡ pos 0
+number_none_above es h = let above = parts_at true es in omega (arith, ints, weight_of_other false es h, above.sum, above.weight)

@@ -1,0 +1,2 @@
+//! Laws of sums over lists, of chains of directed edges and of signed lists.
+#![tactic(auto)]
