@@ -1,12 +1,12 @@
 -- Laws of chains of directed edges: odd functions, closed chains, equal boundaries.
-use Rattle.std.specs.Prelude.{◌≡◌, ℕ, ◌+◌, ◌<◌, ℤ, pos, neg_ℤ, ◌+ℤ◌, ◌-ℤ◌, List, [], ◌∷◌, ◌++◌, map, true, false, Bool, ◌==◌, ◌&&◌, count_by}
+use Rattle.std.specs.Prelude.{◌≡◌, ℕ, ◌+◌, ℤ, pos, neg_ℤ, ◌+ℤ◌, ◌-ℤ◌, List, [], ◌∷◌, ◌++◌, map, true, false, Bool, ◌==◌, ◌&&◌, count_by}
 use Rattle.std.specs.Bool.{Decides}
 use Rattle.std.proofs.Common.{arith, ap, refl, sym, ◌∙◌}
 use Rattle.std.proofs.lemmas.Int.{ints}
 use Rattle.std.proofs.lemmas.Bool.{and_parts, eqb-true, eq-eqb, and_from}
 use Rattle.chain_terms.specs.Sums.{total}
-use Rattle.chain_terms.specs.Chains.{is_edge, one_if, dir, IsClosed, boundary, edges, all_edges}
-use Rattle.chain_laws.specs.Sums.{total-append, total-map, total-same}
+use Rattle.chain_terms.specs.Chains.{is_edge, one_if, dir, IsClosed, boundary}
+use Rattle.chain_laws.specs.Sums.{total-append}
 use Rattle.chain_laws.specs.Counts.{count_by-cons, same_counts}
 
 -- f turns its sign with the direction

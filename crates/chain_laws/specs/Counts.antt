@@ -1,5 +1,5 @@
 -- Counts of equal members: lists with the same counts have the same sums.
-use Rattle.std.specs.Prelude.{◌≡◌, ℕ, ◌+◌, ◌<◌, ℤ, ◌+ℤ◌, List, [], ◌∷◌, ◌++◌, true, false, Bool, cond, count_by}
+use Rattle.std.specs.Prelude.{◌≡◌, ◌+◌, ◌<◌, ℤ, ◌+ℤ◌, List, [], ◌∷◌, ◌++◌, true, false, Bool, cond, count_by}
 use Rattle.std.specs.Bool.{Decides}
 use Rattle.std.proofs.Common.{arith, refl, ap, inl, inr}
 use Rattle.std.proofs.lemmas.Int.{ints}

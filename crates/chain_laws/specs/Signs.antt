@@ -1,15 +1,12 @@
 -- Signed lists: entries of a signed count and a mark "above". The number adds up the counts that are above.
-use Rattle.std.specs.Prelude.{◌≡◌, ◌≢◌, ℕ, zero, suc, ◌+◌, ◌<◌, ◌≤◌, ℤ, pos, negsuc, neg_ℤ, nat_abs, ◌+ℤ◌, ◌-ℤ◌, ◌≤ℤ◌, List, [], ◌∷◌, map, true, false, Bool, not, cond, ◌⊎◌}
+use Rattle.std.specs.Prelude.{◌≡◌, ◌≢◌, ℕ, zero, suc, ◌+◌, ◌<◌, ◌≤◌, ℤ, pos, negsuc, nat_abs, ◌+ℤ◌, ◌-ℤ◌, List, [], ◌∷◌, true, false, Bool, not, cond, ◌⊎◌}
 use Rattle.std.specs.List.{sum_by}
-use Rattle.std.specs.List.Sorted.{IsPermutation}
 use Rattle.std.proofs.Common.{arith, refl, inl, inr}
 use Rattle.std.proofs.lemmas.Int.{ints}
 use Rattle.std.proofs.lemmas.Bool.{cases_eq, cases_lt}
 use Rattle.std.proofs.lemmas.List.Sums.{sum_by-cons}
-use Rattle.std.proofs.lemmas.List.Sorted.{sum_by-IsPermutation}
 use Rattle.chain_terms.specs.Sums.{total}
-use Rattle.chain_terms.specs.Chains.{one_if}
-use Rattle.chain_laws.specs.Sums.{IsWithin, total-permutation}
+use Rattle.chain_laws.specs.Sums.{IsWithin}
 
 -- the count of an entry on one side, above (true) or not (false), else 0
 abbrev pub signed_at : Bool → (ℤ × Bool) → ℤ

@@ -1,15 +1,14 @@
 -- Laws of sums of whole numbers over lists.
-use Rattle.std.specs.Prelude.{◌≡◌, ℕ, zero, suc, ◌+◌, ◌<◌, ◌≤◌, ◌*◌, ◌==◌, ℤ, pos, neg_ℤ, ◌+ℤ◌, ◌-ℤ◌, ◌≤ℤ◌, List, [], ◌∷◌, ◌++◌, length, take, get_or, map, true, false, Bool, cond, Option, Some, None, count_by}
-use Rattle.std.specs.List.{flat_map, filter, filter_map, cons_option, sum_by, All}
+use Rattle.std.specs.Prelude.{◌≡◌, ℕ, zero, suc, ◌+◌, ◌<◌, ◌*◌, ℤ, pos, neg_ℤ, ◌+ℤ◌, ◌-ℤ◌, ◌≤ℤ◌, List, [], ◌∷◌, ◌++◌, length, take, get_or, map, true, false, Bool, cond, Option, Some, None, count_by}
+use Rattle.std.specs.List.{flat_map, filter_map, cons_option, sum_by, All}
 use Rattle.std.specs.List.Sorted.{IsPermutation}
-use Rattle.std.proofs.Common.{arith, refl, sym, ap, ◌∙◌, inl, inr, add-one}
+use Rattle.std.proofs.Common.{arith, refl, add-one}
 use Rattle.std.proofs.lemmas.Int.{ints}
-use Rattle.std.proofs.lemmas.Bool.{eqb-true, eqb-false, eq-eqb, ne_eqb, cases_Bool}
 use Rattle.std.proofs.lemmas.List.Sums.{sum_by-cons}
 use Rattle.std.proofs.lemmas.List.Elements.{All-head, All-tail}
 use Rattle.std.proofs.lemmas.List.Sorted.{sum_by-IsPermutation}
 use borrow.Author.Differences.{up, down}
-use Rattle.chain_terms.specs.Sums.{total, up_from, upto}
+use Rattle.chain_terms.specs.Sums.{total}
 use Rattle.chain_terms.specs.Chains.{one_if}
 
 -- the sum over two lists, one after the other
