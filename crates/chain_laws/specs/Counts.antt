@@ -1,5 +1,5 @@
 -- Counts of equal members: lists with the same counts have the same sums.
-use Rattle.std.specs.Prelude.{◌≡◌, ◌+◌, ◌<◌, ℤ, ◌+ℤ◌, List, [], ◌∷◌, ◌++◌, true, false, Bool, cond, count_by}
+use Rattle.std.specs.Prelude.{◌≡◌, ◌+◌, ◌<◌, ℤ, ◌+ℤ◌, List, [], ◌∷◌, ◌++◌, map, true, false, Bool, cond, count_by}
 use Rattle.std.specs.Bool.{Decides}
 use Rattle.std.proofs.Common.{arith, refl, ap, inl, inr}
 use Rattle.std.proofs.lemmas.Int.{ints}
@@ -9,10 +9,11 @@ use Rattle.chain_terms.specs.Sums.{total}
 use Rattle.chain_terms.specs.Chains.{one_if}
 use Rattle.chain_laws.specs.Sums.{total-append}
 
--- one_if of a test that is known
+-- one_if of a test that holds
 pub one_if-true : (b : Bool) → b ≡ true → one_if b ≡ 1
 one_if-true b h = ap one_if h
 
+-- one_if of a test that fails
 pub one_if-false : (b : Bool) → b ≡ false → one_if b ≡ 0
 one_if-false b h = ap one_if h
 
@@ -25,14 +26,20 @@ one_if-cond false = refl
 pub count_by-cons : {X : Type 0} (p : X → Bool) → (x : X) (xs : List X) → count_by p (x ∷ xs) ≡ one_if (p x) + count_by p xs
 count_by-cons p x xs = omega (arith, one_if-cond (p x), sum_by-cons (λ y. cond (p y) 1 0) x xs)
 
+-- a count of a renamed list
+pub count_by-map : {X Y : Type 0} (p : Y → Bool) (h : X → Y) → (xs : List X) → count_by p (map h xs) ≡ count_by (λ x. p (h x)) xs
+count_by-map p h [] = refl
+count_by-map p h (x ∷ xs) = omega (arith, count_by-cons p (h x) (map h xs), count_by-cons (λ y. p (h y)) x xs, count_by-map p h xs)
+
 -- a count of two lists, one after the other
 pub count_by-append : {X : Type 0} (p : X → Bool) → (xs ys : List X) → count_by p (xs ++ ys) ≡ count_by p xs + count_by p ys
 count_by-append p xs ys = sum_by-append (λ x. cond (p x) 1 0) xs ys
 
--- a member may stand in front
+-- a member may be counted first
 pub count_by-middle : {X : Type 0} (p : X → Bool) → (xs : List X) (y : X) (ys : List X) → count_by p (xs ++ y ∷ ys) ≡ one_if (p y) + count_by p (xs ++ ys)
 count_by-middle p xs y ys = omega (arith, count_by-append p xs (y ∷ ys), count_by-append p xs ys, count_by-cons p y ys)
 
+-- or added first
 pub total-middle : {X : Type 0} (f : X → ℤ) → (xs : List X) (y : X) (ys : List X) → total f (xs ++ y ∷ ys) ≡ f y +ℤ total f (xs ++ ys)
 total-middle f xs y ys = omega (arith, ints, total-append f xs (y ∷ ys), total-append f xs ys)
 

@@ -1,4 +1,6 @@
 pub mod Chains
 pub mod Counts
+pub mod Firsts
+pub mod Sides
 pub mod Signs
 pub mod Sums

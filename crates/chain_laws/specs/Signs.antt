@@ -1,5 +1,5 @@
 -- Signed lists: entries of a signed count and a mark "above". The number adds up the counts that are above.
-use Rattle.std.specs.Prelude.{◌≡◌, ◌≢◌, ℕ, zero, suc, ◌+◌, ◌<◌, ◌≤◌, ℤ, pos, negsuc, nat_abs, ◌+ℤ◌, ◌-ℤ◌, List, [], ◌∷◌, true, false, Bool, not, cond, ◌⊎◌}
+use Rattle.std.specs.Prelude.{◌≡◌, ◌≢◌, ℕ, zero, suc, ◌+◌, ◌<◌, ◌≤◌, ℤ, pos, negsuc, nat_abs, neg_ℤ, ◌+ℤ◌, ◌-ℤ◌, List, [], ◌∷◌, map, true, false, Bool, not, cond, ◌⊎◌}
 use Rattle.std.specs.List.{sum_by}
 use Rattle.std.proofs.Common.{arith, refl, inl, inr}
 use Rattle.std.proofs.lemmas.Int.{ints}
@@ -36,12 +36,13 @@ weight es = sum_by (λ e. nat_abs e.0) es
 abbrev pub weight_at : Bool → List (ℤ × Bool) → ℕ
 weight_at b es = sum_by (size_at b) es
 
--- the whole and the weight by sides
+-- the whole is the sum above and the sum not above
 pub whole_by_sides : (es : List (ℤ × Bool)) → whole es ≡ sum_at true es +ℤ sum_at false es
 whole_by_sides [] = refl
 whole_by_sides ((z, true) ∷ es) = omega (arith, ints, whole_by_sides es)
 whole_by_sides ((z, false) ∷ es) = omega (arith, ints, whole_by_sides es)
 
+-- the weight is that above and that not above
 pub weight_by_sides : (es : List (ℤ × Bool)) → weight es ≡ weight_at true es + weight_at false es
 weight_by_sides [] = refl
 weight_by_sides ((z, true) ∷ es) = omega (arith, weight_by_sides es, sum_by-cons (λ e. nat_abs e.0) (z, true) es, sum_by-cons (size_at true) (z, true) es, sum_by-cons (size_at false) (z, true) es)
@@ -54,16 +55,19 @@ pub record Parts (s : ℤ) (w : ℕ) : Type 0 where
   pub sum : s ≡ pos up -ℤ pos down
   pub weight : w ≡ up + down
 
+-- a count is up or down by its size
 pub parts_of_one : (z : ℤ) → Parts z (nat_abs z)
 parts_of_one (pos n) = record { up = n; down = 0; sum = omega (arith, ints); weight = omega arith }
 parts_of_one (negsuc n) = record { up = 0; down = n + 1; sum = omega (arith, ints); weight = omega arith }
 
+-- so is an entry on one side
 pub parts_at_one : (b : Bool) (e : ℤ × Bool) → Parts (signed_at b e) (size_at b e)
 parts_at_one true (z, true) = parts_of_one z
 parts_at_one true (z, false) = parts_of_one (pos 0)
 parts_at_one false (z, true) = parts_of_one (pos 0)
 parts_at_one false (z, false) = parts_of_one z
 
+-- and each side of a list
 pub parts_at : (b : Bool) (es : List (ℤ × Bool)) → Parts (sum_at b es) (weight_at b es)
 parts_at b [] = parts_of_one (pos 0)
 parts_at b (e ∷ es) =
@@ -81,18 +85,20 @@ number_within es =
       high = omega (arith, ints, whole_by_sides es, weight_by_sides es, above.sum, above.weight, below.sum, below.weight);
     }
 
--- where the whole is 0: at a weight of at most 3 the number is from -1 to 1, at one of at most 5 from -2 to 2
+-- where the whole is 0, a weight of at most 3 gives a number from -1 to 1
 pub number_of_three : (es : List (ℤ × Bool)) → whole es ≡ pos 0 → weight es ≤ 3 → IsWithin (number es) 1
 number_of_three es none few = let h = number_within es in record { low = omega (arith, ints, none, few, h.low); high = omega (arith, ints, none, few, h.high) }
 
+-- and one of at most 5 a number from -2 to 2
 pub number_of_five : (es : List (ℤ × Bool)) → whole es ≡ pos 0 → weight es ≤ 5 → IsWithin (number es) 2
 number_of_five es none few = let h = number_within es in record { low = omega (arith, ints, none, few, h.low); high = omega (arith, ints, none, few, h.high) }
 
--- an odd weight has an odd sum and an even weight an even one
+-- a number that is twice another
 pub record Even (z : ℤ) : Type 0 where
   pub half : ℤ
   pub twice : z ≡ half +ℤ half
 
+-- the weight and the whole are odd together or even together
 pub weight_parity : (es : List (ℤ × Bool)) → Even (pos (weight es) -ℤ whole es)
 weight_parity es =
     let above = parts_at true es in
@@ -101,12 +107,10 @@ weight_parity es =
 
 -- where the whole is 0, a weight of at most 3 is 0 or 2
 pub weight_of_three : (es : List (ℤ × Bool)) → whole es ≡ pos 0 → weight es ≤ 3 → (weight es ≡ 0) ⊎ (weight es ≡ 2)
-weight_of_three es none few = by_half (weight_parity es) where
-  by_half : Even (pos (weight es) -ℤ whole es) → (weight es ≡ 0) ⊎ (weight es ≡ 2)
-  by_half e = elim (cases_eq (weight es) 0) as (λ _. (weight es ≡ 0) ⊎ (weight es ≡ 2)) [
-    | inl y ↦ inl y
-    | inr n ↦ inr (omega (arith, ints, none, few, n, e.twice))
-  ]
+weight_of_three es none few = let parity = weight_parity es in elim (cases_eq (weight es) 0) as (λ _. (weight es ≡ 0) ⊎ (weight es ≡ 2)) [
+  | inl y ↦ inl y
+  | inr n ↦ inr (omega (arith, ints, none, few, n, parity.twice))
+]
 
 -- a number that is not 0 has counts on both sides
 pub number_sides : (es : List (ℤ × Bool)) → whole es ≡ pos 0 → number es ≢ pos 0 → (b : Bool) → 0 < weight_at b es
@@ -130,7 +134,7 @@ one_on_each_side es none few some =
       omega (arith, ints, none, few, a, b, whole_by_sides es, weight_by_sides es, above.sum, above.weight, below.sum, below.weight),
     )
 
--- an odd weight above makes a number that is not 0
+-- a weight of 1 above makes a number that is not 0
 pub number_of_one : (es : List (ℤ × Bool)) → weight_at true es ≡ 1 → number es ≢ pos 0
 number_of_one es one = λ e. let above = parts_at true es in omega (arith, ints, one, e, above.sum, above.weight)
 
@@ -139,11 +143,13 @@ abbrev pub AllAre : Bool → List (ℤ × Bool) → Type 0
 AllAre b [] = Unit {0}
 AllAre b (e ∷ es) = (e.0 ≢ pos 0 → e.1 ≡ b) × AllAre b es
 
+-- a whole number is 0 or it is not
 pub zero_or_not : (z : ℤ) → (z ≡ pos 0) ⊎ (z ≢ pos 0)
 zero_or_not (pos zero) = inl refl
 zero_or_not (pos (suc n)) = inr (λ e. omega (arith, ints, e))
 zero_or_not (negsuc n) = inr (λ e. omega (arith, ints, e))
 
+-- an entry that is on side b, if it counts, has no size on the other
 pub size_of_other : (b : Bool) (z : ℤ) (c : Bool) → (z ≢ pos 0 → c ≡ b) → size_at (not b) (z, c) ≡ 0
 size_of_other b z c h = elim (zero_or_not z) as (λ _. size_at (not b) (z, c) ≡ 0) [
   | inl e ↦ rw e (nothing b c)
@@ -172,3 +178,45 @@ number_all_above es h = let below = parts_at false es in omega (arith, ints, wei
 -- where none is above, it is 0
 pub number_none_above : (es : List (ℤ × Bool)) → AllAre false es → number es ≡ pos 0
 number_none_above es h = let above = parts_at true es in omega (arith, ints, weight_of_other false es h, above.sum, above.weight)
+
+-- the entry with the count turned: its mark stays
+abbrev pub turned : (ℤ × Bool) → ℤ × Bool
+turned e = (neg_ℤ e.0, e.1)
+
+-- a turned entry has the negated count on each side
+pub signed_at-turned : (b : Bool) (e : ℤ × Bool) → signed_at b (turned e) ≡ neg_ℤ (signed_at b e)
+signed_at-turned true (z, true) = refl
+signed_at-turned true (z, false) = refl
+signed_at-turned false (z, true) = refl
+signed_at-turned false (z, false) = refl
+
+-- turning all entries negates the sum of each side
+pub sum_at-turned : (b : Bool) (es : List (ℤ × Bool)) → sum_at b (map turned es) ≡ neg_ℤ (sum_at b es)
+sum_at-turned b [] = refl
+sum_at-turned b (e ∷ es) = omega (arith, ints, signed_at-turned b e, sum_at-turned b es)
+
+-- and the whole
+pub whole-turned : (es : List (ℤ × Bool)) → whole (map turned es) ≡ neg_ℤ (whole es)
+whole-turned es = omega (arith, ints, whole_by_sides es, whole_by_sides (map turned es), sum_at-turned true es, sum_at-turned false es)
+
+-- a number and its negative have one size
+pub nat_abs-neg : (z : ℤ) → nat_abs (neg_ℤ z) ≡ nat_abs z
+nat_abs-neg (pos zero) = refl
+nat_abs-neg (pos (suc n)) = refl
+nat_abs-neg (negsuc n) = refl
+
+-- a turned entry has the same size on each side
+pub size_at-turned : (b : Bool) (e : ℤ × Bool) → size_at b (turned e) ≡ size_at b e
+size_at-turned true (z, true) = nat_abs-neg z
+size_at-turned true (z, false) = refl
+size_at-turned false (z, true) = refl
+size_at-turned false (z, false) = nat_abs-neg z
+
+-- turning all entries keeps the weight of each side
+pub weight_at-turned : (b : Bool) (es : List (ℤ × Bool)) → weight_at b (map turned es) ≡ weight_at b es
+weight_at-turned b [] = refl
+weight_at-turned b (e ∷ es) = omega (arith, size_at-turned b e, weight_at-turned b es, sum_by-cons (size_at b) e es, sum_by-cons (size_at b) (turned e) (map turned es))
+
+-- and the weight
+pub weight-turned : (es : List (ℤ × Bool)) → weight (map turned es) ≡ weight es
+weight-turned es = omega (arith, weight_by_sides es, weight_by_sides (map turned es), weight_at-turned true es, weight_at-turned false es)
