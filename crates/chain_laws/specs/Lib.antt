@@ -3,4 +3,5 @@ pub mod Counts
 pub mod Firsts
 pub mod Sides
 pub mod Signs
+pub mod Squares
 pub mod Sums

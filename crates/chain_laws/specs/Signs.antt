@@ -1,12 +1,13 @@
 -- Signed lists: entries of a signed count and a mark "above". The number adds up the counts that are above.
-use Rattle.std.specs.Prelude.{◌≡◌, ◌≢◌, ℕ, zero, suc, ◌+◌, ◌<◌, ◌≤◌, ℤ, pos, negsuc, nat_abs, neg_ℤ, ◌+ℤ◌, ◌-ℤ◌, List, [], ◌∷◌, map, true, false, Bool, not, cond, ◌⊎◌}
-use Rattle.std.specs.List.{sum_by}
+use Rattle.std.specs.Prelude.{◌≡◌, ◌≢◌, ℕ, zero, suc, ◌+◌, ◌<◌, ◌≤◌, ℤ, pos, negsuc, nat_abs, neg_ℤ, ◌+ℤ◌, ◌-ℤ◌, List, [], ◌∷◌, length, map, true, false, Bool, not, cond, ◌⊎◌}
+use Rattle.std.specs.List.{sum_by, All}
 use Rattle.std.proofs.Common.{arith, refl, inl, inr}
 use Rattle.std.proofs.lemmas.Int.{ints}
 use Rattle.std.proofs.lemmas.Bool.{cases_eq, cases_lt}
-use Rattle.std.proofs.lemmas.List.Sums.{sum_by-cons}
+use Rattle.std.proofs.lemmas.List.Sums.{sum_by-cons, sum_by-le}
+use Rattle.std.proofs.lemmas.List.Elements.{All-weaker}
 use Rattle.chain_terms.specs.Sums.{total}
-use Rattle.chain_laws.specs.Sums.{IsWithin}
+use Rattle.chain_laws.specs.Sums.{IsWithin, size_within}
 
 -- the count of an entry on one side, above (true) or not (false), else 0
 abbrev pub signed_at : Bool → (ℤ × Bool) → ℤ
@@ -18,10 +19,11 @@ abbrev pub size_at : Bool → (ℤ × Bool) → ℕ
 size_at true e = cond e.1 (nat_abs e.0) 0
 size_at false e = cond e.1 0 (nat_abs e.0)
 
--- the sum of all counts, and that of one side
+-- the sum of all counts
 abbrev pub whole : List (ℤ × Bool) → ℤ
 whole es = total (λ e. e.0) es
 
+-- the sum of the counts on one side
 abbrev pub sum_at : Bool → List (ℤ × Bool) → ℤ
 sum_at b es = total (signed_at b) es
 
@@ -29,10 +31,11 @@ sum_at b es = total (signed_at b) es
 abbrev pub number : List (ℤ × Bool) → ℤ
 number es = sum_at true es
 
--- the sum of the sizes: for counts from -1 to 1 it is how many are not 0
+-- the sum of the sizes; for counts from -1 to 1 it is how many are not 0
 abbrev pub weight : List (ℤ × Bool) → ℕ
 weight es = sum_by (λ e. nat_abs e.0) es
 
+-- the sum of the sizes on one side
 abbrev pub weight_at : Bool → List (ℤ × Bool) → ℕ
 weight_at b es = sum_by (size_at b) es
 
@@ -179,7 +182,7 @@ number_all_above es h = let below = parts_at false es in omega (arith, ints, wei
 pub number_none_above : (es : List (ℤ × Bool)) → AllAre false es → number es ≡ pos 0
 number_none_above es h = let above = parts_at true es in omega (arith, ints, weight_of_other false es h, above.sum, above.weight)
 
--- the entry with the count turned: its mark stays
+-- the entry with the count turned; its mark stays
 abbrev pub turned : (ℤ × Bool) → ℤ × Bool
 turned e = (neg_ℤ e.0, e.1)
 
@@ -220,3 +223,9 @@ weight_at-turned b (e ∷ es) = omega (arith, size_at-turned b e, weight_at-turn
 -- and the weight
 pub weight-turned : (es : List (ℤ × Bool)) → weight (map turned es) ≡ weight es
 weight-turned es = omega (arith, weight_by_sides es, weight_by_sides (map turned es), weight_at-turned true es, weight_at-turned false es)
+
+-- counts from -1 to 1 weigh no more than their number
+pub weight_of_units : (es : List (ℤ × Bool)) → All (λ e. IsWithin e.0 1) es → weight es ≤ length es
+weight_of_units es h =
+    let sizes : All (λ e. nat_abs e.0 ≤ 1) es = All-weaker (λ e. IsWithin e.0 1) (λ e. nat_abs e.0 ≤ 1) (λ e w. size_within e.0 1 w) es h in
+    omega (arith, sum_by-le (λ e. nat_abs e.0) 1 es sizes)

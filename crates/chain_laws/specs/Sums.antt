@@ -1,5 +1,5 @@
 -- Laws of sums of whole numbers over lists.
-use Rattle.std.specs.Prelude.{◌≡◌, ℕ, zero, suc, ◌+◌, ◌<◌, ◌*◌, ℤ, pos, neg_ℤ, ◌+ℤ◌, ◌-ℤ◌, ◌≤ℤ◌, List, [], ◌∷◌, ◌++◌, length, take, get_or, map, true, false, Bool, cond, Option, Some, None, count_by}
+use Rattle.std.specs.Prelude.{◌≡◌, ℕ, zero, suc, ◌+◌, ◌<◌, ◌≤◌, ◌*◌, ℤ, pos, negsuc, nat_abs, neg_ℤ, ◌+ℤ◌, ◌-ℤ◌, ◌≤ℤ◌, List, [], ◌∷◌, ◌++◌, length, take, get_or, map, true, false, Bool, cond, Option, Some, None, count_by}
 use Rattle.std.specs.List.{flat_map, filter_map, cons_option, sum_by, All}
 use Rattle.std.specs.List.Sorted.{IsPermutation}
 use Rattle.std.proofs.Common.{arith, refl, add-one}
@@ -26,15 +26,17 @@ pub total-flat_map : {X Y : Type 0} (f : Y → ℤ) (h : X → List Y) → (xs :
 total-flat_map f h [] = omega (arith, ints)
 total-flat_map f h (x ∷ xs) = omega (arith, ints, total-append f (h x) (flat_map h xs), total-flat_map f h xs)
 
--- the sum of what a filter_map keeps: a member that is left out counts 0
+-- f of what is there, else 0
 abbrev pub value_or_zero : {Y : Type 0} → (Y → ℤ) → Option Y → ℤ
 value_or_zero f None = pos 0
 value_or_zero f (Some y) = f y
 
+-- a member that may be there, in front of a list
 pub total-cons_option : {Y : Type 0} (f : Y → ℤ) → (o : Option Y) (ys : List Y) → total f (cons_option o ys) ≡ value_or_zero f o +ℤ total f ys
 total-cons_option f None ys = omega (arith, ints)
 total-cons_option f (Some y) ys = refl
 
+-- the sum of what a filter_map keeps: a member that is left out counts 0
 pub total-filter_map : {X Y : Type 0} (f : Y → ℤ) (h : X → Option Y) → (xs : List X) → total f (filter_map h xs) ≡ total (λ x. value_or_zero f (h x)) xs
 total-filter_map f h [] = refl
 total-filter_map f h (x ∷ xs) = omega (arith, ints, total-cons_option f (h x) (filter_map h xs), total-filter_map f h xs)
@@ -77,6 +79,7 @@ total-swap f [] [] = omega (arith, ints)
 total-swap f [] (y ∷ ys) = omega (arith, ints, total-swap f [] ys)
 total-swap f (x ∷ xs) ys = omega (arith, ints, total-swap f xs ys, total-add (f x) (λ y. total (λ x. f x y) xs) ys)
 
+-- the first i + 1 members
 pub total-take_suc : {X : Type 0} (f : X → ℤ) → (xs : List X) (i : ℕ) (d : X) → i < length xs → total f (take (suc i) xs) ≡ total f (take i xs) +ℤ f (get_or xs i d)
 total-take_suc f [] i d h = absurd (omega (arith, h))
 total-take_suc f (x ∷ xs) zero d h = omega (arith, ints)
@@ -90,11 +93,22 @@ total_more f xs i d h = rw add-one (total-take_suc f xs i d h)
 pub total_push : {X : Type 0} (f : X → ℤ) → (xs : List X) (y : X) → total f (xs ++ y ∷ []) ≡ total f xs +ℤ f y
 total_push f xs y = omega (arith, ints, total-append f xs (y ∷ []))
 
--- a sum of terms that are at most b in size
+-- z is at most b in size
 pub record IsWithin (z : ℤ) (b : ℕ) : Type 0 where
   pub low : neg_ℤ (pos b) ≤ℤ z
   pub high : z ≤ℤ pos b
 
+-- so is its size
+pub size_within : (z : ℤ) (b : ℕ) → IsWithin z b → nat_abs z ≤ b
+size_within (pos n) b h = omega (arith, ints, h.high)
+size_within (negsuc n) b h = omega (arith, ints, h.low)
+
+-- and back
+pub within_size : (z : ℤ) (b : ℕ) → nat_abs z ≤ b → IsWithin z b
+within_size (pos n) b h = record { low = omega (arith, ints); high = omega (arith, ints, h) }
+within_size (negsuc n) b h = record { low = omega (arith, ints, h); high = omega (arith, ints) }
+
+-- a sum of n terms that are at most b in size is at most b n in size
 pub total_within : {X : Type 0} (f : X → ℤ) (b : ℕ) → (xs : List X) → All (λ x. IsWithin (f x) b) xs → IsWithin (total f xs) (b * length xs)
 total_within f b [] h = record { low = omega (arith, ints); high = omega (arith, ints) }
 total_within f b (x ∷ xs) h =
