@@ -6,7 +6,7 @@ use Rattle.std.proofs.lemmas.Int.{ints}
 use Rattle.std.proofs.lemmas.Bool.{and_parts, eqb-true, eq-eqb, and_from}
 use Rattle.chain_terms.specs.Sums.{total}
 use Rattle.chain_terms.specs.Chains.{is_edge, one_if, dir, IsClosed, boundary}
-use Rattle.chain_laws.specs.Sums.{total-append}
+use Rattle.chain_laws.specs.Sums.{total-append, total-map}
 use Rattle.chain_laws.specs.Counts.{count_by-cons, same_counts}
 
 -- f turns its sign with the direction
@@ -115,3 +115,56 @@ closed_from_sums es same a b = let e = boundary_same es [] same a b in omega (ar
 -- over a closed chain every odd function adds up as over no edge
 pub sums_from_closed : (es : List (ℕ × ℕ)) → IsClosed es → SameChain es []
 sums_from_closed es closed f odd = odd_sum f odd es closed
+
+-- chains with the same sums may be exchanged
+pub same_chain-sym : (es ms : List (ℕ × ℕ)) → SameChain es ms → SameChain ms es
+same_chain-sym es ms h f odd = sym (h f odd)
+
+-- and followed
+pub same_chain-trans : (es ms ns : List (ℕ × ℕ)) → SameChain es ms → SameChain ms ns → SameChain es ns
+same_chain-trans es ms ns h k f odd = h f odd ∙ k f odd
+
+-- chains with the same sums, one after the other
+pub same_chain-append : (es ms fs ns : List (ℕ × ℕ)) → SameChain es ms → SameChain fs ns → SameChain (es ++ fs) (ms ++ ns)
+same_chain-append es ms fs ns h k f odd = omega (arith, ints, h f odd, k f odd, total-append (along f) es fs, total-append (along f) ms ns)
+
+-- a chain with the sums of a closed one is closed
+pub closed_same : (es ms : List (ℕ × ℕ)) → SameChain es ms → IsClosed ms → IsClosed es
+closed_same es ms h closed = closed_from_sums es (λ f odd. h f odd ∙ odd_sum f odd ms closed)
+
+-- a closed chain after a closed chain is closed
+pub closed-append : (es ms : List (ℕ × ℕ)) → IsClosed es → IsClosed ms → IsClosed (es ++ ms)
+closed-append es ms h k a b = omega (arith, h a b, k a b, dir-append es ms a b, dir-append es ms b a)
+
+-- where a chain and its front are closed, the rest is closed
+pub closed-rest : (es ms : List (ℕ × ℕ)) → IsClosed (es ++ ms) → IsClosed es → IsClosed ms
+closed-rest es ms h k a b = omega (arith, h a b, k a b, dir-append es ms a b, dir-append es ms b a)
+
+-- the turned chain of a closed one is closed
+pub closed-backward : (es : List (ℕ × ℕ)) → IsClosed es → IsClosed (backward es)
+closed-backward es closed a b = omega (arith, closed a b, dir-backward es a b, dir-backward es b a)
+
+-- chains with the same sums have that turned
+pub same_chain-backward : (es ms : List (ℕ × ℕ)) → SameChain es ms → SameChain (backward es) (backward ms)
+same_chain-backward es ms h f odd = omega (arith, ints, h f odd, total-backward f odd es, total-backward f odd ms)
+
+-- a chain and its turned one add up to nothing
+pub backward_cancels : (es : List (ℕ × ℕ)) → SameChain (es ++ backward es) []
+backward_cancels es f odd = omega (arith, ints, total-append (along f) es (backward es), total-backward f odd es)
+
+-- the edge with its vertices renamed
+abbrev pub renamed : (ℕ → ℕ) → (ℕ × ℕ) → ℕ × ℕ
+renamed r e = (r e.0, r e.1)
+
+-- an odd function of renamed vertices is odd
+pub odd-renamed : (r : ℕ → ℕ) (f : ℕ → ℕ → ℤ) → IsOdd f → IsOdd (λ a b. f (r a) (r b))
+odd-renamed r f odd = record { turns = λ a b. odd.turns (r a) (r b) }
+
+-- chains with the same sums have that under every renaming
+pub same_chain-renamed : (r : ℕ → ℕ) (es ms : List (ℕ × ℕ)) → SameChain es ms → SameChain (map (renamed r) es) (map (renamed r) ms)
+same_chain-renamed r es ms h f odd =
+    total-map (along f) (renamed r) es ∙ h (λ a b. f (r a) (r b)) (odd-renamed r f odd) ∙ sym (total-map (along f) (renamed r) ms)
+
+-- a renamed closed chain is closed
+pub closed-renamed : (r : ℕ → ℕ) (es : List (ℕ × ℕ)) → IsClosed es → IsClosed (map (renamed r) es)
+closed-renamed r es closed = closed_from_sums (map (renamed r) es) (same_chain-renamed r es [] (sums_from_closed es closed))

@@ -5,3 +5,4 @@ pub mod Sides
 pub mod Signs
 pub mod Squares
 pub mod Sums
+pub mod Triples
