@@ -1,4 +1,5 @@
 pub mod Chains
+pub mod Closed
 pub mod Counts
 pub mod Firsts
 pub mod Sides
