@@ -2,6 +2,7 @@ pub mod Chains
 pub mod Closed
 pub mod Counts
 pub mod Firsts
+pub mod Permutations
 pub mod Sides
 pub mod Signs
 pub mod Squares
