@@ -1,5 +1,5 @@
 -- Sums over the numbers below a number.
-use Rattle.std.specs.Prelude.{◌≡◌, ℕ, zero, suc, ◌+◌, ◌<◌, ◌≤◌, ℤ, pos, ◌+ℤ◌, List, [], ◌∷◌, ◌++◌, length, get_or, map, true, false, cond, ◌==◌}
+use Rattle.std.specs.Prelude.{◌≡◌, ℕ, zero, suc, ◌+◌, ◌<◌, ◌≤◌, ◌*◌, ℤ, pos, ◌+ℤ◌, ◌≤ℤ◌, List, [], ◌∷◌, ◌++◌, length, get_or, map, true, false, cond, ◌==◌}
 use Rattle.std.proofs.Common.{arith, refl, sym, ap, ◌∙◌, inl, inr, add-one}
 use Rattle.std.proofs.lemmas.Int.{ints}
 use Rattle.std.proofs.lemmas.Bool.{eqb-true, eqb-false, eq-eqb, ne_eqb, cases_Bool}
@@ -98,3 +98,21 @@ total-places_from f d g k (x ∷ xs) h =
 -- the same from place 0 on
 pub total-places : {X : Type 0} (f : X → ℤ) (d : X) (xs : List X) → total f xs ≡ total (λ i. f (get_or xs i d)) (upto (length xs))
 total-places f d xs = total-places_from f d (λ i. f (get_or xs i d)) 0 xs (λ i l. ap (λ j. f (get_or xs j d)) (omega arith))
+
+-- a sum of ones is how many there are
+pub total-upto_ones : (n : ℕ) → total (λ i. pos 1) (upto n) ≡ pos n
+total-upto_ones n = omega (arith, ints, ones (upto n), length-up_from 0 n)
+  where
+  ones : (xs : List ℕ) → total (λ i. pos 1) xs ≡ pos (length xs)
+  ones [] = refl
+  ones (x ∷ xs) = omega (arith, ints, ones xs)
+
+-- a sum of terms of at most b each
+pub total-up_from_at_most : (f : ℕ → ℤ) (b k n : ℕ) → ((i : ℕ) → k ≤ i → i < k + n → f i ≤ℤ pos b) → total f (up_from k n) ≤ℤ pos (b * n)
+total-up_from_at_most f b k zero h = omega (arith, ints)
+total-up_from_at_most f b k (suc n) h =
+    omega (arith, ints, h k (omega arith) (omega arith), total-up_from_at_most f b (suc k) n (λ i a c. h i (omega (arith, a)) (omega (arith, c))))
+
+-- the same below n
+pub total-upto_at_most : (f : ℕ → ℤ) (b n : ℕ) → ((i : ℕ) → i < n → f i ≤ℤ pos b) → total f (upto n) ≤ℤ pos (b * n)
+total-upto_at_most f b n h = total-up_from_at_most f b 0 n (λ i a c. h i (omega (arith, c)))
