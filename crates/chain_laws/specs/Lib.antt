@@ -3,6 +3,7 @@ pub mod Closed
 pub mod Counts
 pub mod Firsts
 pub mod Permutations
+pub mod Ranks
 pub mod Sides
 pub mod Signs
 pub mod Squares
