@@ -63,3 +63,10 @@ same_place p xs k i j a b = elim (cases_order i j) as (λ _. i ≡ j) [
 pub nth_rank : {X : Type 0} (p : X → Bool) (xs : List X) (i : ℕ) → i < length xs → ((d : X) → p (get_or xs i d) ≡ true) → nth p xs (rank p xs i) ≡ i
 nth_rank p xs i l y =
     same_place p xs (rank p xs i) (nth p xs (rank p xs i)) i (nth_is p xs (rank p xs i) (rank_below p xs i l y)) (record { within = l; holds = y; earlier = refl })
+
+-- ranks ascend with the places
+pub rank_ascends : {X : Type 0} (p : X → Bool) (xs : List X) (i j : ℕ) → i ≤ j → rank p xs i ≤ rank p xs j
+rank_ascends p [] i j l = omega arith
+rank_ascends p (x ∷ xs) zero j l = omega arith
+rank_ascends p (x ∷ xs) (suc i) zero l = absurd (omega (arith, l))
+rank_ascends p (x ∷ xs) (suc i) (suc j) l = omega (arith, rank_ascends p xs i j (omega (arith, l)))

@@ -1,11 +1,12 @@
 -- The twin rule: on a closed chain the twin runs back, is paired with its own twin, and keeps the order.
 use Rattle.std.specs.Prelude.{◌≡◌, ℕ, ◌<◌, ◌≤◌, List, Bool, true, length, get_or, count_by}
 use Rattle.std.proofs.Common.{arith, refl, sym, ap, ◌∙◌, inl, inr}
+use Rattle.std.proofs.lemmas.Bool.{cases_lt}
 use Rattle.std.proofs.lemmas.List.{get_or_default}
 use Rattle.chain_terms.specs.Chains.{is_edge, dir, IsClosed}
 use Rattle.chain_laws.specs.Chains.{same_edge, edge_is, is_self, dir-count_by}
 use Rattle.chain_laws.specs.Ranks.{rank, nth, IsPlace, start, finish, runs_as, runs_against, twin, RunsBack}
-use Rattle.chain_laws.proofs.Ranks.{nth_is, rank_lower, rank_below, same_place}
+use Rattle.chain_laws.proofs.Ranks.{nth_is, rank_ascends, rank_lower, rank_below, same_place}
 
 -- the edge at a place runs as itself, whatever stands past the end
 pub runs_as_itself : (es : List (ℕ × ℕ)) (h : ℕ) → h < length es → (d : ℕ × ℕ) → runs_as es h (get_or es h d) ≡ true
@@ -45,3 +46,21 @@ twin_twin es closed h below =
     holds = λ d. ap (λ x. is_edge (get_or es t d) x (finish es h)) (sym a) ∙ ap (λ y. is_edge (get_or es t d) (start es t) y) (sym b) ∙ runs_as_itself es t w d;
     earlier = ap (λ x. rank (λ d. is_edge d x (finish es h)) es t) (sym a) ∙ ap (λ y. rank (λ d. is_edge d (start es t) y) es t) (sym b) ∙ r;
   }
+
+-- twins of edges with the same ends stand in the order of the edges
+pub twin_keeps_order : (es : List (ℕ × ℕ)) → IsClosed es → (h g : ℕ) → h < g → g < length es → start es h ≡ start es g → finish es h ≡ finish es g → twin es h < twin es g
+twin_keeps_order es closed h g less below a b = elim (cases_lt (twin es h) (twin es g)) as (λ _. twin es h < twin es g) [
+  | inl l ↦ l
+  | inr m ↦ absurd (omega (arith, lower, high, low, rank_ascends (runs_against es h) es (twin es g) (twin es h) m))
+]
+  where
+  hn : h < length es
+  hn = omega (arith, less, below)
+  lower : rank (runs_as es h) es h < rank (runs_as es h) es g
+  lower = rank_lower (runs_as es h) es h g less (omega (arith, below)) (runs_as_itself es h hn)
+  low : rank (runs_against es h) es (twin es h) ≡ rank (runs_as es h) es h
+  low = (twin_place es closed h hn).earlier
+  high : rank (runs_against es h) es (twin es g) ≡ rank (runs_as es h) es g
+  high =
+      ap (λ x. rank (λ e. is_edge e (finish es h) x) es (twin es g)) a ∙ ap (λ y. rank (λ e. is_edge e y (start es g)) es (twin es g)) b ∙ (twin_place es closed g below).earlier
+        ∙ ap (λ x. rank (λ e. is_edge e x (finish es g)) es g) (sym a) ∙ ap (λ y. rank (λ e. is_edge e (start es h) y) es g) (sym b)

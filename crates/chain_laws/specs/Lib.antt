@@ -2,6 +2,7 @@ pub mod Chains
 pub mod Closed
 pub mod Counts
 pub mod Firsts
+pub mod Paths
 pub mod Permutations
 pub mod Ranks
 pub mod Sides
