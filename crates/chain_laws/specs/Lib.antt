@@ -1,6 +1,7 @@
 pub mod Chains
 pub mod Closed
 pub mod Counts
+pub mod Cycles
 pub mod Firsts
 pub mod Paths
 pub mod Permutations
