@@ -8,6 +8,7 @@ pub mod Permutations
 pub mod Ranks
 pub mod Sides
 pub mod Signs
+pub mod Sorting
 pub mod Squares
 pub mod Sums
 pub mod Triples
