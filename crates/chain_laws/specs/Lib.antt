@@ -1,11 +1,14 @@
+pub mod Areas
 pub mod Ascending
 pub mod Chains
 pub mod Closed
 pub mod Counts
 pub mod Cycles
 pub mod Firsts
+pub mod Identities
 pub mod Paths
 pub mod Permutations
+pub mod Products
 pub mod Ranks
 pub mod Sides
 pub mod Signs
