@@ -6,6 +6,7 @@ pub mod Counts
 pub mod Cycles
 pub mod Firsts
 pub mod Identities
+pub mod Laws
 pub mod Paths
 pub mod Permutations
 pub mod Products
