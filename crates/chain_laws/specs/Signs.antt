@@ -1,13 +1,15 @@
 -- Signed lists: entries of a signed count and a mark "above". The number adds up the counts that are above.
 use Rattle.std.specs.Prelude.{◌≡◌, ◌≢◌, ℕ, zero, suc, ◌+◌, ◌<◌, ◌≤◌, ℤ, pos, negsuc, nat_abs, neg_ℤ, ◌+ℤ◌, ◌-ℤ◌, List, [], ◌∷◌, length, map, true, false, Bool, not, cond, ◌⊎◌}
 use Rattle.std.specs.List.{sum_by, All}
+use Rattle.std.specs.List.Sorted.{IsPermutation}
 use Rattle.std.proofs.Common.{arith, refl, inl, inr}
 use Rattle.std.proofs.lemmas.Int.{ints}
 use Rattle.std.proofs.lemmas.Bool.{cases_eq, cases_lt}
 use Rattle.std.proofs.lemmas.List.Sums.{sum_by-cons, sum_by-le}
 use Rattle.std.proofs.lemmas.List.Elements.{All-weaker}
+use Rattle.std.proofs.lemmas.List.Sorted.{sum_by-IsPermutation}
 use Rattle.chain_terms.specs.Sums.{total}
-use Rattle.chain_laws.specs.Sums.{IsWithin, size_within}
+use Rattle.chain_laws.specs.Sums.{IsWithin, size_within, total-permutation}
 
 -- the count of an entry on one side, above (true) or not (false), else 0
 abbrev pub signed_at : Bool → (ℤ × Bool) → ℤ
@@ -229,3 +231,8 @@ pub weight_of_units : (es : List (ℤ × Bool)) → All (λ e. IsWithin e.0 1) e
 weight_of_units es h =
     let sizes : All (λ e. nat_abs e.0 ≤ 1) es = All-weaker (λ e. IsWithin e.0 1) (λ e. nat_abs e.0 ≤ 1) (λ e w. size_within e.0 1 w) es h in
     omega (arith, sum_by-le (λ e. nat_abs e.0) 1 es sizes)
+
+-- the sums and the weight are the same in every order
+pub same_in_order : (es fs : List (ℤ × Bool)) → IsPermutation es fs → (number fs ≡ number es) × (whole fs ≡ whole es) × (weight fs ≡ weight es)
+same_in_order es fs moved =
+    (total-permutation (signed_at true) es fs moved, total-permutation (λ e. e.0) es fs moved, sum_by-IsPermutation (λ e. nat_abs e.0) es fs moved)
