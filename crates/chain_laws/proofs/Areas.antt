@@ -1,12 +1,11 @@
 -- Triangles with the same boundary have the same doubled area.
-use Rattle.std.specs.Prelude.{◌≡◌, ℕ, ℤ, pos, ◌+ℤ◌, ◌-ℤ◌, ◌*ℤ◌, List}
+use Rattle.std.specs.Prelude.{◌≡◌, ℕ, ℤ, ◌-ℤ◌, List}
 use Rattle.std.proofs.Common.{arith, sym, ◌∙◌}
 use Rattle.std.proofs.lemmas.Int.{ints}
-use Rattle.std.proofs.Math.IntN.{*ℤ_comm}
 use Rattle.chain_terms.specs.Sums.{total}
 use Rattle.chain_terms.specs.Chains.{boundary, edges, all_edges}
 use Rattle.chain_laws.specs.Sums.{total-flat_map, total-same}
-use Rattle.chain_laws.specs.Chains.{IsOdd, along, SameChain, same_boundary}
+use Rattle.chain_laws.specs.Chains.{IsOdd, along, same_boundary}
 use Rattle.chain_laws.specs.Areas.{area_at, orientation}
 use Rattle.chain_laws.specs.Products.{mul-sub, sub-mul}
 
@@ -17,9 +16,16 @@ area_odd u v = record { turns = λ a b. omega (arith, ints) }
 -- the areas of the edges of a triangle add up to its area
 pub area_of_triangle : (u v : ℕ → ℤ) (t : ℕ × ℕ × ℕ) → total (along (area_at u v)) (edges t) ≡ orientation u v t
 area_of_triangle u v t =
-    omega (arith, ints,
-      sub-mul (u t.1) (u t.0) (v t.2 -ℤ v t.0), mul-sub (u t.1) (v t.2) (v t.0), mul-sub (u t.0) (v t.2) (v t.0),
-      sub-mul (u t.2) (u t.0) (v t.1 -ℤ v t.0), mul-sub (u t.2) (v t.1) (v t.0), mul-sub (u t.0) (v t.1) (v t.0))
+    omega (
+      arith,
+      ints,
+      sub-mul (u t.1) (u t.0) (v t.2 -ℤ v t.0),
+      mul-sub (u t.1) (v t.2) (v t.0),
+      mul-sub (u t.0) (v t.2) (v t.0),
+      sub-mul (u t.2) (u t.0) (v t.1 -ℤ v t.0),
+      mul-sub (u t.2) (v t.1) (v t.0),
+      mul-sub (u t.0) (v t.1) (v t.0),
+    )
 
 -- the areas of all edges add up to the areas of the triangles
 pub areas_of_triangles : (u v : ℕ → ℤ) (ts : List (ℕ × ℕ × ℕ)) → total (along (area_at u v)) (all_edges ts) ≡ total (orientation u v) ts

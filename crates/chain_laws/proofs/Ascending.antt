@@ -1,11 +1,10 @@
 -- Ascending filters: the numbers below n that pass a test, in order.
-use Rattle.std.specs.Prelude.{◌≡◌, ℕ, zero, suc, ◌+◌, ◌<◌, ◌≤◌, ℤ, pos, ◌+ℤ◌, List, [], ◌∷◌, ◌++◌, true, false, Bool, cond, filter, length, get_or, ◌↔◌}
+use Rattle.std.specs.Prelude.{◌≡◌, ℕ, zero, suc, ◌+◌, ◌<◌, ◌≤◌, ℤ, pos, List, [], ◌∷◌, ◌++◌, true, false, Bool, cond, filter, length, get_or, ◌↔◌}
 use Rattle.std.specs.List.{Contains}
 use Rattle.std.proofs.Common.{arith, refl, sym, ap, subst, ◌∙◌, inl, inr}
 use Rattle.std.proofs.lemmas.Int.{ints}
 use Rattle.std.proofs.lemmas.Bool.{cases_Bool, cases_eq, cond_both}
 use Rattle.std.proofs.lemmas.List.{get_or_default, append-nil}
-use Rattle.std.proofs.lemmas.List.Elements.{Contains-get_or}
 use Rattle.chain_terms.specs.Sums.{total, up_from, upto}
 use Rattle.chain_laws.specs.Ascending.{Ascends}
 use Rattle.chain_laws.proofs.Places.{upto_more}
@@ -39,7 +38,7 @@ pub filter-up_from_same : (p q : ℕ → Bool) (k n : ℕ) → ((i : ℕ) → k 
 filter-up_from_same p q k zero h = refl
 filter-up_from_same p q k (suc n) h =
     ap (λ l. cond (p k) (k ∷ l) l) (filter-up_from_same p q (suc k) n (λ i a b. h i (omega (arith, a)) (omega (arith, b))))
-      ∙ ap (λ b. cond b (k ∷ filter q (up_from (suc k) n)) (filter q (up_from (suc k) n))) (h k (omega arith) (omega arith))
+    ∙ ap (λ b. cond b (k ∷ filter q (up_from (suc k) n)) (filter q (up_from (suc k) n))) (h k (omega arith) (omega arith))
 
 -- tests that agree below n keep the same
 pub filter-upto_same : (p q : ℕ → Bool) (n : ℕ) → ((i : ℕ) → i < n → p i ≡ q i) → filter p (upto n) ≡ filter q (upto n)
@@ -64,8 +63,8 @@ kept_first p k n xs y rest (suc i) h = kept_later p k n (get_or xs i 0) (rest i 
 pub kept_at : (p : ℕ → Bool) (k n i : ℕ) → i < length (filter p (up_from k n)) → IsKept p k n (get_or (filter p (up_from k n)) i 0)
 kept_at p k zero = λ i h. absurd (omega (arith, h))
 kept_at p k (suc n) = cond_both (p k) (k ∷ filter p (up_from (suc k) n)) (filter p (up_from (suc k) n)) (λ l. (i : ℕ) → i < length l → IsKept p k (suc n) (get_or l i 0))
-  (λ y. kept_first p k n (filter p (up_from (suc k) n)) y (kept_at p (suc k) n))
-  (λ m i h. kept_later p k n (get_or (filter p (up_from (suc k) n)) i 0) (kept_at p (suc k) n i h))
+    (λ y. kept_first p k n (filter p (up_from (suc k) n)) y (kept_at p (suc k) n))
+    (λ m i h. kept_later p k n (get_or (filter p (up_from (suc k) n)) i 0) (kept_at p (suc k) n i h))
 
 -- one more member in front
 pub contains_later : {X : Type 0} (x y : X) (xs : List X) → Contains xs x → Contains (y ∷ xs) x
@@ -81,8 +80,8 @@ kept p k (suc n) x h = elim (cases_eq k x) as (λ _. Contains (filter p (up_from
       cond_both (p k) (k ∷ filter p (up_from (suc k) n)) (filter p (up_from (suc k) n)) (λ l. Contains l x) (λ y. contains_later x k (filter p (up_from (suc k) n)) rest) (λ m. rest)
 ]
   where
-  ap_contains : (p : ℕ → Bool) (k n x : ℕ) → k ≡ x → p k ≡ true → Contains (filter p (up_from k (suc n))) x
-  ap_contains p k n x e y = rw y (0, omega arith, e)
+    ap_contains : (p : ℕ → Bool) (k n x : ℕ) → k ≡ x → p k ≡ true → Contains (filter p (up_from k (suc n))) x
+    ap_contains p k n x e y = rw y (0, omega arith, e)
 
 -- a number in front of an ascending list of higher ones
 pub ascends_cons : (x : ℕ) (xs : List ℕ) → ((i : ℕ) → i < length xs → x < get_or xs i 0) → Ascends xs → Ascends (x ∷ xs)
@@ -94,8 +93,8 @@ ascends_cons x xs first up (suc i) (suc j) l h = up i j (omega (arith, l)) (omeg
 pub filter-ascends : (p : ℕ → Bool) (k n : ℕ) → Ascends (filter p (up_from k n))
 filter-ascends p k zero = λ i j l h. absurd (omega (arith, h))
 filter-ascends p k (suc n) = cond_both (p k) (k ∷ filter p (up_from (suc k) n)) (filter p (up_from (suc k) n)) Ascends
-  (λ y. ascends_cons k (filter p (up_from (suc k) n)) (λ i h. let r = kept_at p (suc k) n i h in omega (arith, r.low)) (filter-ascends p (suc k) n))
-  (λ m. filter-ascends p (suc k) n)
+    (λ y. ascends_cons k (filter p (up_from (suc k) n)) (λ i h. let r = kept_at p (suc k) n i h in omega (arith, r.low)) (filter-ascends p (suc k) n))
+    (λ m. filter-ascends p (suc k) n)
 
 -- the rest of an ascending list ascends
 pub ascends_rest : (x : ℕ) (xs : List ℕ) → Ascends (x ∷ xs) → Ascends xs
@@ -125,19 +124,23 @@ ascending_same (x ∷ xs) (y ∷ ys) up vp same =
     let high = head_least y ys vp x ((same x).0 (0, omega arith, refl)) in
     let e : x ≡ y = omega (arith, low, high) in
     let rest = ascending_same xs ys (ascends_rest x xs up) (ascends_rest y ys vp)
-        (λ z. ((λ c. contains_rest y ys z ((same z).0 (contains_later z x xs c)) (λ q. head_not_later x xs up (subst (Contains xs) (sym q ∙ sym e) c))),
-               (λ c. contains_rest x xs z ((same z).1 (contains_later z y ys c)) (λ q. head_not_later y ys vp (subst (Contains ys) (sym q ∙ e) c))))) in
+    (λ z. (
+      (λ c. contains_rest y ys z ((same z).0 (contains_later z x xs c)) (λ q. head_not_later x xs up (subst (Contains xs) (sym q ∙ sym e) c))),
+      (λ c. contains_rest x xs z ((same z).1 (contains_later z y ys c)) (λ q. head_not_later y ys vp (subst (Contains ys) (sym q ∙ e) c))),
+    )) in
     ap (λ z. z ∷ xs) e ∙ ap (λ l. y ∷ l) rest
 
 -- an ascending list of exactly the numbers below n that pass is the filter
 pub ascending_is_filter : (p : ℕ → Bool) (n : ℕ) (xs : List ℕ) → Ascends xs → ((z : ℕ) → Contains xs z ↔ ((z < n) × (p z ≡ true))) → xs ≡ filter p (upto n)
 ascending_is_filter p n xs up same =
     ascending_same xs (filter p (upto n)) up (filter-ascends p 0 n)
-      (λ z. ((λ c. let r = (same z).0 c in kept p 0 n z (record { low = omega arith; high = omega (arith, r.0); passes = r.1 })),
-             (λ c. (same z).1 (kept_means p n z c))))
+    (λ z. (
+      (λ c. let r = (same z).0 c in kept p 0 n z (record { low = omega arith; high = omega (arith, r.0); passes = r.1 })),
+      (λ c. (same z).1 (kept_means p n z c)),
+    ))
   where
-  kept_means : (p : ℕ → Bool) (n z : ℕ) → Contains (filter p (upto n)) z → (z < n) × (p z ≡ true)
-  kept_means p n z (i, l, e) =
-      let r = kept_at p 0 n i l in
-      let same : get_or (filter p (upto n)) i 0 ≡ z = sym (get_or_default (filter p (upto n)) i z 0 l) ∙ e in
-      (omega (arith, r.high, same), ap p (sym same) ∙ r.passes)
+    kept_means : (p : ℕ → Bool) (n z : ℕ) → Contains (filter p (upto n)) z → (z < n) × (p z ≡ true)
+    kept_means p n z (i, l, e) =
+        let r = kept_at p 0 n i l in
+        let same : get_or (filter p (upto n)) i 0 ≡ z = sym (get_or_default (filter p (upto n)) i z 0 l) ∙ e in
+        (omega (arith, r.high, same), ap p (sym same) ∙ r.passes)

@@ -1,9 +1,9 @@
 -- Closedness decided by counting, triangle by triangle.
-use Rattle.std.specs.Prelude.{◌≡◌, ℕ, zero, suc, ◌+◌, ◌<◌, List, [], ◌∷◌, ◌++◌, length, get_or, take, map, true, false}
+use Rattle.std.specs.Prelude.{◌≡◌, ℕ, zero, suc, ◌+◌, ◌<◌, List, [], ◌∷◌, length, get_or, take, map}
 use Rattle.std.specs.List.{All}
 use Rattle.std.proofs.Common.{arith, add-one}
 use Rattle.std.proofs.lemmas.List.Elements.{All-nil, All-cons, All-append}
-use Rattle.chain_terms.specs.Chains.{is_edge, one_if, dir, edges, all_edges, IsClosed}
+use Rattle.chain_terms.specs.Chains.{dir, edges, all_edges, IsClosed}
 use Rattle.chain_laws.specs.Closed.{IsMatched, IsBalanced, closed_from_edges}
 use Rattle.chain_laws.specs.Triples.{triple_of}
 

@@ -1,5 +1,5 @@
 -- The cycles of a balanced list of edges have exactly its edges.
-use Rattle.std.specs.Prelude.{◌≡◌, ℕ, zero, suc, ◌+◌, ◌≤◌, List, [], ◌∷◌, ◌++◌, true, false, Bool, cond, length, ◌==◌, count_by, Option, Some, None}
+use Rattle.std.specs.Prelude.{◌≡◌, ℕ, zero, suc, ◌+◌, ◌≤◌, List, [], ◌∷◌, ◌++◌, false, Bool, cond, length, ◌==◌, count_by, Option, Some, None}
 use Rattle.std.specs.List.{flat_map}
 use Rattle.std.specs.List.Sorted.{IsPermutation}
 use Rattle.std.proofs.Common.{arith, refl, sym, ap, subst, inl, inr}
@@ -8,7 +8,7 @@ use Rattle.std.proofs.lemmas.List.{append_assoc}
 use Rattle.std.proofs.lemmas.List.Sorted.{IsPermutation-refl, IsPermutation-cons, IsPermutation-trans, IsPermutation-middle, IsPermutation-append_right, length_permutation, sum_by-IsPermutation}
 use Rattle.chain_terms.specs.Chains.{one_if}
 use Rattle.chain_laws.specs.Counts.{one_if-true, one_if-false, count_by-cons}
-use Rattle.chain_laws.specs.Cycles.{out, into, Balanced, end_from, without_from, on_end, put_first, follow, cycles_within, cycles}
+use Rattle.chain_laws.specs.Cycles.{out, into, Balanced, end_from, without_from, on_end, put_first, follow, cycles_within}
 use Rattle.chain_laws.specs.Paths.{path, last_of, round_edges}
 
 -- either no edge starts at v, or the first that does is taken out
@@ -79,8 +79,8 @@ pub go_on : (a n v : ℕ) (es : List (ℕ × ℕ)) (o : Option ℕ) (fs : List (
 go_on a n v es None fs balance short h next = stuck a v es balance h
 go_on a n v es (Some w) fs balance short h next =
     extended a v w es fs (follow n w fs) h
-      (next w (omega (arith, short, length_permutation es ((v, w) ∷ fs) h))
-        (λ x. omega (arith, balance x, count_by-taken (λ e. e.0 == x) (v, w) es fs h, count_by-taken (λ e. e.1 == x) (v, w) es fs h)))
+    (next w (omega (arith, short, length_permutation es ((v, w) ∷ fs) h))
+    (λ x. omega (arith, balance x, count_by-taken (λ e. e.0 == x) (v, w) es fs h, count_by-taken (λ e. e.1 == x) (v, w) es fs h)))
 
 -- following closes: it ends where it began, and what is left is balanced
 pub follow_closes : (a n v : ℕ) (es : List (ℕ × ℕ)) → length es ≤ n → IsOpenAt a v es → Closes a v es (follow n v es)
@@ -94,7 +94,7 @@ pub round_of_trail : (a v : ℕ) (es : List (ℕ × ℕ)) (us : List ℕ) (gs : 
 round_of_trail a v es [] gs h = subst (λ b. IsPermutation ((a, v) ∷ es) ((a, b) ∷ gs)) h.0 (IsPermutation-cons (a, v) es gs h.1)
 round_of_trail a v es (u ∷ us) gs h =
     subst (λ l. IsPermutation ((a, v) ∷ es) l) (ap (λ l. (a, u) ∷ l) (sym (append_assoc (path u us) ((last_of u us, a) ∷ []) gs)))
-      (rw h.0 (IsPermutation-cons (a, v) es (path v us ++ (last_of v us, a) ∷ gs) h.1))
+    (rw h.0 (IsPermutation-cons (a, v) es (path v us ++ (last_of v us, a) ∷ gs) h.1))
 
 -- the edges of the cycles are the edges of the list
 pub cycles_edges : (n : ℕ) (es : List (ℕ × ℕ)) → length es ≤ n → Balanced es → IsPermutation es (flat_map round_edges (cycles_within n es))
@@ -106,4 +106,4 @@ cycles_edges (suc n) (e ∷ es) short b =
     let c = follow_closes e.0 (length es) e.1 es (omega arith) (λ x. omega (arith, b x, count_by-cons (λ d. d.0 == x) e es, count_by-cons (λ d. d.1 == x) e es)) in
     let rest = cycles_edges n r.1 (omega (arith, short, c.shorter)) c.balanced in
     IsPermutation-trans (e ∷ es) (round_edges (e.0 ∷ r.0) ++ r.1) (round_edges (e.0 ∷ r.0) ++ flat_map round_edges (cycles_within n r.1))
-      (round_of_trail e.0 e.1 es r.0 r.1 c.trail) (IsPermutation-append_right (round_edges (e.0 ∷ r.0)) r.1 (flat_map round_edges (cycles_within n r.1)) rest)
+    (round_of_trail e.0 e.1 es r.0 r.1 c.trail) (IsPermutation-append_right (round_edges (e.0 ∷ r.0)) r.1 (flat_map round_edges (cycles_within n r.1)) rest)

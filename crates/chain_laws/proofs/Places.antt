@@ -1,10 +1,10 @@
 -- Sums over the numbers below a number.
-use Rattle.std.specs.Prelude.{◌≡◌, ℕ, zero, suc, ◌+◌, ◌<◌, ◌≤◌, ◌*◌, ℤ, pos, ◌+ℤ◌, ◌≤ℤ◌, List, [], ◌∷◌, ◌++◌, length, get_or, map, true, false, cond, ◌==◌}
-use Rattle.std.proofs.Common.{arith, refl, sym, ap, ◌∙◌, inl, inr, add-one}
+use Rattle.std.specs.Prelude.{◌≡◌, ℕ, zero, suc, ◌+◌, ◌<◌, ◌≤◌, ◌*◌, ℤ, pos, ◌+ℤ◌, ◌≤ℤ◌, List, [], ◌∷◌, ◌++◌, length, get_or, cond, ◌==◌}
+use Rattle.std.proofs.Common.{arith, refl, sym, ap, ◌∙◌, inl, inr}
 use Rattle.std.proofs.lemmas.Int.{ints}
 use Rattle.std.proofs.lemmas.Bool.{eqb-true, eqb-false, eq-eqb, ne_eqb, cases_Bool}
 use Rattle.chain_terms.specs.Sums.{total, up_from, upto}
-use Rattle.chain_laws.specs.Sums.{total-append, total-swap, total_push}
+use Rattle.chain_laws.specs.Sums.{total_push}
 
 -- how many numbers there are
 pub length-up_from : (k n : ℕ) → length (up_from k n) ≡ n
@@ -103,9 +103,9 @@ total-places f d xs = total-places_from f d (λ i. f (get_or xs i d)) 0 xs (λ i
 pub total-upto_ones : (n : ℕ) → total (λ i. pos 1) (upto n) ≡ pos n
 total-upto_ones n = omega (arith, ints, ones (upto n), length-up_from 0 n)
   where
-  ones : (xs : List ℕ) → total (λ i. pos 1) xs ≡ pos (length xs)
-  ones [] = refl
-  ones (x ∷ xs) = omega (arith, ints, ones xs)
+    ones : (xs : List ℕ) → total (λ i. pos 1) xs ≡ pos (length xs)
+    ones [] = refl
+    ones (x ∷ xs) = omega (arith, ints, ones xs)
 
 -- a sum of terms of at most b each
 pub total-up_from_at_most : (f : ℕ → ℤ) (b k n : ℕ) → ((i : ℕ) → k ≤ i → i < k + n → f i ≤ℤ pos b) → total f (up_from k n) ≤ℤ pos (b * n)

@@ -1,5 +1,5 @@
 -- The rank of a member and the k-th place determine each other.
-use Rattle.std.specs.Prelude.{◌≡◌, ℕ, zero, suc, ◌+◌, ◌<◌, ◌≤◌, List, [], ◌∷◌, Bool, true, false, cond, length, get_or, take, count_by}
+use Rattle.std.specs.Prelude.{◌≡◌, ℕ, zero, suc, ◌+◌, ◌<◌, ◌≤◌, List, [], ◌∷◌, Bool, true, length, get_or, take, count_by}
 use Rattle.std.proofs.Common.{arith, refl, ap, ◌∙◌, inl, inr}
 use Rattle.std.proofs.lemmas.Bool.{cond_both, cases_order}
 use Rattle.std.proofs.lemmas.List.{take_all}
@@ -23,21 +23,21 @@ pub nth_is : {X : Type 0} (p : X → Bool) (xs : List X) (k : ℕ) → k < count
 nth_is p [] k h = absurd (omega (arith, h))
 nth_is p (x ∷ xs) zero h =
     cond_both (p x) 0 (suc (nth p xs 0)) (λ i. IsPlace p (x ∷ xs) 0 i)
-      (λ y. record { within = omega arith; holds = λ d. y; earlier = refl })
-      (λ n.
-        let none = one_if-false (p x) n in
-        let r = later p x xs 0 (nth p xs 0) (nth_is p xs 0 (omega (arith, h, none, count_by-cons p x xs))) in
-        record { within = r.within; holds = r.holds; earlier = omega (arith, r.earlier, none) })
+    (λ y. record { within = omega arith; holds = λ d. y; earlier = refl })
+    (λ n.
+    let none = one_if-false (p x) n in
+    let r = later p x xs 0 (nth p xs 0) (nth_is p xs 0 (omega (arith, h, none, count_by-cons p x xs))) in
+    record { within = r.within; holds = r.holds; earlier = omega (arith, r.earlier, none) })
 nth_is p (x ∷ xs) (suc k) h =
     cond_both (p x) k (suc k) (λ j. IsPlace p (x ∷ xs) (suc k) (suc (nth p xs j)))
-      (λ y.
-        let one = one_if-true (p x) y in
-        let r = later p x xs k (nth p xs k) (nth_is p xs k (omega (arith, h, one, count_by-cons p x xs))) in
-        record { within = r.within; holds = r.holds; earlier = omega (arith, r.earlier, one) })
-      (λ n.
-        let none = one_if-false (p x) n in
-        let r = later p x xs (suc k) (nth p xs (suc k)) (nth_is p xs (suc k) (omega (arith, h, none, count_by-cons p x xs))) in
-        record { within = r.within; holds = r.holds; earlier = omega (arith, r.earlier, none) })
+    (λ y.
+    let one = one_if-true (p x) y in
+    let r = later p x xs k (nth p xs k) (nth_is p xs k (omega (arith, h, one, count_by-cons p x xs))) in
+    record { within = r.within; holds = r.holds; earlier = omega (arith, r.earlier, one) })
+    (λ n.
+    let none = one_if-false (p x) n in
+    let r = later p x xs (suc k) (nth p xs (suc k)) (nth_is p xs (suc k) (omega (arith, h, none, count_by-cons p x xs))) in
+    record { within = r.within; holds = r.holds; earlier = omega (arith, r.earlier, none) })
 
 -- of two places the earlier has the lower rank
 pub rank_lower : {X : Type 0} (p : X → Bool) (xs : List X) (i j : ℕ) → i < j → j ≤ length xs → ((d : X) → p (get_or xs i d) ≡ true) → rank p xs i < rank p xs j

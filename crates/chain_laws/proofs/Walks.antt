@@ -1,8 +1,8 @@
 -- Going along a map that has an inverse: the walk comes back to where it began, and what it passed is kept by the map.
-use Rattle.std.specs.Prelude.{◌≡◌, ◌≢◌, ℕ, zero, suc, ◌+◌, ◌-◌, ◌<◌, ◌≤◌, ℤ, pos, ◌+ℤ◌, ◌≤ℤ◌, ◌⊎◌}
-use Rattle.std.proofs.Common.{arith, refl, sym, subst, ap, ◌∙◌, inl, inr}
+use Rattle.std.specs.Prelude.{◌≡◌, ◌≢◌, ℕ, zero, suc, ◌+◌, ◌-◌, ◌<◌, ◌≤◌, pos, ◌≤ℤ◌, ◌⊎◌}
+use Rattle.std.proofs.Common.{arith, sym, subst, ap, ◌∙◌, inl, inr}
 use Rattle.std.proofs.lemmas.Int.{ints}
-use Rattle.std.proofs.lemmas.Bool.{cases_eq, cases_lt}
+use Rattle.std.proofs.lemmas.Bool.{cases_eq}
 use Rattle.chain_terms.specs.Sums.{total, upto}
 use Rattle.chain_laws.specs.Sums.{total-swap, total-zero}
 use Rattle.chain_laws.specs.Permutations.{AreInverse, times, Returns}
@@ -38,10 +38,12 @@ open_start s h = record { open_so_far = λ j p q. absurd (omega (arith, p, q)) }
 
 -- where the next step does not lead back, the walk goes on
 pub open_more : (s : ℕ → ℕ) (h k : ℕ) → IsOpen s h k → times s (suc k) h ≢ h → IsOpen s h (suc k)
-open_more s h k walk apart = record { open_so_far = λ j p q. elim (cases_eq j (suc k)) as (λ _. times s j h ≢ h) [
-  | inl e ↦ λ back. apart (ap (λ i. times s i h) (sym e) ∙ back)
-  | inr d ↦ walk.open_so_far j p (omega (arith, q, d))
-] }
+open_more s h k walk apart = record {
+  open_so_far = λ j p q. elim (cases_eq j (suc k)) as (λ _. times s j h ≢ h) [
+    | inl e ↦ λ back. apart (ap (λ i. times s i h) (sym e) ∙ back)
+    | inr d ↦ walk.open_so_far j p (omega (arith, q, d))
+  ];
+}
 
 -- the places of an open walk are different
 pub open_different : (s t : ℕ → ℕ) (n : ℕ) → AreInverse s t n → (h k : ℕ) → h < n → IsOpen s h k → (i j : ℕ) → i < j → j ≤ k → times s i h ≢ times s j h

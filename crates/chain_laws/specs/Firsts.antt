@@ -1,11 +1,10 @@
 -- The first member that passes a test; where only one passes, it is the same in every order.
-use Rattle.std.specs.Prelude.{◌≡◌, ℕ, zero, suc, ◌+◌, ◌<◌, ◌≤◌, List, [], ◌∷◌, length, map, Bool, true, false, cond, count_by}
+use Rattle.std.specs.Prelude.{◌≡◌, zero, suc, ◌<◌, ◌≤◌, List, [], ◌∷◌, Bool, true, false, cond, count_by}
 use Rattle.std.specs.List.{Contains}
 use Rattle.std.specs.List.Sorted.{IsPermutation}
 use Rattle.std.proofs.Common.{arith, refl, sym, ap, ◌∙◌, inl, inr}
 use Rattle.std.proofs.lemmas.Bool.{cases_Bool, cases_lt}
 use Rattle.std.proofs.lemmas.List.Sorted.{Contains-permutation, sum_by-IsPermutation}
-use Rattle.chain_terms.specs.Chains.{one_if}
 use Rattle.chain_laws.specs.Counts.{count_by-cons, one_if-true, one_if-false}
 
 -- v of the first member that passes p, or d where none does
@@ -69,5 +68,5 @@ first_of-permutation p v d xs ys few moved = elim (cases_lt 0 (count_by p xs)) a
   | inr z ↦ first_of-none p v d ys (omega (arith, z, same)) ∙ sym (first_of-none p v d xs (omega (arith, z)))
 ]
   where
-  same : count_by p ys ≡ count_by p xs
-  same = sum_by-IsPermutation (λ x. cond (p x) 1 0) xs ys moved
+    same : count_by p ys ≡ count_by p xs
+    same = sum_by-IsPermutation (λ x. cond (p x) 1 0) xs ys moved

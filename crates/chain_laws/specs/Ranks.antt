@@ -1,7 +1,6 @@
 -- Ranks and k-th places of the members that pass a test, and the twin rule on directed edges.
 use Rattle.std.specs.Prelude.{◌≡◌, ℕ, zero, suc, ◌+◌, ◌<◌, List, [], ◌∷◌, Bool, true, cond, length, get_or}
 use Rattle.chain_terms.specs.Chains.{is_edge, one_if}
-use Rattle.chain_laws.specs.Chains.{same_edge}
 
 -- how many of the first i members pass
 abbrev pub rank : {X : Type 0} → (X → Bool) → List X → ℕ → ℕ

@@ -1,12 +1,10 @@
 -- The entries with a count on each side of a signed list, above and not above.
-use Rattle.std.specs.Prelude.{◌≡◌, ◌≢◌, ℕ, zero, suc, ◌+◌, ◌<◌, ◌≤◌, ℤ, pos, negsuc, nat_abs, neg_ℤ, ◌+ℤ◌, ◌-ℤ◌, List, [], ◌∷◌, map, true, false, Bool, cond, nat_lt, count_by, ◌⊎◌}
-use Rattle.std.specs.List.{sum_by}
+use Rattle.std.specs.Prelude.{◌≡◌, ◌≢◌, ◌<◌, ◌≤◌, ℤ, pos, negsuc, nat_abs, List, [], ◌∷◌, map, true, false, Bool, nat_lt, count_by}
 use Rattle.std.specs.List.Sorted.{IsPermutation}
-use Rattle.std.proofs.Common.{arith, refl, ap, ◌∙◌, inl, inr}
+use Rattle.std.proofs.Common.{arith, refl, ap, inl, inr}
 use Rattle.std.proofs.lemmas.Int.{ints}
 use Rattle.std.proofs.lemmas.Bool.{cases_Bool, ltb-true, ltb-false}
 use Rattle.std.proofs.lemmas.List.Sums.{sum_by-cons}
-use Rattle.chain_terms.specs.Sums.{total}
 use Rattle.chain_terms.specs.Chains.{one_if}
 use Rattle.chain_laws.specs.Counts.{one_if-true, one_if-false, count_by-cons, count_by-map}
 use Rattle.chain_laws.specs.Firsts.{first_of, first_of-yes, first_of-no, first_of-permutation, Passing, passing}
@@ -78,19 +76,29 @@ sum_at-none b (e ∷ es) h = elim (cases_Bool (counts_at b e)) as (λ _. sum_at 
 pub sum_at-first : (b : Bool) (es : List (ℤ × Bool)) → count_by (counts_at b) es ≤ 1 → sum_at b es ≡ first_of (counts_at b) (λ e. e.0) (pos 0) es
 sum_at-first b [] few = refl
 sum_at-first b (e ∷ es) few = elim (cases_Bool (counts_at b e)) as (λ _. sum_at b (e ∷ es) ≡ first_of (counts_at b) (λ x. x.0) (pos 0) (e ∷ es)) [
-  | inl y ↦ omega (arith, ints, first_of-yes (counts_at b) (λ x. x.0) (pos 0) e es y, signed_at-some b e y,
-      sum_at-none b es (omega (arith, few, count_by-cons (counts_at b) e es, one_if-true (counts_at b e) y)))
-  | inr n ↦ omega (arith, ints, first_of-no (counts_at b) (λ x. x.0) (pos 0) e es n, signed_at-none b e n,
-      sum_at-first b es (omega (arith, few, count_by-cons (counts_at b) e es)))
+  | inl y ↦ omega (
+    arith,
+    ints,
+    first_of-yes (counts_at b) (λ x. x.0) (pos 0) e es y,
+    signed_at-some b e y,
+    sum_at-none b es (omega (arith, few, count_by-cons (counts_at b) e es, one_if-true (counts_at b e) y)),
+  )
+  | inr n ↦ omega (
+    arith,
+    ints,
+    first_of-no (counts_at b) (λ x. x.0) (pos 0) e es n,
+    signed_at-none b e n,
+    sum_at-first b es (omega (arith, few, count_by-cons (counts_at b) e es)),
+  )
 ]
 
 -- whole 0, a weight of at most 3 and a number that is not 0: one entry counts on each side
 pub one_counts : (es : List (ℤ × Bool)) → whole es ≡ pos 0 → weight es ≤ 3 → number es ≢ pos 0 → (b : Bool) → count_by (counts_at b) es ≡ 1
 one_counts es none few some b = omega (arith, counts_at-weight b es, counts_at-some b es (number_sides es none some b), one_at b)
   where
-  one_at : (b : Bool) → weight_at b es ≡ 1
-  one_at true = (one_on_each_side es none few some).0
-  one_at false = (one_on_each_side es none few some).1
+    one_at : (b : Bool) → weight_at b es ≡ 1
+    one_at true = (one_on_each_side es none few some).0
+    one_at false = (one_on_each_side es none few some).1
 
 -- then the number is the count of the one above
 pub number_of_first : (es : List (ℤ × Bool)) → whole es ≡ pos 0 → weight es ≤ 3 → number es ≢ pos 0 → number es ≡ first_of (counts_at true) (λ e. e.0) (pos 0) es

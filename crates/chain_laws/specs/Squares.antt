@@ -1,5 +1,5 @@
 -- Differences of tests round a square and round a triangle, as signed counts.
-use Rattle.std.specs.Prelude.{◌≡◌, ℕ, ◌≤◌, ℤ, pos, neg_ℤ, nat_abs, ◌-ℤ◌, List, [], ◌∷◌, true, false, Bool, ◌⊎◌}
+use Rattle.std.specs.Prelude.{◌≡◌, ◌≤◌, ℤ, pos, neg_ℤ, nat_abs, ◌-ℤ◌, List, [], ◌∷◌, true, false, Bool, ◌⊎◌}
 use Rattle.std.specs.List.{sum_by}
 use Rattle.std.proofs.Common.{arith, refl, inl, inr}
 use Rattle.std.proofs.lemmas.Int.{ints}

@@ -1,13 +1,12 @@
 -- Triangles as triples of vertices: their edges under turning, reversal and renaming.
-use Rattle.std.specs.Prelude.{◌≡◌, ℕ, ℤ, pos, neg_ℤ, ◌+ℤ◌, ◌-ℤ◌, List, [], ◌∷◌, ◌++◌, map, slice_index}
-use Rattle.std.specs.List.{flat_map, concat}
+use Rattle.std.specs.Prelude.{◌≡◌, ℕ, ℤ, pos, ◌-ℤ◌, List, [], ◌∷◌, ◌++◌, map, slice_index}
 use Rattle.std.proofs.Common.{◌⊎◌, inl, inr, arith, ap, refl, sym, ◌∙◌}
 use Rattle.std.proofs.lemmas.Int.{ints}
 use Rattle.std.proofs.lemmas.List.{append_assoc}
 use Rattle.chain_terms.specs.Sums.{total}
 use Rattle.chain_terms.specs.Chains.{IsClosed, edges, all_edges}
-use Rattle.chain_laws.specs.Sums.{total-append, total-flat_map}
-use Rattle.chain_laws.specs.Chains.{IsOdd, along, backward, SameChain, renamed, odd_sum, total-backward, closed_from_sums, closed-append, closed-renamed, closed_same, closed-backward}
+use Rattle.chain_laws.specs.Sums.{total-append}
+use Rattle.chain_laws.specs.Chains.{along, backward, SameChain, renamed, total-backward, closed-append, closed-renamed, closed_same, closed-backward}
 
 -- the triple that an array of three holds
 abbrev pub triple_of : List ℕ → ℕ × ℕ × ℕ
@@ -68,8 +67,17 @@ pub all_edges-opposite : (ts : List (ℕ × ℕ × ℕ)) → SameChain (all_edge
 all_edges-opposite [] f odd = refl
 all_edges-opposite (t ∷ ts) f odd =
     let here = edges-opposite t f odd in
-    omega (arith, ints, here, all_edges-opposite ts f odd, total-append (along f) (edges (opposite_triple t)) (all_edges (map opposite_triple ts)),
-      total-append (along f) (edges t) (all_edges ts), total-backward f odd (edges t), total-backward f odd (all_edges ts), total-backward f odd (edges t ++ all_edges ts))
+    omega (
+      arith,
+      ints,
+      here,
+      all_edges-opposite ts f odd,
+      total-append (along f) (edges (opposite_triple t)) (all_edges (map opposite_triple ts)),
+      total-append (along f) (edges t) (all_edges ts),
+      total-backward f odd (edges t),
+      total-backward f odd (all_edges ts),
+      total-backward f odd (edges t ++ all_edges ts),
+    )
 
 -- closed triangles stay closed when their vertices are renamed
 pub closed-renamed_triples : (r : ℕ → ℕ) (ts : List (ℕ × ℕ × ℕ)) → IsClosed (all_edges ts) → IsClosed (all_edges (map (renamed_triple r) ts))

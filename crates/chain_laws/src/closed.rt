@@ -61,3 +61,28 @@ fn one_if_runs(a: u32, b: u32, from: u32, to: u32) -> u64
 {
     if a == from && b == to { 1 } else { 0 }
 }
+
+#[cfg(test)]
+mod tests {
+    use super::*;
+
+    const TETRA: [[u32; 3]; 4] = [[0, 1, 2], [0, 3, 1], [1, 3, 2], [0, 2, 3]];
+
+    #[test]
+    fn solids_and_turned_pairs_are_closed(rt: HostRuntime) {
+        assert!(rt; is_closed(&TETRA));
+        assert!(rt; is_closed(&[]));
+        assert!(rt; is_closed(&[[7, 8, 9], [8, 7, 9]]));
+        assert!(rt; is_closed(&[[7, 8, 9], [9, 8, 7], [7, 8, 9], [8, 7, 9]]));
+        assert!(rt; is_closed(&[[5, 5, u32::MAX], [5, 5, 5]]));
+    }
+
+    #[test]
+    fn open_and_badly_turned_triangles_are_not(rt: HostRuntime) {
+        assert!(rt; !is_closed(&[[0, 1, 2]]));
+        assert!(rt; !is_closed(&[[0, 1, 2], [1, 2, 0]]));
+        assert!(rt; !is_closed(&TETRA[..3]));
+        assert!(rt; !is_closed(&[[0, 1, 2], [0, 3, 1], [1, 3, 2], [0, 3, 2]]));
+        assert!(rt; !is_closed(&[[7, 8, 9], [8, 7, 9], [7, 8, 9]]));
+    }
+}

@@ -1,4 +1,4 @@
-use Rattle.std.proofs.Common.{◌≡◌, ◌≤◌, ℕ, ◌*◌, take, map}
+use Rattle.std.proofs.Common.{◌≡◌, ◌≤◌, ◌*◌, take, map}
 use Rattle.chain_terms.specs.Chains.{dir, all_edges}
 use Rattle.chain_laws.specs.Triples.{triple_of}
 use Rattle.chain_laws.proofs.closed.count_edges.Given as goal
