@@ -5,6 +5,7 @@ use Rattle.std.proofs.lemmas.Bool.{cases_lt}
 use Rattle.std.proofs.lemmas.List.{get_or_default}
 use Rattle.chain_terms.specs.Chains.{is_edge, IsClosed}
 use Rattle.chain_laws.specs.Chains.{edge_is, is_self, dir-count_by}
+use Rattle.chain_laws.specs.Permutations.{AreInverse}
 use Rattle.chain_laws.specs.Ranks.{rank, IsPlace, start, finish, runs_as, runs_against, twin, RunsBack}
 use Rattle.chain_laws.proofs.Ranks.{nth_is, rank_ascends, rank_lower, rank_below, same_place}
 
@@ -72,3 +73,12 @@ twin_keeps_order es closed h g less below a b = elim (cases_lt (twin es h) (twin
     high =
         ap (λ x. rank (λ e. is_edge e (finish es h) x) es (twin es g)) a ∙ ap (λ y. rank (λ e. is_edge e y (start es g)) es (twin es g)) b ∙ (twin_place es closed g below).earlier
         ∙ ap (λ x. rank (λ e. is_edge e x (finish es g)) es g) (sym a) ∙ ap (λ y. rank (λ e. is_edge e (start es h) y) es g) (sym b)
+
+-- on a closed chain the twin is its own inverse
+pub twins_inverse : (es : List (ℕ × ℕ)) → IsClosed es → AreInverse (twin es) (twin es) (length es)
+twins_inverse es closed = record {
+  below = λ h b. (twin_runs_back es closed h b).within;
+  above = λ h b. (twin_runs_back es closed h b).within;
+  back = twin_twin es closed;
+  forth = twin_twin es closed;
+}

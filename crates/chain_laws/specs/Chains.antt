@@ -1,13 +1,17 @@
 -- Laws of chains of directed edges: odd functions, closed chains, equal boundaries.
-use Rattle.std.specs.Prelude.{◌≡◌, ℕ, ◌+◌, ℤ, pos, neg_ℤ, ◌+ℤ◌, ◌-ℤ◌, List, [], ◌∷◌, ◌++◌, map, true, false, Bool, ◌==◌, ◌&&◌, count_by}
+use Rattle.std.specs.Prelude.{◌≡◌, ℕ, ◌+◌, ◌<◌, ℤ, pos, neg_ℤ, ◌+ℤ◌, ◌-ℤ◌, List, [], ◌∷◌, ◌++◌, map, true, false, Bool, cond, ◌==◌, ◌&&◌, count_by}
 use Rattle.std.specs.Bool.{Decides}
-use Rattle.std.proofs.Common.{arith, ap, refl, sym, ◌∙◌}
+use Rattle.std.specs.List.{Contains}
+use Rattle.std.specs.List.Sorted.{IsPermutation}
+use Rattle.std.proofs.Common.{arith, ap, refl, sym, subst, ◌∙◌}
 use Rattle.std.proofs.lemmas.Int.{ints}
 use Rattle.std.proofs.lemmas.Bool.{and_parts, eqb-true, eq-eqb, and_from}
+use Rattle.std.proofs.lemmas.List.Sorted.{sum_by-IsPermutation}
 use Rattle.chain_terms.specs.Sums.{total}
 use Rattle.chain_terms.specs.Chains.{is_edge, one_if, dir, IsClosed, boundary}
 use Rattle.chain_laws.specs.Sums.{total-append, total-map}
-use Rattle.chain_laws.specs.Counts.{count_by-cons, same_counts}
+use Rattle.chain_laws.specs.Counts.{count_by-cons, total-count_by, same_counts}
+use Rattle.chain_laws.specs.Firsts.{counted, passing}
 
 -- f turns its sign with the direction
 pub record IsOdd (f : ℕ → ℕ → ℤ) : Type 0 where
@@ -17,10 +21,11 @@ pub record IsOdd (f : ℕ → ℕ → ℤ) : Type 0 where
 abbrev pub along : (ℕ → ℕ → ℤ) → (ℕ × ℕ) → ℤ
 along f e = f e.0 e.1
 
--- the edge, and each edge, the other way
+-- the edge the other way
 abbrev pub turned_edge : (ℕ × ℕ) → ℕ × ℕ
 turned_edge e = (e.1, e.0)
 
+-- each edge of the chain the other way
 abbrev pub backward : List (ℕ × ℕ) → List (ℕ × ℕ)
 backward es = map turned_edge es
 
@@ -32,25 +37,29 @@ SameChain es ms = (f : ℕ → ℕ → ℤ) → IsOdd f → total (along f) es �
 pub edge_is : (e : ℕ × ℕ) (a b : ℕ) → is_edge e a b ≡ true → (e.0 ≡ a) × (e.1 ≡ b)
 edge_is e a b h = let p = and_parts (e.0 == a) (e.1 == b) h in (eqb-true e.0 a p.0, eqb-true e.1 b p.1)
 
+-- the edge from a to b runs from a to b
 pub is_self : (a b : ℕ) → is_edge (a, b) a b ≡ true
 is_self a b = and_from (a == a) (b == b) (eq-eqb a a refl) (eq-eqb b b refl)
 
--- the test of two edges
+-- a test whether two edges are the same
 abbrev pub same_edge : (ℕ × ℕ) → (ℕ × ℕ) → Bool
 same_edge d e = is_edge e d.0 d.1
 
+-- it decides
 pub edge_decides : (d e : ℕ × ℕ) → Decides (same_edge d e) (d ≡ e)
 edge_decides d e = (
   (λ h. let p = edge_is e d.0 d.1 h in ap (λ x. (x, d.1)) (sym p.0) ∙ ap (λ y. (e.0, y)) (sym p.1)),
   (λ h. ap (same_edge d) (sym h) ∙ is_self d.0 d.1),
 )
 
+-- both tests hold, in either order
 pub and_turned : (x y : Bool) → (x && y) ≡ (y && x)
 and_turned true true = refl
 and_turned true false = refl
 and_turned false true = refl
 and_turned false false = refl
 
+-- a turned edge runs from a to b where the edge runs from b to a
 pub edge_turned : (e : ℕ × ℕ) (a b : ℕ) → one_if (is_edge (turned_edge e) a b) ≡ one_if (is_edge e b a)
 edge_turned e a b = ap one_if (and_turned (e.1 == a) (e.0 == b))
 
@@ -63,6 +72,24 @@ dir-count_by (e ∷ es) a b = omega (arith, dir-count_by es a b, count_by-cons (
 pub dir-append : (es ms : List (ℕ × ℕ)) (a b : ℕ) → dir (es ++ ms) a b ≡ dir es a b + dir ms a b
 dir-append [] ms a b = omega arith
 dir-append (e ∷ es) ms a b = omega (arith, dir-append es ms a b)
+
+-- and a sum of ones
+pub total-dir : (es : List (ℕ × ℕ)) (a b : ℕ) → total (λ e. pos (one_if (is_edge e a b))) es ≡ pos (dir es a b)
+total-dir es a b = omega (arith, ints, total-count_by (same_edge (a, b)) es, dir-count_by es a b)
+
+-- in another order an edge occurs as often
+pub dir-permutation : (es ms : List (ℕ × ℕ)) → IsPermutation es ms → (a b : ℕ) → dir ms a b ≡ dir es a b
+dir-permutation es ms moved a b = omega (arith, dir-count_by es a b, dir-count_by ms a b, sum_by-IsPermutation (λ e. cond (same_edge (a, b) e) 1 0) es ms moved)
+
+-- an edge of the chain occurs
+pub dir_some : (es : List (ℕ × ℕ)) (a b : ℕ) → Contains es (a, b) → 0 < dir es a b
+dir_some es a b inside = omega (arith, dir-count_by es a b, counted (same_edge (a, b)) (a, b) es inside (is_self a b))
+
+-- an edge that occurs is one of the chain
+pub dir_contains : (es : List (ℕ × ℕ)) (a b : ℕ) → 0 < dir es a b → Contains es (a, b)
+dir_contains es a b some =
+    let found = passing (same_edge (a, b)) es (omega (arith, some, dir-count_by es a b)) in
+    subst (Contains es) (sym ((edge_decides (a, b) found.member).0 found.passes)) found.inside
 
 -- in the turned chain an edge occurs as often as its reverse did
 pub dir-backward : (es : List (ℕ × ℕ)) (a b : ℕ) → dir (backward es) a b ≡ dir es b a
@@ -96,6 +123,7 @@ same_boundary es ms same f odd =
 abbrev pub unit_edge : ℕ → ℕ → ℕ → ℕ → ℤ
 unit_edge a b c d = pos (one_if (is_edge (c, d) a b)) -ℤ pos (one_if (is_edge (c, d) b a))
 
+-- that is odd in c and d
 pub unit_edge_odd : (a b : ℕ) → IsOdd (unit_edge a b)
 unit_edge_odd a b = record { turns = λ c d. omega (arith, ints, edge_turned (c, d) a b, edge_turned (c, d) b a) }
 
@@ -116,11 +144,11 @@ closed_from_sums es same a b = let e = boundary_same es [] same a b in omega (ar
 pub sums_from_closed : (es : List (ℕ × ℕ)) → IsClosed es → SameChain es []
 sums_from_closed es closed f odd = odd_sum f odd es closed
 
--- chains with the same sums may be exchanged
+-- having the same sums is symmetric
 pub same_chain-sym : (es ms : List (ℕ × ℕ)) → SameChain es ms → SameChain ms es
 same_chain-sym es ms h f odd = sym (h f odd)
 
--- and followed
+-- and transitive
 pub same_chain-trans : (es ms ns : List (ℕ × ℕ)) → SameChain es ms → SameChain ms ns → SameChain es ns
 same_chain-trans es ms ns h k f odd = h f odd ∙ k f odd
 
@@ -131,6 +159,10 @@ same_chain-append es ms fs ns h k f odd = omega (arith, ints, h f odd, k f odd, 
 -- a chain with the sums of a closed one is closed
 pub closed_same : (es ms : List (ℕ × ℕ)) → SameChain es ms → IsClosed ms → IsClosed es
 closed_same es ms h closed = closed_from_sums es (λ f odd. h f odd ∙ odd_sum f odd ms closed)
+
+-- a closed chain in another order is closed
+pub closed-permutation : (es ms : List (ℕ × ℕ)) → IsPermutation es ms → IsClosed es → IsClosed ms
+closed-permutation es ms moved closed a b = omega (arith, closed a b, dir-permutation es ms moved a b, dir-permutation es ms moved b a)
 
 -- a closed chain after a closed chain is closed
 pub closed-append : (es ms : List (ℕ × ℕ)) → IsClosed es → IsClosed ms → IsClosed (es ++ ms)

@@ -1,5 +1,5 @@
 -- Counts of equal members: lists with the same counts have the same sums.
-use Rattle.std.specs.Prelude.{◌≡◌, ◌+◌, ◌<◌, ℤ, ◌+ℤ◌, List, [], ◌∷◌, ◌++◌, map, true, false, Bool, cond, count_by}
+use Rattle.std.specs.Prelude.{◌≡◌, ◌+◌, ◌<◌, ℤ, pos, ◌+ℤ◌, List, [], ◌∷◌, ◌++◌, map, true, false, Bool, cond, count_by}
 use Rattle.std.specs.Bool.{Decides}
 use Rattle.std.proofs.Common.{arith, refl, ap, inl, inr}
 use Rattle.std.proofs.lemmas.Int.{ints}
@@ -25,6 +25,11 @@ one_if-cond false = refl
 -- a count with one more member in front
 pub count_by-cons : {X : Type 0} (p : X → Bool) → (x : X) (xs : List X) → count_by p (x ∷ xs) ≡ one_if (p x) + count_by p xs
 count_by-cons p x xs = omega (arith, one_if-cond (p x), sum_by-cons (λ y. cond (p y) 1 0) x xs)
+
+-- a count is a sum of ones
+pub total-count_by : {X : Type 0} (p : X → Bool) → (xs : List X) → total (λ x. pos (one_if (p x))) xs ≡ pos (count_by p xs)
+total-count_by p [] = refl
+total-count_by p (x ∷ xs) = omega (arith, ints, count_by-cons p x xs, total-count_by p xs)
 
 -- a count of a renamed list
 pub count_by-map : {X Y : Type 0} (p : Y → Bool) (h : X → Y) → (xs : List X) → count_by p (map h xs) ≡ count_by (λ x. p (h x)) xs

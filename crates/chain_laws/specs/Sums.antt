@@ -116,15 +116,6 @@ total_within f b (x ∷ xs) h =
     let rest = total_within f b xs (All-tail (λ y. IsWithin (f y) b) x xs h) in
     record { low = omega (arith, ints, head.low, rest.low); high = omega (arith, ints, head.high, rest.high) }
 
--- a count is a sum of ones
-pub total-count_by : {X : Type 0} (p : X → Bool) → (xs : List X) → total (λ x. pos (one_if (p x))) xs ≡ pos (count_by p xs)
-total-count_by p [] = refl
-total-count_by p (x ∷ xs) = omega (arith, ints, one_if_cond (p x), sum_by-cons (λ y. cond (p y) 1 0) x xs, total-count_by p xs)
-  where
-    one_if_cond : (b : Bool) → one_if b ≡ cond b 1 0
-    one_if_cond true = refl
-    one_if_cond false = refl
-
 -- a sum is a difference of two sums of natural numbers, so what std knows of those carries over
 pub total-split : {X : Type 0} (f : X → ℤ) → (xs : List X) → total f xs ≡ pos (sum_by (λ x. up (f x)) xs) -ℤ pos (sum_by (λ x. down (f x)) xs)
 total-split f [] = refl

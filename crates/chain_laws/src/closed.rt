@@ -2,7 +2,7 @@
 
 ghost use Rattle.std.specs.Prelude.{◌≡◌, ◌≤◌, ◌↔◌, map, IsTrue};
 ghost use Rattle.chain_terms.specs.Chains.{is_edge, one_if, dir, edges, all_edges, IsClosed};
-ghost use Rattle.chain_laws.specs.Closed.{IsBalanced};
+ghost use Rattle.chain_laws.specs.Closed.{IsMatched, IsBalanced};
 ghost use Rattle.chain_laws.specs.Triples.{triple_of};
 
 /// Whether each directed edge of the triangles, given by their vertex numbers, occurs as often as its reverse.
@@ -21,7 +21,9 @@ pub fn is_closed(triples: &[[u32; 3]]) -> bool
 
 /// Whether each edge of the triangle occurs in all the triangles as often as its reverse.
 fn is_balanced(triples: &[[u32; 3]], triple: &[u32; 3]) -> bool
-    ensures { IsTrue result ↔ IsBalanced (triple_of triple.now) (all_edges (map triple_of triples.now)) }
+    ensures {
+        IsTrue result ↔ IsBalanced (triple_of triple.now) (all_edges (map triple_of triples.now))
+    }
 {
     let [a, b, c] = *triple;
     is_matched(triples, a, b) && is_matched(triples, b, c) && is_matched(triples, c, a)
@@ -29,7 +31,7 @@ fn is_balanced(triples: &[[u32; 3]], triple: &[u32; 3]) -> bool
 
 /// Whether as many edges run from one vertex to the other as back.
 fn is_matched(triples: &[[u32; 3]], from: u32, to: u32) -> bool
-    ensures { IsTrue result ↔ (dir (all_edges (map triple_of triples.now)) from to ≡ dir (all_edges (map triple_of triples.now)) to from) }
+    ensures { IsTrue result ↔ IsMatched (all_edges (map triple_of triples.now)) (from, to) }
 {
     count_edges(triples, from, to) == count_edges(triples, to, from)
 }

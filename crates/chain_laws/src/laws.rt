@@ -20,19 +20,23 @@ pub fn odd_sums_vanish()
     ensures renamed { RenamingKeepsClosed }
 {}
 
-/// Two chains have one boundary exactly where every odd function has one sum over both; so triangles have the area of their boundary.
+/// Two chains have one boundary exactly where every odd function has one sum over both.
+///
+/// So triangles have the doubled area of their boundary.
 pub fn boundary_decides_sums()
     ensures sums { BoundaryDecidesSums }
     ensures area { BoundaryGivesArea }
 {}
 
-/// Winding numbers change along an edge by its crossings, and a pair of triangles has one number from either side.
+/// Winding numbers change along an edge by its crossings, and two triangles have one number from either side.
 pub fn crossings_are_conserved()
     ensures edges { EdgesConserve }
     ensures pairs { PairsAgree }
 {}
 
-/// Twice the number of a signed list differs from its whole by at most its weight; with whole 0, a number that is not 0 has counts on both sides.
+/// Twice the number of a signed list differs from its whole by at most its weight.
+///
+/// With whole 0, a number that is not 0 has counts on both sides.
 pub fn numbers_are_small()
     ensures within { NumberIsWithin }
     ensures sides { NumberHasBothSides }
@@ -43,7 +47,9 @@ pub fn twins_pair_up()
     ensures { TwinsPairUp }
 {}
 
-/// Going along a map that has an inverse leads back, and a chain with as many edges from as to each vertex falls into cycles.
+/// Going along a map that has an inverse leads back to where it began.
+///
+/// A chain with as many edges from as to each vertex falls into cycles.
 pub fn walks_return()
     ensures walk { WalksReturn }
     ensures cycles { CyclesHaveTheEdges }
