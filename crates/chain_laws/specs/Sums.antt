@@ -1,5 +1,5 @@
 -- Laws of sums of whole numbers over lists.
-use Rattle.std.specs.Prelude.{◌≡◌, ℕ, zero, suc, ◌+◌, ◌<◌, ◌≤◌, ◌*◌, ℤ, pos, negsuc, nat_abs, neg_ℤ, ◌+ℤ◌, ◌-ℤ◌, ◌≤ℤ◌, List, [], ◌∷◌, ◌++◌, length, take, get_or, map, true, false, Bool, cond, Option, Some, None, count_by}
+use Rattle.std.specs.Prelude.{◌≡◌, ℕ, zero, suc, ◌+◌, ◌<◌, ◌≤◌, ◌*◌, ℤ, pos, negsuc, nat_abs, neg_ℤ, ◌+ℤ◌, ◌-ℤ◌, ◌≤ℤ◌, List, [], ◌∷◌, ◌++◌, length, take, get_or, map, Option, Some, None}
 use Rattle.std.specs.List.{flat_map, filter_map, cons_option, sum_by, All}
 use Rattle.std.specs.List.Sorted.{IsPermutation}
 use Rattle.std.proofs.Common.{arith, refl, add-one}
@@ -9,7 +9,6 @@ use Rattle.std.proofs.lemmas.List.Elements.{All-head, All-tail}
 use Rattle.std.proofs.lemmas.List.Sorted.{sum_by-IsPermutation}
 use borrow.Author.Differences.{up, down}
 use Rattle.chain_terms.specs.Sums.{total}
-use Rattle.chain_terms.specs.Chains.{one_if}
 
 -- the sum over two lists, one after the other
 pub total-append : {X : Type 0} (f : X → ℤ) → (xs ys : List X) → total f (xs ++ ys) ≡ total f xs +ℤ total f ys

@@ -21,9 +21,7 @@ pub fn is_closed(triples: &[[u32; 3]]) -> bool
 
 /// Whether each edge of the triangle occurs in all the triangles as often as its reverse.
 fn is_balanced(triples: &[[u32; 3]], triple: &[u32; 3]) -> bool
-    ensures {
-        IsTrue result ↔ IsBalanced (triple_of triple.now) (all_edges (map triple_of triples.now))
-    }
+    ensures { IsTrue result ↔ IsBalanced (triple_of triple.now) (all_edges (map triple_of triples.now)) }
 {
     let [a, b, c] = *triple;
     is_matched(triples, a, b) && is_matched(triples, b, c) && is_matched(triples, c, a)
