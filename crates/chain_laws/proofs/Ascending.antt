@@ -5,6 +5,7 @@ use Rattle.std.proofs.Common.{arith, refl, sym, ap, subst, ◌∙◌, inl, inr}
 use Rattle.std.proofs.lemmas.Int.{ints}
 use Rattle.std.proofs.lemmas.Bool.{cases_Bool, cases_eq, cond_both}
 use Rattle.std.proofs.lemmas.List.{get_or_default, append-nil}
+use Rattle.std.proofs.lemmas.List.Elements.{filter-append}
 use Rattle.chain_terms.specs.Sums.{total, up_from, upto}
 use Rattle.chain_laws.specs.Ascending.{Ascends}
 use Rattle.chain_laws.proofs.Places.{upto_more}
@@ -15,14 +16,6 @@ total-filter f p [] = refl
 total-filter f p (x ∷ xs) = elim (cases_Bool (p x)) as (λ _. total f (filter p (x ∷ xs)) ≡ total (λ y. cond (p y) (f y) (pos 0)) (x ∷ xs)) [
   | inl y ↦ rw y (omega (arith, ints, total-filter f p xs))
   | inr n ↦ rw n (omega (arith, ints, total-filter f p xs))
-]
-
--- a filter of two lists, one after the other
-pub filter-append : {X : Type 0} (p : X → Bool) (xs ys : List X) → filter p (xs ++ ys) ≡ filter p xs ++ filter p ys
-filter-append p [] ys = refl
-filter-append p (x ∷ xs) ys = elim (cases_Bool (p x)) as (λ _. filter p ((x ∷ xs) ++ ys) ≡ filter p (x ∷ xs) ++ filter p ys) [
-  | inl y ↦ rw y (ap (λ l. x ∷ l) (filter-append p xs ys))
-  | inr n ↦ rw n (filter-append p xs ys)
 ]
 
 -- one more number that passes, as at a step of a loop

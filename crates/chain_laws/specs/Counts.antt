@@ -36,13 +36,9 @@ pub count_by-map : {X Y : Type 0} (p : Y → Bool) (h : X → Y) → (xs : List 
 count_by-map p h [] = refl
 count_by-map p h (x ∷ xs) = omega (arith, count_by-cons p (h x) (map h xs), count_by-cons (λ y. p (h y)) x xs, count_by-map p h xs)
 
--- a count of two lists, one after the other
-pub count_by-append : {X : Type 0} (p : X → Bool) → (xs ys : List X) → count_by p (xs ++ ys) ≡ count_by p xs + count_by p ys
-count_by-append p xs ys = sum_by-append (λ x. cond (p x) 1 0) xs ys
-
 -- a member may be counted first
 pub count_by-middle : {X : Type 0} (p : X → Bool) → (xs : List X) (y : X) (ys : List X) → count_by p (xs ++ y ∷ ys) ≡ one_if (p y) + count_by p (xs ++ ys)
-count_by-middle p xs y ys = omega (arith, count_by-append p xs (y ∷ ys), count_by-append p xs ys, count_by-cons p y ys)
+count_by-middle p xs y ys = omega (arith, sum_by-append (λ x. cond (p x) 1 0) xs (y ∷ ys), sum_by-append (λ x. cond (p x) 1 0) xs ys, count_by-cons p y ys)
 
 -- or added first
 pub total-middle : {X : Type 0} (f : X → ℤ) → (xs : List X) (y : X) (ys : List X) → total f (xs ++ y ∷ ys) ≡ f y +ℤ total f (xs ++ ys)

@@ -1,10 +1,12 @@
 -- The first member that passes a test; where only one passes, it is the same in every order.
-use Rattle.std.specs.Prelude.{◌≡◌, zero, suc, ◌<◌, ◌≤◌, List, [], ◌∷◌, Bool, true, false, cond, count_by}
+use Rattle.std.specs.Prelude.{◌≡◌, zero, suc, ◌<◌, ◌≤◌, ℤ, pos, List, [], ◌∷◌, Bool, true, false, cond, count_by}
 use Rattle.std.specs.List.{Contains}
 use Rattle.std.specs.List.Sorted.{IsPermutation}
 use Rattle.std.proofs.Common.{arith, refl, sym, ap, ◌∙◌, inl, inr}
+use Rattle.std.proofs.lemmas.Int.{ints}
 use Rattle.std.proofs.lemmas.Bool.{cases_Bool, cases_lt}
 use Rattle.std.proofs.lemmas.List.Sorted.{Contains-permutation, sum_by-IsPermutation}
+use Rattle.chain_terms.specs.Sums.{total}
 use Rattle.chain_laws.specs.Counts.{count_by-cons, one_if-true, one_if-false}
 
 -- v of the first member that passes p, or d where none does
@@ -70,3 +72,19 @@ first_of-permutation p v d xs ys few moved = elim (cases_lt 0 (count_by p xs)) a
   where
     same : count_by p ys ≡ count_by p xs
     same = sum_by-IsPermutation (λ x. cond (p x) 1 0) xs ys moved
+
+-- a sum in which no member passes is 0
+pub total-no_hit : {X : Type 0} (p : X → Bool) (f : X → ℤ) (xs : List X) → count_by p xs ≡ 0 → total (λ x. cond (p x) (f x) (pos 0)) xs ≡ pos 0
+total-no_hit p f [] h = refl
+total-no_hit p f (x ∷ xs) h = elim (cases_Bool (p x)) as (λ _. total (λ y. cond (p y) (f y) (pos 0)) (x ∷ xs) ≡ pos 0) [
+  | inl y ↦ absurd (omega (arith, h, count_by-cons p x xs, one_if-true (p x) y))
+  | inr n ↦ rw n (omega (arith, ints, total-no_hit p f xs (omega (arith, h, count_by-cons p x xs))))
+]
+
+-- one in which at most one passes is its value at the first that does
+pub total-first : {X : Type 0} (p : X → Bool) (f : X → ℤ) (xs : List X) → count_by p xs ≤ 1 → total (λ x. cond (p x) (f x) (pos 0)) xs ≡ first_of p f (pos 0) xs
+total-first p f [] few = refl
+total-first p f (x ∷ xs) few = elim (cases_Bool (p x)) as (λ _. total (λ y. cond (p y) (f y) (pos 0)) (x ∷ xs) ≡ first_of p f (pos 0) (x ∷ xs)) [
+  | inl y ↦ rw y (omega (arith, ints, total-no_hit p f xs (omega (arith, few, count_by-cons p x xs, one_if-true (p x) y))))
+  | inr n ↦ rw n (omega (arith, ints, total-first p f xs (omega (arith, few, count_by-cons p x xs))))
+]

@@ -1,13 +1,14 @@
 -- The entries with a count on each side of a signed list, above and not above.
-use Rattle.std.specs.Prelude.{◌≡◌, ◌≢◌, ◌<◌, ◌≤◌, ℤ, pos, negsuc, nat_abs, List, [], ◌∷◌, map, true, false, Bool, nat_lt, count_by}
+use Rattle.std.specs.Prelude.{◌≡◌, ◌≢◌, ◌<◌, ◌≤◌, ℤ, pos, negsuc, nat_abs, List, [], ◌∷◌, map, true, false, Bool, cond, nat_lt, count_by}
 use Rattle.std.specs.List.Sorted.{IsPermutation}
-use Rattle.std.proofs.Common.{arith, refl, ap, inl, inr}
+use Rattle.std.proofs.Common.{arith, refl, ap, ◌∙◌, inl, inr}
 use Rattle.std.proofs.lemmas.Int.{ints}
-use Rattle.std.proofs.lemmas.Bool.{cases_Bool, ltb-true, ltb-false}
+use Rattle.std.proofs.lemmas.Bool.{cases_Bool, cond_both, ltb-true, ltb-false}
 use Rattle.std.proofs.lemmas.List.Sums.{sum_by-cons}
 use Rattle.chain_terms.specs.Chains.{one_if}
 use Rattle.chain_laws.specs.Counts.{one_if-true, one_if-false, count_by-cons, count_by-map}
-use Rattle.chain_laws.specs.Firsts.{first_of, first_of-yes, first_of-no, first_of-permutation, Passing, passing}
+use Rattle.chain_laws.specs.Firsts.{first_of, first_of-permutation, Passing, passing, total-first}
+use Rattle.chain_laws.specs.Sums.{total-same}
 use Rattle.chain_laws.specs.Signs.{signed_at, size_at, whole, sum_at, number, weight, weight_at, number_sides, one_on_each_side}
 
 -- the entry has a count and stands on side b
@@ -64,33 +65,13 @@ signed_at-some true (z, false) h = absurd (omega (arith, ltb-true 0 0 h))
 signed_at-some false (z, true) h = absurd (omega (arith, ltb-true 0 0 h))
 signed_at-some false (z, false) h = refl
 
--- where no entry counts on a side, its sum is 0
-pub sum_at-none : (b : Bool) (es : List (ℤ × Bool)) → count_by (counts_at b) es ≡ 0 → sum_at b es ≡ pos 0
-sum_at-none b [] h = refl
-sum_at-none b (e ∷ es) h = elim (cases_Bool (counts_at b e)) as (λ _. sum_at b (e ∷ es) ≡ pos 0) [
-  | inl y ↦ absurd (omega (arith, h, count_by-cons (counts_at b) e es, one_if-true (counts_at b e) y))
-  | inr n ↦ omega (arith, ints, signed_at-none b e n, sum_at-none b es (omega (arith, h, count_by-cons (counts_at b) e es)))
-]
+-- so it adds its count where it counts, else 0
+pub signed_at-cond : (b : Bool) (e : ℤ × Bool) → signed_at b e ≡ cond (counts_at b e) e.0 (pos 0)
+signed_at-cond b e = cond_both (counts_at b e) e.0 (pos 0) (λ z. signed_at b e ≡ z) (signed_at-some b e) (signed_at-none b e)
 
 -- where at most one entry counts on a side, its sum is the count of the first that does
 pub sum_at-first : (b : Bool) (es : List (ℤ × Bool)) → count_by (counts_at b) es ≤ 1 → sum_at b es ≡ first_of (counts_at b) (λ e. e.0) (pos 0) es
-sum_at-first b [] few = refl
-sum_at-first b (e ∷ es) few = elim (cases_Bool (counts_at b e)) as (λ _. sum_at b (e ∷ es) ≡ first_of (counts_at b) (λ x. x.0) (pos 0) (e ∷ es)) [
-  | inl y ↦ omega (
-    arith,
-    ints,
-    first_of-yes (counts_at b) (λ x. x.0) (pos 0) e es y,
-    signed_at-some b e y,
-    sum_at-none b es (omega (arith, few, count_by-cons (counts_at b) e es, one_if-true (counts_at b e) y)),
-  )
-  | inr n ↦ omega (
-    arith,
-    ints,
-    first_of-no (counts_at b) (λ x. x.0) (pos 0) e es n,
-    signed_at-none b e n,
-    sum_at-first b es (omega (arith, few, count_by-cons (counts_at b) e es)),
-  )
-]
+sum_at-first b es few = total-same (signed_at b) (λ e. cond (counts_at b e) e.0 (pos 0)) (signed_at-cond b) es ∙ total-first (counts_at b) (λ e. e.0) es few
 
 -- whole 0, a weight of at most 3 and a number that is not 0: one entry counts on each side
 pub one_counts : (es : List (ℤ × Bool)) → whole es ≡ pos 0 → weight es ≤ 3 → number es ≢ pos 0 → (b : Bool) → count_by (counts_at b) es ≡ 1
