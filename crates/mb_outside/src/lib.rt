@@ -7,6 +7,7 @@
 mod calls;
 mod memory_sink;
 mod stored_file;
+mod places;
 mod shelf;
 mod sink;
 
