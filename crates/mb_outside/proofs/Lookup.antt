@@ -1,13 +1,13 @@
 -- A file found by its name, and a file put in its place.
-use Rattle.std.proofs.Common.{◌≡◌, ◌<◌, ◌&&◌, ◌+◌, ℕ, zero, suc, Bool, true, false, not, List, [], ◌∷◌, ◌++◌, length, get_or, set, Option, Some, None, refl, sym, ◌∙◌, ap, arith, position, subst, cond, nat_lt}
+use Rattle.std.proofs.Common.{◌≡◌, ◌<◌, ◌&&◌, ◌+◌, ◌-◌, ℕ, zero, suc, Bool, true, false, not, List, [], ◌∷◌, ◌++◌, length, get_or, set, Option, Some, None, refl, sym, ◌∙◌, ap, arith, position, subst, cond, max, nat_lt}
 use Rattle.std.specs.List.{find, position_or_len}
 use Rattle.std.specs.Str.{bytes_eq}
 use Rattle.std.specs.Option.{option_map}
 use Rattle.std.proofs.lemmas.Slice.Eq.{bytes_eq-Decides}
 use Rattle.std.proofs.lemmas.List.Quantifiers.{position-Some}
 use Rattle.std.proofs.lemmas.List.Sums.{fails_before_first}
-use Rattle.run_terms.specs.Files.{Bytes}
-use Rattle.mb_outside.specs.Memory.{File, files_of, is_named, placed}
+use Rattle.run_terms.specs.Files.{Bytes, OthersStay}
+use Rattle.mb_outside.specs.Memory.{File, Store, files_of, given, is_named, limit_of, placed, written}
 
 -- what passes first is found
 find_first : {X : Type 0} (test : X → Bool) (xs : List X) (i : ℕ) (d : X) → i < length xs → test (get_or xs i d) ≡ true → ((k : ℕ) → k < i → test (get_or xs k d) ≡ false)
@@ -95,5 +95,37 @@ find_other name file (x ∷ xs) apart = by (is_named file.name x) refl (find_oth
     by true is later = rw is (rw (unnamed name file (λ same. apart (sym same))) (rw (unnamed name x (λ same. apart (sym same ∙ name_of file.name x is))) refl))
     by false is later = rw is (ap (λ rest. cond (is_named name x) (Some x) rest) later)
 
+-- a file written at the first place of its name
+pub written_over : (store : Store) (name bytes : Bytes) (i : ℕ) (old : File) → position (is_named name) store.files ≡ Some i → old ≡ get_or store.files i old
+    → record store { files = set store.files i (record old { bytes = bytes }) } ≡ written name bytes store
+written_over store name bytes i old is at =
+    let found : find (is_named name) store.files ≡ Some old = find_at_position (is_named name) store.files i old is ∙ ap (λ file. Some file) (sym at) in
+    let named : old.name ≡ name = name_of name old (ap (is_named name) at ∙ (position-Some (is_named name) store.files i old is).1) in
+    grind (arith, found, named, is, placed_over)
+
+-- a new file written at the end
+pub written_new : (store : Store) (name bytes : Bytes) → find (is_named name) store.files ≡ None
+    → record store { files = store.files ++ (record { name = name; bytes = bytes; limit = store.room }) ∷ []; free = store.free - 1 } ≡ written name bytes store
+written_new store name bytes none = grind (arith, none, placed_new)
+
 -- what a search by name finds, and what a write there puts
-pub ruleset lookups = (find_at_position, find_without_position, placed_over, placed_new, name_of)
+pub ruleset lookups = (find_at_position, find_without_position, placed_over, placed_new, written_over, written_new)
+
+-- the file that was written, as the map has it
+pub files_of_written : (store : Store) (name bytes : Bytes) → files_of (written name bytes store).files name ≡ Some bytes
+files_of_written store name bytes = ap (option_map (λ (file : File). file.bytes)) (find_placed (record { name = name; bytes = bytes; limit = limit_of store name }) store.files)
+
+-- the files of other names, as the map has them
+pub files_of_written_other : (store : Store) (name bytes : Bytes) → OthersStay name (files_of store.files) (files_of (written name bytes store).files)
+files_of_written_other store name bytes other apart = ap (option_map (λ (file : File). file.bytes)) (find_other other (record { name = name; bytes = bytes; limit = limit_of store name }) store.files apart)
+
+-- the file that was given, as the map has it
+pub files_of_given : (store : Store) (name bytes : Bytes) → files_of (given name bytes store).files name ≡ Some bytes
+files_of_given store name bytes = ap (option_map (λ (file : File). file.bytes)) (find_placed (record { name = name; bytes = bytes; limit = max store.room (length bytes) }) store.files)
+
+-- the files of other names, as the map has them
+pub files_of_given_other : (store : Store) (name bytes : Bytes) → OthersStay name (files_of store.files) (files_of (given name bytes store).files)
+files_of_given_other store name bytes other apart = ap (option_map (λ (file : File). file.bytes)) (find_other other (record { name = name; bytes = bytes; limit = max store.room (length bytes) }) store.files apart)
+
+-- what a write and a put make of the map
+pub ruleset maps = (files_of_written, files_of_written_other, files_of_given, files_of_given_other)

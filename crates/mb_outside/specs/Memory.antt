@@ -86,13 +86,13 @@ is_past store name more = nat_lt (limit_of store name) (length (text_of (files_o
 abbrev pub written : Bytes → Bytes → Store → Store
 written name bytes store = record store {
   files = placed (record { name = name; bytes = bytes; limit = limit_of store name }) store.files;
-  free = if has_file store name then store.free else store.free - 1
+  free = if has_file store name then store.free else store.free - 1;
 }
 
 -- the store where the file has these bytes in a place of its own, with room for as many or for as many as a free place
 abbrev pub given : Bytes → Bytes → Store → Store
 given name bytes store = record store {
-  files = placed (record { name = name; bytes = bytes; limit = max store.room (length bytes) }) store.files
+  files = placed (record { name = name; bytes = bytes; limit = max store.room (length bytes) }) store.files;
 }
 
 -- a shelf's files and places, how many bytes one call moves at most, its calls and its faults

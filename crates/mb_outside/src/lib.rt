@@ -5,12 +5,14 @@
 #![tactic(auto)]
 
 mod calls;
+mod memory_shelf;
 mod memory_sink;
-mod stored_file;
 mod places;
 mod shelf;
 mod sink;
+mod stored_file;
 
+pub use memory_shelf::MemoryShelf;
 pub use memory_sink::MemorySink;
 pub use shelf::{Failed, Shelf};
 pub use sink::Sink;

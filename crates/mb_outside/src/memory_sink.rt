@@ -35,11 +35,16 @@ impl Model for MemorySink {
 
 impl MemorySink {
     /// An empty sink with memory for `room` bytes, or `NoMemory`.
-    pub fn of(alloc: Global, room: usize, most: usize, fails: Vec<u64>) -> Result<MemorySink, NoMemory>
+    pub fn of(
+        alloc: Global,
+        room: usize,
+        most: usize,
+        fails: Vec<u64>,
+    ) -> Result<MemorySink, NoMemory>
         requires { 0 < most }
         ensures { IfOk result (λ sink. sink ≡ record { bytes = []; room = room; most = most; calls = record { fails = fails.items; made = 0 }; faults = 0 }) }
     {
-        let bytes = Vec::with_capacity(alloc, room).map_err(|_| NoMemory)?;
+        let bytes = Vec::with_capacity(alloc, room)?;
         Ok(MemorySink {
             bytes,
             room,

@@ -39,7 +39,7 @@ impl Places {
     pub fn of(alloc: Global, places: usize, room: usize) -> Result<Places, NoMemory>
         ensures { IfOk result (λ store. store ≡ record { files = []; free = places; room = room }) }
     {
-        let files = Vec::with_capacity(alloc, places).map_err(|_| NoMemory)?;
+        let files = Vec::with_capacity(alloc, places)?;
         let free = free_places(alloc, places, room)?;
         Ok(Places {
             alloc,
@@ -119,7 +119,7 @@ impl Places {
         match find(&self.files, name) {
             Some(i) => self.files[i] = file,
             None => {
-                self.files.reserve(self.free.len() + 1).map_err(|_| NoMemory)?;
+                self.files.reserve(self.free.len() + 1)?;
                 if self.files.push(file).is_err() {
                     unreachable!();
                 }
@@ -133,9 +133,9 @@ fn free_places(alloc: Global, places: usize, room: usize) -> Result<Vec<Place>, 
     ensures count { IfOk result (λ free. vec_len free ≡ places) }
     ensures rooms { IfOk result (λ free. All (λ r. r ≡ room) free.items) }
 {
-    let mut free = Vec::with_capacity(alloc, places).map_err(|_| NoMemory)?;
+    let mut free = Vec::with_capacity(alloc, places)?;
     for _ in 0..places {
-        free.push(Place::of(alloc, room)?).map_err(|_| NoMemory)?;
+        free.push(Place::of(alloc, room)?)?;
     }
     Ok(free)
 }

@@ -29,9 +29,9 @@ impl StoredFile {
         ensures { IfOk result (λ file. file ≡ record { name = name.now; bytes = bytes.now; limit = max room (length bytes.now) }) }
     {
         let limit = room.max(bytes.len());
-        let mut kept = Vec::with_capacity(alloc, limit).map_err(|_| NoMemory)?;
-        kept.extend_from_slice(bytes).map_err(|_| NoMemory)?;
-        let name = Vec::from_slice(alloc, name).map_err(|_| NoMemory)?;
+        let mut kept = Vec::with_capacity(alloc, limit)?;
+        kept.extend_from_slice(bytes)?;
+        let name = Vec::from_slice(alloc, name)?;
         Ok(StoredFile {
             name,
             bytes: kept,
@@ -93,8 +93,8 @@ impl Place {
     pub fn of(alloc: Global, room: usize) -> Result<Place, NoMemory>
         ensures { IfOk result (λ place. place ≡ room) }
     {
-        let name = Vec::with_capacity(alloc, 255).map_err(|_| NoMemory)?;
-        let bytes = Vec::with_capacity(alloc, room).map_err(|_| NoMemory)?;
+        let name = Vec::with_capacity(alloc, 255)?;
+        let bytes = Vec::with_capacity(alloc, room)?;
         Ok(Place { name, bytes, room })
     }
 
