@@ -5,14 +5,18 @@
 #![tactic(auto)]
 
 mod calls;
+mod folder_shelf;
 mod memory_shelf;
 mod memory_sink;
 mod places;
 mod shelf;
 mod sink;
+mod std_sink;
 mod stored_file;
 
+pub use folder_shelf::FolderShelf;
 pub use memory_shelf::MemoryShelf;
 pub use memory_sink::MemorySink;
 pub use shelf::{Failed, Shelf};
 pub use sink::Sink;
+pub use std_sink::StdSink;
