@@ -21,8 +21,8 @@ is_listed calls = list_any (λ n. n == one_more calls.made) calls.fails
 abbrev pub next : Calls → Calls
 next calls = record calls { made = one_more calls.made }
 
--- the bytes that a sink took, how many it may hold, how many it takes at most in one call, its calls and its faults
-pub record Taken : Type 0 where
+-- the bytes that a sink took, how many it may hold, how many one call takes at most, its calls and its faults
+pub record SinkState : Type 0 where
   pub bytes : Bytes
   pub room : ℕ
   pub most : ℕ
@@ -33,12 +33,16 @@ pub record Taken : Type 0 where
 abbrev pub part_of : ℕ → Bytes → ℕ
 part_of most piece = min most (length piece)
 
+-- a sink without bytes, none of whose calls was made
+abbrev pub empty_sink : (room most : ℕ) → List ℕ → SinkState
+empty_sink room most fails = record { bytes = []; room = room; most = most; calls = record { fails = fails; made = 0 }; faults = 0 }
+
 -- what is left of the room, where no call is to fail
-abbrev pub room_left : Taken → Option ℕ
+abbrev pub room_left : SinkState → Option ℕ
 room_left sink = if length sink.calls.fails == 0 then Some (sink.room - length sink.bytes) else None
 
 -- whether a write fails: its call is listed, or it would take the bytes past the room
-abbrev pub is_write_refused : Taken → Bytes → Bool
+abbrev pub is_write_refused : SinkState → Bytes → Bool
 is_write_refused sink piece = is_listed sink.calls || nat_lt sink.room (length sink.bytes + part_of sink.most piece)
 
 -- a file in memory: its name, its bytes, and how many it may hold
@@ -96,22 +100,44 @@ given name bytes store = record store {
 }
 
 -- a shelf's files and places, how many bytes one call moves at most, its calls and its faults
-pub record Kept : Type 0 where
+pub record ShelfState : Type 0 where
   pub store : Store
   pub most : ℕ
   pub calls : Calls
   pub read_faults : ℕ
   pub write_faults : ℕ
 
+-- a shelf without files, none of whose calls was made
+abbrev pub empty_shelf : (places room most : ℕ) → List ℕ → ShelfState
+empty_shelf places room most fails = record {
+  store = record { files = []; free = places; room = room };
+  most = most;
+  calls = record { fails = fails; made = 0 };
+  read_faults = 0;
+  write_faults = 0;
+}
+
+-- a call later, with these files and places
+abbrev pub holding : Store → ShelfState → ShelfState
+holding store shelf = record shelf { store = store; calls = next shelf.calls }
+
+-- a call later that was a read and failed
+abbrev pub with_read_fault : ShelfState → ShelfState
+with_read_fault shelf = record shelf { calls = next shelf.calls; read_faults = one_more shelf.read_faults }
+
+-- a call later that was a write and failed
+abbrev pub with_write_fault : ShelfState → ShelfState
+with_write_fault shelf = record shelf { calls = next shelf.calls; write_faults = one_more shelf.write_faults }
+
 -- whether a begin fails: its call is listed, or the new file finds no place
-abbrev pub is_begin_refused : Kept → Bytes → Bool
+abbrev pub is_begin_refused : ShelfState → Bytes → Bool
 is_begin_refused shelf name = is_listed shelf.calls || is_unplaced shelf.store name
 
 -- whether an append fails: its call is listed, the new file finds no place, or the file would be longer than it may be
-abbrev pub is_append_refused : Kept → Bytes → Bytes → Bool
+abbrev pub is_append_refused : ShelfState → Bytes → Bytes → Bool
 is_append_refused shelf name piece =
     is_listed shelf.calls || is_unplaced shelf.store name || is_past shelf.store name (part_of shelf.most piece)
 
 -- how many bytes one read gives: no more than one call moves, than there is space for, and than the file has from there
-abbrev pub read_of : Kept → Bytes → ℕ → Bytes → ℕ
+abbrev pub read_of : ShelfState → Bytes → ℕ → Bytes → ℕ
 read_of shelf name at into = min shelf.most (min (length into) (length (text_of (files_of shelf.store.files name)) - at))

@@ -11,8 +11,9 @@ const PIECE: usize = 65_536;
 
 /// The files of the current folder, reached by the runtime `rt`.
 ///
-/// No proof can say what a disk holds, so it tells no files. Each part of its count is 0 at first and goes up by one at each failure
-/// that the system reports, and where a write that was asked for bytes took none. A file is opened anew at each call.
+/// No proof can say what a disk holds, so it tells no files. Each part of its count is 0 at first, and
+/// goes up by one at each failure that the system reports, and where a write of some bytes took none.
+/// A file is opened anew at each call.
 #[derive(Drop)]
 pub struct FolderShelf<'r, R: Files> {
     rt: &'r R,

@@ -20,3 +20,6 @@ pub use memory_sink::MemorySink;
 pub use shelf::{Failed, Shelf};
 pub use sink::Sink;
 pub use std_sink::StdSink;
+
+#[cfg(test)]
+mod tests;

@@ -1,8 +1,11 @@
 // A shelf over memory.
-ghost use Rattle.std.specs.Prelude.{◌≡◌, ◌≤◌, ◌<◌, ◌++◌, ℕ, true, None, Some, [], length, take, min, ◌-◌, is_err, IfOk, OnOk, OnErr};
+ghost use Rattle.std.specs.Prelude.{◌≡◌, ◌≤◌, ◌<◌, ◌++◌, ◌-◌, ℕ, true, None, Some, [], length, take, min};
+ghost use Rattle.std.specs.Prelude.{is_err, IfOk, OnOk, OnErr};
 ghost use Rattle.std.specs.Option.{option_map};
 ghost use Rattle.run_terms.specs.Files.{Counts, OthersStay, ReadsAt, length_of, text_of};
-ghost use Rattle.mb_outside.specs.Memory.{Kept, files_of, given, is_append_refused, is_begin_refused, is_listed, next, one_more, part_of, read_of, written};
+ghost use Rattle.mb_outside.specs.Memory.{ShelfState, empty_shelf, files_of, given, holding, written};
+ghost use Rattle.mb_outside.specs.Memory.{is_append_refused, is_begin_refused, is_listed, part_of, read_of};
+ghost use Rattle.mb_outside.specs.Memory.{with_read_fault, with_write_fault};
 
 use crate::calls::FailingCalls;
 use crate::places::Places;
@@ -13,9 +16,13 @@ use std::marker::Model;
 
 /// A shelf over memory that was reserved when it was made, for tests and for programs that touch no disk.
 ///
-/// It tells its files. A call fails exactly where it is listed in `fails`, counted from 1 over all four calls of the shelf, where
-/// a `begin` or an `append` of a new name finds no free place or the name is longer than 255 bytes, or where an
-/// `append` would make a file longer than it may be. What fails changes no file. No call of the shelf takes memory.
+/// It tells its files. A call of the trait fails, and raises its count by one, exactly where
+///
+/// - it is listed in `fails`, counted from 1 over all four calls of the trait,
+/// - a `begin` or an `append` of a new name finds no free place, or the name is longer than 255 bytes,
+/// - an `append` would make a file longer than it may be.
+///
+/// What fails changes no file. No call of the trait takes memory.
 #[derive(Drop)]
 pub struct MemoryShelf {
     places: Places,
@@ -26,16 +33,23 @@ pub struct MemoryShelf {
 }
 
 impl Model for MemoryShelf {
-    ghost Value = { Kept };
+    ghost Value = { ShelfState };
 
-    ghost view = { λ s. record { store = s.places; most = s.most; calls = s.calls; read_faults = s.read_faults; write_faults = s.write_faults } };
+    ghost view = { λ s. record {
+      store = s.places;
+      most = s.most;
+      calls = s.calls;
+      read_faults = s.read_faults;
+      write_faults = s.write_faults;
+    } };
 
     ghost invariant = { λ s. 0 < s.most };
 }
 
 impl MemoryShelf {
-    /// A shelf without files. It has `places` free places, each for a name of at most 255 bytes and for `room` bytes.
-    /// One `append` takes at most `most` bytes of its piece, and one `read_at` gives at most so many.
+    /// A shelf without files, or `NoMemory`. It has `places` free places, each for a name of at most
+    /// 255 bytes and a file of `room` bytes. One `append` takes at most `most` bytes of its piece, and
+    /// one `read_at` gives at most so many.
     pub fn of(
         alloc: Global,
         places: usize,
@@ -44,7 +58,7 @@ impl MemoryShelf {
         fails: Vec<u64>,
     ) -> Result<MemoryShelf, NoMemory>
         requires { 0 < most }
-        ensures { IfOk result (λ shelf. shelf ≡ record { store = record { files = []; free = places; room = room }; most = most; calls = record { fails = fails.items; made = 0 }; read_faults = 0; write_faults = 0 }) }
+        ensures { IfOk result (λ shelf. shelf ≡ empty_shelf places room most fails.items) }
     {
         Ok(MemoryShelf {
             places: Places::of(alloc, places, room)?,
@@ -55,8 +69,9 @@ impl MemoryShelf {
         })
     }
 
-    /// Gives a file these bytes, in memory of its own, whatever they are. The free places stay.
-    /// The file may then hold as many, or as many as a free place where these are more.
+    /// Gives a file these bytes, in memory of its own. The free places stay. The file may then hold as
+    /// many bytes as it was given, or as many as a free place where these are more. All other files
+    /// stay, and `NoMemory` leaves this one too.
     #[tactic(auto, using(crate::proofs::Lookup::maps))]
     pub fn put(&mut self, name: &str, bytes: &[u8]) -> Result<(), NoMemory>
         ensures after { OnOk result (self.new ≡ record self.old { store = given name.now bytes.now self.old.store }) }
@@ -92,8 +107,8 @@ impl Shelf for MemoryShelf {
         ensures exact { is_err result ≡ is_listed self.old.calls }
         ensures length { IfOk result (λ answer. answer ≡ length_of (files_of self.old.store.files name.now)) }
         ensures reads { Counts self.old.read_faults self.new.read_faults result }
-        ensures after { OnOk result (self.new ≡ record self.old { calls = next self.old.calls }) }
-        ensures refused { OnErr result (self.new ≡ record self.old { calls = next self.old.calls; read_faults = one_more self.old.read_faults }) }
+        ensures after { OnOk result (self.new ≡ holding self.old.store self.old) }
+        ensures refused { OnErr result (self.new ≡ with_read_fault self.old) }
     {
         if self.calls.fails_now() {
             self.read_faults = self.read_faults.saturating_add(1);
@@ -108,10 +123,11 @@ impl Shelf for MemoryShelf {
     fn read_at(&mut self, name: &str, at: u64, into: &mut [u8]) -> Result<usize, Failed>
         ensures exact { is_err result ≡ is_listed self.old.calls }
         ensures taken { IfOk result (λ count. count ≡ read_of self.old name.now at into.old) }
-        ensures bytes { IfOk result (λ count. ReadsAt (text_of (files_of self.old.store.files name.now)) at into.old into.new count) }
+        ensures bytes { IfOk result (λ count.
+            ReadsAt (text_of (files_of self.old.store.files name.now)) at into.old into.new count) }
         ensures reads { Counts self.old.read_faults self.new.read_faults result }
-        ensures after { OnOk result (self.new ≡ record self.old { calls = next self.old.calls }) }
-        ensures refused { OnErr result (self.new ≡ record self.old { calls = next self.old.calls; read_faults = one_more self.old.read_faults }) }
+        ensures after { OnOk result (self.new ≡ holding self.old.store self.old) }
+        ensures refused { OnErr result (self.new ≡ with_read_fault self.old) }
     {
         if self.calls.fails_now() {
             self.read_faults = self.read_faults.saturating_add(1);
@@ -129,8 +145,8 @@ impl Shelf for MemoryShelf {
         ensures empty { OnOk result (files_of self.new.store.files name.now ≡ Some []) }
         ensures others { OthersStay name.now (files_of self.old.store.files) (files_of self.new.store.files) }
         ensures writes { Counts self.old.write_faults self.new.write_faults result }
-        ensures after { OnOk result (self.new ≡ record self.old { store = written name.now [] self.old.store; calls = next self.old.calls }) }
-        ensures refused { OnErr result (self.new ≡ record self.old { calls = next self.old.calls; write_faults = one_more self.old.write_faults }) }
+        ensures after { OnOk result (self.new ≡ holding (written name.now [] self.old.store) self.old) }
+        ensures refused { OnErr result (self.new ≡ with_write_fault self.old) }
     {
         if self.calls.fails_now() || self.places.begin(name.as_bytes()).is_err() {
             self.write_faults = self.write_faults.saturating_add(1);
@@ -144,11 +160,14 @@ impl Shelf for MemoryShelf {
         ensures exact { is_err result ≡ is_append_refused self.old name.now piece.now }
         ensures taken { IfOk result (λ count. count ≡ part_of self.old.most piece.now) }
         ensures some { IfOk result (λ count. count ≡ 0 → length piece.now ≡ 0) }
-        ensures added { IfOk result (λ count. files_of self.new.store.files name.now ≡ Some (text_of (files_of self.old.store.files name.now) ++ take count piece.now)) }
+        ensures added { IfOk result (λ count.
+            files_of self.new.store.files name.now ≡ Some (text_of (files_of self.old.store.files name.now) ++ take count piece.now)) }
         ensures others { OthersStay name.now (files_of self.old.store.files) (files_of self.new.store.files) }
         ensures writes { Counts self.old.write_faults self.new.write_faults result }
-        ensures after { IfOk result (λ count. self.new ≡ record self.old { store = written name.now (text_of (files_of self.old.store.files name.now) ++ take count piece.now) self.old.store; calls = next self.old.calls }) }
-        ensures refused { OnErr result (self.new ≡ record self.old { calls = next self.old.calls; write_faults = one_more self.old.write_faults }) }
+        ensures after { IfOk result (λ count.
+            let text = text_of (files_of self.old.store.files name.now) in
+            self.new ≡ holding (written name.now (text ++ take count piece.now) self.old.store) self.old) }
+        ensures refused { OnErr result (self.new ≡ with_write_fault self.old) }
     {
         let count = self.most.min(piece.len());
         let (front, _) = piece.split_at(count);

@@ -1,8 +1,8 @@
 // A sink over memory.
-ghost use Rattle.std.specs.Prelude.{◌≡◌, ◌≤◌, ◌<◌, ◌++◌, ℕ, Some, None, [], length, take, vec_len, vec_capacity, is_err, IsOk, IfOk, OnErr};
-ghost use Rattle.std.specs.Option.{option_map};
+ghost use Rattle.std.specs.Prelude.{◌≡◌, ◌≤◌, ◌<◌, ◌++◌, ℕ, Some, None, length, take, vec_len, vec_capacity};
+ghost use Rattle.std.specs.Prelude.{is_err, IsOk, IfOk, OnErr};
 ghost use Rattle.run_terms.specs.Files.{Counts};
-ghost use Rattle.mb_outside.specs.Memory.{Taken, one_more, next, part_of, room_left, is_write_refused};
+ghost use Rattle.mb_outside.specs.Memory.{SinkState, empty_sink, next, one_more, part_of, room_left, is_write_refused};
 
 use crate::calls::FailingCalls;
 use crate::shelf::Failed;
@@ -13,9 +13,9 @@ use std::marker::Model;
 
 /// A sink over memory that was reserved when it was made.
 ///
-/// It tells the bytes that it took. A write takes at most `most` bytes of its piece. It fails exactly where its call is
-/// listed in `fails`, counted from 1, or where the bytes would be more than `room`. Its count of faults is 0 at first
-/// and goes up at each failure. It takes no memory after it was made.
+/// It tells the bytes that it took, and where `fails` is empty what is left of `room`. A write fails,
+/// and raises the count by one, exactly where it is listed in `fails`, counted from 1, or where the
+/// bytes would be more than `room`. It takes no memory.
 #[derive(Drop)]
 pub struct MemorySink {
     bytes: Vec<u8>,
@@ -26,7 +26,7 @@ pub struct MemorySink {
 }
 
 impl Model for MemorySink {
-    ghost Value = { Taken };
+    ghost Value = { SinkState };
 
     ghost view = { λ s. record { bytes = s.bytes.items; room = s.room; most = s.most; calls = s.calls; faults = s.faults } };
 
@@ -34,7 +34,8 @@ impl Model for MemorySink {
 }
 
 impl MemorySink {
-    /// An empty sink with memory for `room` bytes, or `NoMemory`.
+    /// A sink without bytes, with memory for `room` of them, or `NoMemory`. One write takes at most
+    /// `most` bytes of its piece.
     pub fn of(
         alloc: Global,
         room: usize,
@@ -42,7 +43,7 @@ impl MemorySink {
         fails: Vec<u64>,
     ) -> Result<MemorySink, NoMemory>
         requires { 0 < most }
-        ensures { IfOk result (λ sink. sink ≡ record { bytes = []; room = room; most = most; calls = record { fails = fails.items; made = 0 }; faults = 0 }) }
+        ensures { IfOk result (λ sink. sink ≡ empty_sink room most fails.items) }
     {
         let bytes = Vec::with_capacity(alloc, room)?;
         Ok(MemorySink {
@@ -81,8 +82,10 @@ impl Sink for MemorySink {
         ensures sure { (free : ℕ) → room_left self.old ≡ Some free → length piece.now ≤ free → IsOk result }
         ensures exact { is_err result ≡ is_write_refused self.old piece.now }
         ensures taken { IfOk result (λ count. count ≡ part_of self.old.most piece.now) }
-        ensures after { IfOk result (λ count. self.new ≡ record self.old { bytes = self.old.bytes ++ take count piece.now; calls = next self.old.calls }) }
-        ensures refused { OnErr result (self.new ≡ record self.old { calls = next self.old.calls; faults = one_more self.old.faults }) }
+        ensures after { IfOk result (λ count.
+            self.new ≡ record self.old { bytes = self.old.bytes ++ take count piece.now; calls = next self.old.calls }) }
+        ensures refused { OnErr result (
+            self.new ≡ record self.old { calls = next self.old.calls; faults = one_more self.old.faults }) }
     {
         let count = self.most.min(piece.len());
         let left = self.room - self.bytes.len();

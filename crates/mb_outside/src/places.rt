@@ -1,5 +1,6 @@
 // The files of a shelf in memory, and the free places for new ones.
-ghost use Rattle.std.specs.Prelude.{◌≡◌, ◌≤◌, ◌++◌, ◌+◌, ◌||◌, ℕ, None, [], length, vec_len, vec_capacity, position, is_err, IfOk, OnOk, OnErr};
+ghost use Rattle.std.specs.Prelude.{◌≡◌, ◌≤◌, ◌++◌, ◌+◌, ◌||◌, ℕ, None, [], length, vec_len, vec_capacity, position};
+ghost use Rattle.std.specs.Prelude.{is_err, IfOk, OnOk, OnErr};
 ghost use Rattle.std.specs.Option.{option_map};
 ghost use Rattle.std.specs.List.{All, find};
 ghost use Rattle.run_terms.specs.Files.{text_of};
@@ -25,7 +26,8 @@ impl Model for Places {
 
     ghost view = { λ p. record { files = p.files.items; free = vec_len p.free; room = p.room } };
 
-    ghost invariant = { λ p. (vec_len p.files + vec_len p.free ≤ vec_capacity p.files) × All (λ room. room ≡ p.room) p.free.items };
+    ghost invariant = { λ p. (vec_len p.files + vec_len p.free ≤ vec_capacity p.files)
+        × All (λ room. room ≡ p.room) p.free.items };
 }
 
 fn find(files: &[StoredFile], name: &[u8]) -> Option<usize>

@@ -7,8 +7,8 @@ use std::io::Write;
 
 /// A writer of std, such as the standard output.
 ///
-/// No proof can say what a terminal shows, so it tells no bytes. Its count is 0 at first and goes up by one at each failure that the writer
-/// reports, and where a write that was asked for bytes took none.
+/// No proof can say what a terminal shows, so it tells no bytes. Its count is 0 at first, and goes up
+/// by one at each failure that the writer reports, and where a write of some bytes took none.
 #[derive(Drop)]
 pub struct StdSink<W: Write + Drop> {
     writer: W,

@@ -1,5 +1,6 @@
 // A file in memory, and a free place for one.
-ghost use Rattle.std.specs.Prelude.{◌≡◌, ◌≤◌, ◌++◌, ◌+◌, ℕ, [], length, vec_len, vec_capacity, nat_lt, max, is_err, IfOk, OnOk, OnErr};
+ghost use Rattle.std.specs.Prelude.{◌≡◌, ◌≤◌, ◌++◌, ◌+◌, ℕ, [], length, vec_len, vec_capacity, nat_lt, max};
+ghost use Rattle.std.specs.Prelude.{is_err, IfOk, OnOk, OnErr};
 ghost use Rattle.mb_outside.specs.Memory.{File, is_named};
 
 use crate::shelf::Failed;
@@ -26,7 +27,8 @@ impl Model for StoredFile {
 impl StoredFile {
     /// A file with memory for at least `room` bytes, and for as many as it is given.
     pub fn of(alloc: Global, name: &[u8], bytes: &[u8], room: usize) -> Result<StoredFile, NoMemory>
-        ensures { IfOk result (λ file. file ≡ record { name = name.now; bytes = bytes.now; limit = max room (length bytes.now) }) }
+        ensures { IfOk result (λ file.
+            file ≡ record { name = name.now; bytes = bytes.now; limit = max room (length bytes.now) }) }
     {
         let limit = room.max(bytes.len());
         let mut kept = Vec::with_capacity(alloc, limit)?;
@@ -73,7 +75,7 @@ impl StoredFile {
     }
 }
 
-/// Memory for a name of at most 255 bytes and for so many bytes as contracts see it by.
+/// Memory for a name of at most 255 bytes and for a number of bytes, by which contracts know it.
 #[derive(Drop)]
 pub struct Place {
     name: Vec<u8>,
@@ -86,7 +88,8 @@ impl Model for Place {
 
     ghost view = { λ p. p.room };
 
-    ghost invariant = { λ p. (vec_len p.name ≡ 0) × (255 ≤ vec_capacity p.name) × (vec_len p.bytes ≡ 0) × (p.room ≤ vec_capacity p.bytes) };
+    ghost invariant = { λ p. (vec_len p.name ≡ 0) × (255 ≤ vec_capacity p.name)
+        × (vec_len p.bytes ≡ 0) × (p.room ≤ vec_capacity p.bytes) };
 }
 
 impl Place {

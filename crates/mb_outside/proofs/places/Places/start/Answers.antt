@@ -1,7 +1,6 @@
-use Rattle.std.proofs.Common.{◌≡◌, ◌∙◌, sym, ap, ◌++◌, ◌-◌, ◌∷◌, ℕ, None, [], arith, vec_len, List}
+use Rattle.std.proofs.Common.{◌≡◌, sym, ap, ◌++◌, ◌-◌, ◌∷◌, [], arith, vec_len}
 use Rattle.std.proofs.lemmas.Grind.{common_steps}
-use Rattle.std.specs.List.{find}
-use Rattle.mb_outside.specs.Memory.{File, Store, is_named, written}
+use Rattle.mb_outside.specs.Memory.{Store}
 use Rattle.mb_outside.proofs.Lookup.{written_new}
 use Rattle.mb_outside.proofs.places.Places.start.Goals as goal
 
