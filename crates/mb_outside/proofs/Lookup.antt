@@ -6,7 +6,7 @@ use Rattle.std.proofs.lemmas.Slice.Eq.{bytes_eq-Decides}
 use Rattle.std.proofs.lemmas.List.Quantifiers.{position-Some}
 use Rattle.std.proofs.lemmas.List.Sums.{fails_before_first}
 use Rattle.run_terms.specs.Files.{Bytes, OthersStay}
-use Rattle.mb_outside.specs.Memory.{File, Store, files_of, given, is_named, limit_of, placed, written}
+use Rattle.mb_outside.specs.Store.{File, Store, files_of, given, is_named, limit_of, placed, written}
 
 -- what passes first is found
 find_first : {X : Type 0} (test : X → Bool) (xs : List X) (i : ℕ) (d : X) → i < length xs → test (get_or xs i d) ≡ true → ((k : ℕ) → k < i → test (get_or xs k d) ≡ false)

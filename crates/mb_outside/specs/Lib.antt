@@ -1,1 +1,4 @@
-pub mod Memory
+pub mod Calls
+pub mod SinkState
+pub mod Store
+pub mod ShelfState

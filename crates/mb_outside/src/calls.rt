@@ -1,6 +1,6 @@
 // The calls of a shelf or a sink in memory, some of which are to fail.
 ghost use Rattle.std.specs.Prelude.{◌≡◌};
-ghost use Rattle.mb_outside.specs.Memory.{Calls, is_listed, next};
+ghost use Rattle.mb_outside.specs.Calls.{Calls, is_listed, next};
 
 use std::marker::Model;
 

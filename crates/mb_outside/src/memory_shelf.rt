@@ -3,9 +3,9 @@ ghost use Rattle.std.specs.Prelude.{◌≡◌, ◌≤◌, ◌<◌, ◌++◌, ◌
 ghost use Rattle.std.specs.Prelude.{is_err, IfOk, OnOk, OnErr};
 ghost use Rattle.std.specs.Option.{option_map};
 ghost use Rattle.run_terms.specs.Files.{Counts, OthersStay, ReadsAt, length_of, text_of};
-ghost use Rattle.mb_outside.specs.Memory.{ShelfState, empty_shelf, files_of, given, holding, written};
-ghost use Rattle.mb_outside.specs.Memory.{is_append_refused, is_begin_refused, is_listed, part_of, read_of};
-ghost use Rattle.mb_outside.specs.Memory.{with_read_fault, with_write_fault};
+ghost use Rattle.mb_outside.specs.Calls.{is_listed, part_of};
+ghost use Rattle.mb_outside.specs.Store.{files_of, given, written};
+ghost use Rattle.mb_outside.specs.ShelfState.{ShelfState, empty_shelf, holding, is_append_refused, is_begin_refused, read_of, with_read_fault, with_write_fault};
 
 use crate::calls::FailingCalls;
 use crate::places::Places;

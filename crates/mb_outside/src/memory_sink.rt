@@ -2,7 +2,8 @@
 ghost use Rattle.std.specs.Prelude.{◌≡◌, ◌≤◌, ◌<◌, ◌++◌, ℕ, Some, None, length, take, vec_len, vec_capacity};
 ghost use Rattle.std.specs.Prelude.{is_err, IsOk, IfOk, OnErr};
 ghost use Rattle.run_terms.specs.Files.{Counts};
-ghost use Rattle.mb_outside.specs.Memory.{SinkState, empty_sink, next, one_more, part_of, room_left, is_write_refused};
+ghost use Rattle.mb_outside.specs.Calls.{next, one_more, part_of};
+ghost use Rattle.mb_outside.specs.SinkState.{SinkState, empty_sink, room_left, is_write_refused};
 
 use crate::calls::FailingCalls;
 use crate::shelf::Failed;

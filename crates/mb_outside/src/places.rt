@@ -4,7 +4,7 @@ ghost use Rattle.std.specs.Prelude.{is_err, IfOk, OnOk, OnErr};
 ghost use Rattle.std.specs.Option.{option_map};
 ghost use Rattle.std.specs.List.{All, find};
 ghost use Rattle.run_terms.specs.Files.{text_of};
-ghost use Rattle.mb_outside.specs.Memory.{Store, files_of, given, is_named, is_past, is_unplaced, written};
+ghost use Rattle.mb_outside.specs.Store.{Store, files_of, given, is_named, is_past, is_unplaced, written};
 
 use crate::shelf::Failed;
 use crate::stored_file::{Place, StoredFile};

@@ -1,7 +1,7 @@
 // A file in memory, and a free place for one.
 ghost use Rattle.std.specs.Prelude.{◌≡◌, ◌≤◌, ◌++◌, ◌+◌, ℕ, [], length, vec_len, vec_capacity, nat_lt, max};
 ghost use Rattle.std.specs.Prelude.{is_err, IfOk, OnOk, OnErr};
-ghost use Rattle.mb_outside.specs.Memory.{File, is_named};
+ghost use Rattle.mb_outside.specs.Store.{File, is_named};
 
 use crate::shelf::Failed;
 use mb_base::NoMemory;

@@ -1,6 +1,6 @@
 use Rattle.std.proofs.Common.{◌≡◌, sym, ap, ◌++◌, ◌-◌, ◌∷◌, [], arith, vec_len}
 use Rattle.std.proofs.lemmas.Grind.{common_steps}
-use Rattle.mb_outside.specs.Memory.{Store}
+use Rattle.mb_outside.specs.Store.{Store}
 use Rattle.mb_outside.proofs.Lookup.{written_new}
 use Rattle.mb_outside.proofs.places.Places.start.Goals as goal
 
