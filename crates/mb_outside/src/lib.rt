@@ -1,7 +1,9 @@
 //! The world outside as two traits: a shelf of files by name, and a sink that takes bytes.
 //!
-//! Code above is proved once for every shelf and every sink. It learns what the files hold where the shelf tells
-//! them, and a refusal comes only with a count of faults that rose.
+//! Code above is proved once for every shelf and every sink. It learns what the files hold where the
+//! shelf tells them, and that a refusal comes only where a count of faults rose. `MemoryShelf` and
+//! `MemorySink` tell all they hold and say exactly when they fail; `FolderShelf` and `StdSink` are the
+//! edge to the system, and tell nothing.
 #![tactic(auto)]
 
 mod calls;
