@@ -1,0 +1,3 @@
+mod LineSteps
+mod Positions
+mod WordSteps

@@ -1,0 +1,6 @@
+//! Reads the text of a Wavefront OBJ file into points and triangles.
+#![tactic(auto)]
+
+mod lines;
+mod numbers;
+mod words;
