@@ -1,3 +1,4 @@
+mod DigitSteps
 mod LineSteps
 mod Positions
 mod WordSteps

@@ -1,5 +1,6 @@
 // Whole numbers and vertex numbers of a text.
-ghost use Rattle.std.specs.Prelude.{◌≡◌};
+ghost use Rattle.std.specs.Prelude.{◌≡◌, IfSome};
+ghost use Rattle.mesh_terms.specs.Points.{IsOnGrid};
 ghost use Rattle.obj_terms.specs.Reading.{minus_first, narrow_coordinate, narrow_vertex};
 ghost use Rattle.obj_text.specs.Given.{number_up_to};
 
@@ -12,7 +13,8 @@ const STEPS: i32 = 10_000;
 /// The grid steps of a whole number: an optional `-` and digits, at most 107374 in size; None where
 /// the word is none.
 pub fn coordinate(word: &[u8]) -> Option<i32>
-    ensures { result ≡ narrow_coordinate word.now }
+    ensures value { result ≡ narrow_coordinate word.now }
+    ensures on_grid { IfSome result IsOnGrid }
 {
     let (negative, digits) = minus_first(word);
     let size = number_up_to(digits, GREATEST)?;

@@ -1,5 +1,5 @@
 // The words of a line.
-ghost use Rattle.std.specs.Prelude.{◌≡◌, not};
+ghost use Rattle.std.specs.Prelude.{◌≡◌, ◌==◌, [], ◌∷◌, not, false, length, IfSome, IfNone};
 ghost use Rattle.std.specs.List.{position_or_len};
 ghost use Rattle.text_terms.specs.Lines.{is_blank, words_of};
 
@@ -27,6 +27,20 @@ impl<'t> Words<'t> {
         ensures { result ≡ words_of line.now }
     {
         Words { rest: line }
+    }
+
+    /// The words that are left, where they are three.
+    pub fn three(mut self) -> Option<(&'t [u8], &'t [u8], &'t [u8])>
+        ensures three { IfSome result (λ w. self.entry ≡ w.0.now ∷ w.1.now ∷ w.2.now ∷ []) }
+        ensures other { IfNone result ((length self.entry == 3) ≡ false) }
+    {
+        let first = self.next()?;
+        let second = self.next()?;
+        let third = self.next()?;
+        match self.next() {
+            None => Some((first, second, third)),
+            Some(_) => None,
+        }
     }
 }
 
