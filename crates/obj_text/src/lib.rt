@@ -3,4 +3,5 @@
 
 mod lines;
 mod numbers;
+mod reading;
 mod words;

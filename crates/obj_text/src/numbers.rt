@@ -1,5 +1,5 @@
 // Whole numbers and vertex numbers of a text.
-ghost use Rattle.std.specs.Prelude.{◌≡◌, IfSome};
+ghost use Rattle.std.specs.Prelude.{◌≡◌, ◌<◌, IfSome};
 ghost use Rattle.mesh_terms.specs.Points.{IsOnGrid};
 ghost use Rattle.obj_terms.specs.Reading.{minus_first, narrow_coordinate, narrow_vertex};
 ghost use Rattle.obj_text.specs.Given.{number_up_to};
@@ -25,7 +25,8 @@ pub fn coordinate(word: &[u8]) -> Option<i32>
 /// The number from 0 of the vertex that a word names by digits from 1 to the count of the points so
 /// far; None where the word names none.
 pub fn vertex(word: &[u8], count: u32) -> Option<u32>
-    ensures { result ≡ narrow_vertex count word.now }
+    ensures value { result ≡ narrow_vertex count word.now }
+    ensures below { IfSome result (λ v. v < count) }
 {
     let number = number_up_to(word, count)?;
     number.checked_sub(1)
