@@ -1,4 +1,6 @@
+mod AllUsed
 mod DigitSteps
 mod LineSteps
 mod Positions
+mod UsedSteps
 mod WordSteps

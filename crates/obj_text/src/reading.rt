@@ -1,13 +1,16 @@
 // What the lines of an OBJ file give, one after the other.
-ghost use Rattle.std.specs.Prelude.{◌≡◌, Ok, OnOk, IfErr, IfSome, length};
+ghost use Rattle.std.specs.Prelude.{◌≡◌, Ok, OnOk, IfOk, IfErr, IfSome, length};
 ghost use Rattle.mesh_terms.specs.Meshes.{HasThree, IsBelow, triple_of};
-ghost use Rattle.obj_terms.specs.Reading.{no_reading, add_point, add_triples, narrow_line, narrow_point, narrow_face, face_fan};
+ghost use Rattle.obj_terms.specs.Reading.{no_reading, add_point, add_triples, narrow_line, narrow_point, narrow_face, face_fan, all_used, unused_line};
+ghost use Rattle.text_terms.specs.Lines.{lines_of};
 ghost use Rattle.obj_text.specs.Given.{IsFaultOf};
-ghost use Rattle.obj_text.specs.Reading.{coordinates_of, corners_of};
+ghost use Rattle.obj_text.specs.Reading.{coordinates_of, corners_of, read_from};
 
+use crate::lines::Lines;
 use crate::numbers::{coordinate, vertex};
+use crate::used::unused_line;
 use crate::words::Words;
-use mb_base::{Counted, Limits, Point, TextFault, TextKind};
+use mb_base::{Counted, Limits, Point, Soup, TextFault, TextKind};
 use std::alloc::Global;
 use std::marker::Model;
 
@@ -33,8 +36,8 @@ impl Model for Reading {
 }
 
 impl Reading {
-    /// Nothing so far.
-    pub fn new(alloc: Global) -> Reading
+    // Nothing so far.
+    fn new(alloc: Global) -> Reading
         ensures { result ≡ no_reading }
     {
         Reading {
@@ -44,9 +47,39 @@ impl Reading {
         }
     }
 
-    /// Reads the words of the line with this number, from 1: no words, `v` and three whole numbers, or
-    /// `f` and three different vertex numbers.
-    pub fn read_line(&mut self, words: Words<'_>, number: u64, limits: &Limits) -> Result<(), TextFault>
+    /// Reads the lines of a text until the first fault.
+    pub fn of(alloc: Global, bytes: &[u8], limits: &Limits) -> Result<Reading, TextFault>
+        ensures read { IfOk result (λ r. read_from limits.now 1 (lines_of bytes.now) no_reading ≡ Ok r) }
+        ensures fault { IfErr result (IsFaultOf (read_from limits.now 1 (lines_of bytes.now) no_reading)) }
+    {
+        let mut reading = Reading::new(alloc);
+        let mut number: u64 = 0;
+        for line in Lines::of(bytes) {
+            number += 1;
+            reading.read_line(Words::of(line), number, limits)?;
+        }
+        Ok(reading)
+    }
+
+    /// The soup of the points and the triangles, where each point is in a triangle.
+    pub fn into_soup(self, alloc: Global) -> Result<Soup, TextFault>
+        ensures soup { IfOk result (λ soup. all_used self (unused_line self.triples 0 self.lines) ≡ Ok soup) }
+        ensures fault { IfErr result (IsFaultOf (all_used self (unused_line self.triples 0 self.lines))) }
+    {
+        if let Some(number) = unused_line(alloc, &self.triples, &self.lines)? {
+            return Err(unknown(number));
+        }
+        let Reading {
+            points,
+            triples,
+            lines: _,
+        } = self;
+        Ok(Soup::of(points, triples, 0))
+    }
+
+    // Reads the words of the line with this number, from 1: no words, `v` and three whole numbers, or
+    // `f` and three different vertex numbers.
+    fn read_line(&mut self, words: Words<'_>, number: u64, limits: &Limits) -> Result<(), TextFault>
         ensures read { OnOk result (narrow_line limits.now number words.entry self.old ≡ Ok self.new) }
         ensures fault { IfErr result (IsFaultOf (narrow_line limits.now number words.entry self.old)) }
     {
