@@ -1,8 +1,8 @@
 -- A soup whose every point is used drops nothing.
-use Rattle.std.proofs.Common.{◌≡◌, ℕ, zero, suc, ◌+◌, ◌-◌, ◌<◌, ◌≤◌, ℤ, Bool, true, false, cond, List, [], ◌∷◌, ◌++◌, length, map, filter, Option, Some, None, refl, ap, ◌∙◌, sym, arith, rules, add-zero, zero-add}
+use Rattle.std.proofs.Common.{◌≡◌, ℕ, zero, suc, ◌+◌, ◌-◌, ◌<◌, ◌≤◌, ℤ, Bool, true, false, List, [], ◌∷◌, length, map, filter, None, refl, ap, arith, add-zero, zero-add}
 use Rattle.std.specs.List.{All}
-use Rattle.chain_terms.specs.Sums.{up_from, upto}
-use Rattle.mesh_terms.specs.Meshes.{Triple, Soup, IsBelow, is_used, used_from, new_number, renumbered, soup_of}
+use Rattle.chain_terms.specs.Sums.{up_from}
+use Rattle.mesh_terms.specs.Meshes.{Triple, IsBelow, is_used, used_from, new_number, renumbered, soup_of}
 use Rattle.obj_terms.specs.Reading.{unused_line}
 
 -- one place on
@@ -43,7 +43,8 @@ soup_of-all points ts below used =
     let same : renumbered ts ≡ ts = map-same (λ t. (new_number ts t.0, new_number ts t.1, new_number ts t.2)) (IsBelow (length points)) ts stays below in
     let none : length points - length (used_from ts 0 points) ≡ 0 = rw kept (omega arith) in
     λ i. record { points = kept i; triples = same i; unused = none i } where
-  number : (v : ℕ) → v < length points → new_number ts v ≡ v
-  number v h = count-all (is_used ts) 0 v (λ w low high. used w (omega arith))
-  stays : (t : Triple) → IsBelow (length points) t → (new_number ts t.0, new_number ts t.1, new_number ts t.2) ≡ t
-  stays t b = let x = number t.0 b.a in let y = number t.1 b.b in let z = number t.2 b.c in λ i. (x i, y i, z i)
+      number : (v : ℕ) → v < length points → new_number ts v ≡ v
+      number v h = count-all (is_used ts) 0 v (λ w low high. used w (omega arith))
+
+      stays : (t : Triple) → IsBelow (length points) t → (new_number ts t.0, new_number ts t.1, new_number ts t.2) ≡ t
+      stays t b = let x = number t.0 b.a in let y = number t.1 b.b in let z = number t.2 b.c in λ i. (x i, y i, z i)

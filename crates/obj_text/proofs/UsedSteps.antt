@@ -1,7 +1,6 @@
 -- Which points the triangles use.
-use Rattle.std.proofs.Common.{◌≡◌, ℕ, zero, suc, ◌+◌, ◌-◌, ◌<◌, ◌≤◌, Bool, true, false, cond, List, [], ◌∷◌, ◌++◌, length, get_or, drop, take, set, map, Option, Some, None, refl, ap, ◌∙◌, sym, arith, rules, ⊎_elim, get_or-set_same, get_or-set_other, add-one}
-use Rattle.std.specs.Prelude.{◌==◌, ◌||◌, if◌then◌else◌, replicate}
-use Rattle.std.specs.List.{All, list_any}
+use Rattle.std.proofs.Common.{◌≡◌, ℕ, ◌+◌, ◌<◌, Bool, true, false, List, [], ◌∷◌, ◌++◌, length, get_or, drop, set, refl, ap, ◌∙◌, sym, arith, ⊎_elim, get_or-set_same, get_or-set_other, add-one}
+use Rattle.std.specs.Prelude.{◌==◌, ◌||◌, replicate}
 use Rattle.std.proofs.lemmas.Bool.{cases_eq}
 use Rattle.std.proofs.lemmas.List.{get_or-replicate, length-set, length-replicate}
 use Rattle.std.proofs.lemmas.List.Folds.{list_any-append}
@@ -16,6 +15,7 @@ set_mark : (marks : List Bool) (i v : ℕ) → i < length marks → get_or (set 
 set_mark marks i v h = ⊎_elim same other (cases_eq v i) where
   same : v ≡ i → get_or (set marks i true) v false ≡ ((i == v) || get_or marks v false)
   same e = rw (e, eq-eqb i i refl) (get_or-set_same marks i true false h)
+
   other : (v ≡ i → ⊥) → get_or (set marks i true) v false ≡ ((i == v) || get_or marks v false)
   other e = rw (ne_eqb i v (λ f. e (sym f))) (get_or-set_other marks i v true false e)
 
@@ -41,10 +41,10 @@ pub MarksUsed-more : (n : ℕ) (ts : List Triple) (t : Triple) (marks : List Boo
 MarksUsed-more n ts t marks m below = record {
   each = length-set (set (set marks t.0 true) t.1 true) t.2 true ∙ length-set (set marks t.0 true) t.1 true ∙ length-set marks t.0 true ∙ m.each;
   used = λ v h.
-    set_marks marks t n v m.each below
-    ∙ ap (λ (b : Bool). (t.2 == v) || ((t.1 == v) || ((t.0 == v) || b))) (m.used v h)
-    ∙ or_shuffled (t.0 == v) (t.1 == v) (t.2 == v) (is_used ts v)
-    ∙ sym (list_any-append (λ u. has u v) ts (t ∷ []));
+      set_marks marks t n v m.each below
+      ∙ ap (λ (b : Bool). (t.2 == v) || ((t.1 == v) || ((t.0 == v) || b))) (m.used v h)
+      ∙ or_shuffled (t.0 == v) (t.1 == v) (t.2 == v) (is_used ts v)
+      ∙ sym (list_any-append (λ u. has u v) ts (t ∷ []));
 }
 
 -- a used point is not the first unused one

@@ -1,5 +1,5 @@
 -- The words of a line by the places of its blanks.
-use Rattle.std.proofs.Common.{◌≡◌, ℕ, suc, ◌+◌, ◌<◌, ◌≤◌, Bool, true, false, cond, not, List, [], ◌∷◌, length, refl, ap, ◌∙◌, sym, arith, drop, take, rules}
+use Rattle.std.proofs.Common.{◌≡◌, ℕ, ◌<◌, Bool, true, false, not, List, [], ◌∷◌, length, refl, ap, ◌∙◌, sym, arith, drop, take}
 use borrow.Author.Tests.{not-true, not-false}
 use Rattle.std.specs.List.{position_or_len}
 use Rattle.text_terms.specs.Lines.{is_blank, begins_word, words_of, add_first}
@@ -48,6 +48,7 @@ words_of-first [] e = cc
 words_of-first (c ∷ cs) e = by_next (begins_word cs) refl (words_of-first cs) where
   no_blank : is_blank c ≡ false
   no_blank = not-true (is_blank c) e
+
   by_next : (b : Bool) → begins_word cs ≡ b → (begins_word cs ≡ true → words_of cs ≡ take (position_or_len is_blank cs) cs ∷ words_of (drop (position_or_len is_blank cs) cs)) → words_of (c ∷ cs) ≡ take (position_or_len is_blank (c ∷ cs)) (c ∷ cs) ∷ words_of (drop (position_or_len is_blank (c ∷ cs)) (c ∷ cs))
   by_next true more i = rw (position_or_len-past is_blank c cs no_blank) (words_of-more c cs no_blank more ∙ ap (add_first c) (i more))
   by_next false last i = rw (position_or_len-past is_blank c cs no_blank, position_or_len-no_word cs last) (words_of-last c cs no_blank last)

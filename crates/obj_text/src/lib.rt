@@ -5,6 +5,7 @@
 //! number is an optional `-` and digits, at most 107374 in size, and stands for 10,000 grid steps a
 //! unit. A vertex number is digits alone, from 1 to the number of points so far.
 #![tactic(auto)]
+
 ghost use Rattle.std.specs.Prelude.{◌≡◌, Ok, IfOk, IfErr};
 ghost use Rattle.obj_terms.specs.Reading.{narrow_obj};
 ghost use Rattle.obj_text.specs.Given.{IsFaultOf};
@@ -33,3 +34,6 @@ pub fn read_obj(alloc: Global, bytes: &[u8], digits: u8, limits: &Limits) -> Res
 {
     Reading::of(alloc, bytes, limits)?.into_soup(alloc)
 }
+
+#[cfg(test)]
+mod tests;

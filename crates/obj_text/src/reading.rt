@@ -79,11 +79,15 @@ impl Reading {
 
     // Reads the words of the line with this number, from 1: no words, `v` and three whole numbers, or
     // `f` and three different vertex numbers.
-    fn read_line(&mut self, words: Words<'_>, number: u64, limits: &Limits) -> Result<(), TextFault>
+    fn read_line(
+        &mut self,
+        mut words: Words<'_>,
+        number: u64,
+        limits: &Limits,
+    ) -> Result<(), TextFault>
         ensures read { OnOk result (narrow_line limits.now number words.entry self.old ≡ Ok self.new) }
         ensures fault { IfErr result (IsFaultOf (narrow_line limits.now number words.entry self.old)) }
     {
-        let mut words = words;
         let Some(word) = words.next() else {
             return Ok(());
         };
@@ -97,7 +101,12 @@ impl Reading {
     }
 
     // Reads the words after `v`.
-    fn read_point(&mut self, words: Words<'_>, number: u64, limits: &Limits) -> Result<(), TextFault>
+    fn read_point(
+        &mut self,
+        words: Words<'_>,
+        number: u64,
+        limits: &Limits,
+    ) -> Result<(), TextFault>
         ensures read { OnOk result (narrow_point limits.now number self.old words.entry ≡ Ok self.new) }
         ensures fault { IfErr result (IsFaultOf (narrow_point limits.now number self.old words.entry)) }
     {

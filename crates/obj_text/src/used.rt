@@ -9,7 +9,11 @@ use std::alloc::{AllocError, Global};
 
 /// The line of the first point that no triangle uses, given the line of each point. It takes a mark
 /// for each point, and time in proportion to the triangles and the points.
-pub fn unused_line(alloc: Global, triples: &[[u32; 3]], lines: &[u64]) -> Result<Option<u64>, AllocError>
+pub fn unused_line(
+    alloc: Global,
+    triples: &[[u32; 3]],
+    lines: &[u64],
+) -> Result<Option<u64>, AllocError>
     requires { All (IsBelow (length lines.now)) (triples_of triples.now) }
     ensures { IfOk result (λ line. line ≡ unused_line (triples_of triples.now) 0 lines.now) }
 {

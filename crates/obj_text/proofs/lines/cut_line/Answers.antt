@@ -1,4 +1,4 @@
-use Rattle.std.proofs.Common.{◌≡◌, ℕ, suc, ◌<◌, ◌≤◌, ◌+◌, Bool, true, false, List, [], ◌∷◌, length, take, drop, get_or, sym, ◌∙◌, ap, refl, arith, rules, add-one}
+use Rattle.std.proofs.Common.{◌≡◌, ℕ, ◌<◌, ◌≤◌, Bool, true, false, List, [], ◌∷◌, length, take, drop, get_or, refl, arith, add-one}
 use Rattle.std.specs.Prelude.{◌==◌}
 use Rattle.std.proofs.Math.Seq.{take-length, drop-length}
 use Rattle.text_terms.specs.Lines.{raw_lines}
@@ -19,6 +19,6 @@ pub returns-in-None : goal.returns-in-None
 returns-in-None c = rw (c.split_at.ensures.front, c.split_at.ensures.back) (one_line c.args.text.now c.requires c.in-None.ensures)
 
 pub returns-in-Some : goal.returns-in-Some
-returns-in-Some c = 
+returns-in-Some c =
     let found = c.in-Some.ensures in
     rw (c.split_at-in-Some.ensures.front, c.split_at-in-Some-2.ensures.back, add-one) (raw_lines-cut c.in-Some.end c.args.text.now found.0.high (λ k h. fails _ (found.0.before k (omega arith) h)) found.1)

@@ -1,4 +1,4 @@
-use Rattle.std.proofs.Common.{◌≡◌, ℕ, List, [], ◌∷◌, ◌++◌, sym, ◌∙◌, ap, ne_eqb}
+use Rattle.std.proofs.Common.{◌≡◌, ℕ, List, [], ◌∷◌, ◌++◌, sym, ne_eqb}
 use Rattle.text_terms.specs.Lines.{without_cr}
 use Rattle.obj_text.proofs.LineSteps.{without_cr-drops, without_cr-keeps}
 use Rattle.obj_text.proofs.lines.without_cr.Goals as goal

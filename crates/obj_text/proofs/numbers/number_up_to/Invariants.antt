@@ -7,5 +7,5 @@ abbrev pub invariant-loop-digit : goal.invariant-loop-digit
 invariant-loop-digit l = record {
   small : l.number ≤ l.most;
   digits : all_digits l.word ≡ all_digits (drop l.digit-index l.word);
-  value : value_from 0 l.word ≡ value_from l.number (drop l.digit-index l.word)
+  value : value_from 0 l.word ≡ value_from l.number (drop l.digit-index l.word);
 }

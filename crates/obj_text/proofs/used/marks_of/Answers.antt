@@ -1,7 +1,7 @@
-use Rattle.std.proofs.Common.{◌≡◌, ◌∙◌, sym, arith, ℕ, ◌+◌, ◌<◌, List, [], ◌∷◌, ◌++◌, length, get_or, take, map, ap, refl}
+use Rattle.std.proofs.Common.{◌≡◌, arith, ℕ, ◌+◌, ◌<◌, List, [], ◌∷◌, ◌++◌, length, get_or, take}
 use Rattle.std.specs.List.{All}
 use Rattle.std.proofs.lemmas.List.{take_more, get_or-map, length-map, map-append}
-use Rattle.mesh_terms.specs.Meshes.{Triple, IsBelow, triple_of, triples_of}
+use Rattle.mesh_terms.specs.Meshes.{IsBelow, triple_of, triples_of}
 use Rattle.obj_text.proofs.UsedSteps.{MarksUsed-more}
 use Rattle.obj_text.proofs.used.marks_of.Goals as goal
 

@@ -1,6 +1,5 @@
-use Rattle.std.proofs.Common.{◌≡◌, ◌∙◌, sym, arith, ℕ, ◌+◌, ◌<◌, ◌≤◌, true, ℤ, List, length, ap, refl, None, Ok, zero-add}
-use Rattle.mesh_terms.specs.Faults.{Fault}
-use Rattle.mesh_terms.specs.Meshes.{Triple, Soup, IsBelow, IsMesh, is_used, soup_of, triples_of}
+use Rattle.std.proofs.Common.{◌≡◌, ◌∙◌, sym, arith, ℕ, ◌<◌, true, List, length, ap, None, Ok, zero-add}
+use Rattle.mesh_terms.specs.Meshes.{Triple, Soup, IsMesh, is_used, triples_of}
 use Rattle.obj_terms.specs.Reading.{Reading, all_used, unused_line}
 use Rattle.obj_text.specs.Reading.{IsSound}
 use Rattle.obj_text.proofs.AllUsed.{is_used-all, soup_of-all}

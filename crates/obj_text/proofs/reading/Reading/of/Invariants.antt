@@ -8,5 +8,5 @@ use Rattle.obj_text.proofs.reading.Reading.of.Given as goal
 abbrev pub invariant-loop-line : goal.invariant-loop-line
 invariant-loop-line l = record {
   few : l.number + length l.line-iterator ≤ length l.bytes;
-  rest : read_from l.limits 1 (lines_of l.bytes) no_reading ≡ read_from l.limits (suc l.number) l.line-iterator l.reading
+  rest : read_from l.limits 1 (lines_of l.bytes) no_reading ≡ read_from l.limits (suc l.number) l.line-iterator l.reading;
 }

@@ -1,4 +1,4 @@
-use Rattle.std.proofs.Common.{◌≡◌, ◌≤◌, ◌<◌, ℕ, not, arith, rules, length, drop, take, sym, ◌∙◌, List, [], ◌∷◌, ap, Bool, true, false, suc, refl}
+use Rattle.std.proofs.Common.{◌≡◌, ◌<◌, ℕ, arith, rules, length, drop, take, sym, ◌∙◌, List, [], ◌∷◌, ap, true, false, suc, refl}
 use Rattle.std.specs.Prelude.{◌==◌}
 use Rattle.std.proofs.lemmas.Bool.{eqb-true}
 use Rattle.std.specs.List.{position_or_len}
@@ -19,9 +19,9 @@ first_word line text word rest n m e f h g w r =
     let some : 0 < length (drop (position_or_len is_mark line) line) = rw (← past) (some_of text h) in
     let begins : begins_word text ≡ true = rw past (begins_word-past_blanks line some) in
     sym (words_of-past_blanks line) ∙ ap words_of (sym past) ∙ words_of-first text begins ∙ rw (w, r, g) refl where
-  some_of : (xs : List ℕ) → (length xs == 0) ≡ false → 0 < length xs
-  some_of [] h = cc
-  some_of (x ∷ xs) h = omega arith
+      some_of : (xs : List ℕ) → (length xs == 0) ≡ false → 0 < length xs
+      some_of [] h = cc
+      some_of (x ∷ xs) h = omega arith
 
 pub split_at-requires : goal.split_at-requires
 split_at-requires c = rw c.first_mark.ensures (position_or_len-le is_mark c.self.inside.rest.now)
