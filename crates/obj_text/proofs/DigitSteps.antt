@@ -4,7 +4,7 @@ use Rattle.std.specs.Prelude.{nat_le, ◌&&◌, if◌then◌else◌}
 use Rattle.std.proofs.Math.Seq.{drop-cons}
 use borrow.Author.Tests.{lt-leb}
 use Rattle.text_terms.specs.Numbers.{value_from, digits_value, is_digits}
-use Rattle.obj_text.specs.Given.{number_up_to}
+use Rattle.obj_text.specs.Numbers.{number_up_to}
 
 -- more digits never make the number smaller
 value_from-le : (v : ℕ) (cs : List ℕ) → v ≤ value_from v cs

@@ -1,8 +1,8 @@
 -- Which points the triangles use.
 use Rattle.std.proofs.Common.{◌≡◌, ℕ, ◌+◌, ◌<◌, Bool, true, false, List, [], ◌∷◌, ◌++◌, length, get_or, drop, set, refl, ap, ◌∙◌, sym, arith, ⊎_elim, get_or-set_same, get_or-set_other, add-one}
-use Rattle.std.specs.Prelude.{◌==◌, ◌||◌, replicate}
+use Rattle.std.specs.Prelude.{◌==◌, ◌||◌}
 use Rattle.std.proofs.lemmas.Bool.{cases_eq}
-use Rattle.std.proofs.lemmas.List.{get_or-replicate, length-set, length-replicate}
+use Rattle.std.proofs.lemmas.List.{length-set}
 use Rattle.std.proofs.lemmas.List.Folds.{list_any-append}
 use Rattle.std.proofs.Math.Seq.{drop-cons}
 use borrow.Author.Tests.{eq-eqb, ne_eqb}
@@ -22,10 +22,6 @@ set_mark marks i v h = ⊎_elim same other (cases_eq v i) where
 -- the order in which a mark may be found does not count
 or_shuffled : (a b c u : Bool) → (c || (b || (a || u))) ≡ (u || (((a || b) || c) || false))
 or_shuffled a b c u = grind arith
-
--- no mark is set before the first triangle
-pub MarksUsed-none : (n : ℕ) → MarksUsed n [] (replicate n false)
-MarksUsed-none n = record { each = length-replicate n false; used = λ v h. get_or-replicate n v false false h }
 
 -- three marks set, one after the other
 set_marks : (marks : List Bool) (t : Triple) (n v : ℕ) → length marks ≡ n → IsBelow n t → get_or (set (set (set marks t.0 true) t.1 true) t.2 true) v false ≡ ((t.2 == v) || ((t.1 == v) || ((t.0 == v) || get_or marks v false)))

@@ -8,7 +8,7 @@
 
 ghost use Rattle.std.specs.Prelude.{◌≡◌, Ok, IfOk, IfErr};
 ghost use Rattle.obj_terms.specs.Reading.{narrow_obj};
-ghost use Rattle.obj_text.specs.Given.{IsFaultOf};
+ghost use Rattle.obj_text.specs.Faults.{IsFaultOf};
 
 mod lines;
 mod numbers;
@@ -20,13 +20,14 @@ use mb_base::{Limits, Soup, TextFault};
 use reading::Reading;
 use std::alloc::Global;
 
-/// The points and triangles of an OBJ file of the narrow form, in grid steps and counted from 0, in
-/// the order of the file.
+/// The points and triangles of a Wavefront OBJ file of the narrow form, in the order of the file:
+/// points in grid steps, 10,000 a unit (`digits` is 4), and vertices from 0.
 ///
-/// Refused is the first line, from 1, that is not of the form, as `UnknownLine`; the line where a
-/// count passes its limit, with that count, as `Over`; and, where all lines are of the form and within
-/// the limits, the line of the first point that is in no triangle, as `UnknownLine`. The time is in
-/// proportion to the bytes.
+/// The first fault of the file refuses it, line after line, lines counted from 1. A line that is not
+/// of the form is `Bad` with `UnknownLine`. A line that brings the points or the triangles past their
+/// limit is `Over` with that count. Where no line is at fault and some points are in no triangle, it
+/// is `Bad` with `UnknownLine` on the line of the first of them. Besides these only memory may lack.
+/// The time is in proportion to the bytes.
 pub fn read_obj(alloc: Global, bytes: &[u8], digits: u8, limits: &Limits) -> Result<Soup, TextFault>
     requires { digits ≡ 4 }
     ensures soup { IfOk result (λ soup. narrow_obj limits.now bytes.now ≡ Ok soup) }

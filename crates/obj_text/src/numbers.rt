@@ -2,7 +2,7 @@
 ghost use Rattle.std.specs.Prelude.{◌≡◌, ◌<◌, IfSome};
 ghost use Rattle.mesh_terms.specs.Points.{IsOnGrid};
 ghost use Rattle.obj_terms.specs.Reading.{minus_first, narrow_coordinate, narrow_vertex};
-ghost use Rattle.obj_text.specs.Given.{number_up_to};
+ghost use Rattle.obj_text.specs.Numbers.{number_up_to};
 
 /// The greatest size of a whole number, in units.
 const GREATEST: u32 = 107_374;
@@ -10,8 +10,8 @@ const GREATEST: u32 = 107_374;
 /// Grid steps for each unit.
 const STEPS: i32 = 10_000;
 
-/// The grid steps of a whole number: an optional `-` and digits, at most 107374 in size; None where
-/// the word is none.
+/// The grid steps of a whole number: an optional `-` and digits, at most 107374 in size. None where
+/// the word is not such a number.
 pub fn coordinate(word: &[u8]) -> Option<i32>
     ensures value { result ≡ narrow_coordinate word.now }
     ensures on_grid { IfSome result IsOnGrid }
@@ -22,8 +22,8 @@ pub fn coordinate(word: &[u8]) -> Option<i32>
     Some(if negative { -steps } else { steps })
 }
 
-/// The number from 0 of the vertex that a word names by digits from 1 to the count of the points so
-/// far; None where the word names none.
+/// The number from 0 of the vertex that a word names, by digits alone, from 1 to the count of the
+/// points so far. None where the word names none of them.
 pub fn vertex(word: &[u8], count: u32) -> Option<u32>
     ensures value { result ≡ narrow_vertex count word.now }
     ensures below { IfSome result (λ v. v < count) }
@@ -43,8 +43,8 @@ fn minus_first(word: &[u8]) -> (bool, &[u8])
     }
 }
 
-// The number that a word of any length spells by digits alone; None where it is greater than `most`
-// or the word is no such word.
+// The number that a word of any length spells by digits alone. None where it is greater than `most`,
+// or where the word has other bytes or none.
 fn number_up_to(word: &[u8], most: u32) -> Option<u32>
     ensures { result ≡ number_up_to word.now most }
 {

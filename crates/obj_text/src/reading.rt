@@ -3,7 +3,7 @@ ghost use Rattle.std.specs.Prelude.{◌≡◌, Ok, OnOk, IfOk, IfErr, IfSome, le
 ghost use Rattle.mesh_terms.specs.Meshes.{HasThree, IsBelow, triple_of};
 ghost use Rattle.obj_terms.specs.Reading.{no_reading, add_point, add_triples, narrow_line, narrow_point, narrow_face, face_fan, all_used, unused_line};
 ghost use Rattle.text_terms.specs.Lines.{lines_of};
-ghost use Rattle.obj_text.specs.Given.{IsFaultOf};
+ghost use Rattle.obj_text.specs.Faults.{IsFaultOf};
 ghost use Rattle.obj_text.specs.Reading.{coordinates_of, corners_of, read_from};
 
 use crate::lines::Lines;
