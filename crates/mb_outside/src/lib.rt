@@ -4,8 +4,11 @@
 //! them, and a refusal comes only with a count of faults that rose.
 #![tactic(auto)]
 
+mod calls;
+mod memory_sink;
 mod shelf;
 mod sink;
 
+pub use memory_sink::MemorySink;
 pub use shelf::{Failed, Shelf};
 pub use sink::Sink;
