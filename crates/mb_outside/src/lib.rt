@@ -6,6 +6,7 @@
 
 mod calls;
 mod memory_sink;
+mod stored_file;
 mod shelf;
 mod sink;
 
