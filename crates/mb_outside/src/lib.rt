@@ -4,12 +4,10 @@
 //! them, and a refusal comes only with a count of faults that rose.
 #![tactic(auto)]
 
-mod calls;
-mod memory_sink;
-mod stored_file;
 mod shelf;
 mod sink;
+mod writing;
 
-pub use memory_sink::MemorySink;
 pub use shelf::{Failed, Shelf};
 pub use sink::Sink;
+pub use writing::write_all;
