@@ -1,0 +1,6 @@
+//! Stub.
+#![tactic(auto)]
+
+mod mesh;
+
+pub use mesh::Mesh;
