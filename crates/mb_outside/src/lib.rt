@@ -4,10 +4,24 @@
 //! them, and a refusal comes only with a count of faults that rose.
 #![tactic(auto)]
 
+mod calls;
+mod folder_shelf;
+mod memory_shelf;
+mod memory_sink;
+mod places;
 mod shelf;
 mod sink;
+mod std_sink;
+mod stored_file;
 mod writing;
 
+pub use folder_shelf::FolderShelf;
+pub use memory_shelf::MemoryShelf;
+pub use memory_sink::MemorySink;
 pub use shelf::{Failed, Shelf};
 pub use sink::Sink;
+pub use std_sink::StdSink;
 pub use writing::write_all;
+
+#[cfg(test)]
+mod tests;

@@ -1,6 +1,11 @@
-//! Stub.
+//! Closed triangle meshes: `Mesh::check` accepts a soup exactly where each directed edge occurs as
+//! often as its reverse, and names the least open edge where one does not.
 #![tactic(auto)]
 
 mod mesh;
+mod open_edge;
 
-pub use mesh::Mesh;
+#[cfg(test)]
+mod tests;
+
+pub use mesh::{Mesh, MeshFault};

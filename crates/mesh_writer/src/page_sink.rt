@@ -1,6 +1,5 @@
 // One file of a shelf as a sink.
 ghost use Rattle.std.specs.Prelude.{◌≡◌, IsTrue, IsSome, Some, None, if◌then◌else◌};
-ghost use Rattle.run_terms.specs.Files.{text_of};
 ghost use Rattle.mesh_writer.specs.Pages.{without, room_of};
 
 use mb_outside::{Failed, Shelf, Sink};
@@ -30,7 +29,7 @@ impl<'a, S: Shelf> PageSink<'a, S> {
 }
 
 impl<'a, S: Shelf> Sink for PageSink<'a, S> {
-    ghost told = { λ p. if S.tells p.shelf.now then Some (text_of (S.files p.shelf.now p.name.now)) else None };
+    ghost told = { λ p. if S.tells p.shelf.now then S.files p.shelf.now p.name.now else None };
 
     ghost faults = { λ p. S.write_faults p.shelf.now };
 
