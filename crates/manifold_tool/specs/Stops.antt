@@ -1,5 +1,5 @@
 -- Why a file was not read or saved: the status, the line, and whether the file itself is at fault.
-use Rattle.std.specs.Prelude.{ℕ, Option, Some, None}
+use Rattle.std.specs.Prelude.{ℕ, Bool, true, false, Option, Some, None}
 use Rattle.mb_base.specs.Faults.{counted_of, kind_number}
 use Rattle.mesh_terms.specs.Faults as faults
 use Rattle.play_terms.specs.Lines.{usage, missing, fault_refusal, open_refusal, over, read_fault, write_fault, no_memory}
@@ -39,3 +39,17 @@ stop_line name (Over what seen) = (over (counted_of what) seen).line
 stop_line name ReadFault = read_fault name
 stop_line name WriteFault = write_fault name
 stop_line name NoMemory = no_memory
+
+-- the outside, the file or the memory is at fault as a mesh is read
+abbrev pub is_reading_stop : Stop → Bool
+is_reading_stop Usage = false
+is_reading_stop WriteFault = false
+is_reading_stop _ = true
+
+-- the text, the mesh or the memory is at fault
+abbrev pub is_mesh_stop : Stop → Bool
+is_mesh_stop (BadText line kind) = true
+is_mesh_stop (BadEdge from to) = true
+is_mesh_stop (Over what seen) = true
+is_mesh_stop NoMemory = true
+is_mesh_stop _ = false

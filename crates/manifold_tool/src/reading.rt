@@ -5,6 +5,7 @@ ghost use Rattle.obj_terms.specs.Reading.{narrow_obj};
 
 ghost use Rattle.play_terms.specs.Copy.{checked, mesh_of};
 ghost use Rattle.manifold_tool.specs.Pieces.{ReadsOn, SizeMeets, TextMeets};
+ghost use Rattle.manifold_tool.specs.Stops.{is_reading_stop, is_mesh_stop};
 
 use crate::stop::Stop;
 use mb_base::{Counted, Limits};
@@ -26,6 +27,7 @@ pub struct Read {
 // The size of a file within the limit.
 fn size_of<S: Shelf>(name: &str, limits: &Limits, shelf: &mut S) -> Result<usize, Stop>
     ensures size { IsTrue (S.tells shelf.old) → SizeMeets limits.now name.now (S.files shelf.old name.now) result }
+    ensures stop { IfErr result (λ stop. IsTrue (is_reading_stop stop)) }
     ensures fault { IsErrOf result Stop.ReadFault → Rose (S.read_faults shelf.old) (S.read_faults shelf.new) }
     ensures calm { (IsErrOf result Stop.ReadFault → ⊥) → S.read_faults shelf.new ≡ S.read_faults shelf.old }
     ensures files { S.files shelf.new ≡ S.files shelf.old }
@@ -60,7 +62,8 @@ fn read_piece<S: Shelf>(shelf: &mut S, name: &str, bytes: &mut Vec<u8>, have: us
     ensures told { S.tells shelf.new ≡ S.tells shelf.old }
     ensures writes { S.write_faults shelf.new ≡ S.write_faults shelf.old }
 {
-    shelf.read_at(name, have as u64, &mut bytes[have..end])
+    let count = shelf.read_at(name, have as u64, &mut bytes[have..end])?;
+    Ok(count)
 }
 
 // Reads the first bytes of a file, as many as its size.
@@ -92,7 +95,8 @@ fn read_to<S: Shelf>(alloc: Global, name: &str, size: usize, shelf: &mut S) -> R
 // The mesh of a text.
 fn mesh_of_text(alloc: Global, bytes: &[u8], digits: u8, limits: &Limits) -> Result<Read, Stop>
     requires { digits ≡ 4 }
-    ensures { (name : Bytes) → TextMeets name (checked name (narrow_obj limits.now bytes.now)) result }
+    ensures mesh { (name : Bytes) → TextMeets name (checked name (narrow_obj limits.now bytes.now)) result }
+    ensures stop { IfErr result (λ stop. IsTrue (is_mesh_stop stop)) }
 {
     let soup = read_obj(alloc, bytes, digits, limits)?;
     let unused = soup.unused();
@@ -112,7 +116,7 @@ pub fn read_mesh<S: Shelf>(alloc: Global, name: &str, digits: u8, limits: &Limit
     ensures mesh { IsTrue (S.tells shelf.old) → TextMeets name.now (mesh_of narrow_obj limits.now name.now (S.files shelf.old name.now)) result }
     ensures fault { IsErrOf result Stop.ReadFault → IsTrue (S.tells shelf.old) → Rose (S.read_faults shelf.old) (S.read_faults shelf.new) }
     ensures calm { (IsErrOf result Stop.ReadFault → ⊥) → S.read_faults shelf.new ≡ S.read_faults shelf.old }
-    ensures others { (IsErrOf result Stop.Usage → ⊥) × (IsErrOf result Stop.WriteFault → ⊥) }
+    ensures stop { IfErr result (λ stop. IsTrue (is_reading_stop stop)) }
     ensures files { S.files shelf.new ≡ S.files shelf.old }
     ensures told { S.tells shelf.new ≡ S.tells shelf.old }
     ensures writes { S.write_faults shelf.new ≡ S.write_faults shelf.old }
