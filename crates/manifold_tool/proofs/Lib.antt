@@ -1,2 +1,4 @@
-pub mod Texts
+pub mod Copying
+pub mod Running
 pub mod Saved
+pub mod Texts

@@ -13,7 +13,7 @@ use Rattle.manifold_tool.specs.Saves.{IsSavedInPart}
 pub same_or_other : (n name : Bytes) → ((bytes_eq n name ≡ true) × (n ≡ name)) ⊎ ((bytes_eq n name ≡ false) × (n ≡ name → ⊥))
 same_or_other n name =
     let d = bytes_eq-Decides n name in
-    elim (cases_Bool (bytes_eq n name)) [ inl yes ↦ inl (yes, d.0 yes) | inr no ↦ inr (no, λ e. let yes = d.1 e in cc) ]
+    elim (cases_Bool (bytes_eq n name)) [ inl is ↦ inl (is, d.0 is) | inr is_not ↦ inr (is_not, λ e. let is = d.1 e in cc) ]
 
 -- where a name holds the text and all others stay, the text was put there
 pub written : (name text : Bytes) (old new : Files) → new name ≡ Some text → OthersStay name old new → new ≡ put name text old

@@ -5,18 +5,9 @@ use Rattle.std.proofs.lemmas.List.{take_more, take-append-drop}
 use Rattle.std.specs.List.{flat_map}
 use Rattle.std.specs.Option.{option_map}
 use Rattle.run_terms.specs.Files.{Bytes}
+use Rattle.mb_outside.proofs.Adds.{added_twice, added_none}
 use Rattle.mb_outside.specs.Sinks.{AddsPart}
 use Rattle.mesh_writer.specs.Passing.{Passed, Stopped}
-
--- bytes that were added in two parts were added at once
-pub added_twice : (old mid new : Option Bytes) (a b : Bytes) → mid ≡ option_map (λ held. held ++ a) old → new ≡ option_map (λ held. held ++ b) mid → new ≡ option_map (λ held. held ++ (a ++ b)) old
-added_twice None mid new a b first then = then ∙ ap (option_map (λ held. held ++ b)) first
-added_twice (Some old) mid new a b first then = then ∙ ap (option_map (λ held. held ++ b)) first ∙ ap Some (append_assoc old a b)
-
--- nothing was added
-pub added_none : (old : Option Bytes) → old ≡ option_map (λ held. held ++ []) old
-added_none None = refl
-added_none (Some old) = ap Some (sym (append-nil old))
 
 -- nothing passes
 pub passed-none : (held : Bytes) (told : Option Bytes) (room : Option ℕ) → Passed [] held held told told room room
