@@ -10,6 +10,7 @@ ghost use Rattle.manifold_tool.specs.Stops.{stop_line};
 ghost use Rattle.manifold_tool.specs.Tails.{stop_tail_of};
 
 use crate::halt::Halt;
+use crate::status::Status;
 use crate::stop::Stop;
 use crate::tail::{copied_tail, stop_tail};
 use mb_outside::{Failed, Sink, write_all};
@@ -86,5 +87,15 @@ pub fn tell_halt<K: Sink>(from: &str, to: &str, halt: &Halt, sink: &mut K)
         Halt::Reading(stop) => tell_stop(from, stop, sink),
         Halt::Saving => tell_stop(to, &Stop::WriteFault, sink),
         Halt::Reporting => tell(b"", b"report: write fault\n", sink),
+    }
+}
+
+/// Writes the line that tells why a run could not start: the usage line, or that memory ran out.
+pub fn tell_start<K: Sink>(status: Status, sink: &mut K)
+    requires { K.faults sink.old < 2 ^ 64 - 1 }
+{
+    match status {
+        Status::Usage => tell_usage(sink),
+        _ => tell_stop("", &Stop::NoMemory, sink),
     }
 }
