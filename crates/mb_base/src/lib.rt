@@ -10,6 +10,8 @@ mod op;
 mod point;
 mod results;
 mod soup;
+#[cfg(test)]
+mod tests;
 
 pub use arg_list::ArgList;
 pub use fault::{Counted, TextFault, TextKind};

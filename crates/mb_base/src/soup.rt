@@ -1,6 +1,7 @@
 // Points and triangles as a file gives them.
-ghost use Rattle.std.specs.Prelude.{◌≡◌, length};
-ghost use Rattle.mesh_terms.specs.Meshes.{IsMesh, triples_of};
+ghost use Rattle.std.specs.Prelude.{◌≡◌, ◌↔◌, ◌<◌, ◌≤◌, ℕ, IsTrue, true, length};
+ghost use Rattle.std.specs.List.{All, list_any};
+ghost use Rattle.mesh_terms.specs.Meshes.{HasThree, IsBelow, IsMesh, has, triple_of, triples_of};
 
 use crate::point::Point;
 use std::marker::Model;
@@ -41,6 +42,17 @@ impl Soup {
         }
     }
 
+    /// Whether these lists make a soup: what `of` requires. The time is the product of the two
+    /// lengths, so this is for small lists, as in tests.
+    pub fn fits(points: &[Point], triples: &[[u32; 3]]) -> bool
+        ensures { IsTrue result ↔ IsMesh (length points.now) (triples_of triples.now) }
+    {
+        if !are_few(points.len(), triples.len()) || !are_triples(triples, points.len()) {
+            return false;
+        }
+        are_used(triples, points.len())
+    }
+
     /// The points.
     pub fn points(&self) -> &[Point]
         ensures value { result.now ≡ self.now.points }
@@ -77,4 +89,53 @@ impl Soup {
         } = self;
         (points, triples)
     }
+}
+
+// Whether a mesh may have so many points and triples.
+fn are_few(points: usize, triples: usize) -> bool
+    ensures { IsTrue result ↔ ((points ≤ 150000000) × (triples ≤ 100000000)) }
+{
+    points <= 150_000_000 && triples <= 100_000_000
+}
+
+// Whether the triple names three different points of so many.
+fn is_triple(triple: &[u32; 3], points: usize) -> bool
+    ensures { IsTrue result ↔ (HasThree (triple_of triple.now) × IsBelow points (triple_of triple.now)) }
+{
+    let [a, b, c] = *triple;
+    let below = (a as usize) < points && (b as usize) < points && (c as usize) < points;
+    below && a != b && b != c && c != a
+}
+
+// Whether each triple does.
+fn are_triples(triples: &[[u32; 3]], points: usize) -> bool
+    ensures { IsTrue result ↔ All (λ t. HasThree (triple_of t) × IsBelow points (triple_of t)) triples.now }
+{
+    for triple in triples {
+        if !is_triple(triple, points) {
+            return false;
+        }
+    }
+    true
+}
+
+// Whether some triple has the point number.
+fn is_used(triples: &[[u32; 3]], point: usize) -> bool
+    ensures { result ≡ list_any (λ t. has (triple_of t) point) triples.now }
+{
+    triples.iter().any(|[a, b, c]| *a as usize == point
+        || *b as usize == point
+        || *c as usize == point)
+}
+
+// Whether each of so many points is used.
+fn are_used(triples: &[[u32; 3]], points: usize) -> bool
+    ensures { IsTrue result ↔ ((v : ℕ) → v < points → list_any (λ t. has (triple_of t) v) triples.now ≡ true) }
+{
+    for point in 0..points {
+        if !is_used(triples, point) {
+            return false;
+        }
+    }
+    true
 }

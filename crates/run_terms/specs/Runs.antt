@@ -1,6 +1,6 @@
 -- A run as a list of actions with an end, and what stands after a run that did them or stopped.
-use Rattle.std.specs.Prelude.{◌≡◌, ℕ, List, [], ◌∷◌, ◌++◌, ◌⊎◌}
-use Rattle.run_terms.specs.Files.{Bytes, Files, put, IsPrefix, Rose}
+use Rattle.std.specs.Prelude.{◌≡◌, ◌<◌, ℕ, List, [], ◌∷◌, ◌++◌, ◌⊎◌}
+use Rattle.run_terms.specs.Files.{Bytes, Files, put, IsPrefix}
 
 -- asking for a file, writing a whole file, saying a line
 pub data Action : Type 0 where
@@ -79,7 +79,7 @@ pub record ReadStop (p : Play) (w v : World) (before now : Faults) : Type 0 wher
   pub later : List Action
   pub next : first.rest ≡ Ask name ∷ later
   pub same : v ≡ first.mid
-  pub rose : Rose before.read now.read
+  pub rose : before.read < now.read
 
 -- the next action is a file of which a prefix stands, or what it held
 pub record WriteStop (p : Play) (w v : World) (before now : Faults) : Type 0 where
@@ -89,7 +89,7 @@ pub record WriteStop (p : Play) (w v : World) (before now : Faults) : Type 0 whe
   pub later : List Action
   pub next : first.rest ≡ Write name bytes ∷ later
   pub part : Partial (Write name bytes) first.mid v
-  pub rose : Rose before.write now.write
+  pub rose : before.write < now.write
 
 -- the next action is a line of which a prefix stands
 pub record SayStop (p : Play) (w v : World) (before now : Faults) : Type 0 where
@@ -98,7 +98,7 @@ pub record SayStop (p : Play) (w v : World) (before now : Faults) : Type 0 where
   pub later : List Action
   pub next : first.rest ≡ Say line ∷ later
   pub part : Partial (Say line) first.mid v
-  pub rose : Rose before.out now.out
+  pub rose : before.out < now.out
 
 -- memory ran out between two actions, and nothing else changed
 pub record MemoryStop (p : Play) (w v : World) : Type 0 where

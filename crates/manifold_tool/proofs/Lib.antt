@@ -1,0 +1,4 @@
+pub mod Copying
+pub mod Running
+pub mod Saved
+pub mod Texts
