@@ -1,5 +1,5 @@
 -- What a written number is made of, and how long it is.
-use Rattle.std.proofs.Common.{◌≡◌, ℕ, zero, suc, ◌+◌, ◌*◌, ◌/◌, ◌%◌, ◌^◌, ◌-◌, ◌<◌, ◌≤◌, ◌&&◌, ◌||◌, ◌==◌, if◌then◌else◌, Bool, List, [], ◌∷◌, ◌++◌, true, false, IsTrue, length, decimal, refl, sym, ap, ◌∙◌, arith, length-append, All, nat_abs, ℤ, pos, int_lt, codes}
+use Rattle.std.proofs.Common.{◌≡◌, ℕ, zero, suc, ◌+◌, ◌*◌, ◌/◌, ◌%◌, ◌^◌, ◌-◌, ◌<◌, ◌≤◌, ◌&&◌, ◌==◌, if◌then◌else◌, Bool, List, [], ◌∷◌, ◌++◌, true, false, IsTrue, length, decimal, refl, sym, ap, ◌∙◌, arith, length-append, All, nat_abs, ℤ, pos, int_lt, codes}
 use Rattle.std.proofs.lemmas.Fmt.{decimal_by_steps, length-decimal-le, decimal_nonempty}
 use Rattle.std.proofs.lemmas.List.Elements.{All-append, All-nil, All-cons}
 use Rattle.std.proofs.Math.Nat.{div-le_self}
@@ -8,20 +8,20 @@ use Rattle.std.proofs.lemmas.Nat.{mod_below, div_below, pow-add}
 use Rattle.text_terms.specs.Numbers.{is_digit, all_digits, is_on_grid}
 use Rattle.text_terms.specs.Written.{last_digits, without_zeros, is_empty, written_rest, written_size, written}
 use Rattle.grid_number.specs.Bytes.{is_number_byte}
-use Rattle.grid_number.proofs.Digits.{ten_pow_pos, kept_digits, length-kept_digits}
+use Rattle.grid_number.proofs.KeptDigits.{ten_pow_pos, kept_digits, length-kept_digits}
 
 -- the byte of a decimal digit
 pub is_digit-of : (d : ℕ) → d < 10 → is_digit (48 + d) ≡ true
 is_digit-of d small = grind (arith, nat_tests)
 
 -- a list of digits, from its parts
-both : (a b : Bool) → a ≡ true → b ≡ true → (a && b) ≡ true
+pub both : (a b : Bool) → a ≡ true → b ≡ true → (a && b) ≡ true
 both a b p q = grind arith
 
-left : (a b : Bool) → (a && b) ≡ true → a ≡ true
+pub left : (a b : Bool) → (a && b) ≡ true → a ≡ true
 left a b p = grind arith
 
-right : (a b : Bool) → (a && b) ≡ true → b ≡ true
+pub right : (a b : Bool) → (a && b) ≡ true → b ≡ true
 right a b p = grind arith
 
 -- digits after digits

@@ -21,6 +21,7 @@ pub fn write_grid(value: i32, digits: u8, into: &mut ArrayVec<u8, 24>)
     ensures short { array_vec_len into.new ≤ 12 }
     ensures some { 0 < array_vec_len into.new }
     ensures bytes { All (λ c. IsTrue (is_number_byte c)) into.new.items }
+    ensures read_back { grid_number digits into.new.items ≡ Some value }
 {
     into.clear();
     if value < 0 {

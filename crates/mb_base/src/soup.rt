@@ -43,7 +43,7 @@ impl Soup {
     }
 
     /// Whether these lists make a soup: what `of` requires. The time is the product of the two
-    /// lengths, so this is for small lists, as in tests.
+    /// lengths, so this is meant for tests.
     pub fn fits(points: &[Point], triples: &[[u32; 3]]) -> bool
         ensures { IsTrue result ↔ IsMesh (length points.now) (triples_of triples.now) }
     {
@@ -107,7 +107,7 @@ fn is_triple(triple: &[u32; 3], points: usize) -> bool
     below && a != b && b != c && c != a
 }
 
-// Whether each triple does.
+// Whether each triple names three different points of so many.
 fn are_triples(triples: &[[u32; 3]], points: usize) -> bool
     ensures { IsTrue result ↔ All (λ t. HasThree (triple_of t) × IsBelow points (triple_of t)) triples.now }
 {

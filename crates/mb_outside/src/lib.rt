@@ -15,6 +15,7 @@ mod shelf;
 mod sink;
 mod std_sink;
 mod stored_file;
+mod writing;
 
 pub use folder_shelf::FolderShelf;
 pub use memory_shelf::MemoryShelf;
@@ -22,6 +23,7 @@ pub use memory_sink::MemorySink;
 pub use shelf::{Failed, Shelf};
 pub use sink::Sink;
 pub use std_sink::StdSink;
+pub use writing::write_all;
 
 #[cfg(test)]
 mod tests;

@@ -4,7 +4,7 @@ use Rattle.std.specs.List.Sorted.{IsPermutation}
 use Rattle.std.proofs.lemmas.List.Sums.{sum_by-cons}
 use Rattle.std.proofs.lemmas.List.Sorted.{sum_by-IsPermutation}
 use Rattle.chain_terms.specs.Chains.{dir, is_edge, one_if, IsClosed}
-use Rattle.mesh_check.specs.Surplus.{reversed, HasNoSurplus}
+use Rattle.mesh_check.specs.Surplus.{reversed}
 
 -- how often an edge occurs is a sum over the list
 dir-sum_by : (a b : ℕ) (es : List (ℕ × ℕ)) → dir es a b ≡ sum_by (λ e. one_if (is_edge e a b)) es
@@ -16,6 +16,7 @@ pub dir-permutation : (es fs : List (ℕ × ℕ)) → IsPermutation es fs → (a
 dir-permutation es fs same a b =
     dir-sum_by a b fs ∙ sum_by-IsPermutation (λ e. one_if (is_edge e a b)) es fs same ∙ sym (dir-sum_by a b es)
 
+-- a turned edge runs from a to b where the edge runs from b to a
 turned_test : (e : ℕ × ℕ) (a b : ℕ) → is_edge (e.1, e.0) a b ≡ is_edge e b a
 turned_test e a b = both (e.1 == a) (e.0 == b)
   where

@@ -1,11 +1,10 @@
 -- Two sorted lists of edges, read side by side from the front.
-use Rattle.std.proofs.Common.{◌≡◌, ◌<◌, ◌≤◌, ◌+◌, ◌&&◌, ◌||◌, ◌==◌, ℕ, Bool, true, false, cond, List, [], ◌∷◌, nat_lt, length, get_or, drop, suc, subst, is_lt, Less, Equal, Greater, refl, sym, ◌∙◌, ap, arith}
+use Rattle.std.proofs.Common.{◌≡◌, ◌<◌, ◌≤◌, ◌+◌, ℕ, Bool, true, false, List, [], ◌∷◌, get_or, suc, subst, is_lt, Equal, Greater, refl, ◌∙◌, ap, arith}
 use Rattle.std.specs.List.Sorted.{IsSorted}
-use Rattle.std.proofs.lemmas.Bool.{false≢true}
 use Rattle.chain_terms.specs.Chains.{dir, is_edge, one_if}
 use Rattle.mesh_terms.specs.OpenEdges.{is_lesser}
-use Rattle.mesh_check.specs.Surplus.{IsLeastSurplus, HasNoSurplus}
-use Rattle.mesh_check.proofs.Order.{edge_cmp, not_below_itself, not_both, one_edge, through, before, lesser_is_other, greater_is_other, is_itself, lesser_from_cmp, not_lesser_from_cmp, equal_from_cmp, greater_from_cmp}
+use Rattle.mesh_check.specs.Surplus.{IsLeastSurplus}
+use Rattle.mesh_check.proofs.Order.{edge_cmp, one_edge, through, before, lesser_is_other, is_itself, not_below_itself, not_lesser_from_cmp, not_greater_from_cmp, greater_from_cmp}
 
 -- no edge that is lesser than an edge of the list stands after it
 abbrev pub IsRising : List (ℕ × ℕ) → Type 0
@@ -17,8 +16,7 @@ abbrev pub IsReached : List (ℕ × ℕ) → ℕ × ℕ → Type 0
 IsReached [] p = ⊥
 IsReached (x ∷ xs) p = is_lesser p x ≡ false
 
--- how far two lists were read, where left and right are left: each edge was read from the first list no more often than from
--- the second, and as often where it is not lesser than what is left of the first
+-- two lists are read down to left and right: each edge no more often in the first, and as often from the first edge of left on
 pub record AreRead (es others left right : List (ℕ × ℕ)) : Type 0 where
   pub left_rising : IsRising left
   pub right_rising : IsRising right
@@ -56,11 +54,11 @@ rising_from_sorted (x ∷ y ∷ ys) sorted =
 -- nothing was read
 pub read_none : (es others : List (ℕ × ℕ)) → IsSorted edge_cmp es → IsSorted edge_cmp others → AreRead es others es others
 read_none es others up others_up = record {
-    left_rising = rising_from_sorted es up;
-    right_rising = rising_from_sorted others others_up;
-    fewer = λ a b. omega arith;
-    same = λ p reached. omega arith;
-  }
+  left_rising = rising_from_sorted es up;
+  right_rising = rising_from_sorted others others_up;
+  fewer = λ a b. omega arith;
+  same = λ p reached. omega arith;
+}
 
 -- what is left, as it is written
 rewritten : (es others left right l r : List (ℕ × ℕ)) → left ≡ l → right ≡ r → AreRead es others left right → AreRead es others l r
@@ -75,16 +73,28 @@ reached_before x (z ∷ zs) rising p reached = by (is_lesser p x) refl
     by false reached_too = reached_too
     by true less = absurd (omega (arith, rising.0 z (through x p z less reached), first_occurs z zs))
 
+-- the same edge is read from both lists
 matched : (es others : List (ℕ × ℕ)) (x y : ℕ × ℕ) (xs ys : List (ℕ × ℕ)) → AreRead es others (x ∷ xs) (y ∷ ys) → is_lesser y x ≡ false → is_lesser x y ≡ false → AreRead es others xs ys
 matched es others x y xs ys read not_less not_more = record {
-    left_rising = read.left_rising.1;
-    right_rising = read.right_rising.1;
-    fewer = λ a b. omega (arith, read.fewer a b, ap one_if (one_edge x y not_more not_less a b));
-    same = λ p reached. omega (arith, read.same p (reached_before x xs read.left_rising p reached), ap one_if (one_edge x y not_more not_less p.0 p.1));
-  }
+  left_rising = read.left_rising.1;
+  right_rising = read.right_rising.1;
+  fewer = λ a b. omega (arith, read.fewer a b, ap one_if (one_edge x y not_more not_less a b));
+  same = λ p reached. omega (arith, read.same p (reached_before x xs read.left_rising p reached), ap one_if (one_edge x y not_more not_less p.0 p.1));
+}
 
 -- both next edges are one edge, and are read
 pub read_both : (es others left right : List (ℕ × ℕ)) (x y : ℕ × ℕ) (xs ys : List (ℕ × ℕ)) → AreRead es others left right → left ≡ x ∷ xs → right ≡ y ∷ ys → edge_cmp y x ≡ Equal
     → AreRead es others xs ys
 read_both es others left right x y xs ys read left_is right_is equal =
-    matched es others x y xs ys (rewritten es others left right (x ∷ xs) (y ∷ ys) left_is right_is read) (not_lesser_from_cmp y x (ap is_lt equal)) (equal_from_cmp y x equal)
+    matched es others x y xs ys (rewritten es others left right (x ∷ xs) (y ∷ ys) left_is right_is read) (not_lesser_from_cmp y x (ap is_lt equal)) (not_greater_from_cmp y x equal)
+
+-- the first list has its next edge more often, where the second list's next edge is greater
+pub surplus_found : (es others left right : List (ℕ × ℕ)) (x y : ℕ × ℕ) (xs ys : List (ℕ × ℕ)) → AreRead es others left right → left ≡ x ∷ xs → right ≡ y ∷ ys → edge_cmp y x ≡ Greater
+    → IsLeastSurplus es others x
+surplus_found es others left right x y xs ys read left_is right_is greater =
+    let at : AreRead es others (x ∷ xs) (y ∷ ys) = rewritten es others left right (x ∷ xs) (y ∷ ys) left_is right_is read in
+    let none : dir (y ∷ ys) x.0 x.1 ≡ 0 = none_lesser y x ys at.right_rising (greater_from_cmp y x greater) in
+    record {
+      more = omega (arith, at.same x (not_below_itself x), first_occurs x xs, none);
+      least = λ q less. omega (arith, at.fewer q.0 q.1, none_lesser x q xs at.left_rising less);
+    }

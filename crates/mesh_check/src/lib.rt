@@ -4,7 +4,6 @@
 
 mod mesh;
 mod open_edge;
-
 #[cfg(test)]
 mod tests;
 

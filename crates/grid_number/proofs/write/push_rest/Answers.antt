@@ -1,6 +1,6 @@
-use Rattle.std.proofs.Common.{rules, ◌≡◌, ◌≢◌, ◌+◌, ◌*◌, ◌/◌, ◌%◌, ◌<◌, ◌≤◌, ◌++◌, ◌^◌, ◌==◌, if◌then◌else◌, length, ℕ, ◌-◌, List, [], ◌∷◌, Bool, false, arith, ap, sym, refl, ◌∙◌, length-append, append_assoc, append-nil, codes}
+use Rattle.std.proofs.Common.{rules, ◌≡◌, ◌≢◌, ◌*◌, ◌<◌, ◌≤◌, ◌++◌, ◌^◌, ◌==◌, if◌then◌else◌, length, ℕ, ◌-◌, List, [], ◌∷◌, Bool, false, arith, ap, sym, refl, ◌∙◌, length-append, append_assoc, append-nil, codes}
 use Rattle.text_terms.specs.Written.{written_rest, last_digits, without_zeros}
-use Rattle.grid_number.proofs.Digits.{kept_digits, kept_digits-next, length-kept_digits, kept_digits-zero, kept_digits-millionths, kept_digits-step, length-kept_digits-step, millionths-below}
+use Rattle.grid_number.proofs.KeptDigits.{kept_digits, length-kept_digits, kept_digits-zero, kept_digits-millionths, kept_digits-step, length-kept_digits-step, millionths-below}
 use Rattle.grid_number.proofs.write.push_rest.Goals as goal
 
 -- what the factor 10 ^ (6 - k) makes of a rest

@@ -1,5 +1,5 @@
 use Rattle.std.proofs.Common.{◌≡◌, ◌<◌, ◌≤◌, ◌++◌, ◌^◌, length}
-use Rattle.grid_number.proofs.Digits.{kept_digits}
+use Rattle.grid_number.proofs.KeptDigits.{kept_digits}
 use Rattle.grid_number.proofs.write.push_rest.Given as goal
 
 -- the text so far and the digits of what is left are the same text all along

@@ -1,8 +1,8 @@
-use Rattle.std.proofs.Common.{rules, ◌≡◌, ◌+◌, ◌*◌, ◌/◌, ◌%◌, ◌<◌, ◌≤◌, ◌++◌, ◌^◌, IsTrue, length, decimal, nat_abs, ℕ, ◌-◌, List, [], ◌∷◌, arith, ap, sym, ◌∙◌, length-append, All, subst}
-use Rattle.std.proofs.lemmas.Nat.{mod_below}
+use Rattle.std.proofs.Common.{rules, ◌≡◌, ◌/◌, ◌≤◌, length, decimal, nat_abs, ℕ, List, arith, ap, sym, ◌∙◌, length-append, subst}
+use Rattle.text_terms.specs.Numbers.{grid_number}
 use Rattle.text_terms.specs.Written.{written}
-use Rattle.arrayvec.specs.ArrayVec.{array_vec_len}
 use Rattle.grid_number.proofs.Bytes.{length-written, AreNumberBytes-written, AreNumberBytes, on_grid-bound, length-whole}
+use Rattle.grid_number.proofs.ReadBack.{grid_number-written}
 use Rattle.grid_number.proofs.write.write_grid.Goals as goal
 
 -- the text
@@ -29,3 +29,7 @@ returns-clause-some c =
 
 pub returns-clause-bytes : goal.returns-clause-bytes
 returns-clause-bytes c = subst AreNumberBytes (sym (text c)) (AreNumberBytes-written c.args.digits c.args.value (omega (arith, on_grid-bound c.args.value c.requires.on_grid)))
+
+pub returns-clause-read_back : goal.returns-clause-read_back
+returns-clause-read_back c =
+    ap (grid_number c.args.digits) (text c) ∙ grid_number-written c.args.digits c.args.value (omega (arith, on_grid-bound c.args.value c.requires.on_grid))

@@ -1,6 +1,6 @@
-use Rattle.std.proofs.Common.{◌≡◌, sym, rules,  ◌∙◌, ap, subst, length, Some, None}
-use Rattle.chain_terms.specs.Chains.{all_edges, IsClosed}
-use Rattle.mesh_terms.specs.Meshes.{IsMesh, IsAccepted, triples_of}
+use Rattle.std.proofs.Common.{◌≡◌, sym, rules, ◌∙◌, ap, Some, None}
+use Rattle.chain_terms.specs.Chains.{all_edges}
+use Rattle.mesh_terms.specs.Meshes.{triples_of}
 use Rattle.mesh_terms.specs.OpenEdges.{open_pair}
 use Rattle.mesh_check.proofs.OpenPair.{open_pair_closed, closed_from_open_pair}
 use Rattle.mesh_check.proofs.mesh.Mesh.check.Goals as goal
