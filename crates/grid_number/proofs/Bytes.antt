@@ -27,7 +27,8 @@ right a b p = grind arith
 -- digits after digits
 pub all_digits-append : (xs ys : List ℕ) → all_digits xs ≡ true → all_digits ys ≡ true → all_digits (xs ++ ys) ≡ true
 all_digits-append [] ys p q = q
-all_digits-append (x ∷ xs) ys p q = both (is_digit x) (all_digits (xs ++ ys)) (left (is_digit x) (all_digits xs) p) (all_digits-append xs ys (right (is_digit x) (all_digits xs) p) q)
+all_digits-append (x ∷ xs) ys p q = both (is_digit x) (all_digits (xs ++ ys)) (left (is_digit x) (all_digits xs) p)
+    (all_digits-append xs ys (right (is_digit x) (all_digits xs) p) q)
 
 -- one digit
 all_digits-one : (d : ℕ) → d < 10 → all_digits ((48 + d) ∷ []) ≡ true
@@ -36,14 +37,17 @@ all_digits-one d small = both (is_digit (48 + d)) true (is_digit-of d small) ref
 -- a whole number is written in digits
 pub all_digits-decimal : (n : ℕ) → n < 2 ^ 64 → all_digits (decimal n) ≡ true
 all_digits-decimal = decimal_by_steps (λ m ds. all_digits ds ≡ true) all_digits-one
-    (λ m ds large digits. all_digits-append ds ((48 + m % 10) ∷ []) digits (all_digits-one (m % 10) (mod_below m 10 (omega arith))))
+    (λ m ds large digits. all_digits-append ds ((48 + m % 10) ∷ []) digits
+    (all_digits-one (m % 10) (mod_below m 10 (omega arith))))
 
 -- so are the last digits of a number
 pub all_digits-last_digits : (k n : ℕ) → all_digits (last_digits k n) ≡ true
 all_digits-last_digits zero n = refl
-all_digits-last_digits (suc k) n = all_digits-append (last_digits k (n / 10)) ((48 + n % 10) ∷ []) (all_digits-last_digits k (n / 10)) (all_digits-one (n % 10) (mod_below n 10 (omega arith)))
+all_digits-last_digits (suc k) n = all_digits-append (last_digits k (n / 10)) ((48 + n % 10) ∷ [])
+    (all_digits-last_digits k (n / 10)) (all_digits-one (n % 10) (mod_below n 10 (omega arith)))
 
-all_digits-choice : (b : Bool) (c : ℕ) (ds : List ℕ) → is_digit c ≡ true → all_digits ds ≡ true → all_digits (if b then [] else c ∷ ds) ≡ true
+all_digits-choice : (b : Bool) (c : ℕ) (ds : List ℕ) → is_digit c ≡ true → all_digits ds ≡ true →
+    all_digits (if b then [] else c ∷ ds) ≡ true
 all_digits-choice true c ds p q = refl
 all_digits-choice false c ds p q = both (is_digit c) (all_digits ds) p q
 
@@ -51,7 +55,8 @@ all_digits-choice false c ds p q = both (is_digit c) (all_digits ds) p q
 pub all_digits-without_zeros : (ds : List ℕ) → all_digits ds ≡ true → all_digits (without_zeros ds) ≡ true
 all_digits-without_zeros [] digits = refl
 all_digits-without_zeros (c ∷ cs) digits =
-    all_digits-choice ((c == 48) && is_empty (without_zeros cs)) c (without_zeros cs) (left (is_digit c) (all_digits cs) digits)
+    all_digits-choice ((c == 48) && is_empty (without_zeros cs)) c (without_zeros cs)
+    (left (is_digit c) (all_digits cs) digits)
     (all_digits-without_zeros cs (right (is_digit c) (all_digits cs) digits))
 
 -- the rest of a written number
@@ -74,29 +79,35 @@ AreNumberBytes-digits (c ∷ cs) digits =
 
 -- the rest, with its point
 pub AreNumberBytes-rest : (k rest : ℕ) → AreNumberBytes (written_rest k rest)
-AreNumberBytes-rest k rest = elim (rest == 0) as (λ b. AreNumberBytes (if b then [] else codes "." ++ without_zeros (last_digits k rest))) [
-  | true ↦ All-nil (λ c. IsTrue (is_number_byte c))
-  | false ↦ All-cons (λ c. IsTrue (is_number_byte c)) 46 (without_zeros (last_digits k rest)) refl
-      (AreNumberBytes-digits (without_zeros (last_digits k rest)) (all_digits-without_zeros (last_digits k rest) (all_digits-last_digits k rest)))
-]
+AreNumberBytes-rest k rest = elim (rest == 0) as (λ b. AreNumberBytes
+    (if b then [] else codes "." ++ without_zeros (last_digits k rest))) [
+      | true ↦ All-nil (λ c. IsTrue (is_number_byte c))
+      | false ↦ All-cons (λ c. IsTrue (is_number_byte c)) 46 (without_zeros (last_digits k rest)) refl
+          (AreNumberBytes-digits (without_zeros (last_digits k rest))
+          (all_digits-without_zeros (last_digits k rest) (all_digits-last_digits k rest)))
+    ]
 
 -- a size
 pub AreNumberBytes-size : (k n : ℕ) → n < 2 ^ 64 → AreNumberBytes (written_size k n)
 AreNumberBytes-size k n small =
     All-append (λ c. IsTrue (is_number_byte c)) (decimal (n / 10 ^ k)) (written_rest k (n % 10 ^ k))
-    (AreNumberBytes-digits (decimal (n / 10 ^ k)) (all_digits-decimal (n / 10 ^ k) (omega (arith, div-le_self n (10 ^ k))))) (AreNumberBytes-rest k (n % 10 ^ k))
+    (AreNumberBytes-digits (decimal (n / 10 ^ k)) (all_digits-decimal (n / 10 ^ k)
+    (omega (arith, div-le_self n (10 ^ k))))) (AreNumberBytes-rest k (n % 10 ^ k))
 
 -- a written number has only digits, `-` and `.`
 pub AreNumberBytes-written : (k : ℕ) (z : ℤ) → nat_abs z < 2 ^ 64 → AreNumberBytes (written k z)
-AreNumberBytes-written k z small = elim (int_lt z (pos 0)) as (λ b. AreNumberBytes (if b then codes "-" ++ written_size k (nat_abs z) else written_size k (nat_abs z))) [
-  | true ↦ All-cons (λ c. IsTrue (is_number_byte c)) 45 (written_size k (nat_abs z)) refl (AreNumberBytes-size k (nat_abs z) small)
-  | false ↦ AreNumberBytes-size k (nat_abs z) small
-]
+AreNumberBytes-written k z small = elim (int_lt z (pos 0)) as
+    (λ b. AreNumberBytes (if b then codes "-" ++ written_size k (nat_abs z) else written_size k (nat_abs z))) [
+      | true ↦ All-cons (λ c. IsTrue (is_number_byte c)) 45 (written_size k (nat_abs z)) refl
+          (AreNumberBytes-size k (nat_abs z) small)
+      | false ↦ AreNumberBytes-size k (nat_abs z) small
+    ]
 
 -- the rest has at most k digits and a point
 length-rest : (k rest : ℕ) → length (written_rest k rest) ≤ k + 1
 unfolding kept_digits
-length-rest k rest = elim (rest == 0) as (λ b. length (if b then [] else codes "." ++ without_zeros (last_digits k rest)) ≤ k + 1)
+length-rest k rest = elim (rest == 0) as (λ b. length
+    (if b then [] else codes "." ++ without_zeros (last_digits k rest)) ≤ k + 1)
     [ true ↦ omega arith | false ↦ omega (arith, length-kept_digits k rest) ]
 
 -- with no digits there is none
@@ -108,29 +119,39 @@ pub length-whole : (k n : ℕ) → k ≤ 6 → n ≤ 2 ^ 30 → length (decimal 
 length-whole k n few small =
     let e : (10 - k) + k ≡ 10 = omega arith in
     let p : 10 ^ (10 - k) * 10 ^ k ≡ 10 ^ 10 = sym (pow-add 10 (10 - k) k) ∙ ap (λ (m : ℕ). 10 ^ m) e in
-    let below : n / 10 ^ k < 10 ^ (10 - k) = div_below n (10 ^ k) (10 ^ (10 - k)) (ten_pow_pos k) (omega (arith, p)) in
+    let below : n / 10 ^ k < 10 ^ (10 - k) =
+    div_below n (10 ^ k) (10 ^ (10 - k)) (ten_pow_pos k) (omega (arith, p)) in
     length-decimal-le (10 - k) (n / 10 ^ k) (omega arith) below (omega (arith, div-le_self n (10 ^ k)))
 
 -- a size has at most 11 bytes, and one at least
 pub length-size : (k n : ℕ) → k ≤ 6 → n ≤ 2 ^ 30 → (length (written_size k n) ≤ 11) × (0 < length (written_size k n))
 length-size zero n few small =
     let whole : length (decimal (n / 10 ^ 0)) ≤ 10 = length-whole 0 n few small in
-    let all : length (written_size 0 n) ≡ length (decimal (n / 10 ^ 0)) + length (written_rest 0 (n % 10 ^ 0)) = length-append (decimal (n / 10 ^ 0)) (written_rest 0 (n % 10 ^ 0)) in
-    let none : length (written_rest 0 (n % 10 ^ 0)) ≡ 0 = length-no_rest (n % 10 ^ 0) (mod_below n (10 ^ 0) (omega arith)) in
-    let some : 0 < length (decimal (n / 10 ^ 0)) = decimal_nonempty (n / 10 ^ 0) (omega (arith, div-le_self n (10 ^ 0))) in
+    let all : length (written_size 0 n) ≡ length (decimal (n / 10 ^ 0)) + length (written_rest 0 (n % 10 ^ 0)) =
+    length-append (decimal (n / 10 ^ 0)) (written_rest 0 (n % 10 ^ 0)) in
+    let none : length (written_rest 0 (n % 10 ^ 0)) ≡ 0 = length-no_rest (n % 10 ^ 0)
+    (mod_below n (10 ^ 0) (omega arith)) in
+    let some : 0 < length (decimal (n / 10 ^ 0)) = decimal_nonempty (n / 10 ^ 0)
+    (omega (arith, div-le_self n (10 ^ 0))) in
     (omega arith, omega arith)
 length-size (suc k) n few small =
     let whole : length (decimal (n / 10 ^ suc k)) ≤ 10 - suc k = length-whole (suc k) n few small in
-    let all : length (written_size (suc k) n) ≡ length (decimal (n / 10 ^ suc k)) + length (written_rest (suc k) (n % 10 ^ suc k)) = length-append (decimal (n / 10 ^ suc k)) (written_rest (suc k) (n % 10 ^ suc k)) in
+    let all : length (written_size (suc k) n) ≡ length (decimal (n / 10 ^ suc k)) + length
+    (written_rest (suc k) (n % 10 ^ suc k)) = length-append (decimal (n / 10 ^ suc k))
+    (written_rest (suc k) (n % 10 ^ suc k)) in
     let rest : length (written_rest (suc k) (n % 10 ^ suc k)) ≤ suc k + 1 = length-rest (suc k) (n % 10 ^ suc k) in
-    let some : 0 < length (decimal (n / 10 ^ suc k)) = decimal_nonempty (n / 10 ^ suc k) (omega (arith, div-le_self n (10 ^ suc k))) in
+    let some : 0 < length (decimal (n / 10 ^ suc k)) = decimal_nonempty (n / 10 ^ suc k)
+    (omega (arith, div-le_self n (10 ^ suc k))) in
     (omega arith, omega arith)
 
 -- a written grid number has at most 12 bytes, and one at least
-pub length-written : (k : ℕ) (z : ℤ) → k ≤ 6 → nat_abs z ≤ 2 ^ 30 → (length (written k z) ≤ 12) × (0 < length (written k z))
+pub length-written : (k : ℕ) (z : ℤ) → k ≤ 6 → nat_abs z ≤ 2 ^ 30 →
+    (length (written k z) ≤ 12) × (0 < length (written k z))
 length-written k z few small =
     let size = length-size k (nat_abs z) few small in
-    elim (int_lt z (pos 0)) as (λ b. (length (if b then codes "-" ++ written_size k (nat_abs z) else written_size k (nat_abs z)) ≤ 12) × (0 < length (if b then codes "-" ++ written_size k (nat_abs z) else written_size k (nat_abs z))))
+    elim (int_lt z (pos 0)) as (λ b.
+    (length (if b then codes "-" ++ written_size k (nat_abs z) else written_size k (nat_abs z)) ≤ 12) ×
+    (0 < length (if b then codes "-" ++ written_size k (nat_abs z) else written_size k (nat_abs z))))
     [ true ↦ (omega (arith, size.0), omega arith) | false ↦ (omega (arith, size.0), size.1) ]
 
 -- from the test to the bound

@@ -48,14 +48,16 @@ digits_value-below (d ∷ ds) digits =
     let e : 10 ^ suc (length ds) ≡ 10 * k = pow-succ' 10 (length ds) in
     let alone = value_from-front (0 * 10 + (d - 48)) ds in
     let z : (0 * 10 + (d - 48)) * k ≡ (d - 48) * k = ap (λ (m : ℕ). m * k) (omega arith) in
-    let m : (d - 48) * k ≤ 9 * k = mul-le (d - 48) k 9 k (digit-at_most d (left (is_digit d) (all_digits ds) digits)) (omega arith) in
+    let m : (d - 48) * k ≤ 9 * k = mul-le (d - 48) k 9 k (digit-at_most d (left (is_digit d) (all_digits ds) digits))
+    (omega arith) in
     let rest = digits_value-below ds (right (is_digit d) (all_digits ds) digits) in
     omega (arith, e, alone, z, m, rest)
 
 -- places down
 pub scaled-down : (m n : ℕ) → scaled m (negsuc n) ≡ (m + 5 * 10 ^ n) / (10 * 10 ^ n)
 scaled-down m n =
-    ap (λ (j : ℕ). (m + 5 * 10 ^ j) / 10 ^ suc n) (omega arith) ∙ ap (λ (p : ℕ). (m + 5 * 10 ^ n) / p) (pow-succ' 10 n)
+    ap (λ (j : ℕ). (m + 5 * 10 ^ j) / 10 ^ suc n) (omega arith)
+    ∙ ap (λ (p : ℕ). (m + 5 * 10 ^ n) / p) (pow-succ' 10 n)
 
 -- the first dropped digit b, and r behind it
 dropped-choice : (a b r k : ℕ) → is_digit b ≡ true → r < k → (low : Bool) → nat_lt b 53 ≡ low →
@@ -70,19 +72,23 @@ dropped-choice a b r k digit small false test =
 
 -- the first dropped digit decides
 pub scaled-dropped : (front : List ℕ) (b : ℕ) (back : List ℕ) → all_digits (b ∷ back) ≡ true →
-    scaled (digits_value (front ++ b ∷ back)) (negsuc (length back)) ≡ digits_value front + (if nat_lt b 53 then 0 else 1)
+    scaled (digits_value (front ++ b ∷ back)) (negsuc (length back)) ≡ digits_value front +
+    (if nat_lt b 53 then 0 else 1)
 scaled-dropped front b back digits =
     let a = digits_value front in
     let k = 10 ^ length back in
-    let p : (a * 10 + (b - 48)) * k ≡ a * (10 * k) + (b - 48) * k = add-mul (a * 10) (b - 48) k ∙ ap (λ (x : ℕ). x + (b - 48) * k) (mul_assoc a 10 k) in
+    let p : (a * 10 + (b - 48)) * k ≡ a * (10 * k) + (b - 48) * k = add-mul (a * 10) (b - 48) k
+    ∙ ap (λ (x : ℕ). x + (b - 48) * k) (mul_assoc a 10 k) in
     let m : digits_value (front ++ b ∷ back) ≡ a * (10 * k) + ((b - 48) * k + digits_value back) =
     value_from-append 0 front (b ∷ back) ∙ value_from-front (a * 10 + (b - 48)) back ∙ omega (arith, p) in
     scaled-down (digits_value (front ++ b ∷ back)) (length back)
     ∙ ap (λ (x : ℕ). (x + 5 * k) / (10 * k)) m
-    ∙ dropped-choice a b (digits_value back) k (left (is_digit b) (all_digits back) digits) (digits_value-below back (right (is_digit b) (all_digits back) digits)) (nat_lt b 53) refl
+    ∙ dropped-choice a b (digits_value back) k (left (is_digit b) (all_digits back) digits)
+    (digits_value-below back (right (is_digit b) (all_digits back) digits)) (nat_lt b 53) refl
 
 -- past the first digit nothing is left
-pub scaled-gone : (ds : List ℕ) (n : ℕ) → all_digits ds ≡ true → length ds ≤ n → scaled (digits_value ds) (negsuc n) ≡ 0
+pub scaled-gone : (ds : List ℕ) (n : ℕ) → all_digits ds ≡ true → length ds ≤ n →
+    scaled (digits_value ds) (negsuc n) ≡ 0
 scaled-gone ds n digits past =
     let k = 10 ^ n in
     let most : 10 ^ length ds ≤ k = pow-le-pow_right (omega arith) past in
@@ -90,7 +96,8 @@ scaled-gone ds n digits past =
     scaled-down (digits_value ds) n ∙ div-eq_of_lt (omega arith)
 
 -- a size rounded by the first of the digits that are dropped
-pub rounded-is : (front lost : List ℕ) (places kept size : ℕ) → all_digits lost ≡ true → length lost ≡ places → 1 ≤ places →
+pub rounded-is : (front lost : List ℕ) (places kept size : ℕ) → all_digits lost ≡ true → length lost ≡ places →
+    1 ≤ places →
     kept ≡ saturated (digits_value front) → size ≡ saturated (kept + (if nat_lt (get_or lost 0 0) 53 then 0 else 1)) →
     size ≡ saturated (scaled (digits_value (front ++ lost)) (neg_ℤ (pos places)))
 rounded-is front [] places kept size digits long some known rounded = absurd (omega arith)
@@ -101,6 +108,7 @@ rounded-is front (b ∷ back) places kept size digits long some known rounded =
     ∙ ap (λ (j : ℕ). saturated (scaled (digits_value (front ++ b ∷ back)) (neg_ℤ (pos j)))) long
 
 -- places past all digits leave nothing
-pub scaled-nothing : (ds : List ℕ) (places : ℕ) → all_digits ds ≡ true → length ds < places → saturated (scaled (digits_value ds) (neg_ℤ (pos places))) ≡ 0
+pub scaled-nothing : (ds : List ℕ) (places : ℕ) → all_digits ds ≡ true → length ds < places →
+    saturated (scaled (digits_value ds) (neg_ℤ (pos places))) ≡ 0
 scaled-nothing ds zero digits past = absurd (omega arith)
 scaled-nothing ds (suc n) digits past = ap saturated (scaled-gone ds n digits (omega arith)) ∙ omega arith

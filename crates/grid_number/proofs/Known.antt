@@ -14,10 +14,12 @@ use Rattle.grid_number.proofs.Saturated.{saturated-high, nat_abs-neg}
 far_up : (m r k n : ℕ) → 20 + r ≤ n → saturated (scaled m ((pos n -ℤ pos r) +ℤ pos k)) ≡ saturated (m * 10 ^ 20)
 far_up m r k n far =
     let up : (pos n -ℤ pos r) +ℤ pos k ≡ pos (n - r + k) = omega (arith, ints) in
-    ap (λ (t : ℤ). saturated (scaled m t)) up ∙ ap saturated (scaled-pos m (n - r + k)) ∙ saturated-high m (n - r + k) (omega arith)
+    ap (λ (t : ℤ). saturated (scaled m t)) up ∙ ap saturated (scaled-pos m (n - r + k))
+    ∙ saturated-high m (n - r + k) (omega arith)
 
 -- far down too
-far_down : (ds : List ℕ) (r k n : ℕ) → all_digits ds ≡ true → length ds + k < n + r → saturated (scaled (digits_value ds) ((neg_ℤ (pos n) -ℤ pos r) +ℤ pos k)) ≡ 0
+far_down : (ds : List ℕ) (r k n : ℕ) → all_digits ds ≡ true → length ds + k < n + r →
+    saturated (scaled (digits_value ds) ((neg_ℤ (pos n) -ℤ pos r) +ℤ pos k)) ≡ 0
 far_down ds r k n digits far =
     let down : (neg_ℤ (pos n) -ℤ pos r) +ℤ pos k ≡ neg_ℤ (pos (n + r - k)) = omega (arith, ints) in
     ap (λ (t : ℤ). saturated (scaled (digits_value ds) t)) down ∙ scaled-nothing ds (n + r - k) digits (omega arith)
@@ -30,7 +32,8 @@ above n =
 
 -- the size under either exponent
 same_size : (ds : List ℕ) (r k : ℕ) (e : ℤ) → all_digits ds ≡ true → length ds < 2 ^ 63 → r ≤ length ds → k ≤ 6 →
-    saturated (scaled (digits_value ds) ((saturated_size e -ℤ pos r) +ℤ pos k)) ≡ saturated (scaled (digits_value ds) ((e -ℤ pos r) +ℤ pos k))
+    saturated (scaled (digits_value ds) ((saturated_size e -ℤ pos r) +ℤ pos k)) ≡ saturated
+    (scaled (digits_value ds) ((e -ℤ pos r) +ℤ pos k))
 same_size ds r k (pos n) digits short inside few = elim (cases_lt n (10 * 2 ^ 60)) [
   | inl low ↦
       let same : saturated n ≡ n = omega arith in
@@ -60,26 +63,33 @@ pub record AreKnown (k : ℕ) (parts : Option Parts) (negative : Bool) (s : ℕ)
   pub size : s ≡ saturated (size_of k all)
 
 -- the size under the known exponent is that of the text's parts
-pub AreKnown-saturated : (k : ℕ) (parts : Option Parts) (negative : Bool) (ds fs : List ℕ) (e : ℤ) (s : ℕ) → k ≤ 6 → option_map saturated_parts parts ≡ Some (parts_with negative ds fs e) →
-    all_digits ds ≡ true → all_digits fs ≡ true → length ds + length fs < 2 ^ 63 → s ≡ saturated (size_of k (parts_with negative ds fs e)) → AreKnown k parts negative s
+pub AreKnown-saturated : (k : ℕ) (parts : Option Parts) (negative : Bool) (ds fs : List ℕ) (e : ℤ) (s : ℕ) → k ≤ 6 →
+    option_map saturated_parts parts ≡ Some (parts_with negative ds fs e) →
+    all_digits ds ≡ true → all_digits fs ≡ true → length ds + length fs < 2 ^ 63 →
+    s ≡ saturated (size_of k (parts_with negative ds fs e)) → AreKnown k parts negative s
 AreKnown-saturated k None negative ds fs e s few known digits more short size = absurd (cc)
 AreKnown-saturated k (Some p) negative ds fs e s few known digits more short size =
     let same : saturated_parts p ≡ parts_with negative ds fs e = cc in
     let whole : p.whole ≡ ds = ap (λ (n : Parts). n.whole) same in
     let fraction : p.fraction ≡ fs = ap (λ (n : Parts). n.fraction) same in
-    let all : all_digits (p.whole ++ p.fraction) ≡ true = all_digits-append p.whole p.fraction (ap all_digits whole ∙ digits) (ap all_digits fraction ∙ more) in
-    let long : length (p.whole ++ p.fraction) ≡ length ds + length fs = length-append p.whole p.fraction ∙ ap (λ (l : List ℕ). length l + length p.fraction) whole ∙ ap (λ (l : List ℕ). length ds + length l) fraction in
+    let all : all_digits (p.whole ++ p.fraction) ≡ true = all_digits-append p.whole p.fraction
+    (ap all_digits whole ∙ digits) (ap all_digits fraction ∙ more) in
+    let long : length (p.whole ++ p.fraction) ≡ length ds + length fs = length-append p.whole p.fraction
+    ∙ ap (λ (l : List ℕ). length l + length p.fraction) whole
+    ∙ ap (λ (l : List ℕ). length ds + length l) fraction in
     let part : length p.fraction ≡ length fs = ap (λ (l : List ℕ). length l) fraction in
     record {
       all = p;
       are = refl;
       sign = ap (λ (n : Parts). n.negative) same;
       size = size ∙ sym (ap (λ (n : Parts). saturated (size_of k n)) same)
-          ∙ same_size (p.whole ++ p.fraction) (length p.fraction) k p.exponent all (omega (arith, long)) (omega (arith, long, part)) few;
+          ∙ same_size (p.whole ++ p.fraction) (length p.fraction) k p.exponent all (omega (arith, long))
+          (omega (arith, long, part)) few;
     }
 
 -- the value of known parts
-pub value-known : (k : ℕ) (parts : Option Parts) (negative : Bool) (s : ℕ) → (known : AreKnown k parts negative s) → option_map (value_of k) parts ≡ Some (with_sign negative (size_of k known.all))
+pub value-known : (k : ℕ) (parts : Option Parts) (negative : Bool) (s : ℕ) → (known : AreKnown k parts negative s) →
+    option_map (value_of k) parts ≡ Some (with_sign negative (size_of k known.all))
 value-known k parts negative s known =
     ap (option_map (value_of k)) known.are ∙ ap (λ (b : Bool). Some (with_sign b (size_of k known.all))) known.sign
 

@@ -1,9 +1,9 @@
 -- A run by its words, and the statuses of halts.
-use Rattle.std.proofs.Common.{◌≡◌, ℕ, List, [], get_or, Option, Some, None, Bool, IsTrue, true, false, ap, sym, ◌∙◌, refl, subst, inl, inr, ◌⊎◌}
+use Rattle.std.proofs.Common.{◌≡◌, ℕ, List, [], get_or, Option, Some, None, IsTrue, arith, ap, sym, ◌∙◌, refl, subst, inl, inr, ◌⊎◌}
 use Rattle.mesh_terms.specs.Limits.{Limits}
 use Rattle.obj_terms.specs.Reading.{narrow_obj}
 use Rattle.run_terms.specs.Files.{Bytes, Files}
-use Rattle.run_terms.specs.Runs.{World, Faults}
+use Rattle.run_terms.specs.Runs.{World, Faults, Play, Done, status_of}
 use Rattle.play_terms.specs.Copy.{copy_play, narrow_play, narrow_play_of}
 use Rattle.play_terms.specs.Meets.{RunMeets}
 use Rattle.play_terms.specs.Words.{Command, CopyFile, narrow_command}
@@ -58,3 +58,12 @@ pub halts_after_words : (halt : Halt) → ((stop : Stop) → halt ≡ Reading st
 halts_after_words (Reading stop) reads is = no_usage stop (reads stop refl) is
 halts_after_words Saving reads is = cc
 halts_after_words Reporting reads is = cc
+
+-- a run whose play ends well and in which no count rose did all, or memory ran out
+pub complete_run : (p : Play) (w v : World) (status : ℕ) (before now : Faults) (line : Bytes) → RunMeets p w v status before now line → p.end ≡ Done
+    → now.read ≡ before.read → now.write ≡ before.write → now.out ≡ before.out → (status ≡ 0) ⊎ (status ≡ 8)
+complete_run p w v status before now line (inl done) ends r w' o = inl (done.0.same_status ∙ ap status_of ends)
+complete_run p w v status before now line (inr (inl read)) ends r w' o = absurd (omega (arith, read.0.rose, r))
+complete_run p w v status before now line (inr (inr (inl write))) ends r w' o = absurd (omega (arith, write.0.rose, w'))
+complete_run p w v status before now line (inr (inr (inr (inl say)))) ends r w' o = absurd (omega (arith, say.0.rose, o))
+complete_run p w v status before now line (inr (inr (inr (inr memory)))) ends r w' o = inr memory.1
