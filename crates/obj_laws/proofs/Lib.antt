@@ -2,3 +2,8 @@ pub mod Bytes
 pub mod Lines
 pub mod Words
 pub mod Numbers
+pub mod Texts
+pub mod Reading
+pub mod Used
+pub mod Kept
+pub mod Lengths

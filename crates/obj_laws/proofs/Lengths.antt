@@ -1,0 +1,2 @@
+-- How long a saved mesh is.
+use Rattle.std.proofs.Common.{◌≡◌, ℕ}
