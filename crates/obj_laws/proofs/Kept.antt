@@ -82,3 +82,96 @@ coordinate_is word z h =
 -- what is read as a vertex is one of the points
 vertex_is : (count : ℕ) (word : List ℕ) (v : ℕ) → narrow_vertex count word ≡ Some v → v < count
 vertex_is count word v h = grind (arith, nat_tests)
+
+-- the triple of three different vertices of so many points
+fan_sound : (count : ℕ) (vs : List ℕ) → length vs ≡ 3 → All (λ v. v < count) vs → has_repeat vs ≡ false → (All HasThree (face_fan vs)) × All (IsBelow count) (face_fan vs)
+fan_sound count [] e below none = absurd (omega (arith, e))
+fan_sound count (a ∷ []) e below none = absurd (omega (arith, e))
+fan_sound count (a ∷ b ∷ []) e below none = absurd (omega (arith, e))
+fan_sound count (a ∷ b ∷ c ∷ []) e below none = (
+  All-cons HasThree (a, b, c) [] (record { ab = λ p. grind (arith, nat_tests); bc = λ p. grind (arith, nat_tests); ca = λ p. grind (arith, nat_tests) }) (All-nil HasThree),
+  All-cons (IsBelow count) (a, b, c) [] (record { a = below 0 0 (omega arith); b = below 1 0 (omega arith); c = below 2 0 (omega arith) }) (All-nil (IsBelow count)),
+)
+fan_sound count (a ∷ b ∷ c ∷ d ∷ r) e below none = absurd (omega (arith, e))
+
+-- with more points the vertices are still below
+below_more : (m n : ℕ) (ts : List Triple) → m ≤ n → All (IsBelow m) ts → All (IsBelow n) ts
+below_more m n ts more all i d inside =
+    let b = all i d inside in
+    record { a = omega (arith, b.a); b = omega (arith, b.b); c = omega (arith, b.c) }
+
+-- a point more
+keeps_point : (limits : Limits) (n : ℕ) (s t : Reading) (ws : List (List ℕ)) → IsSound limits s → narrow_point limits n s ws ≡ Ok t → IsSound limits t
+keeps_point limits n s t ws sound h =
+    let words = if_ok (length ws == 3) (then_read (or_fault (Bad n 1) (each_value narrow_coordinate ws)) (add_point limits n s)) (Bad n 1) t h in
+    let read = then_read-ok (or_fault (Bad n 1) (each_value narrow_coordinate ws)) (add_point limits n s) t words.1 in
+    let p = read.0 in
+    let values = each_value-some IsNarrowCoordinate narrow_coordinate coordinate_is ws p (or_fault-ok (Bad n 1) (each_value narrow_coordinate ws) p read.1) in
+    let added = unless_ok (nat_lt limits.points (length s.points + 1)) (Ok (record { points = s.points ++ p ∷ []; triples = s.triples; lines = s.lines ++ n ∷ [] })) (Over Points (length s.points + 1)) t read.2 in
+    let same : record { points = s.points ++ p ∷ []; triples = s.triples; lines = s.lines ++ n ∷ [] } ≡ t = cc added.1 in
+    let three : length ws ≡ 3 = grind (arith, nat_tests, words.0) in
+    let room : length s.points + 1 ≤ limits.points = grind (arith, nat_tests, added.0) in
+    let more : length (s.points ++ p ∷ []) ≡ length s.points + 1 = length-append s.points (p ∷ []) in
+    subst (IsSound limits) same (record {
+      whole = All-append IsNarrowPoint s.points (p ∷ []) sound.whole (All-cons IsNarrowPoint p [] (record { three = values.0 ∙ three; each = values.1 }) (All-nil IsNarrowPoint));
+      three = sound.three;
+      below = below_more (length s.points) (length (s.points ++ p ∷ [])) s.triples (omega (arith, more)) sound.below;
+      few_points = omega (arith, more, room);
+      few_triples = sound.few_triples;
+      each_line = omega (arith, more, length-append s.lines (n ∷ []), sound.each_line);
+    })
+
+-- a triple more
+keeps_face : (limits : Limits) (n : ℕ) (s t : Reading) (ws : List (List ℕ)) → IsSound limits s → narrow_face limits n s ws ≡ Ok t → IsSound limits t
+keeps_face limits n s t ws sound h =
+    let count = length s.points in
+    let words = if_ok (length ws == 3) (then_read (or_fault (Bad n 1) (each_value (narrow_vertex count) ws)) (narrow_triple limits n s)) (Bad n 1) t h in
+    let read = then_read-ok (or_fault (Bad n 1) (each_value (narrow_vertex count) ws)) (narrow_triple limits n s) t words.1 in
+    let vs = read.0 in
+    let values = each_value-some (λ v. v < count) (narrow_vertex count) (vertex_is count) ws vs (or_fault-ok (Bad n 1) (each_value (narrow_vertex count) ws) vs read.1) in
+    let apart = unless_ok (has_repeat vs) (add_triples limits s (face_fan vs)) (Bad n 1) t read.2 in
+    let seen = length s.triples + length (face_fan vs) in
+    let added = unless_ok (nat_lt limits.triangles seen) (Ok (record { points = s.points; triples = s.triples ++ face_fan vs; lines = s.lines })) (Over Triangles seen) t apart.1 in
+    let same : record { points = s.points; triples = s.triples ++ face_fan vs; lines = s.lines } ≡ t = cc added.1 in
+    let three : length ws ≡ 3 = grind (arith, nat_tests, words.0) in
+    let fan = fan_sound count vs (values.0 ∙ three) values.1 apart.0 in
+    let room : length s.triples + length (face_fan vs) ≤ limits.triangles = grind (arith, nat_tests, added.0) in
+    subst (IsSound limits) same (record {
+      whole = sound.whole;
+      three = All-append HasThree s.triples (face_fan vs) sound.three fan.0;
+      below = All-append (IsBelow count) s.triples (face_fan vs) sound.below fan.1;
+      few_points = sound.few_points;
+      few_triples = omega (arith, room, length-append s.triples (face_fan vs));
+      each_line = sound.each_line;
+    })
+
+-- one line
+keeps_line : (limits : Limits) (n : ℕ) (words : List (List ℕ)) (s t : Reading) → IsSound limits s → narrow_line limits n words s ≡ Ok t → IsSound limits t
+keeps_line limits n [] s t sound h = let same : s ≡ t = cc in subst (IsSound limits) same sound
+keeps_line limits n (w ∷ ws) s t sound h = by_letter (bytes_eq w (codes "v")) (bytes_eq w (codes "f")) h where
+  by_letter : (v f : Bool) → (if v then narrow_point limits n s ws else if f then narrow_face limits n s ws else Err (Bad n 1)) ≡ Ok t → IsSound limits t
+  by_letter true f g = keeps_point limits n s t ws sound g
+  by_letter false true g = keeps_face limits n s t ws sound g
+  by_letter false false g = absurd (cc)
+
+-- all lines
+keeps_lines : (limits : Limits) (lines : List (ℕ × List ℕ)) (s t : Reading) → IsSound limits s → read_each (λ l u. narrow_line limits l.0 (words_of l.1) u) lines s ≡ Ok t → IsSound limits t
+keeps_lines limits [] s t sound h = let same : s ≡ t = cc in subst (IsSound limits) same sound
+keeps_lines limits (l ∷ ls) s t sound h =
+    let first = then_read-ok (narrow_line limits l.0 (words_of l.1) s) (λ u. read_each (λ l u. narrow_line limits l.0 (words_of l.1) u) ls u) t h in
+    keeps_lines limits ls first.0 t (keeps_line limits l.0 (words_of l.1) s first.0 sound first.1) first.2
+
+-- nothing is sound
+pub IsSound-start : (limits : Limits) → IsSound limits no_reading
+IsSound-start limits = record {
+  whole = All-nil IsNarrowPoint;
+  three = All-nil HasThree;
+  below = All-nil (IsBelow 0);
+  few_points = omega arith;
+  few_triples = omega arith;
+  each_line = refl;
+}
+
+-- so every reading is sound
+pub IsSound-read : (limits : Limits) (lines : List (ℕ × List ℕ)) (t : Reading) → read_each (λ l u. narrow_line limits l.0 (words_of l.1) u) lines no_reading ≡ Ok t → IsSound limits t
+IsSound-read limits lines t h = keeps_lines limits lines no_reading t (IsSound-start limits) h

@@ -7,3 +7,4 @@ pub mod Reading
 pub mod Used
 pub mod Kept
 pub mod Lengths
+pub mod Saved

@@ -27,11 +27,11 @@ three_spaced : (a b c : List ℕ) → a ++ codes " " ++ b ++ codes " " ++ c ≡ 
 three_spaced a b c = simp append_assoc
 
 -- the words of a point's line
-point_spaced : (p : List ℤ) → point_text p ≡ spaced (codes "v") (written 4 (coordinate_of p 0)) (written 4 (coordinate_of p 1)) (written 4 (coordinate_of p 2))
+pub point_spaced : (p : List ℤ) → point_text p ≡ spaced (codes "v") (written 4 (coordinate_of p 0)) (written 4 (coordinate_of p 1)) (written 4 (coordinate_of p 2))
 point_spaced p = ap (λ (l : List ℕ). codes "v " ++ l) (three_spaced (written 4 (coordinate_of p 0)) (written 4 (coordinate_of p 1)) (written 4 (coordinate_of p 2)))
 
 -- the words of a triple's line
-face_spaced : (t : Triple) → face_text t ≡ spaced (codes "f") (decimal (t.0 + 1)) (decimal (t.1 + 1)) (decimal (t.2 + 1))
+pub face_spaced : (t : Triple) → face_text t ≡ spaced (codes "f") (decimal (t.0 + 1)) (decimal (t.1 + 1)) (decimal (t.2 + 1))
 face_spaced t = ap (λ (l : List ℕ). codes "f " ++ l) (three_spaced (decimal (t.0 + 1)) (decimal (t.1 + 1)) (decimal (t.2 + 1)))
 
 -- one letter is a word
