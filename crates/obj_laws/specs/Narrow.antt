@@ -2,7 +2,7 @@
 use Rattle.std.specs.Prelude.{◌≡◌, ℕ, ◌*◌, ◌%◌, ◌<◌, ◌≤◌, ℤ, List, true, length, nat_abs}
 use Rattle.std.specs.List.{All}
 use Rattle.mesh_terms.specs.Limits.{Limits}
-use Rattle.mesh_terms.specs.Meshes.{Triple, HasThree, IsBelow, is_used}
+use Rattle.mesh_terms.specs.Meshes.{Triple, Soup, HasThree, IsBelow, is_used}
 
 -- a whole number of a size up to 107374, in steps of 1/10000
 pub record IsNarrowCoordinate (z : ℤ) : Type 0 where
@@ -14,11 +14,13 @@ pub record IsNarrowPoint (p : List ℤ) : Type 0 where
   pub three : length p ≡ 3
   pub each : All IsNarrowCoordinate p
 
--- points of whole numbers, and triples of three different ones of them that use every point, both within the limits
-pub record IsNarrowSoup (limits : Limits) (points : List (List ℤ)) (ts : List Triple) : Type 0 where
-  pub whole : All IsNarrowPoint points
-  pub three : All HasThree ts
-  pub below : All (IsBelow (length points)) ts
-  pub used : (v : ℕ) → v < length points → is_used ts v ≡ true
-  pub few_points : length points ≤ limits.points
-  pub few_triples : length ts ≤ limits.triangles
+-- each point is whole, each triple names three different points, each point is in some triple, none was dropped, and
+-- both counts are within the limits
+pub record IsNarrowSoup (limits : Limits) (soup : Soup) : Type 0 where
+  pub whole : All IsNarrowPoint soup.points
+  pub three : All HasThree soup.triples
+  pub below : All (IsBelow (length soup.points)) soup.triples
+  pub used : (v : ℕ) → v < length soup.points → is_used soup.triples v ≡ true
+  pub none_dropped : soup.unused ≡ 0
+  pub few_points : length soup.points ≤ limits.points
+  pub few_triples : length soup.triples ≤ limits.triangles

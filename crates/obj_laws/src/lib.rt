@@ -1,30 +1,20 @@
-//! A saved OBJ file reads back: the law of the narrow form, as contracts of functions that do nothing.
+//! A saved OBJ file reads back: the laws of the narrow form, each as the contract of a function that does nothing.
 //!
 //! The narrow form has a line for each point, of three whole numbers, and a line for each triangle, of three different
-//! vertex numbers. What its reader gives is written again in that form, and the text reads as the same points and
-//! triangles and keeps within the limits. The lemmas stand in `proofs/`, from bytes over lines and words to the whole text.
+//! vertex numbers. Whatever its reader gives, written in that form again, reads as the same points and triangles in the
+//! same order, and is short enough to be read. The lemmas stand in `proofs/`: bytes, lines, words and numbers, what one
+//! line gives its reader, and what all lines give.
 #![tactic(auto)]
 
 ghost use Rattle.obj_laws.specs.Laws.{NarrowSoupsReadBack, FilesGiveNarrowSoups, FilesReadBack};
 
-/// The text of a narrow soup reads as the soup, and is not too long to be read.
+/// The text of a narrow soup reads as the soup, and its length is within the limit of a file.
 pub fn narrow_soups_read_back()
     ensures { NarrowSoupsReadBack }
 {}
 
-/// What the narrow reader gives of any file is a narrow soup, and it reads back when it is saved.
+/// What is read of a file in the narrow form, whatever the file, is a narrow soup: so it reads back when it is saved.
 pub fn files_read_back()
     ensures narrow { FilesGiveNarrowSoups }
     ensures again { FilesReadBack }
 {}
-
-#[cfg(test)]
-mod tests {
-    use super::*;
-
-    #[test]
-    fn laws_return() {
-        narrow_soups_read_back();
-        files_read_back();
-    }
-}
