@@ -1,16 +1,15 @@
 -- How long a saved mesh is.
-use Rattle.std.proofs.Common.{◌≡◌, ℕ, suc, ◌+◌, ◌*◌, ◌≤◌, ◌<◌, List, [], ◌∷◌, ◌++◌, length, decimal, codes, ap, ◌∙◌, arith, length-append, ℤ}
+use Rattle.std.proofs.Common.{◌≡◌, ℕ, ◌+◌, ◌*◌, ◌≤◌, List, [], ◌∷◌, ◌++◌, length, decimal, codes, ap, ◌∙◌, arith, length-append, ℤ}
 use Rattle.std.specs.List.{All, flat_map}
 use Rattle.std.proofs.lemmas.List.Elements.{All-head, All-tail}
 use Rattle.text_terms.specs.Written.{written}
-use Rattle.mesh_terms.specs.Limits.{Limits, IsLawful}
 use Rattle.mesh_terms.specs.Meshes.{Triple, IsBelow}
 use Rattle.mesh_terms.specs.Points.{coordinate_of}
 use Rattle.obj_terms.specs.Written.{line_of, point_line, face_line, obj_text}
 use Rattle.obj_laws.specs.Narrow.{IsNarrowPoint}
 use Rattle.obj_laws.proofs.Words.{spaced}
 use Rattle.obj_laws.proofs.Numbers.{IsVertexText-decimal}
-use Rattle.obj_laws.proofs.Texts.{point_text, face_text, point_spaced, face_spaced, coordinate_text}
+use Rattle.obj_laws.proofs.Texts.{point_spaced, face_spaced, coordinate_text}
 
 -- four words, three spaces and the end of the line
 length-spaced : (w a b c : List ℕ) → length (line_of (spaced w a b c)) ≡ length w + length a + length b + length c + 4

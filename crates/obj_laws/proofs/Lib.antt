@@ -8,3 +8,4 @@ pub mod Used
 pub mod Kept
 pub mod Lengths
 pub mod Saved
+pub mod Example

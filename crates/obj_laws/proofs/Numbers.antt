@@ -1,12 +1,12 @@
 -- The texts of whole coordinates and of vertex numbers read back.
-use Rattle.std.proofs.Common.{◌≡◌, ℕ, suc, ◌+◌, ◌*◌, ◌/◌, ◌%◌, ◌^◌, ◌-◌, ◌<◌, ◌≤◌, ◌&&◌, ◌==◌, if◌then◌else◌, Bool, List, [], ◌∷◌, ◌++◌, true, false, length, decimal, refl, ap, ◌∙◌, arith, length-append, append-nil, Option, Some, None, ℤ, pos, negsuc, neg_ℤ, int_lt, nat_abs, nat_le, nat_lt, codes, subst, sym}
+use Rattle.std.proofs.Common.{◌≡◌, ℕ, suc, ◌+◌, ◌*◌, ◌/◌, ◌%◌, ◌^◌, ◌-◌, ◌<◌, ◌≤◌, ◌&&◌, ◌==◌, if◌then◌else◌, Bool, List, [], ◌∷◌, ◌++◌, true, false, length, decimal, refl, ap, ◌∙◌, arith, length-append, append-nil, Option, Some, None, ℤ, pos, negsuc, neg_ℤ, int_lt, nat_le, nat_lt, codes, subst, sym}
 use Rattle.std.proofs.lemmas.Bool.Decides.{nat_tests}
 use Rattle.std.proofs.lemmas.Fmt.{decimal_by_steps, length-decimal-le}
 use Rattle.text_terms.specs.Numbers.{is_digit, all_digits, is_digits, value_from, digits_value}
 use Rattle.text_terms.specs.Written.{written_rest, written_size, written}
-use Rattle.obj_terms.specs.Reading.{minus_first, whole_number, signed_value, narrow_size, or_none, narrow_coordinate, narrow_vertex}
+use Rattle.obj_terms.specs.Reading.{minus_first, signed_value, narrow_size, or_none, narrow_coordinate, narrow_vertex}
 use Rattle.obj_laws.specs.Narrow.{IsNarrowCoordinate}
-use Rattle.obj_laws.proofs.Bytes.{Above, Above-append, IsWord}
+use Rattle.obj_laws.proofs.Bytes.{Above-append, IsWord}
 
 -- a word of digits that spell n
 pub record IsSpelled (n : ℕ) (ds : List ℕ) : Type 0 where
@@ -50,28 +50,29 @@ IsSpelled-more n ds s =
 pub IsSpelled-decimal : (n : ℕ) → n < 2 ^ 64 → IsSpelled n (decimal n)
 IsSpelled-decimal = decimal_by_steps IsSpelled IsSpelled-digit (λ n ds large s. IsSpelled-more n ds s)
 
--- some digits
+-- such a word is digits
 is_digits-spelled : (n : ℕ) (ds : List ℕ) → IsSpelled n ds → is_digits ds ≡ true
 is_digits-spelled n [] s = absurd (omega (arith, s.word.some))
 is_digits-spelled n (d ∷ ds) s = s.digits
 
--- they begin with no sign
+-- and begins with no sign
 minus_first-spelled : (n : ℕ) (ds : List ℕ) → IsSpelled n ds → minus_first ds ≡ (false, ds)
 minus_first-spelled n [] s = absurd (omega (arith, s.word.some))
 minus_first-spelled n (d ∷ ds) s =
     let sign : (d == 45) ≡ false = grind (arith, nat_tests, s.digits) in
     ap (λ (b : Bool). if b then (true, ds) else (false, d ∷ ds)) sign
 
--- the sign and the size
+-- a sign and what stands after it, as a sign and a size
 abbrev sized : Bool × List ℕ → Option (Bool × ℕ)
 sized s = if is_digits s.1 then Some (s.0, digits_value s.1) else None
 
+-- digits have a size, with a sign before them or without
 sized-spelled : (negative : Bool) (n : ℕ) (ds : List ℕ) → IsSpelled n ds → sized (negative, ds) ≡ Some (negative, n)
 sized-spelled negative n ds s =
     ap (λ (b : Bool). if b then Some (negative, digits_value ds) else None) (is_digits-spelled n ds s)
     ∙ ap (λ (v : ℕ). Some (negative, v)) s.value
 
--- a coordinate that is whole and small is read
+-- a small size has a value
 narrow_size-small : (negative : Bool) (n : ℕ) → n ≤ 107374 → narrow_size (negative, n) ≡ Some (signed_value (negative, n * 10000))
 narrow_size-small negative n small =
     let test : nat_le n 107374 ≡ true = grind (arith, nat_tests) in
@@ -114,14 +115,16 @@ units n whole = omega arith
 pub IsTextOf-written : (z : ℤ) → IsNarrowCoordinate z → IsTextOf z (written 4 z)
 IsTextOf-written (pos n) narrow =
     let m = n / 10000 in
+    let small : m ≤ 107374 = omega (arith, narrow.small) in
     let above : int_lt (pos n) (pos 0) ≡ false = grind (arith, nat_tests) in
     let text : written 4 (pos n) ≡ decimal m = ap (λ (b : Bool). if b then codes "-" ++ written_size 4 n else written_size 4 n) above ∙ written_size-whole n narrow.whole in
-    let it = IsTextOf-pos m (decimal m) (IsSpelled-decimal m (omega (arith, narrow.small))) (omega (arith, narrow.small)) (length-decimal-le 6 m (omega arith) (omega (arith, narrow.small)) (omega (arith, narrow.small))) in
+    let it = IsTextOf-pos m (decimal m) (IsSpelled-decimal m (omega arith)) small (length-decimal-le 6 m (omega arith) (omega arith) (omega arith)) in
     subst (λ (x : ℤ × List ℕ). IsTextOf x.0 x.1) (λ i. (pos (units n narrow.whole i), sym text i)) it
 IsTextOf-written (negsuc n) narrow =
     let m = suc n / 10000 in
+    let small : m ≤ 107374 = omega (arith, narrow.small) in
     let text : written 4 (negsuc n) ≡ 45 ∷ decimal m = ap (λ (ds : List ℕ). 45 ∷ ds) (written_size-whole (suc n) narrow.whole) in
-    let it = IsTextOf-neg m (decimal m) (IsSpelled-decimal m (omega (arith, narrow.small))) (omega (arith, narrow.small)) (length-decimal-le 6 m (omega arith) (omega (arith, narrow.small)) (omega (arith, narrow.small))) in
+    let it = IsTextOf-neg m (decimal m) (IsSpelled-decimal m (omega arith)) small (length-decimal-le 6 m (omega arith) (omega arith) (omega arith)) in
     subst (λ (x : ℤ × List ℕ). IsTextOf x.0 x.1) (λ i. (neg_ℤ (pos (units (suc n) narrow.whole i)), sym text i)) it
 
 -- a word of at most 9 digits that reads as the vertex, where there are so many points

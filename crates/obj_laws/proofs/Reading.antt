@@ -1,5 +1,5 @@
 -- The lines of a saved mesh, read one after the other.
-use Rattle.std.proofs.Common.{◌≡◌, ℕ, suc, ◌+◌, ◌<◌, ◌≤◌, List, [], ◌∷◌, ◌++◌, length, map, refl, sym, ap, ◌∙◌, arith, append_assoc, append-nil, length-append, Result, Ok, ℤ}
+use Rattle.std.proofs.Common.{◌≡◌, ℕ, suc, ◌+◌, ◌≤◌, List, [], ◌∷◌, ◌++◌, length, map, sym, ap, ◌∙◌, arith, append_assoc, append-nil, length-append, Result, Ok, ℤ}
 use Rattle.std.specs.List.{All, flat_map}
 use Rattle.std.proofs.lemmas.List.Elements.{All-head, All-tail}
 use Rattle.chain_terms.specs.Sums.{up_from}
@@ -8,7 +8,7 @@ use Rattle.mesh_terms.specs.Faults.{Fault}
 use Rattle.mesh_terms.specs.Limits.{Limits}
 use Rattle.mesh_terms.specs.Meshes.{Triple, HasThree, IsBelow}
 use Rattle.obj_terms.specs.Reading.{Reading, then_read, read_each, narrow_line}
-use Rattle.obj_terms.specs.Written.{line_of, point_line, face_line, obj_text}
+use Rattle.obj_terms.specs.Written.{face_line, obj_text}
 use Rattle.obj_laws.specs.Narrow.{IsNarrowPoint}
 use Rattle.obj_laws.proofs.Lines.{lines_of-each}
 use Rattle.obj_laws.proofs.Texts.{point_text, face_text, Above-point, Above-face, read_point, read_face}

@@ -1,6 +1,5 @@
 -- The laws: narrow soups read back, and what is read is a narrow soup.
-use Rattle.std.proofs.Common.{◌≡◌, ℕ, zero, suc, ◌+◌, ◌*◌, ◌≤◌, List, [], ◌++◌, length, map, refl, sym, ap, subst, ◌∙◌, arith, zero-add, Option, None, Some, Result, Ok, ℤ}
-use Rattle.std.specs.List.{All}
+use Rattle.std.proofs.Common.{◌≡◌, ℕ, zero, suc, ◌+◌, ◌≤◌, List, [], length, map, refl, sym, ap, subst, ◌∙◌, arith, zero-add, Option, None, Some, Result, Ok}
 use Rattle.chain_terms.specs.Sums.{up_from}
 use Rattle.text_terms.specs.Lines.{lines_of, numbered}
 use Rattle.mesh_terms.specs.Faults.{Fault}

@@ -1,5 +1,5 @@
 -- What the lines of a saved mesh give their reader.
-use Rattle.std.proofs.Common.{◌≡◌, ℕ, suc, ◌+◌, ◌<◌, ◌≤◌, ◌||◌, ◌==◌, if◌then◌else◌, Bool, List, [], ◌∷◌, ◌++◌, true, false, length, decimal, codes, refl, sym, ap, ◌∙◌, arith, Option, Some, Ok, Err, append_assoc, subst, ℤ, pos, nat_lt}
+use Rattle.std.proofs.Common.{◌≡◌, ℕ, ◌+◌, ◌<◌, ◌≤◌, if◌then◌else◌, Bool, List, [], ◌∷◌, ◌++◌, false, length, decimal, codes, refl, sym, ap, ◌∙◌, arith, Option, Some, Ok, Err, append_assoc, subst, ℤ, pos, nat_lt}
 use Rattle.std.proofs.lemmas.Bool.Decides.{nat_tests}
 use Rattle.text_terms.specs.Lines.{words_of}
 use Rattle.text_terms.specs.Written.{written}
@@ -9,10 +9,10 @@ use Rattle.mesh_terms.specs.Meshes.{Triple, HasThree, IsBelow}
 use Rattle.mesh_terms.specs.Points.{coordinate_of}
 use Rattle.obj_terms.specs.Reading.{Reading, then_read, or_fault, add_point, add_triples, face_fan, has_repeat, put_value, each_value, narrow_coordinate, narrow_vertex, narrow_triple, narrow_line}
 use Rattle.obj_terms.specs.Written.{three_numbers}
-use Rattle.obj_laws.specs.Narrow.{IsNarrowCoordinate, IsNarrowPoint}
+use Rattle.obj_laws.specs.Narrow.{IsNarrowPoint}
 use Rattle.obj_laws.proofs.Bytes.{Above, Above-lower, IsWord}
 use Rattle.obj_laws.proofs.Words.{spaced, words_of-spaced, Above-spaced}
-use Rattle.obj_laws.proofs.Numbers.{IsTextOf, IsTextOf-written, IsVertexText, IsVertexText-decimal}
+use Rattle.obj_laws.proofs.Numbers.{IsTextOf, IsTextOf-written, IsVertexText-decimal}
 
 -- the line of a point, without its end
 abbrev pub point_text : List ℤ → List ℕ

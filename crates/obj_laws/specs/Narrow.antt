@@ -2,7 +2,7 @@
 use Rattle.std.specs.Prelude.{◌≡◌, ℕ, ◌*◌, ◌%◌, ◌<◌, ◌≤◌, ℤ, List, true, length, nat_abs}
 use Rattle.std.specs.List.{All}
 use Rattle.mesh_terms.specs.Limits.{Limits}
-use Rattle.mesh_terms.specs.Meshes.{Triple, Soup, HasThree, IsBelow, is_used}
+use Rattle.mesh_terms.specs.Meshes.{Soup, HasThree, IsBelow, is_used}
 
 -- a whole number of a size up to 107374, in steps of 1/10000
 pub record IsNarrowCoordinate (z : ℤ) : Type 0 where

@@ -6,6 +6,7 @@
 //! line gives its reader, and what all lines give.
 #![tactic(auto)]
 
+ghost use Rattle.obj_laws.specs.Example.{TetrahedronReadsBack};
 ghost use Rattle.obj_laws.specs.Laws.{NarrowSoupsReadBack, FilesGiveNarrowSoups, FilesReadBack};
 
 /// The text of a narrow soup reads as the soup, and its length is within the limit of a file.
@@ -17,4 +18,9 @@ pub fn narrow_soups_read_back()
 pub fn files_read_back()
     ensures narrow { FilesGiveNarrowSoups }
     ensures again { FilesReadBack }
+{}
+
+/// A tetrahedron's text, byte for byte, is what is saved of it, and reads as it.
+pub fn a_tetrahedron_reads_back()
+    ensures { TetrahedronReadsBack }
 {}
