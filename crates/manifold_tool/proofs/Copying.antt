@@ -89,14 +89,19 @@ saving_stopped from k to r soup fw fv ow ov before now is part out rose =
     let P : Result Soup Refusal → Type 0 = λ r. RunMeets (play_of from k to r) (world_of fw ow) (world_of fv ov) 7 before now (write_fault to) in
     let text = obj_text k soup.points soup.triples in
     let later : List Action = Say (copied_line to soup) ∷ [] in
-    subst P (sym is) (inr (inr (inl (record {
-      first = record { whole = Ask from ∷ []; rest = Write to text ∷ later; split = refl; mid = world_of fw ow; reached = refl };
-      name = to;
-      bytes = text;
-      later = later;
-      next = refl;
-      part = saved_in_part to text fw fv ow ov part out;
-      rose = rose }, refl, refl))))
+    subst P (sym is) (inr (inr (inl (
+      record {
+        first = record { whole = Ask from ∷ []; rest = Write to text ∷ later; split = refl; mid = world_of fw ow; reached = refl };
+        name = to;
+        bytes = text;
+        later = later;
+        next = refl;
+        part = saved_in_part to text fw fv ow ov part out;
+        rose = rose;
+      },
+      refl,
+      refl,
+    ))))
 
 -- told bytes and more are told together
 pub told_more : (old new : Option Bytes) (more : Bytes) → IsSome old → new ≡ option_map (λ held. held ++ more) old → text_of new ≡ text_of old ++ more
@@ -114,13 +119,18 @@ reporting_stopped from k to r soup fw fv old new before now is saved some part r
     let mid = world_of (put to text fw) (text_of old) in
     let more = told_more old new part.0 some part.2 in
     let after : world fv new ≡ world_of (put to text fw) (text_of old ++ part.0) = rw (saved, more) refl in
-    subst P (sym is) (inr (inr (inr (inl (record {
-      first = record { whole = Ask from ∷ Write to text ∷ []; rest = Say line ∷ []; split = refl; mid = mid; reached = refl };
-      line = line;
-      later = [];
-      next = refl;
-      part = (part.0, part.1, after);
-      rose = rose }, refl, refl)))))
+    subst P (sym is) (inr (inr (inr (inl (
+      record {
+        first = record { whole = Ask from ∷ Write to text ∷ []; rest = Say line ∷ []; split = refl; mid = mid; reached = refl };
+        line = line;
+        later = [];
+        next = refl;
+        part = (part.0, part.1, after);
+        rose = rose;
+      },
+      refl,
+      refl,
+    )))))
 
 -- all was done
 pub copy_done : (from : Bytes) (k : ℕ) (to : Bytes) (r : Result Soup Refusal) (soup : Soup) (fw fv : Files) (old new : Option Bytes) (before now : Faults)

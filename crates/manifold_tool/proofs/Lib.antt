@@ -1,3 +1,4 @@
+pub mod Back
 pub mod Copying
 pub mod Numbers
 pub mod Running

@@ -67,3 +67,20 @@ complete_run p w v status before now line (inr (inl read)) ends r w' o = absurd 
 complete_run p w v status before now line (inr (inr (inl write))) ends r w' o = absurd (omega (arith, write.0.rose, w'))
 complete_run p w v status before now line (inr (inr (inr (inl say)))) ends r w' o = absurd (omega (arith, say.0.rose, o))
 complete_run p w v status before now line (inr (inr (inr (inr memory)))) ends r w' o = inr memory.1
+
+-- no stop has the status of a run that went well
+pub stops_apart : (stop : Stop) → stop_status stop ≡ 0 → ⊥
+stops_apart Usage is = cc
+stops_apart WriteFault is = cc
+stops_apart Missing is = cc
+stops_apart (BadText line kind) is = cc
+stops_apart (BadEdge from to) is = cc
+stops_apart (Over what seen) is = cc
+stops_apart ReadFault is = cc
+stops_apart NoMemory is = cc
+
+-- nor has a halt
+pub halts_apart : (halt : Halt) → halt_status halt ≡ 0 → ⊥
+halts_apart (Reading stop) is = stops_apart stop is
+halts_apart Saving is = cc
+halts_apart Reporting is = cc

@@ -19,19 +19,19 @@ same_or_other n name =
 pub written : (name text : Bytes) (old new : Files) → new name ≡ Some text → OthersStay name old new → new ≡ put name text old
 written name text old new here others =
     fun_ext (λ n. elim (same_or_other n name) [
-      inl same ↦ ap new same.1 ∙ here ∙ sym (ap (λ b. cond b (Some text) (old n)) same.0)
-    | inr other ↦ others n other.1 ∙ sym (ap (λ b. cond b (Some text) (old n)) other.0)
+      | inl same ↦ ap new same.1 ∙ here ∙ sym (ap (λ b. cond b (Some text) (old n)) same.0)
+      | inr other ↦ others n other.1 ∙ sym (ap (λ b. cond b (Some text) (old n)) other.0)
     ])
 
 -- where the other files are equal, all names but this one stay
 pub others_stay : (name : Bytes) (old new : Files) → without name new ≡ without name old → OthersStay name old new
 others_stay name old new same n other =
     elim (same_or_other n name) [
-      inl is ↦ absurd (other is.1)
-    | inr is ↦
-      let at_new : without name new n ≡ new n = ap (λ b. cond b None (new n)) is.0 in
-      let at_old : without name old n ≡ old n = ap (λ b. cond b None (old n)) is.0 in
-      sym at_new ∙ ap (λ f. f n) same ∙ at_old
+      | inl is ↦ absurd (other is.1)
+      | inr is ↦
+          let at_new : without name new n ≡ new n = ap (λ b. cond b None (new n)) is.0 in
+          let at_old : without name old n ≡ old n = ap (λ b. cond b None (old n)) is.0 in
+          sym at_new ∙ ap (λ f. f n) same ∙ at_old
     ]
 
 -- a name that holds what it held stays too

@@ -33,8 +33,8 @@ pub checked_closed : (name : Bytes) (given : Result Soup Fault) (soup : Soup) (p
 checked_closed name given soup points triples unused is closed same_points same_triples same_unused =
     let none = open_pair_closed (all_edges soup.triples) closed in
     ap (checked name) is ∙ ap (if_closed name soup) none ∙ ap Ok (same points triples unused soup same_points same_triples same_unused) where
-  same : (points : List (List ℤ)) (triples : List Triple) (unused : ℕ) (soup : Soup) → points ≡ soup.points → triples ≡ soup.triples → unused ≡ soup.unused → soup ≡ record { points = points; triples = triples; unused = unused }
-  same points triples unused soup p t u = rw (p, t, u) refl
+      same : (points : List (List ℤ)) (triples : List Triple) (unused : ℕ) (soup : Soup) → points ≡ soup.points → triples ≡ soup.triples → unused ≡ soup.unused → soup ≡ record { points = points; triples = triples; unused = unused }
+      same points triples unused soup p t u = rw (p, t, u) refl
 
 -- the mesh of a file that is there and within the limit is that of its bytes
 pub mesh_of_whole : (reader : Reader) (limits : Limits) (name bytes : Bytes) (file : Option Bytes) (size : ℕ)

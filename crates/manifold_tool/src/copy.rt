@@ -1,7 +1,8 @@
 // The command copy.
-ghost use Rattle.std.specs.Prelude.{◌≡◌, ◌<◌, ◌^◌, ◌-◌, [], IsTrue, IsSome, OnOk, IfErr, Err};
+ghost use Rattle.std.specs.Prelude.{◌≡◌, ◌<◌, ◌^◌, ◌-◌, [], IsTrue, IsSome, OnOk, IfErr, Ok, Err};
+ghost use Rattle.mesh_terms.specs.Meshes.{Soup};
 ghost use Rattle.obj_terms.specs.Reading.{narrow_obj};
-ghost use Rattle.play_terms.specs.Copy.{copy_play};
+ghost use Rattle.play_terms.specs.Copy.{copy_play, mesh_of};
 ghost use Rattle.play_terms.specs.Meets.{RunMeets};
 ghost use Rattle.manifold_tool.specs.Halts.{halt_status, halt_line};
 ghost use Rattle.manifold_tool.specs.Reports.{world};
@@ -21,7 +22,14 @@ use std::alloc::Global;
 const DIGITS: u8 = 4;
 
 /// Reads a mesh from one file, saves it to another, and reports that on the output. It stops at the first thing that goes wrong.
-pub fn copy<S: Shelf, O: Sink>(alloc: Global, from: &str, to: &str, limits: &Limits, shelf: &mut S, out: &mut O) -> Result<(), Halt>
+pub fn copy<S: Shelf, O: Sink>(
+    alloc: Global,
+    from: &str,
+    to: &str,
+    limits: &Limits,
+    shelf: &mut S,
+    out: &mut O,
+) -> Result<(), Halt>
     requires reads { S.read_faults shelf.old < 2 ^ 64 - 1 }
     requires writes { S.write_faults shelf.old < 2 ^ 64 - 1 }
     requires outs { O.faults out.old < 2 ^ 64 - 1 }
@@ -39,6 +47,9 @@ pub fn copy<S: Shelf, O: Sink>(alloc: Global, from: &str, to: &str, limits: &Lim
     ensures saved { result ≡ Err Halt.Saving → S.write_faults shelf.old < S.write_faults shelf.new }
     ensures reported { result ≡ Err Halt.Reporting → O.faults out.old < O.faults out.new }
     ensures reading { (stop : Stop) → result ≡ Err (Halt.Reading stop) → IsTrue (is_reading_stop stop) }
+    ensures back { OnOk result (IsTrue (S.tells shelf.old) → (soup : Soup) →
+        mesh_of narrow_obj limits.now from.now (S.files shelf.old from.now) ≡ Ok soup →
+        mesh_of narrow_obj limits.now to.now (S.files shelf.new to.now) ≡ Ok soup) }
 {
     let read = match read_mesh(alloc, from, DIGITS, limits, shelf) {
         Ok(read) => read,

@@ -13,10 +13,9 @@ mod saving;
 mod status;
 mod stop;
 mod tail;
-mod words;
-
 #[cfg(test)]
 mod tests;
+mod words;
 
 use mb_base::{ArgList, Limits};
 use mb_outside::{FolderShelf, StdSink};
@@ -55,7 +54,14 @@ fn main(rt: HostRuntime) -> ExitCode {
     let status = match words_of(&rt, rt.alloc()) {
         Ok(words) => {
             let mut shelf = FolderShelf::of(&rt);
-            run(rt.alloc(), &words, &Limits::program(), &mut shelf, &mut out, &mut err)
+            run(
+                rt.alloc(),
+                &words,
+                &Limits::program(),
+                &mut shelf,
+                &mut out,
+                &mut err,
+            )
         }
         Err(status) => {
             report::tell_start(status, &mut err);

@@ -1,8 +1,8 @@
 // Reading a mesh from a shelf.
 ghost use Rattle.std.specs.Prelude.{◌≡◌, ◌≤◌, ◌<◌, ◌+◌, ◌⊎◌, ℕ, Some, None, Ok, Err, length, take, IsTrue, IfOk, OnErr, OnOk, IfErr, IsErrOf, vec_len};
+ghost use Rattle.mesh_terms.specs.Limits.{IsLawful};
 ghost use Rattle.run_terms.specs.Files.{Bytes, text_of, Counts, Rose};
 ghost use Rattle.obj_terms.specs.Reading.{narrow_obj};
-
 ghost use Rattle.play_terms.specs.Copy.{checked, mesh_of};
 ghost use Rattle.manifold_tool.specs.Pieces.{ReadsOn, SizeMeets, TextMeets};
 ghost use Rattle.manifold_tool.specs.Stops.{is_reading_stop, is_mesh_stop};
@@ -28,19 +28,21 @@ pub struct Read {
 fn size_of<S: Shelf>(name: &str, limits: &Limits, shelf: &mut S) -> Result<usize, Stop>
     ensures size { IsTrue (S.tells shelf.old) → SizeMeets limits.now name.now (S.files shelf.old name.now) result }
     ensures stop { IfErr result (λ stop. IsTrue (is_reading_stop stop)) }
+    ensures lawful { IsLawful limits.now }
     ensures fault { IsErrOf result Stop.ReadFault → Rose (S.read_faults shelf.old) (S.read_faults shelf.new) }
     ensures calm { (IsErrOf result Stop.ReadFault → ⊥) → S.read_faults shelf.new ≡ S.read_faults shelf.old }
     ensures files { S.files shelf.new ≡ S.files shelf.old }
     ensures told { S.tells shelf.new ≡ S.tells shelf.old }
     ensures writes { S.write_faults shelf.new ≡ S.write_faults shelf.old }
 {
+    let most = limits.file_bytes();
     let Ok(answer) = shelf.size(name) else {
         return Err(Stop::ReadFault);
     };
     let Some(size) = answer else {
         return Err(Stop::Missing);
     };
-    if size > limits.file_bytes() {
+    if size > most {
         return Err(Stop::Over {
             what: Counted::FileBytes,
             seen: size,
@@ -50,7 +52,13 @@ fn size_of<S: Shelf>(name: &str, limits: &Limits, shelf: &mut S) -> Result<usize
 }
 
 // Reads one piece more of a file, into these places, and answers how many bytes came.
-fn read_piece<S: Shelf>(shelf: &mut S, name: &str, bytes: &mut Vec<u8>, have: usize, end: usize) -> Result<usize, Failed>
+fn read_piece<S: Shelf>(
+    shelf: &mut S,
+    name: &str,
+    bytes: &mut Vec<u8>,
+    have: usize,
+    end: usize,
+) -> Result<usize, Failed>
     requires some { have < end }
     requires within { end ≤ vec_len bytes.old }
     ensures within { IfOk result (λ count. have + count ≤ end) }
@@ -111,12 +119,19 @@ fn mesh_of_text(alloc: Global, bytes: &[u8], digits: u8, limits: &Limits) -> Res
 /// where it tells none, also where the file ended before the size that was told. No file changes.
 ///
 /// It takes memory for the file's bytes and the mesh, and time `n log n`.
-pub fn read_mesh<S: Shelf>(alloc: Global, name: &str, digits: u8, limits: &Limits, shelf: &mut S) -> Result<Read, Stop>
+pub fn read_mesh<S: Shelf>(
+    alloc: Global,
+    name: &str,
+    digits: u8,
+    limits: &Limits,
+    shelf: &mut S,
+) -> Result<Read, Stop>
     requires { digits ≡ 4 }
     ensures mesh { IsTrue (S.tells shelf.old) → TextMeets name.now (mesh_of narrow_obj limits.now name.now (S.files shelf.old name.now)) result }
     ensures fault { IsErrOf result Stop.ReadFault → IsTrue (S.tells shelf.old) → Rose (S.read_faults shelf.old) (S.read_faults shelf.new) }
     ensures calm { (IsErrOf result Stop.ReadFault → ⊥) → S.read_faults shelf.new ≡ S.read_faults shelf.old }
     ensures stop { IfErr result (λ stop. IsTrue (is_reading_stop stop)) }
+    ensures lawful { IsLawful limits.now }
     ensures files { S.files shelf.new ≡ S.files shelf.old }
     ensures told { S.tells shelf.new ≡ S.tells shelf.old }
     ensures writes { S.write_faults shelf.new ≡ S.write_faults shelf.old }

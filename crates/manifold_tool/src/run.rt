@@ -1,8 +1,10 @@
 // The top call.
-ghost use Rattle.std.specs.Prelude.{◌≡◌, ◌<◌, ◌^◌, ◌-◌, ◌↔◌, ◌⊎◌, IsTrue, IsSome, None};
-ghost use Rattle.play_terms.specs.Copy.{narrow_play};
+ghost use Rattle.std.specs.Prelude.{◌≡◌, ◌<◌, ◌^◌, ◌-◌, ◌↔◌, ◌⊎◌, IsTrue, IsSome, Some, None, Ok};
+ghost use Rattle.mesh_terms.specs.Meshes.{Soup};
+ghost use Rattle.obj_terms.specs.Reading.{narrow_obj};
+ghost use Rattle.play_terms.specs.Copy.{mesh_of, narrow_play};
 ghost use Rattle.play_terms.specs.Meets.{RunMeets};
-ghost use Rattle.play_terms.specs.Words.{narrow_command};
+ghost use Rattle.play_terms.specs.Words.{CopyFile, narrow_command};
 ghost use Rattle.run_terms.specs.Files.{Bytes};
 ghost use Rattle.run_terms.specs.Runs.{Done};
 ghost use Rattle.manifold_tool.specs.Reports.{IsReported, world};
@@ -25,8 +27,16 @@ use std::alloc::Global;
 /// Where the shelf tells its files and `out` its bytes, the run meets its play, which is a function of the words, the files and the
 /// limits: with status 0 to 5 every action of the play was done whole, no count of faults rose, and the status and the line
 /// are those of the play's end; with 6 a file could not be read, with 7 a file or a line was written in part or not at all, and with 8
-/// memory ran out between two actions. So a run whose play ends well, and in which no fault came, ends with 0, or for want of memory.
-pub fn run<S: Shelf, O: Sink, E: Sink>(alloc: Global, words: &ArgList, limits: &Limits, shelf: &mut S, out: &mut O, err: &mut E) -> Status
+/// memory ran out between two actions. So a run whose play ends well, and in which no fault came, ends with 0, or for want of memory; and
+/// what a copy saved is read as the mesh that was copied.
+pub fn run<S: Shelf, O: Sink, E: Sink>(
+    alloc: Global,
+    words: &ArgList,
+    limits: &Limits,
+    shelf: &mut S,
+    out: &mut O,
+    err: &mut E,
+) -> Status
     requires reads { S.read_faults shelf.old < 2 ^ 64 - 1 }
     requires writes { S.write_faults shelf.old < 2 ^ 64 - 1 }
     requires outs { O.faults out.old < 2 ^ 64 - 1 }
@@ -43,6 +53,9 @@ pub fn run<S: Shelf, O: Sink, E: Sink>(alloc: Global, words: &ArgList, limits: &
     ensures complete { (narrow_play words.now (S.files shelf.old) limits.now).end ≡ Done → IsTrue (S.tells shelf.old) → IsSome (O.told out.old) →
         S.read_faults shelf.new ≡ S.read_faults shelf.old → S.write_faults shelf.new ≡ S.write_faults shelf.old → O.faults out.new ≡ O.faults out.old →
         (result ≡ Status.Done) ⊎ (result ≡ Status.NoMemory) }
+    ensures back { result ≡ Status.Done → IsTrue (S.tells shelf.old) → (from to : Bytes) (soup : Soup) →
+        narrow_command words.now ≡ Some (CopyFile 4 from to) → mesh_of narrow_obj limits.now from (S.files shelf.old from) ≡ Ok soup →
+        mesh_of narrow_obj limits.now to (S.files shelf.new to) ≡ Ok soup }
 {
     if !is_copy(words) {
         tell_usage(err);

@@ -142,7 +142,9 @@ pub fn stop_tail(stop: &Stop) -> Tail
     ensures { result.items ≡ stop_tail_of stop.now }
 {
     match stop {
-        Stop::Usage => plain_tail(b"usage: manifold_tool copy IN OUT, inside FILE X Y Z or run SCRIPT, each with --digits K\n"),
+        Stop::Usage => plain_tail(
+            b"usage: manifold_tool copy IN OUT, inside FILE X Y Z or run SCRIPT, each with --digits K\n",
+        ),
         Stop::Missing => plain_tail(b": missing\n"),
         Stop::BadText { line, kind } => text_tail(*line, *kind),
         Stop::BadEdge { from, to } => edge_tail(*from, *to),

@@ -10,12 +10,15 @@ use std::test::Fail;
 
 const ROOM: usize = 65_536;
 
-const TETRAHEDRON: &[u8] = b"v 0 0 0\nv 1 0 0\nv 0 1 0\nv 0 0 1\nf 1 3 2\nf 1 2 4\nf 2 3 4\nf 3 1 4\n";
+const TETRAHEDRON: &[u8] =
+    b"v 0 0 0\nv 1 0 0\nv 0 1 0\nv 0 0 1\nf 1 3 2\nf 1 2 4\nf 2 3 4\nf 3 1 4\n";
 
 // A cube without one of its twelve triangles.
-const OPEN_CUBE: &[u8] = b"v 0 0 0\nv 10 0 0\nv 0 10 0\nv 10 10 0\nv 0 0 10\nv 10 0 10\nv 0 10 10\nv 10 10 10\nf 1 4 2\nf 1 3 4\nf 5 6 8\nf 1 2 5\nf 2 6 5\nf 2 4 8\nf 2 8 6\nf 4 3 7\nf 4 7 8\nf 1 5 7\nf 1 7 3\n";
+const OPEN_CUBE: &[u8] =
+    b"v 0 0 0\nv 10 0 0\nv 0 10 0\nv 10 10 0\nv 0 0 10\nv 10 0 10\nv 0 10 10\nv 10 10 10\nf 1 4 2\nf 1 3 4\nf 5 6 8\nf 1 2 5\nf 2 6 5\nf 2 4 8\nf 2 8 6\nf 4 3 7\nf 4 7 8\nf 1 5 7\nf 1 7 3\n";
 
-const USAGE: &[u8] = b"usage: manifold_tool copy IN OUT, inside FILE X Y Z or run SCRIPT, each with --digits K\n";
+const USAGE: &[u8] =
+    b"usage: manifold_tool copy IN OUT, inside FILE X Y Z or run SCRIPT, each with --digits K\n";
 
 // A run over a shelf with one file, and what is to stand after it.
 #[derive(Drop)]
@@ -81,7 +84,13 @@ fn judge<R: Abort + AllocGlobal>(rt: &R, case: &Case<'_>) -> Result<(), NoMemory
 }
 
 // A run without faults, under the program's limits.
-fn plain<'a>(words: &'a [&'a str], name: &'a str, bytes: &'a [u8], status: u8, err: &'a [u8]) -> Case<'a> {
+fn plain<'a>(
+    words: &'a [&'a str],
+    name: &'a str,
+    bytes: &'a [u8],
+    status: u8,
+    err: &'a [u8],
+) -> Case<'a> {
     Case {
         words,
         name,
@@ -113,11 +122,32 @@ fn what_is_copied_is_saved_and_reported(rt: HostRuntime) -> Result<(), Fail> {
 #[test]
 fn each_refusal_has_its_status_and_line(rt: HostRuntime) -> Result<(), Fail> {
     let words = ["copy", "c.obj", "u.obj"];
-    judge(&rt, &plain(&words, "c.obj", OPEN_CUBE, 4, b"c.obj: 11 OpenEdge 5 7\n"))?;
-    judge(&rt, &plain(&words, "c.obj", b"v 0 0 0\nvn 1 0 0\n", 4, b"c.obj:2: 1 UnknownLine\n"))?;
-    judge(&rt, &plain(&words, "t.obj", TETRAHEDRON, 3, b"c.obj: missing\n"))?;
-    judge(&rt, &plain(&["copy", "t.obj"], "t.obj", TETRAHEDRON, 1, USAGE))?;
-    judge(&rt, &plain(&["copy", "t.obj", "u.ply"], "t.obj", TETRAHEDRON, 1, USAGE))?;
+    judge(
+        &rt,
+        &plain(&words, "c.obj", OPEN_CUBE, 4, b"c.obj: 11 OpenEdge 5 7\n"),
+    )?;
+    judge(
+        &rt,
+        &plain(
+            &words,
+            "c.obj",
+            b"v 0 0 0\nvn 1 0 0\n",
+            4,
+            b"c.obj:2: 1 UnknownLine\n",
+        ),
+    )?;
+    judge(
+        &rt,
+        &plain(&words, "t.obj", TETRAHEDRON, 3, b"c.obj: missing\n"),
+    )?;
+    judge(
+        &rt,
+        &plain(&["copy", "t.obj"], "t.obj", TETRAHEDRON, 1, USAGE),
+    )?;
+    judge(
+        &rt,
+        &plain(&["copy", "t.obj", "u.ply"], "t.obj", TETRAHEDRON, 1, USAGE),
+    )?;
     Ok(())
 }
 

@@ -8,3 +8,6 @@ mod page_sink;
 
 pub use obj::write_obj;
 pub use page_sink::PageSink;
+
+#[cfg(test)]
+mod tests;

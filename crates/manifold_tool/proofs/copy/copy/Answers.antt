@@ -1,16 +1,22 @@
-use Rattle.std.proofs.Common.{◌≡◌, ◌<◌, ◌^◌, ◌-◌, ℕ, Bool, IsTrue, Err, ap, sym, ◌∙◌, refl, subst}
+use Rattle.std.proofs.Common.{◌≡◌, ◌<◌, ◌^◌, ◌-◌, ℕ, Bool, IsTrue, Result, Ok, Err, ap, sym, ◌∙◌, refl, subst}
+use Rattle.mesh_terms.specs.Meshes.{Soup}
 use Rattle.obj_terms.specs.Reading.{narrow_obj}
 use Rattle.obj_terms.specs.Written.{obj_text}
 use Rattle.run_terms.specs.Files.{Bytes, Files, put}
+use Rattle.run_terms.specs.Runs.{Refusal}
 use Rattle.play_terms.specs.Copy.{mesh_of}
 use Rattle.manifold_tool.specs.Pieces.{soup_with}
 use Rattle.manifold_tool.specs.Reports.{world}
 use Rattle.manifold_tool.specs.Saves.{IsSavedInPart}
 use Rattle.manifold_tool.specs.declared.stop.Stop.{Stop}
 use Rattle.manifold_tool.specs.declared.stop.Stop.TheVariants.{ReadFault}
+use Rattle.manifold_tool.proofs.Back.{saved_is_taken}
 use Rattle.manifold_tool.proofs.Copying.{greater, same_faults, reading_stopped, saving_stopped, reporting_stopped, copy_done}
 use Rattle.manifold_tool.proofs.copy.copy.Goals as goal
 
+-- one answer has one soup
+same_soup : (r : Result Soup Refusal) (a b : Soup) → r ≡ Ok a → r ≡ Ok b → a ≡ b
+same_soup r a b first second = cc
 
 pub returns-in-Err-clause-halted : goal.returns-in-Err-clause-halted
 returns-in-Err-clause-halted g c told some =
@@ -65,3 +71,16 @@ returns-clause-done g c told some =
     let reads = save.reads ∙ read.calm (λ is. cc) in
     let writes = save.writes.ok refl ∙ read.writes in
     copy_done from 4 to r soup _ _ _ _ _ _ (read.mesh told) saved some e.added (same_faults _ _ _ _ _ _ reads writes (e.count.ok refl))
+
+pub returns-clause-back : goal.returns-clause-back
+returns-clause-back g c told soup is =
+    let P : Bool → Type 0 = λ b. IsTrue b in
+    let read = c.in-Ok.ensures in
+    let save = c.in-Ok-save_mesh.ensures in
+    let from = c.args.from.now in
+    let to = c.args.to.now in
+    let here = soup_with c.in-Ok.read in
+    let same : here ≡ soup = same_soup _ here soup (read.mesh told) is in
+    let saved = save.saved (subst P (sym read.told) told) ∙ ap (put to (obj_text 4 here.points here.triples)) read.files in
+    let Q : Soup → Type 0 = λ s. g.S.Shelf.files c.save_mesh.new.shelf ≡ put to (obj_text 4 s.points s.triples) (g.S.Shelf.files c.args.shelf.now) in
+    saved_is_taken c.args.limits.now from to _ _ _ soup read.lawful is (subst Q same saved)

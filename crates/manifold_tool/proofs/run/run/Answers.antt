@@ -1,7 +1,8 @@
 use Rattle.std.proofs.Common.{◌≡◌, ap, sym, ◌∙◌, Err, IsTrue, rules, inl, inr}
 use Rattle.manifold_tool.specs.Halts.{halt_line}
 use Rattle.manifold_tool.specs.Statuses.{status_number}
-use Rattle.manifold_tool.proofs.Running.{as_asked, complete_run, saves_or_reports, halts_after_words}
+use Rattle.manifold_tool.proofs.Running.{as_asked, complete_run, saves_or_reports, halts_apart, halts_after_words}
+use Rattle.manifold_tool.proofs.Back.{same_names, back_for}
 use Rattle.manifold_tool.proofs.Numbers.{well_by_number}
 use Rattle.manifold_tool.proofs.run.run.Goals as goal
 
@@ -23,8 +24,8 @@ pub returns-in-Err-clause-write_fault : goal.returns-in-Err-clause-write_fault
 returns-in-Err-clause-write_fault g c is =
     let e = c.in-Err.ensures in
     elim (saves_or_reports c.in-Err.halt (λ stop same. e.reading stop (ap Err same)) (sym c.status.ensures ∙ ap status_number is)) [
-      inl saving ↦ inl (e.saved (ap Err saving))
-    | inr reporting ↦ inr (e.reported (ap Err reporting))
+      | inl saving ↦ inl (e.saved (ap Err saving))
+      | inr reporting ↦ inr (e.reported (ap Err reporting))
     ]
 
 pub returns-in-Err-clause-complete : goal.returns-in-Err-clause-complete
@@ -33,3 +34,13 @@ returns-in-Err-clause-complete g c ends told some read write out =
     let asked = (c.is_copy.ensures.yes yes).1 in
     let meets = as_asked c.args.limits.now _ c.args.words.now _ _ _ _ _ _ _ _ _ asked c.get-from.ensures c.get-to.ensures c.status.ensures (c.in-Err.ensures.halted told some) in
     well_by_number c.status.result (complete_run _ _ _ _ _ _ _ meets ends read write out)
+
+pub returns-in-Err-clause-back : goal.returns-in-Err-clause-back
+returns-in-Err-clause-back g c is told from to soup asked taken =
+    absurd (halts_apart c.in-Err.halt (sym c.status.ensures ∙ ap status_number is))
+
+pub returns-in-Ok-clause-back : goal.returns-in-Ok-clause-back
+returns-in-Ok-clause-back g c is told from to soup asked taken =
+    let yes : IsTrue c.is_copy.result = search rules in
+    let names = same_names _ _ _ _ _ (c.is_copy.ensures.yes yes).1 asked in
+    back_for c.args.limits.now (g.S.Shelf.files c.args.shelf.now) (g.S.Shelf.files c.copy.new.shelf) c.get-from.result.now c.get-to.result.now from to soup (c.get-from.ensures ∙ names.0) (c.get-to.ensures ∙ names.1) (c.in-Ok.ensures.back told soup) taken

@@ -1,4 +1,4 @@
-use Rattle.std.proofs.Common.{◌∙◌, ◌-◌, arith, ap, Some, rules, ℕ, ◌≡◌, ◌+◌, ◌≤◌, length}
+use Rattle.std.proofs.Common.{◌∙◌, ◌-◌, arith, ap, Some, rules, ◌≡◌, ◌+◌, ◌≤◌, length}
 use Rattle.mb_outside.proofs.Adds.{told_on}
 use Rattle.mb_outside.proofs.writing.write_all.Goals as goal
 
@@ -14,9 +14,9 @@ loop-done-preserved g c =
       rest = e.rest ∙ inv.rest;
       loan = e.loan ∙ inv.loan;
       room = λ free is fits.
-        let left : length c.split_at.result.1.now ≤ free - c.loop-done.done = omega (arith, c.split_at.ensures.back_len, inv.within, fits) in
-        let same : free - c.loop-done.done - c.in_ok-done.field-0 ≡ free - (c.loop-done.done + c.in_ok-done.field-0) = omega arith in
-        e.less (free - c.loop-done.done) (inv.room free is fits) left ∙ ap Some same;
+          let left : length c.split_at.result.1.now ≤ free - c.loop-done.done = omega (arith, c.split_at.ensures.back_len, inv.within, fits) in
+          let same : free - c.loop-done.done - c.in_ok-done.field-0 ≡ free - (c.loop-done.done + c.in_ok-done.field-0) = omega arith in
+          e.less (free - c.loop-done.done) (inv.room free is fits) left ∙ ap Some same;
     }
 
 pub returns-in_err-done-clause-sure : goal.returns-in_err-done-clause-sure

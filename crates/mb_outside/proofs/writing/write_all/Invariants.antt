@@ -10,7 +10,7 @@ invariant-loop-done g l = record {
   other : g.K.Sink.other l.sink ≡ g.K.Sink.other l.initial.sink;
   rest : g.K.Sink.rest l.sink ≡ g.K.Sink.rest l.initial.sink;
   loan : g.K.Sink.loan l.sink ≡ g.K.Sink.loan l.initial.sink;
-  room : (free : ℕ) → g.K.Sink.room l.initial.sink ≡ Some free → length l.text ≤ free → g.K.Sink.room l.sink ≡ Some (free - l.done)
+  room : (free : ℕ) → g.K.Sink.room l.initial.sink ≡ Some free → length l.text ≤ free → g.K.Sink.room l.sink ≡ Some (free - l.done);
 }
 
 abbrev pub decreases-loop-done : goal.decreases-loop-done
