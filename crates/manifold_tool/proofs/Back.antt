@@ -14,7 +14,7 @@ use Rattle.obj_terms.specs.Written.{obj_text}
 use Rattle.obj_laws.proofs.Saved.{file_reads_back}
 use Rattle.run_terms.specs.Files.{Bytes, Files, put}
 use Rattle.run_terms.specs.Runs.{Refusal}
-use Rattle.play_terms.specs.Copy.{checked, if_closed, mesh_of}
+use Rattle.play_terms.specs.Commands.{checked, if_closed, mesh_of}
 use Rattle.play_terms.specs.Lines.{over}
 use Rattle.play_terms.specs.Words.{Command, CopyFile}
 

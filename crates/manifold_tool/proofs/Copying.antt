@@ -4,9 +4,9 @@ use Rattle.std.specs.Option.{option_map}
 use Rattle.mesh_terms.specs.Meshes.{Soup}
 use Rattle.obj_terms.specs.Written.{obj_text}
 use Rattle.run_terms.specs.Files.{Bytes, Files, Rose, put, text_of, IsPrefix}
-use Rattle.run_terms.specs.Runs.{Action, Ask, Write, Say, World, Faults, Refusal, Play, FirstDone, Finished, ReadStop, WriteStop, SayStop, MemoryStop, Partial}
-use Rattle.play_terms.specs.Copy.{played, copy_actions}
-use Rattle.play_terms.specs.Lines.{copied_line, write_fault, report_fault}
+use Rattle.run_terms.specs.Runs.{Action, Ask, Write, Say, World, Faults, Refusal, Play, FirstDone, Finished, ReadStop, WriteStop, SayStop, MemoryStop, Partial, done_all}
+use Rattle.play_terms.specs.Commands.{played, copy_actions}
+use Rattle.play_terms.specs.Lines.{copied_line, write_fault, report_fault, no_memory}
 use Rattle.play_terms.specs.Meets.{RunMeets}
 use Rattle.mb_outside.specs.Sinks.{AddsPart}
 use Rattle.manifold_tool.specs.Saves.{IsSavedInPart}
@@ -27,50 +27,50 @@ counts read write out = record { read = read; write = write; out = out }
 pub same_faults : (r r' w w' o o' : ℕ) → r' ≡ r → w' ≡ w → o' ≡ o → counts r' w' o' ≡ counts r w o
 same_faults r r' w w' o o' a b c = rw (a, b, c) refl
 
--- the play of a copy whose file gives r
-abbrev pub play_of : Bytes → ℕ → Bytes → Result Soup Refusal → Play
-play_of from k to r = played (Ask from ∷ []) r (copy_actions k to)
+-- the play of a command whose file gives r
+abbrev pub play_of : Bytes → (Soup → List Action) → Result Soup Refusal → Play
+play_of from others r = played (Ask from ∷ []) r others
 
 -- what follows the asking
-abbrev pub after_asking : ℕ → Bytes → Result Soup Refusal → List Action
-after_asking k to (Err why) = []
-after_asking k to (Ok soup) = copy_actions k to soup
+abbrev pub after_asking : (Soup → List Action) → Result Soup Refusal → List Action
+after_asking others (Err why) = []
+after_asking others (Ok soup) = others soup
 
 -- the play begins with the asking
-pub asks_first : (from : Bytes) (k : ℕ) (to : Bytes) (r : Result Soup Refusal) → (play_of from k to r).actions ≡ Ask from ∷ after_asking k to r
-asks_first from k to (Err why) = refl
-asks_first from k to (Ok soup) = refl
+pub asks_first : (from : Bytes) (others : Soup → List Action) (r : Result Soup Refusal) → (play_of from others r).actions ≡ Ask from ∷ after_asking others r
+asks_first from others (Err why) = refl
+asks_first from others (Ok soup) = refl
 
 -- nothing was done yet
 abbrev pub none_done : (all : List Action) (w : World) → FirstDone all w
 none_done all w = record { whole = []; rest = all; split = refl; mid = w; reached = refl }
 
 -- the file was refused
-pub refused_run : (from : Bytes) (k : ℕ) (to : Bytes) (r : Result Soup Refusal) (why : Refusal) (w v : World) (before now : Faults)
-    → r ≡ Err why → v ≡ w → now ≡ before → RunMeets (play_of from k to r) w v why.status before now why.line
-refused_run from k to r why w v before now is same calm =
-    let P : Result Soup Refusal → Type 0 = λ r. RunMeets (play_of from k to r) w v why.status before now why.line in
+pub refused_run : (from : Bytes) (others : Soup → List Action) (r : Result Soup Refusal) (why : Refusal) (w v : World) (before now : Faults)
+    → r ≡ Err why → v ≡ w → now ≡ before → RunMeets (play_of from others r) w v why.status before now why.line
+refused_run from others r why w v before now is same calm =
+    let P : Result Soup Refusal → Type 0 = λ r. RunMeets (play_of from others r) w v why.status before now why.line in
     subst P (sym is) (inl (record { all_done = same; same_status = refl; no_fault = calm }, refl))
 
 -- reading stopped
-pub reading_stopped : (from : Bytes) (k : ℕ) (to : Bytes) (r : Result Soup Refusal) (w v : World) (before now : Faults) (stop : Stop)
+pub reading_stopped : (from : Bytes) (others : Soup → List Action) (r : Result Soup Refusal) (w v : World) (before now : Faults) (stop : Stop)
     → ((why : Refusal) → refusal_of from stop ≡ Some why → r ≡ Err why) → IsTrue (is_reading_stop stop) → v ≡ w
     → ((stop ≡ ReadFault → ⊥) → now ≡ before) → (stop ≡ ReadFault → before.read < now.read)
-    → RunMeets (play_of from k to r) w v (stop_status stop) before now (stop_line from stop)
-reading_stopped from k to r w v before now Usage refuses reads same calm rose = cc
-reading_stopped from k to r w v before now WriteFault refuses reads same calm rose = cc
-reading_stopped from k to r w v before now Missing refuses reads same calm rose =
-    refused_run from k to r _ w v before now (refuses _ refl) same (calm (λ e. cc))
-reading_stopped from k to r w v before now (BadText line kind) refuses reads same calm rose =
-    refused_run from k to r _ w v before now (refuses _ refl) same (calm (λ e. cc))
-reading_stopped from k to r w v before now (BadEdge a b) refuses reads same calm rose =
-    refused_run from k to r _ w v before now (refuses _ refl) same (calm (λ e. cc))
-reading_stopped from k to r w v before now (Over what seen) refuses reads same calm rose =
-    refused_run from k to r _ w v before now (refuses _ refl) same (calm (λ e. cc))
-reading_stopped from k to r w v before now ReadFault refuses reads same calm rose =
-    inr (inl (record { first = none_done (play_of from k to r).actions w; name = from; later = after_asking k to r; next = asks_first from k to r; same = same; rose = rose refl }, refl, refl))
-reading_stopped from k to r w v before now NoMemory refuses reads same calm rose =
-    inr (inr (inr (inr (record { first = none_done (play_of from k to r).actions w; same = same }, refl, refl))))
+    → RunMeets (play_of from others r) w v (stop_status stop) before now (stop_line from stop)
+reading_stopped from others r w v before now Usage refuses reads same calm rose = cc
+reading_stopped from others r w v before now WriteFault refuses reads same calm rose = cc
+reading_stopped from others r w v before now Missing refuses reads same calm rose =
+    refused_run from others r _ w v before now (refuses _ refl) same (calm (λ e. cc))
+reading_stopped from others r w v before now (BadText line kind) refuses reads same calm rose =
+    refused_run from others r _ w v before now (refuses _ refl) same (calm (λ e. cc))
+reading_stopped from others r w v before now (BadEdge a b) refuses reads same calm rose =
+    refused_run from others r _ w v before now (refuses _ refl) same (calm (λ e. cc))
+reading_stopped from others r w v before now (Over what seen) refuses reads same calm rose =
+    refused_run from others r _ w v before now (refuses _ refl) same (calm (λ e. cc))
+reading_stopped from others r w v before now ReadFault refuses reads same calm rose =
+    inr (inl (record { first = none_done (play_of from others r).actions w; name = from; later = after_asking others r; next = asks_first from others r; same = same; rose = rose refl }, refl, refl))
+reading_stopped from others r w v before now NoMemory refuses reads same calm rose =
+    inr (inr (inr (inr (record { first = none_done (play_of from others r).actions w; same = same }, refl, refl))))
 
 -- the world of these files and this output
 abbrev pub world_of : Files → Bytes → World
@@ -84,9 +84,9 @@ saved_in_part to text fw fv ow ov (inr part) out = inr (part.0, part.1, rw (part
 -- saving stopped
 pub saving_stopped : (from : Bytes) (k : ℕ) (to : Bytes) (r : Result Soup Refusal) (soup : Soup) (fw fv : Files) (ow ov : Bytes) (before now : Faults)
     → r ≡ Ok soup → IsSavedInPart to (obj_text k soup.points soup.triples) fw fv → ov ≡ ow → before.write < now.write
-    → RunMeets (play_of from k to r) (world_of fw ow) (world_of fv ov) 7 before now (write_fault to)
+    → RunMeets (play_of from (copy_actions k to) r) (world_of fw ow) (world_of fv ov) 7 before now (write_fault to)
 saving_stopped from k to r soup fw fv ow ov before now is part out rose =
-    let P : Result Soup Refusal → Type 0 = λ r. RunMeets (play_of from k to r) (world_of fw ow) (world_of fv ov) 7 before now (write_fault to) in
+    let P : Result Soup Refusal → Type 0 = λ r. RunMeets (play_of from (copy_actions k to) r) (world_of fw ow) (world_of fv ov) 7 before now (write_fault to) in
     let text = obj_text k soup.points soup.triples in
     let later : List Action = Say (copied_line to soup) ∷ [] in
     subst P (sym is) (inr (inr (inl (
@@ -111,9 +111,9 @@ told_more (Some old) new more some is = ap text_of is
 -- reporting stopped
 pub reporting_stopped : (from : Bytes) (k : ℕ) (to : Bytes) (r : Result Soup Refusal) (soup : Soup) (fw fv : Files) (old new : Option Bytes) (before now : Faults)
     → r ≡ Ok soup → fv ≡ put to (obj_text k soup.points soup.triples) fw → IsSome old → AddsPart (copied_line to soup) old new → before.out < now.out
-    → RunMeets (play_of from k to r) (world fw old) (world fv new) 7 before now report_fault
+    → RunMeets (play_of from (copy_actions k to) r) (world fw old) (world fv new) 7 before now report_fault
 reporting_stopped from k to r soup fw fv old new before now is saved some part rose =
-    let P : Result Soup Refusal → Type 0 = λ r. RunMeets (play_of from k to r) (world fw old) (world fv new) 7 before now report_fault in
+    let P : Result Soup Refusal → Type 0 = λ r. RunMeets (play_of from (copy_actions k to) r) (world fw old) (world fv new) 7 before now report_fault in
     let text = obj_text k soup.points soup.triples in
     let line = copied_line to soup in
     let mid = world_of (put to text fw) (text_of old) in
@@ -135,10 +135,43 @@ reporting_stopped from k to r soup fw fv old new before now is saved some part r
 -- all was done
 pub copy_done : (from : Bytes) (k : ℕ) (to : Bytes) (r : Result Soup Refusal) (soup : Soup) (fw fv : Files) (old new : Option Bytes) (before now : Faults)
     → r ≡ Ok soup → fv ≡ put to (obj_text k soup.points soup.triples) fw → IsSome old → new ≡ option_map (λ held. held ++ copied_line to soup) old → now ≡ before
-    → RunMeets (play_of from k to r) (world fw old) (world fv new) 0 before now []
+    → RunMeets (play_of from (copy_actions k to) r) (world fw old) (world fv new) 0 before now []
 copy_done from k to r soup fw fv old new before now is saved some said calm =
-    let P : Result Soup Refusal → Type 0 = λ r. RunMeets (play_of from k to r) (world fw old) (world fv new) 0 before now [] in
+    let P : Result Soup Refusal → Type 0 = λ r. RunMeets (play_of from (copy_actions k to) r) (world fw old) (world fv new) 0 before now [] in
     let text = obj_text k soup.points soup.triples in
     let more = told_more old new (copied_line to soup) some said in
     let after : world fv new ≡ world_of (put to text fw) (text_of old ++ copied_line to soup) = rw (saved, more) refl in
     subst P (sym is) (inl (record { all_done = after; same_status = refl; no_fault = calm }, refl))
+
+-- memory ran out after the file was read
+pub starved_run : (from : Bytes) (others : Soup → List Action) (r : Result Soup Refusal) (w v : World) (before now : Faults) → v ≡ w
+    → RunMeets (play_of from others r) w v 8 before now no_memory
+starved_run from others r w v before now same =
+    inr (inr (inr (inr (record { first = none_done (play_of from others r).actions w; same = same }, refl, refl))))
+
+-- reporting stopped after the file was read
+pub saying_stopped : (from line : Bytes) (others : Soup → List Action) (r : Result Soup Refusal) (soup : Soup) (fw fv : Files) (old new : Option Bytes) (before now : Faults)
+    → r ≡ Ok soup → others soup ≡ Say line ∷ [] → fv ≡ fw → IsSome old → AddsPart line old new → before.out < now.out
+    → RunMeets (play_of from others r) (world fw old) (world fv new) 7 before now report_fault
+saying_stopped from line others r soup fw fv old new before now is says same some part rose =
+    let P : Result Soup Refusal → Type 0 = λ r. RunMeets (play_of from others r) (world fw old) (world fv new) 7 before now report_fault in
+    let more = told_more old new part.0 some part.2 in
+    let after : world fv new ≡ world_of fw (text_of old ++ part.0) = rw (same, more) refl in
+    subst P (sym is) (inr (inr (inr (inl (record {
+      first = record { whole = Ask from ∷ []; rest = others soup; split = refl; mid = world_of fw (text_of old); reached = refl };
+      line = line;
+      later = [];
+      next = says;
+      part = (part.0, part.1, after);
+      rose = rose }, refl, refl)))))
+
+-- the line was said after the file was read
+pub said_done : (from line : Bytes) (others : Soup → List Action) (r : Result Soup Refusal) (soup : Soup) (fw fv : Files) (old new : Option Bytes) (before now : Faults)
+    → r ≡ Ok soup → others soup ≡ Say line ∷ [] → fv ≡ fw → IsSome old → new ≡ option_map (λ held. held ++ line) old → now ≡ before
+    → RunMeets (play_of from others r) (world fw old) (world fv new) 0 before now []
+said_done from line others r soup fw fv old new before now is says same some said calm =
+    let P : Result Soup Refusal → Type 0 = λ r. RunMeets (play_of from others r) (world fw old) (world fv new) 0 before now [] in
+    let more = told_more old new line some said in
+    let Q : List Action → Type 0 = λ actions. world fv new ≡ done_all (Ask from ∷ actions) (world fw old) in
+    let after : world fv new ≡ world_of fw (text_of old ++ line) = rw (same, more) refl in
+    subst P (sym is) (inl (record { all_done = subst Q (sym says) after; same_status = refl; no_fault = calm }, refl))

@@ -4,7 +4,7 @@ use Rattle.mesh_terms.specs.Limits.{Limits}
 use Rattle.obj_terms.specs.Reading.{narrow_obj}
 use Rattle.run_terms.specs.Files.{Bytes, Files}
 use Rattle.run_terms.specs.Runs.{World, Faults, Play, Done, status_of}
-use Rattle.play_terms.specs.Copy.{copy_play, narrow_play, narrow_play_of}
+use Rattle.play_terms.specs.Commands.{copy_play, narrow_play, narrow_play_of}
 use Rattle.play_terms.specs.Meets.{RunMeets}
 use Rattle.play_terms.specs.Words.{Command, CopyFile, narrow_command}
 use Rattle.manifold_tool.specs.Halts.{halt_status}

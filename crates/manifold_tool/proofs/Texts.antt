@@ -10,7 +10,7 @@ use Rattle.mesh_terms.specs.Meshes.{Soup, Triple}
 use Rattle.mesh_check.proofs.OpenPair.{open_pair_closed}
 use Rattle.run_terms.specs.Files.{Bytes, text_of, length_of}
 use Rattle.run_terms.specs.Runs.{Refusal}
-use Rattle.play_terms.specs.Copy.{Reader, checked, if_closed, mesh_of}
+use Rattle.play_terms.specs.Commands.{Reader, checked, if_closed, mesh_of}
 use Rattle.manifold_tool.specs.Pieces.{ReadsOn}
 
 -- a whole text was read

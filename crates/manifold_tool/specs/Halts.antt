@@ -1,5 +1,5 @@
 -- Where a command stopped: the status and the line.
-use Rattle.std.specs.Prelude.{ℕ}
+use Rattle.std.specs.Prelude.{ℕ, [], Result, Ok, Err}
 use Rattle.play_terms.specs.Lines.{write_fault, report_fault}
 use Rattle.run_terms.specs.Files.{Bytes}
 use Rattle.manifold_tool.specs.Stops.{stop_status, stop_line}
@@ -16,3 +16,13 @@ abbrev pub halt_line : Bytes → Bytes → Halt → Bytes
 halt_line from to (Reading stop) = stop_line from stop
 halt_line from to Saving = write_fault to
 halt_line from to Reporting = report_fault
+
+-- the status of a command that ended well or stopped
+abbrev pub ended_status : {T : Type 0} → Result T Halt → ℕ
+ended_status (Ok x) = 0
+ended_status (Err halt) = halt_status halt
+
+-- the line that tells it; none where it ended well
+abbrev pub ended_line : {T : Type 0} → Bytes → Bytes → Result T Halt → Bytes
+ended_line from to (Ok x) = []
+ended_line from to (Err halt) = halt_line from to halt

@@ -6,3 +6,4 @@ pub mod Saves
 pub mod Statuses
 pub mod Stops
 pub mod Tails
+pub mod Winding

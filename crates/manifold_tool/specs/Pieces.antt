@@ -5,7 +5,7 @@ use Rattle.mesh_terms.specs.Meshes.{Soup}
 use Rattle.obj_terms.specs.Reading.{narrow_obj}
 use Rattle.run_terms.specs.Files.{Bytes, length_of}
 use Rattle.run_terms.specs.Runs.{Refusal}
-use Rattle.play_terms.specs.Copy.{mesh_of}
+use Rattle.play_terms.specs.Commands.{mesh_of}
 use Rattle.manifold_tool.specs.Stops.{refusal_of}
 use Rattle.manifold_tool.specs.declared.reading.Read.{Read}
 use Rattle.manifold_tool.specs.declared.stop.Stop.{Stop}

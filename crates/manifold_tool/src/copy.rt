@@ -2,7 +2,7 @@
 ghost use Rattle.std.specs.Prelude.{◌≡◌, ◌<◌, ◌^◌, ◌-◌, [], IsTrue, IsSome, OnOk, IfErr, Ok, Err};
 ghost use Rattle.mesh_terms.specs.Meshes.{Soup};
 ghost use Rattle.obj_terms.specs.Reading.{narrow_obj};
-ghost use Rattle.play_terms.specs.Copy.{copy_play, mesh_of};
+ghost use Rattle.play_terms.specs.Commands.{copy_play, mesh_of};
 ghost use Rattle.play_terms.specs.Meets.{RunMeets};
 ghost use Rattle.manifold_tool.specs.Halts.{halt_status, halt_line};
 ghost use Rattle.manifold_tool.specs.Reports.{world};

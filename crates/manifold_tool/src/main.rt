@@ -4,8 +4,11 @@
 //! `run` is the top call, and its contract is the program's promise; `main` only hands it the outside.
 #![tactic(auto)]
 
+ghost use Rattle.std.specs.Prelude.{◌≡◌, ◌<◌, ◌^◌, ◌-◌};
+
 mod copy;
 mod halt;
+mod inside;
 mod reading;
 mod report;
 mod run;
@@ -18,13 +21,16 @@ mod tests;
 mod words;
 
 use mb_base::{ArgList, Limits};
-use mb_outside::{FolderShelf, StdSink};
+use mb_outside::{FolderShelf, Sink, StdSink};
 use run::run;
 use status::Status;
 use std::alloc::Global;
 use std::io::{self, ErrorKind};
+use std::marker::Brand;
 use std::process::ExitCode;
-use std::rt::Env;
+use std::rt::{Env, Files};
+use std::sync::ledger::{Blank, Ledger};
+use steps::Steps;
 
 // The words after the program's name, or the status of a run that has none: Usage where a word is not UTF-8.
 fn words_of<R: Env + AllocGlobal>(rt: &R, alloc: Global) -> Result<ArgList, Status> {

@@ -3,7 +3,7 @@ ghost use Rattle.std.specs.Prelude.{◌≡◌, ◌≤◌, ◌<◌, ◌+◌, ◌�
 ghost use Rattle.mesh_terms.specs.Limits.{IsLawful};
 ghost use Rattle.run_terms.specs.Files.{Bytes, text_of, Counts, Rose};
 ghost use Rattle.obj_terms.specs.Reading.{narrow_obj};
-ghost use Rattle.play_terms.specs.Copy.{checked, mesh_of};
+ghost use Rattle.play_terms.specs.Commands.{checked, mesh_of};
 ghost use Rattle.manifold_tool.specs.Pieces.{ReadsOn, SizeMeets, TextMeets};
 ghost use Rattle.manifold_tool.specs.Stops.{is_reading_stop, is_mesh_stop};
 

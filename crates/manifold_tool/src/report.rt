@@ -3,7 +3,7 @@ ghost use Rattle.std.specs.Prelude.{◌≡◌, ◌<◌, ◌^◌, ◌-◌, ◌++�
 ghost use Rattle.std.specs.Option.{option_map};
 ghost use Rattle.run_terms.specs.Files.{Counts};
 ghost use Rattle.mb_outside.specs.Sinks.{AddsPart};
-ghost use Rattle.play_terms.specs.Lines.{copied_line, usage};
+ghost use Rattle.play_terms.specs.Lines.{copied_line, usage, winding_line};
 ghost use Rattle.manifold_tool.specs.Halts.{halt_line};
 ghost use Rattle.manifold_tool.specs.Reports.{IsReported};
 ghost use Rattle.manifold_tool.specs.Stops.{stop_line};
@@ -12,7 +12,7 @@ ghost use Rattle.manifold_tool.specs.Tails.{stop_tail_of};
 use crate::halt::Halt;
 use crate::status::Status;
 use crate::stop::Stop;
-use crate::tail::{copied_tail, stop_tail};
+use crate::tail::{copied_tail, stop_tail, winding_tail};
 use mb_outside::{Failed, Sink, write_all};
 use mesh_check::Mesh;
 
@@ -98,4 +98,14 @@ pub fn tell_start<K: Sink>(status: Status, sink: &mut K)
         Status::Usage => tell_usage(sink),
         _ => tell_stop("", &Stop::NoMemory, sink),
     }
+}
+
+/// Reports a winding number: `winding W`. After `Failed`, which comes only where the sink's count rose, it has a first part of the line.
+pub fn say_winding<K: Sink>(number: i64, sink: &mut K) -> Result<(), Failed>
+    ensures added { OnOk result (K.told sink.new ≡ option_map (λ held. held ++ winding_line number) (K.told sink.old)) }
+    ensures part { OnErr result (AddsPart (winding_line number) (K.told sink.old) (K.told sink.new)) }
+    ensures count { Counts (K.faults sink.old) (K.faults sink.new) result }
+{
+    let tail = winding_tail(number);
+    say(b"winding ", b"", tail.as_slice(), sink)
 }

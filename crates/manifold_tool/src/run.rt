@@ -1,27 +1,49 @@
 // The top call.
-ghost use Rattle.std.specs.Prelude.{◌≡◌, ◌<◌, ◌^◌, ◌-◌, ◌↔◌, ◌⊎◌, IsTrue, IsSome, Some, None, Ok};
+ghost use Rattle.std.specs.Prelude.{◌≡◌, ◌≤◌, ◌<◌, ◌+◌, ℤ, List, ◌^◌, ◌-◌, ◌↔◌, ◌⊎◌, IsTrue, IsSome, Some, None, Ok};
 ghost use Rattle.mesh_terms.specs.Meshes.{Soup};
 ghost use Rattle.obj_terms.specs.Reading.{narrow_obj};
-ghost use Rattle.play_terms.specs.Copy.{mesh_of, narrow_play};
+ghost use Rattle.play_terms.specs.Commands.{mesh_of, narrow_play};
 ghost use Rattle.play_terms.specs.Meets.{RunMeets};
-ghost use Rattle.play_terms.specs.Words.{CopyFile, narrow_command};
+ghost use Rattle.play_terms.specs.Words.{CopyFile, InsideFile, narrow_command};
 ghost use Rattle.run_terms.specs.Files.{Bytes};
 ghost use Rattle.run_terms.specs.Runs.{Done};
+ghost use Rattle.manifold_tool.specs.Halts.{ended_line, ended_status};
 ghost use Rattle.manifold_tool.specs.Reports.{IsReported, world};
 ghost use Rattle.manifold_tool.specs.Statuses.{status_number};
+ghost use Rattle.manifold_tool.specs.Winding.{winding_in};
 
 use crate::copy::copy;
+use crate::halt::Halt;
+use crate::inside::inside;
 use crate::report::{tell_halt, tell_usage};
 use crate::status::Status;
-use crate::words::is_copy;
+use crate::words::{inside_point, is_copy};
 use mb_base::{ArgList, Limits};
 use mb_outside::{Shelf, Sink};
 use std::alloc::Global;
+use std::sync::ledger::Ledger;
+use steps::Steps;
+
+// The status of a command that ended well or stopped, with the line on `err` that tells a stop.
+fn concluded<E: Sink>(from: &str, to: &str, ended: Result<(), Halt>, err: &mut E) -> Status
+    requires { E.faults err.old < 2 ^ 64 - 1 }
+    ensures status { status_number result ≡ ended_status ended }
+    ensures report { IsReported (ended_line from.now to.now ended) (E.told err.old) (E.told err.new) (E.faults err.old) (E.faults err.new) }
+{
+    match ended {
+        Ok(()) => Status::Done,
+        Err(halt) => {
+            tell_halt(from, to, &halt, err);
+            halt.status()
+        }
+    }
+}
 
 /// Runs the program on the words after its name.
 ///
-/// The words are `copy IN OUT`; any other are `Usage`, and nothing is done. The mesh of IN is read, checked and saved to OUT, and
-/// one line reports it on `out`. Whatever goes wrong first ends the run with its status and one line on `err`, and a fault of
+/// The words are `copy IN OUT` or `inside FILE X Y Z`; any other are `Usage`, and nothing is done. `copy` reads and checks the mesh of IN,
+/// saves it to OUT and reports that on `out` in one line. `inside` reads and checks the mesh of FILE and reports the winding number of the point in
+/// it, and counts one step. Whatever goes wrong first ends the run with its status and one line on `err`, and a fault of
 /// `err` changes no status.
 ///
 /// Where the shelf tells its files and `out` its bytes, the run meets its play, which is a function of the words, the files and the
@@ -29,44 +51,40 @@ use std::alloc::Global;
 /// are those of the play's end; with 6 a file could not be read, with 7 a file or a line was written in part or not at all, and with 8
 /// memory ran out between two actions. So a run whose play ends well, and in which no fault came, ends with 0, or for want of memory; and
 /// what a copy saved is read as the mesh that was copied.
-pub fn run<S: Shelf, O: Sink, E: Sink>(
-    alloc: Global,
-    words: &ArgList,
-    limits: &Limits,
-    shelf: &mut S,
-    out: &mut O,
-    err: &mut E,
-) -> Status
+pub fn run<S: Shelf, O: Sink, E: Sink, L: Ledger>(alloc: Global, words: &ArgList, limits: &Limits, shelf: &mut S, out: &mut O, err: &mut E, steps: &mut Steps<L>) -> Status
     requires reads { S.read_faults shelf.old < 2 ^ 64 - 1 }
     requires writes { S.write_faults shelf.old < 2 ^ 64 - 1 }
     requires outs { O.faults out.old < 2 ^ 64 - 1 }
     requires errs { E.faults err.old < 2 ^ 64 - 1 }
     ensures usage { (result ≡ Status.Usage) ↔ (narrow_command words.now ≡ None) }
     ensures play { IsTrue (S.tells shelf.old) → IsSome (O.told out.old) →
-        (line : Bytes) × RunMeets (narrow_play words.now (S.files shelf.old) limits.now)
+        (line : Bytes) × RunMeets (narrow_play winding_in words.now (S.files shelf.old) limits.now)
         (world (S.files shelf.old) (O.told out.old)) (world (S.files shelf.new) (O.told out.new)) (status_number result)
         (record { read = S.read_faults shelf.old; write = S.write_faults shelf.old; out = O.faults out.old })
         (record { read = S.read_faults shelf.new; write = S.write_faults shelf.new; out = O.faults out.new }) line
         × IsReported line (E.told err.old) (E.told err.new) (E.faults err.old) (E.faults err.new) }
     ensures read_fault { result ≡ Status.ReadFault → IsTrue (S.tells shelf.old) → S.read_faults shelf.old < S.read_faults shelf.new }
     ensures write_fault { result ≡ Status.WriteFault → (S.write_faults shelf.old < S.write_faults shelf.new) ⊎ (O.faults out.old < O.faults out.new) }
-    ensures complete { (narrow_play words.now (S.files shelf.old) limits.now).end ≡ Done → IsTrue (S.tells shelf.old) → IsSome (O.told out.old) →
+    ensures complete { (narrow_play winding_in words.now (S.files shelf.old) limits.now).end ≡ Done → IsTrue (S.tells shelf.old) → IsSome (O.told out.old) →
         S.read_faults shelf.new ≡ S.read_faults shelf.old → S.write_faults shelf.new ≡ S.write_faults shelf.old → O.faults out.new ≡ O.faults out.old →
         (result ≡ Status.Done) ⊎ (result ≡ Status.NoMemory) }
     ensures back { result ≡ Status.Done → IsTrue (S.tells shelf.old) → (from to : Bytes) (soup : Soup) →
         narrow_command words.now ≡ Some (CopyFile 4 from to) → mesh_of narrow_obj limits.now from (S.files shelf.old from) ≡ Ok soup →
         mesh_of narrow_obj limits.now to (S.files shelf.new to) ≡ Ok soup }
+    ensures copies_uncounted { (from to : Bytes) → narrow_command words.now ≡ Some (CopyFile 4 from to) → steps.new ≡ steps.old }
+    ensures counted { (file : Bytes) (point : List ℤ) → narrow_command words.now ≡ Some (InsideFile 4 file point) → result ≡ Status.Done → steps.new ≡ steps.old + 1 }
+    ensures most { steps.new ≤ steps.old + 1 }
 {
-    if !is_copy(words) {
+    if is_copy(words) {
+        let (from, to) = (words.get(1), words.get(2));
+        let ended = copy(alloc, from, to, limits, shelf, out);
+        return concluded(from, to, ended, err);
+    }
+    let Some(point) = inside_point(words) else {
         tell_usage(err);
         return Status::Usage;
-    }
-    let (from, to) = (words.get(1), words.get(2));
-    match copy(alloc, from, to, limits, shelf, out) {
-        Ok(()) => Status::Done,
-        Err(halt) => {
-            tell_halt(from, to, &halt, err);
-            halt.status()
-        }
-    }
+    };
+    let file = words.get(1);
+    let ended = inside(alloc, file, point, limits, shelf, out, steps);
+    concluded(file, file, ended, err)
 }

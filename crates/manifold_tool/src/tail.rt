@@ -1,5 +1,6 @@
 // The ends of the lines that the program says.
 ghost use Rattle.std.specs.Prelude.{◌≡◌, ◌≤◌, ◌+◌, ◌++◌, length, decimal, codes};
+ghost use Rattle.std.specs.Fmt.{signed_decimal};
 ghost use Rattle.arrayvec.specs.ArrayVec.{array_vec_len};
 ghost use Rattle.mb_base.specs.Faults.{counted_of, kind_number};
 ghost use Rattle.play_terms.specs.Lines.{kind_name, limit_name};
@@ -163,6 +164,17 @@ pub fn copied_tail(points: u64, triangles: u64, unused: u64) -> Tail
     put_pair(&mut tail, b": points ", points);
     put_pair(&mut tail, b", triangles ", triangles);
     put_pair(&mut tail, b", unused ", unused);
+    put(&mut tail, b"\n");
+    tail
+}
+
+/// The end of the line that reports a winding number.
+pub fn winding_tail(number: i64) -> Tail
+    ensures { result.items ≡ signed_decimal number ++ codes "\n" }
+{
+    let mut tail = Tail::new();
+    let mut buffer = Buffer::new();
+    put(&mut tail, buffer.format(number).as_bytes());
     put(&mut tail, b"\n");
     tail
 }

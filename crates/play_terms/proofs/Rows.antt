@@ -1,12 +1,12 @@
 -- The plays of small command lines over one file, computed.
-use Rattle.std.specs.Prelude.{◌≡◌, List, [], ◌∷◌, ◌++◌, if◌then◌else◌, codes, bytes_eq, Some, None}
+use Rattle.std.specs.Prelude.{◌≡◌, pos, get_or, List, [], ◌∷◌, ◌++◌, if◌then◌else◌, codes, bytes_eq, Some, None}
 use Rattle.std.proofs.Common.{refl}
 use Rattle.std.specs.Fmt.{digits}
 use Rattle.mesh_terms.specs.Limits.{Limits}
 use Rattle.obj_terms.specs.Written.{line_of}
 use Rattle.run_terms.specs.Files.{Bytes, Files}
 use Rattle.run_terms.specs.Runs.{Ask, Write, Say, Done, Refused, Refusal, Play}
-use Rattle.play_terms.specs.Copy.{narrow_play}
+use Rattle.play_terms.specs.Commands.{Winding, narrow_play}
 
 abbrev program : Limits
 program = record { file_bytes = 1073741824; points = 15000000; triangles = 10000000; halfedges = 6000000 }
@@ -28,8 +28,12 @@ three_faces = line_of (codes "f 1 3 2") ++ line_of (codes "f 1 2 4") ++ line_of 
 abbrev tetrahedron : Bytes
 tetrahedron = corners ++ three_faces ++ line_of (codes "f 3 1 4")
 
+-- a winding number that is told by the first coordinate alone
+abbrev told : Winding
+told p m = get_or p 0 (pos 0)
+
 abbrev play_on : Bytes → Play
-play_on bytes = narrow_play copying (only (codes "t.obj") bytes) program
+play_on bytes = narrow_play told copying (only (codes "t.obj") bytes) program
 
 -- it ends so after the file was asked for
 abbrev stopped : Refusal → Play
@@ -55,8 +59,15 @@ refuses_an_unused_point : play_on (line_of (codes "v 5 5 5") ++ tetrahedron) ≡
 unfolding digits
 refuses_an_unused_point = refl
 
-refuses_a_missing_file : narrow_play copying (λ n. None) program ≡ stopped (record { status = 3; line = line_of (codes "t.obj: missing") })
+refuses_a_missing_file : narrow_play told copying (λ n. None) program ≡ stopped (record { status = 3; line = line_of (codes "t.obj: missing") })
 refuses_a_missing_file = refl
 
-refuses_other_words : narrow_play (codes "copy" ∷ codes "t.obj" ∷ []) (λ n. None) program ≡ record { actions = []; end = Refused (record { status = 1; line = line_of (codes "usage: manifold_tool copy IN OUT, inside FILE X Y Z or run SCRIPT, each with --digits K") }) }
+refuses_other_words : narrow_play told (codes "copy" ∷ codes "t.obj" ∷ []) (λ n. None) program ≡ record { actions = []; end = Refused (record { status = 1; line = line_of (codes "usage: manifold_tool copy IN OUT, inside FILE X Y Z or run SCRIPT, each with --digits K") }) }
 refuses_other_words = refl
+
+says_a_winding_number : narrow_play told (codes "inside" ∷ codes "t.obj" ∷ codes "2" ∷ codes "07" ∷ codes "0" ∷ []) (only (codes "t.obj") tetrahedron) program ≡ record { actions = Ask (codes "t.obj") ∷ Say (line_of (codes "winding 20000")) ∷ []; end = Done }
+unfolding digits
+says_a_winding_number = refl
+
+refuses_a_negative_operand : narrow_play told (codes "inside" ∷ codes "t.obj" ∷ codes "-5" ∷ codes "4" ∷ codes "3" ∷ []) (λ n. None) program ≡ record { actions = []; end = Refused (record { status = 1; line = line_of (codes "usage: manifold_tool copy IN OUT, inside FILE X Y Z or run SCRIPT, each with --digits K") }) }
+refuses_a_negative_operand = refl

@@ -1,4 +1,4 @@
-pub mod Copy
+pub mod Commands
 pub mod Lines
 pub mod Meets
 pub mod Words

@@ -1,5 +1,6 @@
 -- The lines that the program says on its output, and those that tell why it ended.
-use Rattle.std.specs.Prelude.{ℕ, ◌+◌, ◌++◌, ◌==◌, if◌then◌else◌, length, codes, decimal}
+use Rattle.std.specs.Prelude.{ℕ, ℤ, ◌+◌, ◌++◌, ◌==◌, if◌then◌else◌, length, codes, decimal}
+use Rattle.std.specs.Fmt.{signed_decimal}
 use Rattle.mesh_terms.specs.Faults.{Counted, FileBytes, Points, Triangles, Halfedges, Fault, Bad, Over}
 use Rattle.mesh_terms.specs.Meshes.{Soup}
 use Rattle.obj_terms.specs.Written.{line_of}
@@ -62,3 +63,7 @@ no_memory = line_of (codes "out of memory")
 abbrev pub copied_line : Bytes → Soup → Bytes
 copied_line to m =
     line_of (codes "copied " ++ to ++ codes ": points " ++ decimal (length m.points) ++ codes ", triangles " ++ decimal (length m.triples) ++ codes ", unused " ++ decimal m.unused)
+
+-- winding W
+abbrev pub winding_line : ℤ → Bytes
+winding_line w = line_of (codes "winding " ++ signed_decimal w)

@@ -4,7 +4,7 @@ use Rattle.obj_terms.specs.Reading.{narrow_obj}
 use Rattle.obj_terms.specs.Written.{obj_text}
 use Rattle.run_terms.specs.Files.{Bytes, Files, put}
 use Rattle.run_terms.specs.Runs.{Refusal}
-use Rattle.play_terms.specs.Copy.{mesh_of}
+use Rattle.play_terms.specs.Commands.{copy_actions, mesh_of}
 use Rattle.manifold_tool.specs.Pieces.{soup_with}
 use Rattle.manifold_tool.specs.Reports.{world}
 use Rattle.manifold_tool.specs.Saves.{IsSavedInPart}
@@ -23,7 +23,7 @@ returns-in-Err-clause-halted g c told some =
     let e = c.in-Err.ensures in
     let from = c.args.from.now in
     let r = mesh_of narrow_obj c.args.limits.now from (g.S.Shelf.files c.args.shelf.now from) in
-    reading_stopped from 4 c.args.to.now r _ _ _ _ c.in-Err.stop (e.mesh told) e.stop
+    reading_stopped from (copy_actions 4 c.args.to.now) r _ _ _ _ c.in-Err.stop (e.mesh told) e.stop
     (ap (λ (files : Files). world files (g.O.Sink.told c.args.out.now)) e.files)
     (λ not. same_faults _ _ _ _ _ _ (e.calm (λ is. let same : c.in-Err.stop ≡ ReadFault = cc in not same)) e.writes refl)
     (λ is. greater _ _ (e.fault (ap Err is) told) c.requires.reads)

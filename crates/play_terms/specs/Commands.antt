@@ -1,5 +1,5 @@
--- What the commands do: the file is asked for, read and checked, then written and reported.
-use Rattle.std.specs.Prelude.{ℕ, List, [], ◌∷◌, ◌++◌, if◌then◌else◌, nat_lt, length, Option, Some, None, Result, Ok, Err}
+-- What the commands do: the file is asked for, read and checked; then a copy is written and reported, or a winding number is said.
+use Rattle.std.specs.Prelude.{ℕ, ℤ, List, [], ◌∷◌, ◌++◌, if◌then◌else◌, nat_lt, length, Option, Some, None, Result, Ok, Err}
 use Rattle.chain_terms.specs.Chains.{all_edges}
 use Rattle.mesh_terms.specs.Faults.{FileBytes, Fault}
 use Rattle.mesh_terms.specs.Limits.{Limits}
@@ -9,8 +9,8 @@ use Rattle.obj_terms.specs.Reading.{narrow_obj}
 use Rattle.obj_terms.specs.Written.{obj_text}
 use Rattle.run_terms.specs.Files.{Bytes, Files}
 use Rattle.run_terms.specs.Runs.{Action, Ask, Write, Say, Refusal, Done, Refused, Play}
-use Rattle.play_terms.specs.Lines.{usage, missing, over, fault_refusal, open_refusal, copied_line}
-use Rattle.play_terms.specs.Words.{Command, CopyFile, narrow_command}
+use Rattle.play_terms.specs.Lines.{usage, missing, over, fault_refusal, open_refusal, copied_line, winding_line}
+use Rattle.play_terms.specs.Words.{Command, CopyFile, InsideFile, narrow_command}
 
 -- no action, and the refusal
 abbrev pub refused : Refusal → Play
@@ -47,10 +47,21 @@ copy_actions k to m = Write to (obj_text k m.points m.triples) ∷ Say (copied_l
 abbrev pub copy_play : Reader → ℕ → Limits → Files → Bytes → Bytes → Play
 copy_play reader k limits files from to = played (Ask from ∷ []) (mesh_of reader limits from (files from)) (copy_actions k to)
 
--- the play of the words over the files, in the narrow OBJ form
-abbrev pub narrow_play_of : Limits → Files → Option Command → Play
-narrow_play_of limits files None = refused usage
-narrow_play_of limits files (Some (CopyFile k from to)) = copy_play narrow_obj k limits files from to
+-- the winding number of a point in a mesh
+abbrev pub Winding : Type 0
+Winding = List ℤ → Soup → ℤ
 
-abbrev pub narrow_play : List Bytes → Files → Limits → Play
-narrow_play words files limits = narrow_play_of limits files (narrow_command words)
+abbrev pub inside_actions : Winding → List ℤ → Soup → List Action
+inside_actions winding p m = Say (winding_line (winding p m)) ∷ []
+
+abbrev pub inside_play : Reader → Winding → Limits → Files → Bytes → List ℤ → Play
+inside_play reader winding limits files name p = played (Ask name ∷ []) (mesh_of reader limits name (files name)) (inside_actions winding p)
+
+-- the play of the words over the files, in the narrow OBJ form
+abbrev pub narrow_play_of : Winding → Limits → Files → Option Command → Play
+narrow_play_of winding limits files None = refused usage
+narrow_play_of winding limits files (Some (CopyFile k from to)) = copy_play narrow_obj k limits files from to
+narrow_play_of winding limits files (Some (InsideFile k file p)) = inside_play narrow_obj winding limits files file p
+
+abbrev pub narrow_play : Winding → List Bytes → Files → Limits → Play
+narrow_play winding words files limits = narrow_play_of winding limits files (narrow_command words)
