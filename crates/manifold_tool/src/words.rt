@@ -1,6 +1,7 @@
 // The words of a command line.
 ghost use Rattle.std.specs.Prelude.{◌≡◌, ◌<◌, ◌⊎◌, [], length, get_or, false, codes, bytes_eq, IsTrue, IfSome, IsNone, Some, None};
-ghost use Rattle.text_terms.specs.Numbers.{is_digits};
+ghost use Rattle.std.specs.List.{list_all};
+ghost use Rattle.text_terms.specs.Numbers.{is_digit};
 ghost use Rattle.obj_terms.specs.Written.{is_obj};
 ghost use Rattle.play_terms.specs.Words.{CopyFile, InsideFile, narrow_command, narrow_name, narrow_operand};
 
@@ -25,18 +26,18 @@ fn is_file_name(word: &[u8]) -> bool
     is_obj_name(word) && !word.starts_with(b"-")
 }
 
-// Whether a word is digits alone.
-fn is_digits_alone(word: &[u8]) -> bool
-    ensures { result ≡ is_digits word.now }
+// Whether a word has only digits.
+fn are_digits(word: &[u8]) -> bool
+    ensures { result ≡ list_all is_digit word.now }
 {
-    !word.is_empty() && word.iter().all(|c| c.is_ascii_digit())
+    word.iter().all(|c| b'0' <= *c && *c <= b'9')
 }
 
 // The grid steps of an operand: digits alone, with a value of at most 107374.
 fn operand(word: &[u8]) -> Option<i32>
     ensures { result ≡ narrow_operand word.now }
 {
-    if !is_digits_alone(word) {
+    if word.is_empty() || !are_digits(word) {
         return None;
     }
     match read_grid(word, 4) {
