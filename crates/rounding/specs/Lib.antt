@@ -1,0 +1,5 @@
+pub mod Fine
+pub mod Nearest
+pub mod Floor
+pub mod Shares
+pub mod Lawful
