@@ -1,4 +1,5 @@
 pub mod Fine
+pub mod Corners
 pub mod Nearest
 pub mod Floor
 pub mod Shares

@@ -1,0 +1,17 @@
+pub mod Spots
+pub mod Counts
+pub mod Shadows
+pub mod Boxes
+pub mod Order
+pub mod Sizes
+pub mod Ends
+pub mod Tally
+pub mod Swaps
+pub mod Bounds
+pub mod Hulls
+pub mod Lifted
+pub mod Rims
+pub mod Squares
+pub mod FlatLaws
+pub mod FaceLaws
+pub mod EdgeLaws
