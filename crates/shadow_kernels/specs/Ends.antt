@@ -85,3 +85,17 @@ ends_kind true true x y = omega arith
 ends_kind true false x y = one_kind (by_ends true false x y)
 ends_kind false true x y = one_kind (by_ends false true x y)
 ends_kind false false x y = omega arith
+
+-- where the first test alone holds
+pub ends_first : (s t : Bool) (x y : Spot) → s ≡ true → t ≡ false → by_ends s t x y ≡ Some (record { count = pos 1; above = above_y x; spot = x })
+unfolding by_ends met
+ends_first true false x y e f = refl
+ends_first true true x y e f = absurd (cc)
+ends_first false t x y e f = absurd (cc)
+
+-- where the second test alone holds
+pub ends_second : (s t : Bool) (x y : Spot) → s ≡ false → t ≡ true → by_ends s t x y ≡ Some (record { count = negsuc 0; above = above_y y; spot = y })
+unfolding by_ends met
+ends_second false true x y e f = refl
+ends_second false false x y e f = absurd (cc)
+ends_second true t x y e f = absurd (cc)

@@ -25,7 +25,7 @@ edgewise01 w p = record {
   turns = reverse01 w p;
 }
 
--- minus 1 where a vertex of P is beyond q
+-- a vertex of P is not beyond q
 abbrev behind : Corner → Corner → Bool
 behind q a = not (beyond a q)
 
