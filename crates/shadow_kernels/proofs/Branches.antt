@@ -1,9 +1,9 @@
 -- What the branches of an edge's answer return.
-use Rattle.std.proofs.Common.{◌≡◌, Bool, true, false, not, pos, negsuc, Option, Some, None, refl, ap, sym, ◌∙◌}
+use Rattle.std.proofs.Common.{◌≡◌, ℤ, Bool, true, false, not, pos, negsuc, Option, Some, None, refl, ap, sym, ◌∙◌}
 use mathlib.Core.Bool.{beq}
 use Rattle.shadow_kernels.specs.declared.Spot.{Spot}
 use Rattle.shadow_kernels.specs.declared.Meet.{Meet}
-use Rattle.shadow_kernels.specs.Spots.{above_y}
+use Rattle.shadow_kernels.specs.Spots.{above_y, above_z}
 use Rattle.shadow_kernels.specs.Counts.{by_ends}
 use Rattle.shadow_kernels.specs.Ends.{ends_same, ends_first, ends_second}
 
@@ -40,3 +40,11 @@ at_second a b s t x y z m e f h is same made =
     let other : not false ≡ t = ap not (sym is) ∙ sym k ∙ f in
     let spot : Spot → Meet = λ z. record { count = negsuc 0; above = above_y z; spot = z } in
     ap (λ (n : Meet). Some n) (made ∙ ap spot same) ∙ sym (ends_second s t x y (sym e ∙ is) (sym other))
+
+-- an answer of equal count at an equal spot
+pub at_spot : (n k : ℤ) (s z : Spot) (m : Meet) → k ≡ n → z ≡ s → m ≡ record { count = k; above = above_z z; spot = z } →
+    ◌≡◌ {A = Option Meet} (Some m) (Some (record { count = n; above = above_z s; spot = s }))
+at_spot n k s z m e f made =
+    ap (λ (x : Meet). Some x) made
+    ∙ ap (λ (i : ℤ). Some (record { count = i; above = above_z z; spot = z })) e
+    ∙ ap (λ (x : Spot). Some (record { count = n; above = above_z x; spot = x })) f

@@ -49,7 +49,10 @@ first_spot want (m ∷ ms) = chosen want m (first_spot want ms)
 abbrev pub lifted_count : List (Option Meet) → ℤ
 lifted_count ms = total shadow_of ms
 
+-- the answer of a count at the spot between one that is not above and one that is
+unfoldable pub joined : Between → ℤ → Spot → Spot → Option Meet
+joined between count below above = let spot = spot_between between below above in met count (above_z spot) spot
+
 -- the answer from boundary pairs: the spot lies between those of the first pair not above and the first above
 unfoldable pub lifted : Between → List (Option Meet) → Option Meet
-lifted between ms =
-    let spot = spot_between between (first_spot false ms) (first_spot true ms) in met (lifted_count ms) (above_z spot) spot
+lifted between ms = joined between (lifted_count ms) (first_spot false ms) (first_spot true ms)

@@ -10,7 +10,7 @@ use Rattle.chain_terms.specs.Sums.{total}
 use Rattle.shadow_kernels.specs.declared.Spot.{Spot}
 use Rattle.shadow_kernels.specs.declared.Meet.{Meet}
 use Rattle.shadow_kernels.specs.Spots.{Between, gap, spot_between, no_spot, above_z}
-use Rattle.shadow_kernels.specs.Counts.{count_of, shadow_of, met, chosen, first_spot, lifted}
+use Rattle.shadow_kernels.specs.Counts.{count_of, shadow_of, met, chosen, first_spot, joined, lifted}
 use Rattle.shadow_kernels.specs.Boxes.{IsInBox, IsInHull}
 use Rattle.shadow_kernels.specs.Bounds.{box_between, IsFineSpot, hull_fine}
 use Rattle.shadow_kernels.specs.Sizes.{IsSized, met_none, met_count, met_sized, met_holds}
@@ -19,13 +19,13 @@ use Rattle.shadow_kernels.specs.Hulls.{StaysBetween, IsOnSide, side_z}
 
 -- the count is the sum of the shadows
 pub lifted_is : (w : Between) (ms : List (Option Meet)) → count_of (lifted w ms) ≡ total shadow_of ms
-unfolding lifted
+unfolding lifted joined
 lifted_is w ms =
     let s = spot_between w (first_spot false ms) (first_spot true ms) in met_count (total shadow_of ms) (above_z s) s
 
 -- it is 1 or -1
 pub lifted_sized : (w : Between) (ms : List (Option Meet)) → IsBalanced ms → IsSized (lifted w ms)
-unfolding lifted
+unfolding lifted joined
 lifted_sized w ms h =
     let s = spot_between w (first_spot false ms) (first_spot true ms) in
     let size = balanced_size ms h in
@@ -33,7 +33,7 @@ lifted_sized w ms h =
 
 -- where the shadows add up to nothing there is no answer
 pub lifted_none : (w : Between) (ms : List (Option Meet)) → total shadow_of ms ≡ pos 0 → lifted w ms ≡ None
-unfolding lifted
+unfolding lifted joined
 lifted_none w ms e =
     let s = spot_between w (first_spot false ms) (first_spot true ms) in met_none (total shadow_of ms) (above_z s) s e
 
@@ -113,7 +113,7 @@ spot_hull w stays ps qs ms fp fq balanced each n =
 -- its spot lies in the boxes
 pub lifted_hull : (w : Between) → StaysBetween w → (ps qs : List Corner) (ms : List (Option Meet)) → AllFine ps → AllFine qs → IsBalanced ms → Each (λ m. IfSome m (λ n. IsInHull ps qs n.spot)) ms →
     IfSome (lifted w ms) (λ m. IsInHull ps qs m.spot)
-unfolding lifted
+unfolding lifted joined
 lifted_hull w stays ps qs ms fp fq balanced each =
     let s = spot_between w (first_spot false ms) (first_spot true ms) in
     met_holds (λ m. IsInHull ps qs m.spot) (total shadow_of ms) (above_z s) s (λ n. spot_hull w stays ps qs ms fp fq balanced each n)
@@ -121,7 +121,7 @@ lifted_hull w stays ps qs ms fp fq balanced each =
 -- boxes strictly apart in z decide its mark
 pub lifted_side : (w : Between) → StaysBetween w → (b : Bool) (ps qs : List Corner) (ms : List (Option Meet)) → AllFine ps → AllFine qs → IsOnSide 2 ps qs b → IsBalanced ms → Each (λ m. IfSome m (λ n. IsInHull ps qs n.spot)) ms →
     IfSome (lifted w ms) (λ m. m.above ≡ b)
-unfolding lifted
+unfolding lifted joined
 lifted_side w stays b ps qs ms fp fq side balanced each =
     let s = spot_between w (first_spot false ms) (first_spot true ms) in
     met_holds (λ m. m.above ≡ b) (total shadow_of ms) (above_z s) s (λ n. side_z b ps qs s side (spot_hull w stays ps qs ms fp fq balanced each n))

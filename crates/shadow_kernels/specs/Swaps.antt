@@ -7,7 +7,7 @@ use Rattle.chain_terms.specs.Chains.{one_if}
 use Rattle.shadow_kernels.specs.declared.Spot.{Spot}
 use Rattle.shadow_kernels.specs.declared.Meet.{Meet}
 use Rattle.shadow_kernels.specs.Spots.{Between, spot_between, above_z}
-use Rattle.shadow_kernels.specs.Counts.{count_of, shadow_of, turned, met, chosen, first_spot, lifted}
+use Rattle.shadow_kernels.specs.Counts.{count_of, shadow_of, turned, met, chosen, first_spot, joined, lifted}
 use Rattle.shadow_kernels.specs.Sizes.{met_none, met_turned, turned_shadow}
 use Rattle.shadow_kernels.specs.Tally.{Each, hit, hits, IsBalanced, balanced_pair}
 
@@ -75,7 +75,7 @@ agree_swap m n ms = record {
 
 -- where there is a single spot on either side, or the sum of the shadows is 0, the answer is the same
 pub lifted_agree : (w : Between) (ms ns : List (Option Meet)) → (total shadow_of ms ≡ pos 0) ⊎ ((hits true ms ≡ 1) × (hits false ms ≡ 1)) → Agree ms ns → lifted w ms ≡ lifted w ns
-unfolding lifted
+unfolding lifted joined
 lifted_agree w ms ns (inl e) a =
     let s = spot_between w (first_spot false ms) (first_spot true ms) in
     let t = spot_between w (first_spot false ns) (first_spot true ns) in
@@ -106,7 +106,7 @@ total_turned (m ∷ ms) = omega (arith, ints, turned_shadow m, total_turned ms)
 
 -- turning all boundary pairs turns the answer
 pub lifted_turned : (w : Between) (ms : List (Option Meet)) → lifted w (map turned ms) ≡ turned (lifted w ms)
-unfolding lifted
+unfolding lifted joined
 lifted_turned w ms =
     let s : (d u : Spot) → Spot = λ d u. spot_between w d u in
     let below = spot_turned false ms in

@@ -14,6 +14,7 @@ ghost use Rattle.shadow_kernels.specs.Counts.{count_of, shadow_of, turned};
 use mb_base::Corner;
 
 mod edges;
+mod sides;
 mod spots;
 
 /// The values of P and of Q where the shadows of a pair of simplices meet, in fine steps, and on which axes P counts as
