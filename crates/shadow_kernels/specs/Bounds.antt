@@ -1,5 +1,5 @@
 -- What lies in a box, and on which side of a box strictly apart.
-use Rattle.std.specs.Prelude.{◌≡◌, ℕ, ◌+◌, ◌<◌, ℤ, pos, neg_ℤ, ◌+ℤ◌, ◌-ℤ◌, ◌≤ℤ◌, ◌<ℤ◌, List, length, slice_index_or}
+use Rattle.std.specs.Prelude.{◌≡◌, ℕ, ◌+◌, ◌<◌, ℤ, pos, neg_ℤ, ◌+ℤ◌, ◌-ℤ◌, ◌≤ℤ◌, ◌<ℤ◌, List, length, slice_index_or, Option, IfSome}
 use Rattle.std.specs.List.{All}
 use Rattle.std.proofs.Common.{arith, inl, inr, refl}
 use Rattle.std.proofs.lemmas.Int.{ints}
@@ -7,7 +7,9 @@ use Rattle.mb_base.specs.declared.Corner.{Corner}
 use Rattle.rounding.specs.Fine.{fine_edge, IsFine, LiesBetween}
 use Rattle.rounding.specs.Corners.{axis, corner_at, blank_corner, IsFineCorner, AllFine}
 use Rattle.shadow_kernels.specs.declared.Spot.{Spot}
+use Rattle.shadow_kernels.specs.declared.Meet.{Meet}
 use Rattle.shadow_kernels.specs.Boxes.{IsInBox, IsBelow, IsInHull}
+use Rattle.shadow_kernels.specs.Sizes.{IsSized}
 
 -- a corner of the list lies in the list's box
 pub corner_in_box : (i : ℕ) (ps : List Corner) (j : ℕ) → j < length ps → IsInBox i ps (axis i (corner_at ps j))
@@ -60,3 +62,8 @@ hull_fine ps qs s a b h = record {
   pz = box_fine 2 ps s.pz (record { each = λ k d lt. (a k d lt).z }) h.pz;
   qz = box_fine 2 qs s.qz (record { each = λ k d lt. (b k d lt).z }) h.qz;
 }
+
+-- a boundary pair whose count is 1 or -1, if there is an answer, with a fine spot
+pub record IsFinePair (m : Option Meet) : Type 0 where
+  pub sized : IsSized m
+  pub fine : IfSome m (λ n. IsFineSpot n.spot)

@@ -15,3 +15,4 @@ pub mod Squares
 pub mod FlatLaws
 pub mod FaceLaws
 pub mod EdgeLaws
+pub mod FinePairs

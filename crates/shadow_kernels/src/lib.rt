@@ -14,6 +14,7 @@ ghost use Rattle.shadow_kernels.specs.Counts.{count_of, shadow_of, turned};
 use mb_base::Corner;
 
 mod edges;
+mod pairs;
 mod sides;
 mod spots;
 
