@@ -27,23 +27,19 @@ both_sides i ps qs (Some m) f = (λ h. f false h, λ h. f true h)
 
 -- two vertices: the count is 1
 pub size00 : (p q : Corner) → (negsuc 0 ≤ℤ count_of (meet00 p q)) × (count_of (meet00 p q) ≤ℤ pos 1)
-unfolding meet00
 size00 p q = (omega (arith, ints), omega (arith, ints))
 
 -- and is not 0
 pub present00 : (p q : Corner) → IfSome (meet00 p q) (λ m. m.count ≢ pos 0)
-unfolding meet00
 present00 p q = λ z. omega (arith, ints)
 
 -- the shadow of two vertices
 pub shadow00 : (p q : Corner) → shadow_of (meet00 p q) ≡ bit (beyond p q)
-unfolding meet00
 shadow00 p q = refl
 
 -- boxes strictly apart in x decide the mark of two vertices
 pub side00_law : (p q : List Corner) (i : ℕ) → length p ≡ 1 → length q ≡ 1 → AllFine p → AllFine q → i + 2 ≡ 2 →
     IfSome (meet00 (corner_at p 0) (corner_at q 0)) (λ m. (IsBelow i p q → m.above ≡ false) × (IsBelow i q p → m.above ≡ true))
-unfolding meet00
 side00_law p q zero l m fp fq h =
     both_sides 0 p q (meet00 (corner_at p 0) (corner_at q 0)) (λ b s. side00 b p q (corner_at p 0) (corner_at q 0) s (placed p 0 fp (omega arith)) (placed q 0 fq (omega arith)))
 side00_law p q (suc i) l m fp fq h = absurd (omega arith)

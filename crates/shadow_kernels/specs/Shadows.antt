@@ -6,7 +6,7 @@ use Rattle.shadow_kernels.specs.Spots.{Between, beyond, spot00, spot01, spot10}
 use Rattle.shadow_kernels.specs.Counts.{turned, by_ends, lifted}
 
 -- two vertices
-unfoldable pub meet00 : Corner → Corner → Option Meet
+abbrev pub meet00 : Corner → Corner → Option Meet
 meet00 p q = Some (record { count = pos 1; above = beyond p q; spot = spot00 p q })
 
 -- a vertex and an edge from c to d: the left end is the one that p is beyond, since its x is the smaller

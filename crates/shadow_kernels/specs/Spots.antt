@@ -30,7 +30,7 @@ abbrev pub marks : ℤ → ℤ → List Bool → List Bool → List Bool
 marks a b first second = mark a b (flag first 0) (flag second 0) ∷ mark a b (flag first 1) (flag second 1) ∷ mark a b (flag first 2) (flag second 2) ∷ []
 
 -- two vertices
-unfoldable pub spot00 : Corner → Corner → Spot
+abbrev pub spot00 : Corner → Corner → Spot
 spot00 p q = record { x = axis 0 p; py = axis 1 p; qy = axis 1 q; pz = axis 2 p; qz = axis 2 q; up = p.up }
 
 -- a vertex and an edge whose left end is l: the edge's values are weighted by the distances in x

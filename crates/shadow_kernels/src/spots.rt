@@ -58,6 +58,13 @@ fn gap_of(p: i64, q: i64) -> i64
     (p - q).abs()
 }
 
+/// The spot of two vertices.
+pub(crate) fn vertex_vertex_spot(p: &Corner, q: &Corner) -> Spot
+    ensures { result ≡ spot00 p.now q.now }
+{
+    Spot { x: p.at[0], py: p.at[1], qy: q.at[1], pz: p.at[2], qz: q.at[2], up: p.up }
+}
+
 /// The spot of a vertex and an edge, where left is the end of the edge with the smaller x.
 pub(crate) fn vertex_edge_spot<R: Rounding>(
     rounding: &R,
