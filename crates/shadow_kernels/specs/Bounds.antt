@@ -30,7 +30,7 @@ box_between i ps u v z a b (inr h) = record {
 pub box_below : (i : ℕ) (ps qs : List Corner) (y z : ℤ) → IsBelow i ps qs → IsInBox i ps y → IsInBox i qs z → y <ℤ z
 box_below i ps qs y z h a b =
     let each : All (λ q. (y +ℤ pos 1) ≤ℤ axis i q) qs = λ k d lt.
-      let top = a.high (axis i (slice_index_or qs k d) -ℤ pos 1) (λ j e less. let x = h.below j e less k d lt in omega (arith, ints, x)) in omega (arith, ints, top) in
+    let top = a.high (axis i (slice_index_or qs k d) -ℤ pos 1) (λ j e less. let x = h.below j e less k d lt in omega (arith, ints, x)) in omega (arith, ints, top) in
     let low = b.low (y +ℤ pos 1) each in
     omega (arith, ints, low)
 

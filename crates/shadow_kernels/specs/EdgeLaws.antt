@@ -114,5 +114,5 @@ side11_law w stays p q (suc zero) l m fp fq h = absurd (omega arith)
 side11_law w stays p q (suc (suc zero)) l m fp fq h =
     both_sides 2 p q (meet11 w (corner_at p 0) (corner_at p 1) (corner_at q 0) (corner_at q 1))
     (λ b s. lifted_side w stays b p q (boundary11 w (corner_at p 0) (corner_at p 1) (corner_at q 0) (corner_at q 1)) fp fq s (square_balanced w (corner_at p 0) (corner_at p 1) (corner_at q 0) (corner_at q 1))
-      (hulls11 w stays p q (corner_at p 0) (corner_at p 1) (corner_at q 0) (corner_at q 1) (four_placed p q l m fp fq)))
+    (hulls11 w stays p q (corner_at p 0) (corner_at p 1) (corner_at q 0) (corner_at q 1) (four_placed p q l m fp fq)))
 side11_law w stays p q (suc (suc (suc i))) l m fp fq h = absurd (omega arith)

@@ -168,7 +168,7 @@ side02_law w stays p q (suc zero) l m fp fq h = absurd (omega arith)
 side02_law w stays p q (suc (suc zero)) l m fp fq h =
     both_sides 2 p q (meet02 w (corner_at p 0) (corner_at q 0) (corner_at q 1) (corner_at q 2))
     (λ b s. lifted_side w stays b p q (boundary02 w (corner_at p 0) (corner_at q 0) (corner_at q 1) (corner_at q 2)) fp fq s (balanced02 w (corner_at p 0) (corner_at q 0) (corner_at q 1) (corner_at q 2))
-      (hulls02 w stays p q (corner_at p 0) (corner_at q 0) (corner_at q 1) (corner_at q 2) (placed p 0 fp (omega arith)) (placed q 0 fq (omega arith)) (placed q 1 fq (omega arith)) (placed q 2 fq (omega arith))))
+    (hulls02 w stays p q (corner_at p 0) (corner_at q 0) (corner_at q 1) (corner_at q 2) (placed p 0 fp (omega arith)) (placed q 0 fq (omega arith)) (placed q 1 fq (omega arith)) (placed q 2 fq (omega arith))))
 side02_law w stays p q (suc (suc (suc i))) l m fp fq h = absurd (omega arith)
 
 -- boxes strictly apart in z decide the mark of a face and a vertex
@@ -180,5 +180,5 @@ side20_law w stays p q (suc zero) l m fp fq h = absurd (omega arith)
 side20_law w stays p q (suc (suc zero)) l m fp fq h =
     both_sides 2 p q (meet20 w (corner_at p 0) (corner_at p 1) (corner_at p 2) (corner_at q 0))
     (λ b s. lifted_side w stays b p q (boundary20 w (corner_at p 0) (corner_at p 1) (corner_at p 2) (corner_at q 0)) fp fq s (balanced20 w (corner_at p 0) (corner_at p 1) (corner_at p 2) (corner_at q 0))
-      (hulls20 w stays p q (corner_at p 0) (corner_at p 1) (corner_at p 2) (corner_at q 0) (placed p 0 fp (omega arith)) (placed p 1 fp (omega arith)) (placed p 2 fp (omega arith)) (placed q 0 fq (omega arith))))
+    (hulls20 w stays p q (corner_at p 0) (corner_at p 1) (corner_at p 2) (corner_at q 0) (placed p 0 fp (omega arith)) (placed p 1 fp (omega arith)) (placed p 2 fp (omega arith)) (placed q 0 fq (omega arith))))
 side20_law w stays p q (suc (suc (suc i))) l m fp fq h = absurd (omega arith)

@@ -86,7 +86,7 @@ between_hull w stays ps qs d u fp fq hd hu =
     let g = gap d.py d.qy in
     let h = gap u.py u.qy in
     let v : (i : ℕ) (cs : List Corner) (x y : ℤ) → IsFine x → IsFine y → IsInBox i cs x → IsInBox i cs y → IsInBox i cs (w x y g h) =
-      λ i cs x y fx fy bx by. box_between i cs x y (w x y g h) bx by (stays.within x y g h fx fy a b) in
+    λ i cs x y fx fy bx by. box_between i cs x y (w x y g h) bx by (stays.within x y g h fx fy a b) in
     record {
       px = v 0 ps d.x u.x fd.x fu.x hd.px hu.px;
       py = v 1 ps d.py u.py fd.py fu.py hd.py hu.py;

@@ -119,4 +119,4 @@ reverse11_q w a b c d =
     let t = meet10 w a b c in
     four w x (turned y) (turned t) z (meet01 w b d c) (turned (meet01 w a d c)) t (turned z) (reverse01 w b c d) (ap turned (reverse01 w a c d)) (sym (turned_twice t)) refl
     ∙ ap turned (sym (lifted_agree w (boundary11 w a b c d) (x ∷ turned y ∷ turned t ∷ z ∷ []) (balanced_pair (boundary11 w a b c d) (square_balanced w a b c d))
-      (agree_after x (turned y ∷ z ∷ turned t ∷ []) (turned y ∷ turned t ∷ z ∷ []) (agree_after (turned y) (z ∷ turned t ∷ []) (turned t ∷ z ∷ []) (agree_swap z (turned t) [])))))
+    (agree_after x (turned y ∷ z ∷ turned t ∷ []) (turned y ∷ turned t ∷ z ∷ []) (agree_after (turned y) (z ∷ turned t ∷ []) (turned t ∷ z ∷ []) (agree_swap z (turned t) [])))))

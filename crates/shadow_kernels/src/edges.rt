@@ -5,10 +5,10 @@ ghost use Rattle.rounding.specs.Corners.{IsFineCorner};
 ghost use Rattle.shadow_kernels.specs.Spots.{above_y};
 ghost use Rattle.shadow_kernels.specs.Shadows.{meet01, meet10};
 
-use mb_base::Corner;
-use rounding::Rounding;
 use crate::spots::{edge_vertex_spot, exceeds, is_beyond, vertex_edge_spot};
 use crate::{Meet, Spot};
+use mb_base::Corner;
+use rounding::Rounding;
 
 /// The answer of a vertex and an edge from c to d.
 pub(crate) fn vertex_edge<R: Rounding>(

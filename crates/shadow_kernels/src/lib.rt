@@ -11,9 +11,8 @@ ghost use Rattle.shadow_kernels.specs.declared.Meet.{Meet};
 ghost use Rattle.shadow_kernels.specs.Boxes.{AreApart, IsBelow, IsInHull};
 ghost use Rattle.shadow_kernels.specs.Counts.{count_of, shadow_of, turned};
 
-use mb_base::Corner;
-
 pub use grid::Grid;
+use mb_base::Corner;
 
 mod edges;
 mod grid;

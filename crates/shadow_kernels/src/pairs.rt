@@ -4,11 +4,11 @@ ghost use Rattle.std.specs.Prelude.{◌≡◌};
 ghost use Rattle.rounding.specs.Corners.{IsFineCorner};
 ghost use Rattle.shadow_kernels.specs.Shadows.{meet02, meet11, meet20};
 
-use mb_base::Corner;
-use rounding::Rounding;
+use crate::Meet;
 use crate::edges::{edge_vertex, vertex_edge};
 use crate::sides::{from_four, from_three};
-use crate::Meet;
+use mb_base::Corner;
+use rounding::Rounding;
 
 /// The answer of a vertex and a face.
 pub(crate) fn vertex_face<R: Rounding>(

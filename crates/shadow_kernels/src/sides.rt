@@ -6,9 +6,9 @@ ghost use Rattle.shadow_kernels.specs.Counts.{shadow_of, turned, chosen, joined,
 ghost use Rattle.shadow_kernels.specs.Bounds.{IsFineSpot, IsFinePair};
 ghost use Rattle.shadow_kernels.specs.Sizes.{IsSized};
 
-use rounding::Rounding;
 use crate::spots::{exceeds, spot_between_spots};
 use crate::{Meet, Spot};
+use rounding::Rounding;
 
 /// The sum of the shadows of boundary pairs, and the spots of the first pair that is not above and of the first that is.
 #[derive(Clone, Copy, Drop)]
@@ -23,8 +23,19 @@ impl Sides {
     pub(crate) fn none() -> Sides
         ensures { result ≡ record { count = pos 0; below = no_spot; above = no_spot } }
     {
-        let nothing = Spot { x: 0, py: 0, qy: 0, pz: 0, qz: 0, up: [false; 3] };
-        Sides { count: 0, below: nothing, above: nothing }
+        let nothing = Spot {
+            x: 0,
+            py: 0,
+            qy: 0,
+            pz: 0,
+            qz: 0,
+            up: [false; 3],
+        };
+        Sides {
+            count: 0,
+            below: nothing,
+            above: nothing,
+        }
     }
 
     /// Puts a pair before the others.

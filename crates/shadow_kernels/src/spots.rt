@@ -6,9 +6,9 @@ ghost use Rattle.rounding.specs.Corners.{axis, IsFineCorner};
 ghost use Rattle.shadow_kernels.specs.Spots.{beats, beyond, mark, marks, gap, spot00, spot01, spot10, spot_between};
 ghost use Rattle.shadow_kernels.specs.Bounds.{IsFineSpot};
 
+use crate::Spot;
 use mb_base::Corner;
 use rounding::Rounding;
-use crate::Spot;
 
 /// Whether a value of P is beyond one of Q: greater, or equal and up.
 pub(crate) fn exceeds(p: i64, q: i64, up: bool) -> bool
@@ -62,7 +62,14 @@ fn gap_of(p: i64, q: i64) -> i64
 pub(crate) fn vertex_vertex_spot(p: &Corner, q: &Corner) -> Spot
     ensures { result ≡ spot00 p.now q.now }
 {
-    Spot { x: p.at[0], py: p.at[1], qy: q.at[1], pz: p.at[2], qz: q.at[2], up: p.up }
+    Spot {
+        x: p.at[0],
+        py: p.at[1],
+        qy: q.at[1],
+        pz: p.at[2],
+        qz: q.at[2],
+        up: p.up,
+    }
 }
 
 /// The spot of a vertex and an edge, where left is the end of the edge with the smaller x.
@@ -83,7 +90,14 @@ pub(crate) fn vertex_edge_spot<R: Rounding>(
     let after = right.at[0] - p.at[0];
     let qy = rounding.between(left.at[1], right.at[1], before, after);
     let qz = rounding.between(left.at[2], right.at[2], before, after);
-    Spot { x: p.at[0], py: p.at[1], qy, pz: p.at[2], qz, up: p.up }
+    Spot {
+        x: p.at[0],
+        py: p.at[1],
+        qy,
+        pz: p.at[2],
+        qz,
+        up: p.up,
+    }
 }
 
 /// The spot of an edge and a vertex, where left is the end of the edge with the smaller x, or, where both have the same
@@ -106,7 +120,14 @@ pub(crate) fn edge_vertex_spot<R: Rounding>(
     let py = rounding.between(left.at[1], right.at[1], before, after);
     let pz = rounding.between(left.at[2], right.at[2], before, after);
     let up = marks_between(before, after, &left.up, &right.up);
-    Spot { x: q.at[0], py, qy: q.at[1], pz, qz: q.at[2], up }
+    Spot {
+        x: q.at[0],
+        py,
+        qy: q.at[1],
+        pz,
+        qz: q.at[2],
+        up,
+    }
 }
 
 /// The spot between one that is not above and one that is, weighted by their gaps in y.
