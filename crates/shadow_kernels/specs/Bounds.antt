@@ -1,11 +1,11 @@
 -- What lies in a box, and on which side of a box strictly apart.
-use Rattle.std.specs.Prelude.{◌≡◌, ℕ, ◌+◌, ◌<◌, ℤ, pos, neg_ℤ, ◌+ℤ◌, ◌-ℤ◌, ◌≤ℤ◌, ◌<ℤ◌, List, length, slice_index_or, Option, IfSome}
+use Rattle.std.specs.Prelude.{ℕ, ◌<◌, ℤ, pos, neg_ℤ, ◌+ℤ◌, ◌-ℤ◌, ◌≤ℤ◌, ◌<ℤ◌, List, length, slice_index_or, Option, IfSome}
 use Rattle.std.specs.List.{All}
-use Rattle.std.proofs.Common.{arith, inl, inr, refl}
+use Rattle.std.proofs.Common.{arith, inl, inr}
 use Rattle.std.proofs.lemmas.Int.{ints}
 use Rattle.mb_base.specs.declared.Corner.{Corner}
 use Rattle.rounding.specs.Fine.{fine_edge, IsFine, LiesBetween}
-use Rattle.rounding.specs.Corners.{axis, corner_at, blank_corner, IsFineCorner, AllFine}
+use Rattle.rounding.specs.Corners.{axis, corner_at, blank_corner, AllFine}
 use Rattle.shadow_kernels.specs.declared.Spot.{Spot}
 use Rattle.shadow_kernels.specs.declared.Meet.{Meet}
 use Rattle.shadow_kernels.specs.Boxes.{IsInBox, IsBelow, IsInHull}

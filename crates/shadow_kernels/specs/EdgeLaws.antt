@@ -1,10 +1,9 @@
 -- The laws of two edges, over lists of corners.
-use Rattle.std.specs.Prelude.{◌≡◌, ℕ, zero, suc, ◌+◌, ◌<◌, ℤ, pos, ◌+ℤ◌, ◌-ℤ◌, Bool, true, false, Option, None, IfSome, List, [], ◌∷◌, length, swap}
+use Rattle.std.specs.Prelude.{◌≡◌, ℕ, zero, suc, ◌+◌, ◌<◌, ◌+ℤ◌, ◌-ℤ◌, Bool, true, false, None, IfSome, List, length, swap}
 use Rattle.std.proofs.Common.{arith, ap}
 use Rattle.std.proofs.lemmas.Int.{ints}
 use Rattle.mb_base.specs.declared.Corner.{Corner}
 use Rattle.rounding.specs.Corners.{corner_at, AllFine}
-use Rattle.shadow_kernels.specs.declared.Meet.{Meet}
 use Rattle.shadow_kernels.specs.Spots.{Between}
 use Rattle.shadow_kernels.specs.Counts.{count_of, shadow_of, turned}
 use Rattle.shadow_kernels.specs.Shadows.{meet01, meet10, boundary11, meet11}

@@ -1,5 +1,5 @@
 -- The answer that the two ends of an edge give.
-use Rattle.std.specs.Prelude.{◌≡◌, ℕ, ◌+◌, ◌≤◌, ℤ, pos, negsuc, ◌-ℤ◌, Bool, true, false, not, Option, None, Some, IfSome}
+use Rattle.std.specs.Prelude.{◌≡◌, ℕ, ◌+◌, ◌≤◌, pos, negsuc, ◌-ℤ◌, Bool, true, false, not, Option, None, Some, IfSome}
 use Rattle.std.proofs.Common.{arith, refl, inl, inr}
 use Rattle.chain_terms.specs.Chains.{one_if}
 use Rattle.shadow_kernels.specs.declared.Spot.{Spot}

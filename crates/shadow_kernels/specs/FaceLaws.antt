@@ -1,10 +1,9 @@
 -- The laws of a vertex and a face, and of a face and a vertex, over lists of corners.
-use Rattle.std.specs.Prelude.{◌≡◌, ◌≢◌, ℕ, zero, suc, ◌+◌, ◌<◌, ℤ, pos, negsuc, ◌+ℤ◌, ◌-ℤ◌, ◌≤ℤ◌, Bool, true, false, not, Option, None, Some, IfSome, List, [], ◌∷◌, length, swap}
+use Rattle.std.specs.Prelude.{◌≡◌, ℕ, zero, suc, ◌+◌, ◌<◌, ℤ, pos, ◌+ℤ◌, ◌-ℤ◌, Bool, true, false, not, None, IfSome, List, length, swap}
 use Rattle.std.proofs.Common.{arith, ap}
 use Rattle.std.proofs.lemmas.Int.{ints}
 use Rattle.mb_base.specs.declared.Corner.{Corner}
 use Rattle.rounding.specs.Corners.{corner_at, AllFine}
-use Rattle.shadow_kernels.specs.declared.Meet.{Meet}
 use Rattle.shadow_kernels.specs.Spots.{Between, beyond}
 use Rattle.shadow_kernels.specs.Counts.{count_of, shadow_of, turned, bit}
 use Rattle.shadow_kernels.specs.Shadows.{meet01, meet10, boundary02, boundary20, meet02, meet20}

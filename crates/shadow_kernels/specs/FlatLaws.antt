@@ -1,18 +1,16 @@
 -- The laws of two vertices, of a vertex and an edge, and of an edge and a vertex, over lists of corners.
-use Rattle.std.specs.Prelude.{◌≡◌, ◌≢◌, ℕ, zero, suc, ◌+◌, ◌<◌, ℤ, pos, negsuc, ◌-ℤ◌, ◌≤ℤ◌, ◌⊎◌, Bool, true, false, if◌then◌else◌, Option, None, Some, IfSome, List, length, swap}
-use Rattle.std.proofs.Common.{arith, refl, sym, ap, ◌∙◌, inl, inr}
+use Rattle.std.specs.Prelude.{◌≡◌, ◌≢◌, ℕ, zero, suc, ◌+◌, ◌<◌, pos, negsuc, ◌-ℤ◌, ◌≤ℤ◌, Bool, true, false, Option, None, Some, IfSome, List, length}
+use Rattle.std.proofs.Common.{arith, refl, inl, inr}
 use Rattle.std.proofs.lemmas.Int.{ints}
 use Rattle.mb_base.specs.declared.Corner.{Corner}
 use Rattle.rounding.specs.Corners.{corner_at, AllFine}
 use Rattle.shadow_kernels.specs.declared.Meet.{Meet}
 use Rattle.shadow_kernels.specs.Spots.{Between, beyond}
-use Rattle.shadow_kernels.specs.Counts.{count_of, shadow_of, turned, bit}
+use Rattle.shadow_kernels.specs.Counts.{count_of, shadow_of, bit}
 use Rattle.shadow_kernels.specs.Shadows.{meet00, meet01, meet10}
 use Rattle.shadow_kernels.specs.Boxes.{IsBelow, AreApart, IsInHull}
 use Rattle.shadow_kernels.specs.Hulls.{StaysBetween, placed, IsOnSide, hull01, hull10, side00, side01, side10, apart01, apart10}
-use Rattle.shadow_kernels.specs.Rims.{reverse_two}
-use Rattle.shadow_kernels.specs.Sizes.{sized_bounds, sized_present}
-use Rattle.shadow_kernels.specs.Squares.{count01, count10, sized01, sized10, reverse01, reverse10}
+use Rattle.shadow_kernels.specs.Squares.{count01, count10}
 
 -- whichever of two boxes strictly apart is the greater one
 pub by_side : {A : Type 0} (i : ℕ) (ps qs : List Corner) → ((b : Bool) → IsOnSide i ps qs b → A) → AreApart i ps qs → A

@@ -1,12 +1,11 @@
 -- The spot of a vertex and an edge lies in their boxes, and boxes strictly apart decide their answer.
-use Rattle.std.specs.Prelude.{◌≡◌, ℕ, ◌<◌, ℤ, pos, ◌-ℤ◌, ◌≤ℤ◌, ◌<ℤ◌, Bool, true, false, Option, None, IfSome, List, length}
+use Rattle.std.specs.Prelude.{◌≡◌, ℕ, ◌<◌, ℤ, ◌-ℤ◌, ◌≤ℤ◌, Bool, true, false, None, IfSome, List, length}
 use Rattle.std.proofs.Common.{arith, sym, inl, ◌∙◌}
 use Rattle.std.proofs.lemmas.Int.{ints}
 use Rattle.mb_base.specs.declared.Corner.{Corner}
 use Rattle.rounding.specs.Fine.{IsFine, IsWeight, LiesBetween}
 use Rattle.rounding.specs.Corners.{axis, up_on, corner_at, blank_corner, IsFineCorner, AllFine}
 use Rattle.shadow_kernels.specs.declared.Spot.{Spot}
-use Rattle.shadow_kernels.specs.declared.Meet.{Meet}
 use Rattle.shadow_kernels.specs.Spots.{Between, beyond, flag, above_y, above_z, spot01, spot10}
 use Rattle.shadow_kernels.specs.Shadows.{meet01, meet10}
 use Rattle.shadow_kernels.specs.Boxes.{IsInBox, IsBelow, IsInHull}

@@ -1,6 +1,6 @@
 -- The laws of an answer that is made from boundary pairs.
-use Rattle.std.specs.Prelude.{◌≡◌, ◌≢◌, ℕ, ◌+◌, ◌<◌, ◌≤◌, ℤ, pos, negsuc, ◌+ℤ◌, ◌-ℤ◌, ◌≤ℤ◌, ◌⊎◌, Bool, true, false, if◌then◌else◌, not, Option, None, Some, IfSome, List, [], ◌∷◌}
-use Rattle.std.proofs.Common.{arith, refl, inl, inr, ap, ◌∙◌}
+use Rattle.std.specs.Prelude.{◌≡◌, ◌≢◌, ℕ, ◌<◌, ℤ, pos, Bool, true, false, if◌then◌else◌, not, Option, None, Some, IfSome, List, [], ◌∷◌}
+use Rattle.std.proofs.Common.{arith, refl, ap, ◌∙◌}
 use Rattle.std.proofs.lemmas.Int.{ints}
 use Rattle.mb_base.specs.declared.Corner.{Corner}
 use Rattle.rounding.specs.Fine.{IsFine, IsWeight}
@@ -10,9 +10,9 @@ use Rattle.chain_terms.specs.Sums.{total}
 use Rattle.shadow_kernels.specs.declared.Spot.{Spot}
 use Rattle.shadow_kernels.specs.declared.Meet.{Meet}
 use Rattle.shadow_kernels.specs.Spots.{Between, gap, spot_between, no_spot, above_z}
-use Rattle.shadow_kernels.specs.Counts.{count_of, shadow_of, met, chosen, first_spot, joined, lifted}
+use Rattle.shadow_kernels.specs.Counts.{count_of, shadow_of, chosen, first_spot, joined, lifted}
 use Rattle.shadow_kernels.specs.Boxes.{IsInBox, IsInHull}
-use Rattle.shadow_kernels.specs.Bounds.{box_between, IsFineSpot, hull_fine}
+use Rattle.shadow_kernels.specs.Bounds.{box_between, hull_fine}
 use Rattle.shadow_kernels.specs.Sizes.{IsSized, met_none, met_count, met_sized, met_holds}
 use Rattle.shadow_kernels.specs.Tally.{Each, hit, hits, IsBalanced, tally, balanced_size}
 use Rattle.shadow_kernels.specs.Hulls.{StaysBetween, IsOnSide, side_z}

@@ -1,13 +1,12 @@
 -- The answer from the three edges of a face, for a vertex and a face and for a face and a vertex alike.
-use Rattle.std.specs.Prelude.{◌≡◌, ℕ, zero, suc, ◌+◌, ◌<◌, ◌≤◌, ℤ, pos, ◌+ℤ◌, ◌-ℤ◌, Bool, true, false, Option, None, Some, IfSome, List, [], ◌∷◌, length, swap, map}
-use Rattle.std.proofs.Common.{arith, refl, sym, ap, ◌∙◌}
+use Rattle.std.specs.Prelude.{◌≡◌, ℕ, zero, suc, ◌<◌, ◌+ℤ◌, Bool, Option, List, [], ◌∷◌, length, swap}
+use Rattle.std.proofs.Common.{arith, sym, ap, ◌∙◌}
 use Rattle.std.proofs.lemmas.Int.{ints}
 use Rattle.mb_base.specs.declared.Corner.{Corner}
 use Rattle.rounding.specs.Corners.{corner_at}
-use Rattle.chain_terms.specs.Sums.{total}
 use Rattle.shadow_kernels.specs.declared.Meet.{Meet}
 use Rattle.shadow_kernels.specs.Spots.{Between}
-use Rattle.shadow_kernels.specs.Counts.{count_of, shadow_of, turned, lifted, bit}
+use Rattle.shadow_kernels.specs.Counts.{count_of, turned, lifted, bit}
 use Rattle.shadow_kernels.specs.Sizes.{IsSized}
 use Rattle.shadow_kernels.specs.Ends.{one_kind}
 use Rattle.shadow_kernels.specs.Tally.{IsBalanced, balanced_pair}

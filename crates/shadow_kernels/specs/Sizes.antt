@@ -1,13 +1,12 @@
 -- Sizes of counts, and what the two ends of an edge give.
-use Rattle.std.specs.Prelude.{◌≡◌, ◌≢◌, ℕ, ◌+◌, ◌≤◌, ℤ, pos, negsuc, neg_ℤ, ◌-ℤ◌, ◌≤ℤ◌, ◌⊎◌, Bool, true, false, if◌then◌else◌, Option, None, Some, IfSome, List, [], ◌∷◌}
+use Rattle.std.specs.Prelude.{◌≡◌, ◌≢◌, ℤ, pos, negsuc, neg_ℤ, ◌≤ℤ◌, ◌⊎◌, Bool, true, false, if◌then◌else◌, Option, None, Some, IfSome}
 use Rattle.std.specs.Ordering.{int_eq}
 use Rattle.std.proofs.Common.{arith, refl, sym, ap, inl, inr, ◌∙◌}
 use Rattle.std.proofs.lemmas.Int.{ints}
 use Rattle.std.proofs.lemmas.Bool.Decides.{Decides-int_eq}
 use Rattle.shadow_kernels.specs.declared.Spot.{Spot}
 use Rattle.shadow_kernels.specs.declared.Meet.{Meet}
-use Rattle.shadow_kernels.specs.Spots.{above_y}
-use Rattle.shadow_kernels.specs.Counts.{count_of, shadow_of, turned, met, bit, by_ends}
+use Rattle.shadow_kernels.specs.Counts.{count_of, shadow_of, turned, met}
 
 -- 1 or -1
 abbrev pub IsUnit : ℤ → Type 0

@@ -1,18 +1,17 @@
 -- The answer from the four boundary pairs of two edges.
-use Rattle.std.specs.Prelude.{◌≡◌, ℕ, ◌+◌, ◌≤◌, ℤ, pos, ◌+ℤ◌, ◌-ℤ◌, Bool, true, false, Option, None, Some, List, [], ◌∷◌}
+use Rattle.std.specs.Prelude.{◌≡◌, ◌+◌, ◌≤◌, ◌-ℤ◌, Bool, true, false, Option, [], ◌∷◌}
 use Rattle.std.proofs.Common.{arith, refl, sym, ap, ◌∙◌}
 use Rattle.std.proofs.lemmas.Int.{ints}
 use Rattle.mb_base.specs.declared.Corner.{Corner}
-use Rattle.chain_terms.specs.Sums.{total}
 use Rattle.shadow_kernels.specs.declared.Meet.{Meet}
 use Rattle.shadow_kernels.specs.Spots.{Between, beyond, spot01, spot10}
-use Rattle.shadow_kernels.specs.Counts.{count_of, shadow_of, turned, lifted, bit, by_ends}
+use Rattle.shadow_kernels.specs.Counts.{count_of, turned, lifted, bit}
 use Rattle.shadow_kernels.specs.Shadows.{meet01, meet10, boundary11, meet11}
 use Rattle.shadow_kernels.specs.Order.{no_alternation}
 use Rattle.shadow_kernels.specs.Sizes.{IsSized, turned_sized, turned_count}
 use Rattle.shadow_kernels.specs.Ends.{ends_count, ends_sized, ends_turned, ends_kind, differ, hit_turned}
 use Rattle.shadow_kernels.specs.Tally.{hit, IsBalanced, balanced_pair}
-use Rattle.shadow_kernels.specs.Swaps.{Agree, agree_after, agree_swap, lifted_agree, lifted_turned, turned_twice}
+use Rattle.shadow_kernels.specs.Swaps.{agree_after, agree_swap, lifted_agree, lifted_turned, turned_twice}
 
 -- the four tests at the ends of two edges differ round the square in all four places only where they alternate
 few : (ac ad bc bd : Bool) → (ac ≡ true → ad ≡ false → bc ≡ false → bd ≡ true → ⊥) → (ac ≡ false → ad ≡ true → bc ≡ true → bd ≡ false → ⊥) →

@@ -1,5 +1,5 @@
 -- Lists of boundary pairs in another order, or all turned.
-use Rattle.std.specs.Prelude.{◌≡◌, ℕ, zero, suc, ◌+◌, ◌≤◌, ℤ, pos, neg_ℤ, ◌+ℤ◌, ◌⊎◌, Bool, true, false, if◌then◌else◌, not, Option, None, Some, List, [], ◌∷◌, map}
+use Rattle.std.specs.Prelude.{◌≡◌, ℕ, ◌+◌, ◌≤◌, ℤ, pos, neg_ℤ, ◌+ℤ◌, ◌⊎◌, Bool, true, false, if◌then◌else◌, not, Option, None, Some, List, [], ◌∷◌, map}
 use Rattle.std.proofs.Common.{arith, refl, sym, ap, inl, inr, ◌∙◌}
 use Rattle.std.proofs.lemmas.Int.{ints}
 use Rattle.chain_terms.specs.Sums.{total}
@@ -7,9 +7,9 @@ use Rattle.chain_terms.specs.Chains.{one_if}
 use Rattle.shadow_kernels.specs.declared.Spot.{Spot}
 use Rattle.shadow_kernels.specs.declared.Meet.{Meet}
 use Rattle.shadow_kernels.specs.Spots.{Between, spot_between, above_z}
-use Rattle.shadow_kernels.specs.Counts.{count_of, shadow_of, turned, met, chosen, first_spot, joined, lifted}
+use Rattle.shadow_kernels.specs.Counts.{shadow_of, turned, met, chosen, first_spot, joined, lifted}
 use Rattle.shadow_kernels.specs.Sizes.{met_none, met_turned, turned_shadow}
-use Rattle.shadow_kernels.specs.Tally.{Each, hit, hits, IsBalanced, balanced_pair}
+use Rattle.shadow_kernels.specs.Tally.{hit, hits}
 
 -- two lists have the same sum of shadows, as many answers above and not above, and where there is one such answer its spot is the same
 pub record Agree (ms ns : List (Option Meet)) : Type 0 where

@@ -1,12 +1,11 @@
 -- Lists of boundary pairs: how the sum of their shadows is bounded by how many are above and how many are not.
-use Rattle.std.specs.Prelude.{◌≡◌, ℕ, zero, suc, ◌+◌, ◌*◌, ◌≤◌, ℤ, pos, negsuc, neg_ℤ, ◌+ℤ◌, ◌-ℤ◌, ◌≤ℤ◌, ◌⊎◌, Bool, true, false, if◌then◌else◌, not, Option, None, Some, IfSome, List, [], ◌∷◌}
+use Rattle.std.specs.Prelude.{◌≡◌, ℕ, zero, suc, ◌+◌, ◌≤◌, ℤ, pos, negsuc, neg_ℤ, ◌+ℤ◌, ◌-ℤ◌, ◌≤ℤ◌, ◌⊎◌, Bool, true, false, if◌then◌else◌, not, Option, None, Some, List, [], ◌∷◌}
 use Rattle.std.proofs.Common.{arith, refl, inl, inr}
 use Rattle.std.proofs.lemmas.Int.{ints}
 use Rattle.chain_terms.specs.Sums.{total}
 use Rattle.chain_terms.specs.Chains.{one_if}
-use Rattle.shadow_kernels.specs.declared.Spot.{Spot}
 use Rattle.shadow_kernels.specs.declared.Meet.{Meet}
-use Rattle.shadow_kernels.specs.Counts.{count_of, shadow_of, turned, chosen, first_spot}
+use Rattle.shadow_kernels.specs.Counts.{count_of, shadow_of}
 use Rattle.shadow_kernels.specs.Sizes.{IsUnit, IsSized}
 
 -- a fact holds of each answer in a list

@@ -115,6 +115,5 @@ pub trait Flats: Meets<1, 1> + Meets<1, 2> + Meets<2, 1> + Meets<2, 2> {
 
 #[cfg(test)]
 mod rows;
-
 #[cfg(test)]
 mod tests;

@@ -54,7 +54,11 @@ fn corner(code: u64) -> Corner
     ensures { IsFineCorner result }
 {
     Corner {
-        at: [(code % 4) as i64, (code / 4 % 4) as i64, (code / 16 % 4) as i64],
+        at: [
+            (code % 4) as i64,
+            (code / 4 % 4) as i64,
+            (code / 16 % 4) as i64,
+        ],
         up: [code / 64 % 2 == 1, code / 128 % 2 == 1, code / 256 % 2 == 1],
     }
 }
@@ -70,10 +74,18 @@ fn answer(code: u128) -> Option<Meet> {
         qy: (code / 128 % 4) as i64,
         pz: (code / 512 % 4) as i64,
         qz: (code / 2048 % 4) as i64,
-        up: [code / 8192 % 2 == 1, code / 16384 % 2 == 1, code / 32768 % 2 == 1],
+        up: [
+            code / 8192 % 2 == 1,
+            code / 16384 % 2 == 1,
+            code / 32768 % 2 == 1,
+        ],
     };
     let count = if code % 4 == 1 { 1 } else { -1 };
-    Some(Meet { count, above: code / 4 % 2 == 1, spot })
+    Some(Meet {
+        count,
+        above: code / 4 % 2 == 1,
+        spot,
+    })
 }
 
 /// Whether the answers of vertices and edges are those that are wanted.
@@ -136,10 +148,40 @@ fn agrees_with_the_table(rt: HostRuntime) {
 #[test]
 fn left_is_not_up_at_a_tie(rt: HostRuntime) {
     let grid = Grid { rounding: Nearest };
-    let a = Corner { at: [5, 0, 0], up: [true, false, false] };
-    let b = Corner { at: [5, 8, 0], up: [false; 3] };
-    let q = Corner { at: [5, 4, 0], up: [false; 3] };
-    let spot = Spot { x: 5, py: 8, qy: 4, pz: 0, qz: 0, up: [false; 3] };
-    assert_eq!(rt; grid.meet(&[a, b], &[q]), Some(Meet { count: -1, above: true, spot }));
-    assert_eq!(rt; grid.meet(&[b, a], &[q]), Some(Meet { count: 1, above: true, spot }));
+    let a = Corner {
+        at: [5, 0, 0],
+        up: [true, false, false],
+    };
+    let b = Corner {
+        at: [5, 8, 0],
+        up: [false; 3],
+    };
+    let q = Corner {
+        at: [5, 4, 0],
+        up: [false; 3],
+    };
+    let spot = Spot {
+        x: 5,
+        py: 8,
+        qy: 4,
+        pz: 0,
+        qz: 0,
+        up: [false; 3],
+    };
+    assert_eq!(rt;
+        grid.meet(&[a, b], &[q]),
+        Some(Meet {
+            count: -1,
+            above: true,
+            spot
+        })
+    );
+    assert_eq!(rt;
+        grid.meet(&[b, a], &[q]),
+        Some(Meet {
+            count: 1,
+            above: true,
+            spot
+        })
+    );
 }

@@ -1,4 +1,4 @@
-use Rattle.std.proofs.Common.{rules, ◌≡◌, ℤ, FitsSigned}
+use Rattle.std.proofs.Common.{rules}
 use Rattle.std.specs.Int.{w64}
 use Rattle.shadow_kernels.specs.Spots.{gap, marks, spot_between}
 use Rattle.shadow_kernels.proofs.Values.{seen, kept_gap, kept_between, kept_weight, same_marks, same_spot}

@@ -1,4 +1,4 @@
-use Rattle.std.proofs.Common.{rules, arith, refl, ◌≡◌, ℤ, ◌-ℤ◌, FitsSigned, ◌∙◌}
+use Rattle.std.proofs.Common.{rules, arith, refl, ◌≡◌, ◌-ℤ◌, FitsSigned, ◌∙◌}
 use Rattle.std.proofs.lemmas.Int.{ints}
 use Rattle.std.specs.Int.{w64}
 use Rattle.rounding.specs.Corners.{axis}
