@@ -114,6 +114,8 @@ pub trait Flats: Meets<1, 1> + Meets<1, 2> + Meets<2, 1> + Meets<2, 2> {
 }
 
 #[cfg(test)]
+mod more_rows;
+#[cfg(test)]
 mod rows;
 #[cfg(test)]
 mod tests;

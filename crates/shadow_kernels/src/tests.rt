@@ -3,7 +3,8 @@ ghost use Rattle.rounding.specs.Corners.{IsFineCorner, AllFine};
 ghost use Rattle.shadow_kernels.specs.Counts.{count_of, shadow_of};
 
 use super::*;
-use crate::rows::{ROWS_0, ROWS_1, ROWS_2, ROWS_3, ROWS_4, ROWS_5, ROWS_6, ROWS_7, ROWS_8, ROWS_9};
+use crate::more_rows::{ROWS_5, ROWS_6, ROWS_7, ROWS_8, ROWS_9};
+use crate::rows::{ROWS_0, ROWS_1, ROWS_2, ROWS_3, ROWS_4};
 use rounding::Nearest;
 
 /// The count of the edges from a to b and from c to d, with Q's edge taken the other way round where it meets a vertex:
