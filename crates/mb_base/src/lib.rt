@@ -1,16 +1,42 @@
-//! The plain types that the crates share.
+//! The plain types that the crates share: points of the grid, corners, limits, points with triangles
+//! as a file gives them, faults of a text, and lists of words. Nothing here takes memory but
+//! `ArgList::push`.
 #![tactic(auto)]
 
-/// Fine steps per grid step.
+mod arg_list;
+mod fault;
+mod limits;
+mod op;
+mod point;
+mod results;
+mod soup;
+#[cfg(test)]
+mod tests;
+
+pub use arg_list::ArgList;
+pub use fault::{Counted, TextFault, TextKind};
+pub use limits::Limits;
+pub use op::Op;
+pub use point::{Box3, Corner, Point};
+pub use results::{Entry, Hit, Hits, Origin, Segment, Windings};
+pub use soup::Soup;
+use std::alloc::{AllocError, AllocFailed};
+
+/// Fine steps per grid step. A coordinate of a corner is a point's times this.
 pub const UNIT: i64 = 1;
 
 /// Want of memory.
 #[derive(Clone, Copy, Debug, PartialEq, Eq, Drop)]
 pub struct NoMemory;
 
-/// A corner of a simplex in fine steps, and on which axes it counts as moved up by less than any number.
-#[derive(Clone, Copy, Debug, PartialEq, Eq, Drop)]
-pub struct Corner {
-    pub at: [i64; 3],
-    pub up: [bool; 3],
+impl From<AllocError> for NoMemory {
+    fn from(_: AllocError) -> Self {
+        NoMemory
+    }
+}
+
+impl<T: Drop> From<AllocFailed<T>> for NoMemory {
+    fn from(_: AllocFailed<T>) -> Self {
+        NoMemory
+    }
 }

@@ -1,7 +1,7 @@
 -- Corners by their coordinates and marks.
 use Rattle.std.specs.Prelude.{ℕ, ℤ, pos, Bool, false, List, [], slice_index_or}
 use Rattle.std.specs.List.{All}
-use Rattle.mb_base.specs.declared.Corner.{Corner}
+use Rattle.mb_base.specs.declared.point.Corner.{Corner}
 use Rattle.rounding.specs.Fine.{IsFine}
 
 -- a corner with nothing in it

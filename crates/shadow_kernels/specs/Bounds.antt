@@ -3,7 +3,7 @@ use Rattle.std.specs.Prelude.{ℕ, ◌<◌, ℤ, pos, neg_ℤ, ◌+ℤ◌, ◌-�
 use Rattle.std.specs.List.{All}
 use Rattle.std.proofs.Common.{arith, inl, inr}
 use Rattle.std.proofs.lemmas.Int.{ints}
-use Rattle.mb_base.specs.declared.Corner.{Corner}
+use Rattle.mb_base.specs.declared.point.Corner.{Corner}
 use Rattle.rounding.specs.Fine.{fine_edge, IsFine, LiesBetween}
 use Rattle.rounding.specs.Corners.{axis, corner_at, blank_corner, AllFine}
 use Rattle.shadow_kernels.specs.declared.Spot.{Spot}

@@ -1,7 +1,7 @@
 -- Boxes of corners, by their bounds.
 use Rattle.std.specs.Prelude.{ℕ, ℤ, ◌≤ℤ◌, ◌<ℤ◌, ◌⊎◌, List}
 use Rattle.std.specs.List.{All}
-use Rattle.mb_base.specs.declared.Corner.{Corner}
+use Rattle.mb_base.specs.declared.point.Corner.{Corner}
 use Rattle.rounding.specs.Corners.{axis}
 use Rattle.shadow_kernels.specs.declared.Spot.{Spot}
 

@@ -2,7 +2,7 @@
 use Rattle.std.specs.Prelude.{◌≡◌, ℕ, ◌<◌, ℤ, ◌-ℤ◌, ◌≤ℤ◌, Bool, true, false, None, IfSome, List, length}
 use Rattle.std.proofs.Common.{arith, sym, inl, ◌∙◌}
 use Rattle.std.proofs.lemmas.Int.{ints}
-use Rattle.mb_base.specs.declared.Corner.{Corner}
+use Rattle.mb_base.specs.declared.point.Corner.{Corner}
 use Rattle.rounding.specs.Fine.{IsFine, IsWeight, LiesBetween}
 use Rattle.rounding.specs.Corners.{axis, up_on, corner_at, blank_corner, IsFineCorner, AllFine}
 use Rattle.shadow_kernels.specs.declared.Spot.{Spot}

@@ -2,7 +2,7 @@
 use Rattle.std.specs.Prelude.{◌≡◌, ◌≢◌, ℕ, ◌<◌, ℤ, pos, Bool, true, false, if◌then◌else◌, not, Option, None, Some, IfSome, List, [], ◌∷◌}
 use Rattle.std.proofs.Common.{arith, refl, ap, ◌∙◌}
 use Rattle.std.proofs.lemmas.Int.{ints}
-use Rattle.mb_base.specs.declared.Corner.{Corner}
+use Rattle.mb_base.specs.declared.point.Corner.{Corner}
 use Rattle.rounding.specs.Fine.{IsFine, IsWeight}
 use Rattle.rounding.specs.Corners.{AllFine}
 use Rattle.chain_terms.specs.Chains.{one_if}

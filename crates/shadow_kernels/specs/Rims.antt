@@ -2,7 +2,7 @@
 use Rattle.std.specs.Prelude.{◌≡◌, ℕ, zero, suc, ◌<◌, ◌+ℤ◌, Bool, Option, List, [], ◌∷◌, length, swap}
 use Rattle.std.proofs.Common.{arith, sym, ap, ◌∙◌}
 use Rattle.std.proofs.lemmas.Int.{ints}
-use Rattle.mb_base.specs.declared.Corner.{Corner}
+use Rattle.mb_base.specs.declared.point.Corner.{Corner}
 use Rattle.rounding.specs.Corners.{corner_at}
 use Rattle.shadow_kernels.specs.declared.Meet.{Meet}
 use Rattle.shadow_kernels.specs.Spots.{Between}

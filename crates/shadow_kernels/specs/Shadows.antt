@@ -1,6 +1,6 @@
 -- The answers of the six dimension pairs.
 use Rattle.std.specs.Prelude.{pos, Option, Some, List, [], ◌∷◌}
-use Rattle.mb_base.specs.declared.Corner.{Corner}
+use Rattle.mb_base.specs.declared.point.Corner.{Corner}
 use Rattle.shadow_kernels.specs.declared.Meet.{Meet}
 use Rattle.shadow_kernels.specs.Spots.{Between, beyond, spot00, spot01, spot10}
 use Rattle.shadow_kernels.specs.Counts.{turned, by_ends, lifted}

@@ -1,7 +1,7 @@
 -- Spots: the values of P and Q where the shadows of a pair of simplices meet.
 use Rattle.std.specs.Prelude.{ℕ, ℤ, pos, ◌-ℤ◌, Bool, false, ◌&&◌, ◌||◌, if◌then◌else◌, List, [], ◌∷◌, slice_index_or, int_lt, unsigned_abs}
 use Rattle.std.specs.Ordering.{int_eq}
-use Rattle.mb_base.specs.declared.Corner.{Corner}
+use Rattle.mb_base.specs.declared.point.Corner.{Corner}
 use Rattle.rounding.specs.Corners.{axis, up_on}
 use Rattle.shadow_kernels.specs.declared.Spot.{Spot}
 

@@ -2,7 +2,7 @@
 use Rattle.std.specs.Prelude.{◌≡◌, ◌+◌, ◌≤◌, ◌-ℤ◌, Bool, true, false, Option, [], ◌∷◌}
 use Rattle.std.proofs.Common.{arith, refl, sym, ap, ◌∙◌}
 use Rattle.std.proofs.lemmas.Int.{ints}
-use Rattle.mb_base.specs.declared.Corner.{Corner}
+use Rattle.mb_base.specs.declared.point.Corner.{Corner}
 use Rattle.shadow_kernels.specs.declared.Meet.{Meet}
 use Rattle.shadow_kernels.specs.Spots.{Between, beyond, spot01, spot10}
 use Rattle.shadow_kernels.specs.Counts.{count_of, turned, lifted, bit}

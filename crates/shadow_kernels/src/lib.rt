@@ -5,7 +5,7 @@
 #![tactic(auto)]
 
 ghost use Rattle.std.specs.Prelude.{◌≡◌, ◌≢◌, ◌+◌, ◌<◌, ◌∷◌, [], ℕ, ℤ, true, false, pos, negsuc, ◌-ℤ◌, ◌+ℤ◌, ◌≤ℤ◌, Option, None, IfSome, List, length, swap};
-ghost use Rattle.mb_base.specs.declared.Corner.{Corner};
+ghost use Rattle.mb_base.specs.declared.point.Corner.{Corner};
 ghost use Rattle.rounding.specs.Corners.{AllFine};
 ghost use Rattle.shadow_kernels.specs.declared.Meet.{Meet};
 ghost use Rattle.shadow_kernels.specs.Boxes.{AreApart, IsBelow, IsInHull};

@@ -1,0 +1,19 @@
+#!/bin/sh
+# Times `copy` of the built program on a made mesh of 4 * SIDE * SIDE triangles. Usage: benches/copy.sh [SIDE]; 500 gives 1,000,000.
+# Prints seconds and peak memory.
+side=${1:-500}
+top=$(cd "$(dirname "$0")/.." && pwd) || exit 1
+folder=$(mktemp -d) || exit 1
+python3 "$top/benches/grid_mesh.py" "$side" > "$folder/in.obj" || exit 1
+cd "$folder" || exit 1
+ls -l in.obj
+python3 - "$top/crates/manifold_tool/out/manifold_tool" <<'P'
+import resource, subprocess, sys, time
+began = time.time()
+status = subprocess.call([sys.argv[1], "copy", "in.obj", "out.obj"])
+print("seconds %.2f" % (time.time() - began))
+print("peak memory %d MB" % (resource.getrusage(resource.RUSAGE_CHILDREN).ru_maxrss // 1024))
+sys.exit(status)
+P
+cmp in.obj out.obj && echo "the copy equals the file"
+rm -r "$folder"

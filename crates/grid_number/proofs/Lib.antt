@@ -1,0 +1,9 @@
+pub mod Bytes
+pub mod Cuts
+pub mod Dropped
+pub mod KeptDigits
+pub mod Known
+pub mod Parts
+pub mod ReadBack
+pub mod Saturated
+pub mod Values

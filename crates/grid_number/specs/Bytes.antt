@@ -1,0 +1,7 @@
+-- The bytes of a written number.
+use Rattle.std.specs.Prelude.{ℕ, Bool, ◌||◌, ◌==◌}
+use Rattle.text_terms.specs.Numbers.{is_digit}
+
+-- a digit, `-` or `.`
+abbrev pub is_number_byte : ℕ → Bool
+is_number_byte c = is_digit c || (c == 45) || (c == 46)

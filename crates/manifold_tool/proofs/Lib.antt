@@ -1,0 +1,5 @@
+pub mod Copying
+pub mod Numbers
+pub mod Running
+pub mod Saved
+pub mod Texts

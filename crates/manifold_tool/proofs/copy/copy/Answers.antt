@@ -1,0 +1,67 @@
+use Rattle.std.proofs.Common.{◌≡◌, ◌<◌, ◌^◌, ◌-◌, ℕ, Bool, IsTrue, Err, ap, sym, ◌∙◌, refl, subst}
+use Rattle.obj_terms.specs.Reading.{narrow_obj}
+use Rattle.obj_terms.specs.Written.{obj_text}
+use Rattle.run_terms.specs.Files.{Bytes, Files, put}
+use Rattle.play_terms.specs.Copy.{mesh_of}
+use Rattle.manifold_tool.specs.Pieces.{soup_with}
+use Rattle.manifold_tool.specs.Reports.{world}
+use Rattle.manifold_tool.specs.Saves.{IsSavedInPart}
+use Rattle.manifold_tool.specs.declared.stop.Stop.{Stop}
+use Rattle.manifold_tool.specs.declared.stop.Stop.TheVariants.{ReadFault}
+use Rattle.manifold_tool.proofs.Copying.{greater, same_faults, reading_stopped, saving_stopped, reporting_stopped, copy_done}
+use Rattle.manifold_tool.proofs.copy.copy.Goals as goal
+
+
+pub returns-in-Err-clause-halted : goal.returns-in-Err-clause-halted
+returns-in-Err-clause-halted g c told some =
+    let e = c.in-Err.ensures in
+    let from = c.args.from.now in
+    let r = mesh_of narrow_obj c.args.limits.now from (g.S.Shelf.files c.args.shelf.now from) in
+    reading_stopped from 4 c.args.to.now r _ _ _ _ c.in-Err.stop (e.mesh told) e.stop
+    (ap (λ (files : Files). world files (g.O.Sink.told c.args.out.now)) e.files)
+    (λ not. same_faults _ _ _ _ _ _ (e.calm (λ is. let same : c.in-Err.stop ≡ ReadFault = cc in not same)) e.writes refl)
+    (λ is. greater _ _ (e.fault (ap Err is) told) c.requires.reads)
+
+pub returns-in_default-clause-halted : goal.returns-in_default-clause-halted
+returns-in_default-clause-halted g c told some =
+    let P : Bool → Type 0 = λ b. IsTrue b in
+    let read = c.in-Ok.ensures in
+    let e = c.in_default.ensures in
+    let from = c.args.from.now in
+    let to = c.args.to.now in
+    let soup = soup_with c.in-Ok.read in
+    let r = mesh_of narrow_obj c.args.limits.now from (g.S.Shelf.files c.args.shelf.now from) in
+    let Q : Files → Type 0 = λ files. IsSavedInPart to (obj_text 4 soup.points soup.triples) files (g.S.Shelf.files c.save_mesh.new.shelf) in
+    let part = subst Q read.files (e.part (subst P (sym read.told) told)) in
+    let R : ℕ → Type 0 = λ before. before < g.S.Shelf.write_faults c.save_mesh.new.shelf in
+    let small : g.S.Shelf.write_faults c.read_mesh.new.shelf < 2 ^ 64 - 1 = rw read.writes c.requires.writes in
+    let rose = subst R read.writes (greater _ _ (e.writes.failed refl) small) in
+    saving_stopped from 4 to r soup _ _ _ _ _ _ (read.mesh told) part refl rose
+
+pub returns-in_default-say_copied-clause-halted : goal.returns-in_default-say_copied-clause-halted
+returns-in_default-say_copied-clause-halted g c told some =
+    let P : Bool → Type 0 = λ b. IsTrue b in
+    let read = c.in-Ok.ensures in
+    let save = c.in-Ok-save_mesh.ensures in
+    let e = c.in_default-say_copied.ensures in
+    let from = c.args.from.now in
+    let to = c.args.to.now in
+    let soup = soup_with c.in-Ok.read in
+    let r = mesh_of narrow_obj c.args.limits.now from (g.S.Shelf.files c.args.shelf.now from) in
+    let saved = save.saved (subst P (sym read.told) told) ∙ ap (put to (obj_text 4 soup.points soup.triples)) read.files in
+    reporting_stopped from 4 to r soup _ _ _ _ _ _ (read.mesh told) saved some e.part (greater _ _ (e.count.failed refl) c.requires.outs)
+
+pub returns-clause-done : goal.returns-clause-done
+returns-clause-done g c told some =
+    let P : Bool → Type 0 = λ b. IsTrue b in
+    let read = c.in-Ok.ensures in
+    let save = c.in-Ok-save_mesh.ensures in
+    let e = c.in-Ok-say_copied.ensures in
+    let from = c.args.from.now in
+    let to = c.args.to.now in
+    let soup = soup_with c.in-Ok.read in
+    let r = mesh_of narrow_obj c.args.limits.now from (g.S.Shelf.files c.args.shelf.now from) in
+    let saved = save.saved (subst P (sym read.told) told) ∙ ap (put to (obj_text 4 soup.points soup.triples)) read.files in
+    let reads = save.reads ∙ read.calm (λ is. cc) in
+    let writes = save.writes.ok refl ∙ read.writes in
+    copy_done from 4 to r soup _ _ _ _ _ _ (read.mesh told) saved some e.added (same_faults _ _ _ _ _ _ reads writes (e.count.ok refl))

@@ -1,0 +1,17 @@
+use Rattle.std.proofs.Common.{length, ◌-◌, ◌≡◌, ◌≤◌, take, IsTrue, vec_len}
+use Rattle.run_terms.specs.Files.{text_of}
+use Rattle.manifold_tool.proofs.reading.read_to.Given as goal
+
+abbrev pub invariant-loop-have : goal.invariant-loop-have
+invariant-loop-have g l = record {
+  within : l.have ≤ l.size;
+  room : vec_len l.bytes ≡ l.size;
+  told : g.S.Shelf.tells l.shelf ≡ g.S.Shelf.tells l.initial.shelf;
+  files : g.S.Shelf.files l.shelf ≡ g.S.Shelf.files l.initial.shelf;
+  bytes : IsTrue (g.S.Shelf.tells l.initial.shelf) → take l.have l.bytes.items ≡ take l.have (text_of (g.S.Shelf.files l.initial.shelf l.name));
+  writes : g.S.Shelf.write_faults l.shelf ≡ g.S.Shelf.write_faults l.initial.shelf;
+  reads : g.S.Shelf.read_faults l.shelf ≡ g.S.Shelf.read_faults l.initial.shelf
+}
+
+abbrev pub decreases-loop-have : goal.decreases-loop-have
+decreases-loop-have g l = l.size - l.have

@@ -1,0 +1,54 @@
+// The command copy.
+ghost use Rattle.std.specs.Prelude.{◌≡◌, ◌<◌, ◌^◌, ◌-◌, [], IsTrue, IsSome, OnOk, IfErr, Err};
+ghost use Rattle.obj_terms.specs.Reading.{narrow_obj};
+ghost use Rattle.play_terms.specs.Copy.{copy_play};
+ghost use Rattle.play_terms.specs.Meets.{RunMeets};
+ghost use Rattle.manifold_tool.specs.Halts.{halt_status, halt_line};
+ghost use Rattle.manifold_tool.specs.Reports.{world};
+ghost use Rattle.manifold_tool.specs.Stops.{is_reading_stop};
+ghost use Rattle.manifold_tool.specs.declared.stop.Stop.{Stop};
+
+use crate::halt::Halt;
+use crate::reading::read_mesh;
+use crate::report::say_copied;
+use crate::saving::save_mesh;
+use crate::stop::Stop;
+use mb_base::Limits;
+use mb_outside::{Shelf, Sink};
+use std::alloc::Global;
+
+/// The digits after the point of a file's numbers.
+const DIGITS: u8 = 4;
+
+/// Reads a mesh from one file, saves it to another, and reports that on the output. It stops at the first thing that goes wrong.
+pub fn copy<S: Shelf, O: Sink>(alloc: Global, from: &str, to: &str, limits: &Limits, shelf: &mut S, out: &mut O) -> Result<(), Halt>
+    requires reads { S.read_faults shelf.old < 2 ^ 64 - 1 }
+    requires writes { S.write_faults shelf.old < 2 ^ 64 - 1 }
+    requires outs { O.faults out.old < 2 ^ 64 - 1 }
+    ensures done { OnOk result (IsTrue (S.tells shelf.old) → IsSome (O.told out.old) →
+        RunMeets (copy_play narrow_obj 4 limits.now (S.files shelf.old) from.now to.now)
+        (world (S.files shelf.old) (O.told out.old)) (world (S.files shelf.new) (O.told out.new)) 0
+        (record { read = S.read_faults shelf.old; write = S.write_faults shelf.old; out = O.faults out.old })
+        (record { read = S.read_faults shelf.new; write = S.write_faults shelf.new; out = O.faults out.new }) []) }
+    ensures halted { IfErr result (λ halt. IsTrue (S.tells shelf.old) → IsSome (O.told out.old) →
+        RunMeets (copy_play narrow_obj 4 limits.now (S.files shelf.old) from.now to.now)
+        (world (S.files shelf.old) (O.told out.old)) (world (S.files shelf.new) (O.told out.new)) (halt_status halt)
+        (record { read = S.read_faults shelf.old; write = S.write_faults shelf.old; out = O.faults out.old })
+        (record { read = S.read_faults shelf.new; write = S.write_faults shelf.new; out = O.faults out.new }) (halt_line from.now to.now halt)) }
+    ensures read { result ≡ Err (Halt.Reading Stop.ReadFault) → IsTrue (S.tells shelf.old) → S.read_faults shelf.old < S.read_faults shelf.new }
+    ensures saved { result ≡ Err Halt.Saving → S.write_faults shelf.old < S.write_faults shelf.new }
+    ensures reported { result ≡ Err Halt.Reporting → O.faults out.old < O.faults out.new }
+    ensures reading { (stop : Stop) → result ≡ Err (Halt.Reading stop) → IsTrue (is_reading_stop stop) }
+{
+    let read = match read_mesh(alloc, from, DIGITS, limits, shelf) {
+        Ok(read) => read,
+        Err(stop) => return Err(Halt::Reading(stop)),
+    };
+    let Ok(()) = save_mesh(&read.mesh, to, DIGITS, shelf) else {
+        return Err(Halt::Saving);
+    };
+    let Ok(()) = say_copied(to, &read.mesh, read.unused, out) else {
+        return Err(Halt::Reporting);
+    };
+    Ok(())
+}

@@ -1,0 +1,153 @@
+// Whole runs over memory, with what users and scripts see of them: status, output, error line, files.
+ghost use Rattle.std.specs.Prelude.{◌<◌};
+
+use crate::run::run;
+use mb_base::{ArgList, Limits, NoMemory};
+use mb_outside::{MemoryShelf, MemorySink};
+use std::alloc::Global;
+use std::process::Abort;
+use std::test::Fail;
+
+const ROOM: usize = 65_536;
+
+const TETRAHEDRON: &[u8] = b"v 0 0 0\nv 1 0 0\nv 0 1 0\nv 0 0 1\nf 1 3 2\nf 1 2 4\nf 2 3 4\nf 3 1 4\n";
+
+// A cube without one of its twelve triangles.
+const OPEN_CUBE: &[u8] = b"v 0 0 0\nv 10 0 0\nv 0 10 0\nv 10 10 0\nv 0 0 10\nv 10 0 10\nv 0 10 10\nv 10 10 10\nf 1 4 2\nf 1 3 4\nf 5 6 8\nf 1 2 5\nf 2 6 5\nf 2 4 8\nf 2 8 6\nf 4 3 7\nf 4 7 8\nf 1 5 7\nf 1 7 3\n";
+
+const USAGE: &[u8] = b"usage: manifold_tool copy IN OUT, inside FILE X Y Z or run SCRIPT, each with --digits K\n";
+
+// A run over a shelf with one file, and what is to stand after it.
+#[derive(Drop)]
+struct Case<'a> {
+    words: &'a [&'a str],
+    name: &'a str,
+    bytes: &'a [u8],
+    // The most bytes of one call of the shelf, and the number of a call of the shelf and of the output that fails.
+    most: usize,
+    shelf_fails: u64,
+    out_fails: u64,
+    limits: Limits,
+    status: u8,
+    out: &'a [u8],
+    err: &'a [u8],
+    saved: Option<&'a [u8]>,
+    ghost some: { 0 < most },
+}
+
+// The numbers of failing calls: none, or this one.
+fn failing(alloc: Global, call: u64) -> Result<Vec<u64>, NoMemory> {
+    let mut fails = Vec::new(alloc);
+    if call > 0 {
+        fails.push(call)?;
+    }
+    Ok(fails)
+}
+
+// What a run left.
+#[derive(Drop)]
+struct Outcome {
+    status: u8,
+    shelf: MemoryShelf,
+    out: MemorySink,
+    err: MemorySink,
+}
+
+fn ran(alloc: Global, case: &Case<'_>) -> Result<Outcome, NoMemory> {
+    let mut words = ArgList::start(alloc);
+    for word in case.words {
+        words.push(word)?;
+    }
+    let mut shelf = MemoryShelf::of(alloc, 4, ROOM, case.most, failing(alloc, case.shelf_fails)?)?;
+    shelf.put(case.name, case.bytes)?;
+    let mut out = MemorySink::of(alloc, ROOM, ROOM, failing(alloc, case.out_fails)?)?;
+    let mut err = MemorySink::of(alloc, ROOM, ROOM, Vec::new(alloc))?;
+    let status = run(alloc, &words, &case.limits, &mut shelf, &mut out, &mut err);
+    Ok(Outcome {
+        status: status.number(),
+        shelf,
+        out,
+        err,
+    })
+}
+
+fn judge<R: Abort + AllocGlobal>(rt: &R, case: &Case<'_>) -> Result<(), NoMemory> {
+    let outcome = ran(rt.alloc(), case)?;
+    assert_eq!(rt; outcome.status, case.status);
+    assert_eq!(rt; outcome.out.bytes(), case.out);
+    assert_eq!(rt; outcome.err.bytes(), case.err);
+    assert_eq!(rt; outcome.shelf.get("u.obj"), case.saved);
+    Ok(())
+}
+
+// A run without faults, under the program's limits.
+fn plain<'a>(words: &'a [&'a str], name: &'a str, bytes: &'a [u8], status: u8, err: &'a [u8]) -> Case<'a> {
+    Case {
+        words,
+        name,
+        bytes,
+        most: ROOM,
+        shelf_fails: 0,
+        out_fails: 0,
+        limits: Limits::program(),
+        status,
+        out: b"",
+        err,
+        saved: None,
+    }
+}
+
+#[test]
+fn what_is_copied_is_saved_and_reported(rt: HostRuntime) -> Result<(), Fail> {
+    let mut case = plain(&["copy", "t.obj", "u.obj"], "t.obj", TETRAHEDRON, 0, b"");
+    case.out = b"copied u.obj: points 4, triangles 4, unused 0\n";
+    case.saved = Some(TETRAHEDRON);
+    judge(&rt, &case)?;
+    let mut case = plain(&["copy", "e.obj", "u.obj"], "e.obj", b"", 0, b"");
+    case.out = b"copied u.obj: points 0, triangles 0, unused 0\n";
+    case.saved = Some(b"");
+    judge(&rt, &case)?;
+    Ok(())
+}
+
+#[test]
+fn each_refusal_has_its_status_and_line(rt: HostRuntime) -> Result<(), Fail> {
+    let words = ["copy", "c.obj", "u.obj"];
+    judge(&rt, &plain(&words, "c.obj", OPEN_CUBE, 4, b"c.obj: 11 OpenEdge 5 7\n"))?;
+    judge(&rt, &plain(&words, "c.obj", b"v 0 0 0\nvn 1 0 0\n", 4, b"c.obj:2: 1 UnknownLine\n"))?;
+    judge(&rt, &plain(&words, "t.obj", TETRAHEDRON, 3, b"c.obj: missing\n"))?;
+    judge(&rt, &plain(&["copy", "t.obj"], "t.obj", TETRAHEDRON, 1, USAGE))?;
+    judge(&rt, &plain(&["copy", "t.obj", "u.ply"], "t.obj", TETRAHEDRON, 1, USAGE))?;
+    Ok(())
+}
+
+#[test]
+fn the_first_count_past_its_limit_is_named(rt: HostRuntime) -> Result<(), Fail> {
+    let words = ["copy", "t.obj", "u.obj"];
+    let mut case = plain(&words, "t.obj", TETRAHEDRON, 5, b"limit points 4\n");
+    case.limits = Limits::of(187, 3, 2, 0).ok_or("these limits are lawful")?;
+    judge(&rt, &case)?;
+    let mut case = plain(&words, "t.obj", &[32; 188], 5, b"limit file_bytes 188\n");
+    case.limits = Limits::of(187, 3, 2, 0).ok_or("these limits are lawful")?;
+    judge(&rt, &case)?;
+    Ok(())
+}
+
+#[test]
+fn a_fault_ends_the_run_and_leaves_a_part(rt: HostRuntime) -> Result<(), Fail> {
+    let words = ["copy", "t.obj", "u.obj"];
+    let mut case = plain(&words, "t.obj", TETRAHEDRON, 6, b"t.obj: read fault\n");
+    case.shelf_fails = 2;
+    judge(&rt, &case)?;
+    let mut case = plain(&words, "t.obj", TETRAHEDRON, 7, b"u.obj: write fault\n");
+    case.most = 10;
+    case.shelf_fails = 12;
+    case.saved = Some(b"v 0 0 0\nv 1 0 0\nv 0 ");
+    judge(&rt, &case)?;
+    let mut case = plain(&words, "t.obj", TETRAHEDRON, 7, b"report: write fault\n");
+    case.out_fails = 2;
+    case.out = b"copied ";
+    case.saved = Some(TETRAHEDRON);
+    judge(&rt, &case)?;
+    Ok(())
+}

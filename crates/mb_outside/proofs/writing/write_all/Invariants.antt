@@ -1,0 +1,17 @@
+use Rattle.std.proofs.Common.{length, ℕ, ◌-◌, ◌≡◌, ◌≤◌, ◌++◌, take, Some}
+use Rattle.std.specs.Option.{option_map}
+use Rattle.mb_outside.proofs.writing.write_all.Given as goal
+
+abbrev pub invariant-loop-done : goal.invariant-loop-done
+invariant-loop-done g l = record {
+  within : l.done ≤ length l.text;
+  told : g.K.Sink.told l.sink ≡ option_map (λ held. held ++ take l.done l.text) (g.K.Sink.told l.initial.sink);
+  count : g.K.Sink.faults l.sink ≡ g.K.Sink.faults l.initial.sink;
+  other : g.K.Sink.other l.sink ≡ g.K.Sink.other l.initial.sink;
+  rest : g.K.Sink.rest l.sink ≡ g.K.Sink.rest l.initial.sink;
+  loan : g.K.Sink.loan l.sink ≡ g.K.Sink.loan l.initial.sink;
+  room : (free : ℕ) → g.K.Sink.room l.initial.sink ≡ Some free → length l.text ≤ free → g.K.Sink.room l.sink ≡ Some (free - l.done)
+}
+
+abbrev pub decreases-loop-done : goal.decreases-loop-done
+decreases-loop-done g l = length l.text - l.done

@@ -1,0 +1,5 @@
+pub mod Calls
+pub mod SinkState
+pub mod Sinks
+pub mod Store
+pub mod ShelfState

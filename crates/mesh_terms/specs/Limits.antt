@@ -1,0 +1,17 @@
+-- The limits of a run.
+use Rattle.std.specs.Prelude.{ℕ, ◌+◌, ◌*◌, ◌^◌, ◌≤◌}
+
+pub record Limits : Type 0 where
+  pub file_bytes : ℕ
+  pub points : ℕ
+  pub triangles : ℕ
+  pub halfedges : ℕ
+
+-- a result of an operation is within these limits, and its file can be read again
+pub record IsLawful (l : Limits) : Type 0 where
+  pub few_triangles : l.triangles ≤ 100000000
+  pub few_points : l.points ≤ 150000000
+  pub triangles_enough : 5 * l.halfedges ≤ 3 * l.triangles
+  pub points_enough : 3 * l.triangles ≤ 2 * l.points
+  pub bytes_enough : 41 * l.points + 32 * l.triangles ≤ l.file_bytes
+  pub bytes_bounded : l.file_bytes ≤ 2 ^ 40

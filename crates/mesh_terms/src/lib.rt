@@ -1,0 +1,2 @@
+//! Definitions of points, triangle meshes, closedness and limits.
+#![tactic(auto)]

@@ -1,0 +1,17 @@
+use Rattle.std.proofs.Common.{◌≡◌, ◌≤◌, take}
+use Rattle.std.specs.List.{flat_map}
+use Rattle.arrayvec.specs.ArrayVec.{array_vec_len}
+use Rattle.mesh_terms.specs.Meshes.{triple_of}
+use Rattle.obj_terms.specs.Written.{face_line}
+use Rattle.mesh_writer.specs.Passing.{Passed}
+use Rattle.mesh_writer.proofs.obj.write_faces.Given as goal
+
+abbrev pub invariant-loop-triple : goal.invariant-loop-triple
+invariant-loop-triple g l = record {
+  free : array_vec_len l.page ≤ 3968;
+  passed : Passed (flat_map (λ t. face_line (triple_of t)) (take l.triple-index l.triples)) l.initial.page.items l.page.items (g.K.Sink.told l.initial.sink) (g.K.Sink.told l.sink) (g.K.Sink.room l.initial.sink) (g.K.Sink.room l.sink);
+  count : g.K.Sink.faults l.sink ≡ g.K.Sink.faults l.initial.sink;
+  other : g.K.Sink.other l.sink ≡ g.K.Sink.other l.initial.sink;
+  rest : g.K.Sink.rest l.sink ≡ g.K.Sink.rest l.initial.sink;
+  loan : g.K.Sink.loan l.sink ≡ g.K.Sink.loan l.initial.sink;
+}

@@ -1,0 +1,17 @@
+-- A text on its way to a sink by a page that holds the last of it.
+use Rattle.std.specs.Prelude.{◌≡◌, ℕ, ◌+◌, ◌-◌, ◌≤◌, ◌++◌, length, Option, Some}
+use Rattle.std.specs.Option.{option_map}
+use Rattle.run_terms.specs.Files.{Bytes}
+use Rattle.mb_outside.specs.Sinks.{AddsPart}
+
+-- the sink took what the page held and a first part of the text, and the page holds the rest
+pub record Passed (text held_old held_new : Bytes) (told_old told_new : Option Bytes) (room_old room_new : Option ℕ) : Type 0 where
+  pub sent : Bytes
+  pub split : sent ++ held_new ≡ held_old ++ text
+  pub told : told_new ≡ option_map (λ held. held ++ sent) told_old
+  pub room : (free : ℕ) → room_old ≡ Some free → length held_old + length text ≤ free → room_new ≡ Some (free - length sent)
+
+-- the sink failed after a first part of what the page held and of the text, and only where its room was too small
+pub record Stopped (text held_old : Bytes) (told_old told_new : Option Bytes) (room_old : Option ℕ) : Type 0 where
+  pub told : AddsPart (held_old ++ text) told_old told_new
+  pub small : (free : ℕ) → room_old ≡ Some free → length held_old + length text ≤ free → ⊥

@@ -1,0 +1,79 @@
+// The OBJ text of a mesh.
+ghost use Rattle.std.specs.Prelude.{◌≡◌, ◌≤◌, ◌++◌, ℕ, Some, length, IsOk, OnOk, OnErr};
+ghost use Rattle.std.specs.Option.{option_map};
+ghost use Rattle.std.specs.List.{flat_map};
+ghost use Rattle.arrayvec.specs.ArrayVec.{array_vec_len};
+ghost use Rattle.run_terms.specs.Files.{Counts};
+ghost use Rattle.mesh_terms.specs.Meshes.{triple_of};
+ghost use Rattle.obj_terms.specs.Written.{point_line, face_line, obj_text};
+ghost use Rattle.mb_outside.specs.Sinks.{AddsPart};
+ghost use Rattle.mesh_writer.specs.Passing.{Passed, Stopped};
+
+use crate::lines::{put_face, put_point};
+use crate::page::{Page, send_full};
+use mb_base::Point;
+use mb_outside::{Failed, Sink, write_all};
+use mesh_check::Mesh;
+
+// Writes the lines of the points.
+fn write_points<K: Sink>(
+    points: &[Point],
+    digits: u8,
+    page: &mut Page,
+    sink: &mut K,
+) -> Result<(), Failed>
+    requires digits { digits ≤ 6 }
+    requires free { array_vec_len page.old ≤ 3968 }
+    ensures passed { OnOk result (Passed (flat_map (point_line digits) points.now) page.old.items page.new.items (K.told sink.old) (K.told sink.new) (K.room sink.old) (K.room sink.new)) }
+    ensures stopped { OnErr result (Stopped (flat_map (point_line digits) points.now) page.old.items (K.told sink.old) (K.told sink.new) (K.room sink.old)) }
+    ensures free { OnOk result (array_vec_len page.new ≤ 3968) }
+    ensures count { Counts (K.faults sink.old) (K.faults sink.new) result }
+    ensures other { K.other sink.new ≡ K.other sink.old }
+    ensures rest { K.rest sink.new ≡ K.rest sink.old }
+    ensures loan { K.loan sink.new ≡ K.loan sink.old }
+{
+    for point in points {
+        put_point(page, point, digits);
+        send_full(page, sink)?;
+    }
+    Ok(())
+}
+
+// Writes the lines of the triangles.
+fn write_faces<K: Sink>(triples: &[[u32; 3]], page: &mut Page, sink: &mut K) -> Result<(), Failed>
+    requires { array_vec_len page.old ≤ 3968 }
+    ensures passed { OnOk result (Passed (flat_map (λ t. face_line (triple_of t)) triples.now) page.old.items page.new.items (K.told sink.old) (K.told sink.new) (K.room sink.old) (K.room sink.new)) }
+    ensures stopped { OnErr result (Stopped (flat_map (λ t. face_line (triple_of t)) triples.now) page.old.items (K.told sink.old) (K.told sink.new) (K.room sink.old)) }
+    ensures count { Counts (K.faults sink.old) (K.faults sink.new) result }
+    ensures other { K.other sink.new ≡ K.other sink.old }
+    ensures rest { K.rest sink.new ≡ K.rest sink.old }
+    ensures loan { K.loan sink.new ≡ K.loan sink.old }
+{
+    for triple in triples {
+        put_face(page, triple);
+        send_full(page, sink)?;
+    }
+    Ok(())
+}
+
+/// Writes the OBJ text of a mesh to a sink, with `digits` decimal digits for a unit: a line `v X Y Z` for each point, then a
+/// line `f A B C` for each triangle, its vertices counted from 1.
+///
+/// After `Failed`, which comes only where the sink's count of faults rose, a first part of the text was written. A text that fits
+/// the room that the sink tells is written whole. It takes no memory; a page of 4,096 bytes goes to the sink
+/// where fewer than 128 bytes are free on it, and at the end. The time is linear in the text.
+pub fn write_obj<K: Sink>(mesh: &Mesh, digits: u8, sink: &mut K) -> Result<(), Failed>
+    requires { digits ≤ 6 }
+    ensures added { OnOk result (K.told sink.new ≡ option_map (λ held. held ++ obj_text digits mesh.now.points mesh.now.triples) (K.told sink.old)) }
+    ensures part { OnErr result (AddsPart (obj_text digits mesh.now.points mesh.now.triples) (K.told sink.old) (K.told sink.new)) }
+    ensures count { Counts (K.faults sink.old) (K.faults sink.new) result }
+    ensures other { K.other sink.new ≡ K.other sink.old }
+    ensures rest { K.rest sink.new ≡ K.rest sink.old }
+    ensures loan { K.loan sink.new ≡ K.loan sink.old }
+    ensures sure { (free : ℕ) → K.room sink.old ≡ Some free → length (obj_text digits mesh.now.points mesh.now.triples) ≤ free → IsOk result }
+{
+    let mut page = Page::new();
+    write_points(mesh.points(), digits, &mut page, sink)?;
+    write_faces(mesh.triples(), &mut page, sink)?;
+    write_all(sink, page.as_slice())
+}

@@ -1,0 +1,46 @@
+// The page that lines are put on before they go to a sink.
+ghost use Rattle.std.specs.Prelude.{◌≡◌, ◌≤◌, ◌+◌, ◌++◌, [], length, OnOk, OnErr};
+ghost use Rattle.arrayvec.specs.ArrayVec.{array_vec_len};
+ghost use Rattle.run_terms.specs.Files.{Counts};
+ghost use Rattle.mesh_writer.specs.Passing.{Passed, Stopped};
+
+use arrayvec::ArrayVec;
+use mb_outside::{Failed, Sink, write_all};
+
+/// How many bytes a page holds.
+pub const PAGE: usize = 4096;
+
+/// How many bytes are free on a page where a line is put on it. No line is longer.
+pub const LINE: usize = 128;
+
+/// A page.
+pub type Page = ArrayVec<u8, PAGE>;
+
+// Adds a text to the page.
+pub fn put_text(page: &mut Page, text: &[u8])
+    requires { array_vec_len page.old + length text.now ≤ 4096 }
+    ensures text { page.new.items ≡ page.old.items ++ text.now }
+    ensures len { array_vec_len page.new ≡ array_vec_len page.old + length text.now }
+{
+    match page.try_extend_from_slice(text) {
+        Ok(()) => (),
+        Err(_) => unreachable!(),
+    }
+}
+
+// Sends the page to the sink where fewer bytes are free than a line may need.
+pub fn send_full<K: Sink>(page: &mut Page, sink: &mut K) -> Result<(), Failed>
+    ensures passed { OnOk result (Passed [] page.old.items page.new.items (K.told sink.old) (K.told sink.new) (K.room sink.old) (K.room sink.new)) }
+    ensures stopped { OnErr result (Stopped [] page.old.items (K.told sink.old) (K.told sink.new) (K.room sink.old)) }
+    ensures free { OnOk result (array_vec_len page.new ≤ 3968) }
+    ensures count { Counts (K.faults sink.old) (K.faults sink.new) result }
+    ensures other { K.other sink.new ≡ K.other sink.old }
+    ensures rest { K.rest sink.new ≡ K.rest sink.old }
+    ensures loan { K.loan sink.new ≡ K.loan sink.old }
+{
+    if PAGE - page.len() < LINE {
+        write_all(sink, page.as_slice())?;
+        page.clear();
+    }
+    Ok(())
+}

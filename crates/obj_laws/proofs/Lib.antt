@@ -1,0 +1,11 @@
+pub mod Bytes
+pub mod Lines
+pub mod Words
+pub mod Numbers
+pub mod Texts
+pub mod Reading
+pub mod Used
+pub mod Kept
+pub mod Lengths
+pub mod Saved
+pub mod Example

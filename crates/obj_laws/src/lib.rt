@@ -1,0 +1,27 @@
+//! A saved OBJ file reads back: the laws of the narrow form, each as the contract of a function that does nothing.
+//!
+//! The narrow form has a line for each point, of three whole numbers, and a line for each triangle, of three different
+//! vertex numbers. Under lawful limits, whatever its reader gives, written in that form again, reads as the same points
+//! and triangles in the same order, and is short enough to be read. The lemmas stand in `proofs/`: bytes, lines, words and
+//! numbers, what one line gives its reader, and what all lines give.
+#![tactic(auto)]
+
+ghost use Rattle.obj_laws.specs.Example.{TetrahedronReadsBack};
+ghost use Rattle.obj_laws.specs.Laws.{NarrowSoupsReadBack, FilesGiveNarrowSoups, FilesReadBack};
+
+/// Under lawful limits the text of a narrow soup reads as the soup, and its length is within the limit of a file.
+pub fn narrow_soups_read_back()
+    ensures { NarrowSoupsReadBack }
+{}
+
+/// What is read of a file in the narrow form, whatever the file, is a narrow soup, and so, under lawful limits, reads back
+/// when it is saved.
+pub fn files_read_back()
+    ensures narrow { FilesGiveNarrowSoups }
+    ensures again { FilesReadBack }
+{}
+
+/// A tetrahedron's text, byte for byte, is what is saved of it, and reads as it.
+pub fn a_tetrahedron_reads_back()
+    ensures { TetrahedronReadsBack }
+{}

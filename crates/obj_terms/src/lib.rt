@@ -1,0 +1,2 @@
+//! Definitions of the OBJ format: what a file gives, line by line, and the text of a mesh.
+#![tactic(auto)]

@@ -1,0 +1,6 @@
+mod AllUsed
+mod DigitSteps
+mod LineSteps
+mod Positions
+mod UsedSteps
+mod WordSteps

@@ -1,0 +1,4 @@
+pub mod Copy
+pub mod Lines
+pub mod Meets
+pub mod Words

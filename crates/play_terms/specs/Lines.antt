@@ -1,0 +1,64 @@
+-- The lines that the program says on its output, and those that tell why it ended.
+use Rattle.std.specs.Prelude.{ℕ, ◌+◌, ◌++◌, ◌==◌, if◌then◌else◌, length, codes, decimal}
+use Rattle.mesh_terms.specs.Faults.{Counted, FileBytes, Points, Triangles, Halfedges, Fault, Bad, Over}
+use Rattle.mesh_terms.specs.Meshes.{Soup}
+use Rattle.obj_terms.specs.Written.{line_of}
+use Rattle.run_terms.specs.Files.{Bytes}
+use Rattle.run_terms.specs.Runs.{Refusal}
+
+abbrev pub refusal : ℕ → Bytes → Refusal
+refusal status text = record { status = status; line = line_of text }
+
+abbrev pub usage : Refusal
+usage = refusal 1 (codes "usage: manifold_tool copy IN OUT, inside FILE X Y Z or run SCRIPT, each with --digits K")
+
+abbrev pub missing : Bytes → Refusal
+missing name = refusal 3 (name ++ codes ": missing")
+
+-- the name of a kind of fault by its number
+abbrev pub kind_name : ℕ → Bytes
+kind_name kind =
+    if kind == 1 then codes "UnknownLine"
+    else if kind == 2 then codes "BadVertex"
+    else if kind == 3 then codes "BadNumber"
+    else if kind == 4 then codes "OutOfGrid"
+    else if kind == 5 then codes "BadFace"
+    else if kind == 6 then codes "BadIndex"
+    else if kind == 7 then codes "FaceRepeatsVertex"
+    else codes "NotStl"
+
+abbrev pub limit_name : Counted → Bytes
+limit_name FileBytes = codes "file_bytes"
+limit_name Points = codes "points"
+limit_name Triangles = codes "triangles"
+limit_name Halfedges = codes "halfedges"
+
+-- limit WHAT SEEN
+abbrev pub over : Counted → ℕ → Refusal
+over what seen = refusal 5 (codes "limit " ++ limit_name what ++ codes " " ++ decimal seen)
+
+-- FILE:LINE: NUMBER KIND
+abbrev pub fault_refusal : Bytes → Fault → Refusal
+fault_refusal name (Bad line kind) = refusal 4 (name ++ codes ":" ++ decimal line ++ codes ": " ++ decimal kind ++ codes " " ++ kind_name kind)
+fault_refusal name (Over what seen) = over what seen
+
+-- FILE: 11 OpenEdge FROM TO, counted from 1
+abbrev pub open_refusal : Bytes → (ℕ × ℕ) → Refusal
+open_refusal name e = refusal 4 (name ++ codes ": 11 OpenEdge " ++ decimal (e.0 + 1) ++ codes " " ++ decimal (e.1 + 1))
+
+abbrev pub read_fault : Bytes → Bytes
+read_fault name = line_of (name ++ codes ": read fault")
+
+abbrev pub write_fault : Bytes → Bytes
+write_fault name = line_of (name ++ codes ": write fault")
+
+abbrev pub report_fault : Bytes
+report_fault = line_of (codes "report: write fault")
+
+abbrev pub no_memory : Bytes
+no_memory = line_of (codes "out of memory")
+
+-- copied OUT: points P, triangles T, unused U
+abbrev pub copied_line : Bytes → Soup → Bytes
+copied_line to m =
+    line_of (codes "copied " ++ to ++ codes ": points " ++ decimal (length m.points) ++ codes ", triangles " ++ decimal (length m.triples) ++ codes ", unused " ++ decimal m.unused)
