@@ -1,13 +1,15 @@
-// A library with one function.
+//! How often a closed mesh winds round a point: 1 inside a solid, 0 outside, -1 inside a solid turned inside out, and
+//! the sum where solids overlap. It is minus the sum of the shadow tests of the point with all faces, so it is a whole
+//! number whatever the rounding did, also for a point on the mesh. `winding_sum` computes it under any shadow test of a
+//! vertex and a face, `winding_at` for a point of the grid in a mesh as it was read. After J. M. Smith's thesis
+//! "Towards robust inexact geometric computation" and the Manifold library.
 #![tactic(auto)]
 
-ghost use Rattle.std.specs.Prelude.{◌≡◌};
-ghost use Rattle.winding.specs.Echo.{echo_of};
+mod face;
+mod point;
+mod sum;
 
-// The `ensures` clause is the contract: what `echo` returns is `echo_of` of its argument, a definition
-// in `specs/Echo.antt`, which a caller's clause can cite too.
-pub fn echo(x: usize) -> usize
-    ensures { result ≡ echo_of x }
-{
-    x
-}
+
+
+pub use point::winding_at;
+pub use sum::winding_sum;
