@@ -1,0 +1,31 @@
+-- The list of corners, step by step.
+use Rattle.std.proofs.Common.{arith, ◌≡◌, ℕ, ◌+◌, ◌<◌, ℤ, Bool, List, [], ◌∷◌, ◌++◌, length, take, get_or, map, min, ap, ◌∙◌, sym}
+use Rattle.std.specs.List.{zip}
+use Rattle.std.proofs.lemmas.List.{take_more, map_push, take_all, length-map}
+use Rattle.std.proofs.lemmas.Slice.Zip.{length-zip, get_or-zip}
+use Rattle.mb_base.specs.declared.point.Corner.{Corner}
+use Rattle.lean.specs.Sides.{corner_of, corners_of}
+
+-- the corners of the first i points
+abbrev pub corners_to : List (List ℤ) → List (List Bool) → ℕ → List Corner
+corners_to ps us i = map (λ m. corner_of m.0 m.1) (take i (zip ps us))
+
+-- one point more
+pub corners_more :
+    (ps : List (List ℤ)) (us : List (List Bool)) (i : ℕ) (p : List ℤ) (u : List Bool) →
+    i < length ps → i < length us → p ≡ get_or ps i [] → u ≡ get_or us i [] →
+    corners_to ps us (i + 1) ≡ corners_to ps us i ++ corner_of p u ∷ []
+corners_more ps us i p u h k e f =
+    let n : i < length (zip ps us) = omega (arith, length-zip ps us, h, k) in
+    let g : (List ℤ × List Bool) → Corner = λ m. corner_of m.0 m.1 in
+    let pair = get_or-zip ps us i ([], []) h k in
+    rw (e, f) (ap (map g) (take_more (zip ps us) i ([], []) n) ∙ map_push g (take i (zip ps us)) (get_or (zip ps us) i ([], [])) ∙ ap (λ m. corners_to ps us i ++ g m ∷ []) pair)
+
+-- all of them
+pub corners_all :
+    (ps : List (List ℤ)) (us : List (List Bool)) (i : ℕ) → i ≡ min (length ps) (length us) → corners_to ps us i ≡ corners_of ps us
+corners_all ps us i e = ap (map (λ (m : List ℤ × List Bool). corner_of m.0 m.1)) (take_all i (zip ps us) (omega (arith, length-zip ps us, e)))
+
+-- as many corners as points
+pub corners_long : (ps : List (List ℤ)) (us : List (List Bool)) → length us ≡ length ps → length (corners_of ps us) ≡ length ps
+corners_long ps us e = length-map (zip ps us) (λ (m : List ℤ × List Bool). corner_of m.0 m.1) ∙ omega (arith, length-zip ps us, e)

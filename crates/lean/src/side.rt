@@ -1,0 +1,76 @@
+// The two lists of a side.
+ghost use Rattle.std.specs.Prelude.{◌≡◌, IfOk, length};
+ghost use Rattle.mesh_terms.specs.Meshes.{IsAccepted, triples_of};
+ghost use Rattle.rounding.specs.Corners.{AllFine};
+ghost use Rattle.lean.specs.Sides.{corners_of};
+
+use crate::corner::corner_of;
+use mb_base::{Corner, NoMemory, Point};
+use mesh_check::Mesh;
+use std::alloc::Global;
+use std::marker::Model;
+
+/// A closed mesh for the shadow tests: its corners in fine steps, each with the marks of the axes on which it counts as
+/// moved up, and its triangles, each as three corner numbers from 0.
+#[derive(Drop)]
+pub struct Side {
+    corners: Vec<Corner>,
+    triples: Vec<[u32; 3]>,
+}
+
+impl Model for Side {
+    ghost use Rattle.mesh_terms.specs.Meshes.{triples_of};
+    ghost use Rattle.lean.specs.Sides.{Side as TheSide, IsSide};
+
+    ghost Value = { TheSide };
+
+    ghost view = { λ s. record { corners = s.corners.items; triples = triples_of s.triples.items } };
+
+    ghost invariant = { λ s. IsSide s.corners.items (triples_of s.triples.items) };
+}
+
+impl Side {
+    /// The side of a mesh with the marks of its points, in their order. It takes time and memory in proportion to the
+    /// points and triangles. `NoMemory` may come for any mesh.
+    pub fn of(alloc: Global, mesh: &Mesh, ups: Vec<[bool; 3]>) -> Result<Side, NoMemory>
+        requires { length ups.items ≡ length mesh.now.points }
+        ensures corners { IfOk result (λ s. s.corners ≡ corners_of mesh.now.points ups.items) }
+        ensures triples { IfOk result (λ s. s.triples ≡ mesh.now.triples) }
+    {
+        let corners = corners_of(alloc, mesh.points(), &ups)?;
+        let triples = mesh.triples().to_vec(alloc)?;
+        Ok(Side { corners, triples })
+    }
+
+    /// The corners.
+    pub fn corners(&self) -> &[Corner]
+        ensures value { result.now ≡ self.now.corners }
+        ensures fine { AllFine self.now.corners }
+        ensures accepted { IsAccepted (length self.now.corners) self.now.triples }
+    {
+        &self.corners
+    }
+
+    /// The triangles, each as three corner numbers from 0.
+    pub fn triples(&self) -> &[[u32; 3]]
+        ensures value { triples_of result.now ≡ self.now.triples }
+        ensures fine { AllFine self.now.corners }
+        ensures accepted { IsAccepted (length self.now.corners) self.now.triples }
+    {
+        &self.triples
+    }
+}
+
+// The corners of points with their marks.
+fn corners_of(alloc: Global, points: &[Point], ups: &[[bool; 3]]) -> Result<Vec<Corner>, NoMemory>
+    requires { length ups.now ≡ length points.now }
+    ensures value { IfOk result (λ corners. corners.items ≡ corners_of points.now ups.now) }
+    ensures fine { IfOk result (λ corners. AllFine corners.items) }
+    ensures length { IfOk result (λ corners. length corners.items ≡ length points.now) }
+{
+    let mut corners = Vec::with_capacity(alloc, points.len())?;
+    for (point, up) in points.iter().zip(ups) {
+        corners.push(corner_of(*point, *up))?;
+    }
+    Ok(corners)
+}

@@ -1,0 +1,40 @@
+-- How often a mesh winds round a point.
+use Rattle.std.specs.Prelude.{ℤ, neg_ℤ, Bool, false, Option, List, [], ◌∷◌, get_or}
+use Rattle.chain_terms.specs.Sums.{total}
+use Rattle.mesh_terms.specs.Meshes.{Mesh, Triple}
+use Rattle.mb_base.specs.declared.point.Corner.{Corner}
+use Rattle.rounding.specs.Corners.{corner_at}
+use Rattle.rounding.specs.Nearest.{nearest}
+use Rattle.shadow_kernels.specs.declared.Meet.{Meet}
+use Rattle.shadow_kernels.specs.Counts.{shadow_of}
+use Rattle.shadow_kernels.specs.Shadows.{meet02}
+use Rattle.lean.specs.Sides.{Side, corner_of}
+
+-- a shadow test: what it answers for the corners of p and of q
+abbrev pub ShadowTest : Type 0
+ShadowTest = List Corner → List Corner → Option Meet
+
+-- the corners of a triangle
+abbrev pub face_of : List Corner → Triple → List Corner
+face_of corners t = corner_at corners t.0 ∷ corner_at corners t.1 ∷ corner_at corners t.2 ∷ []
+
+-- the shadow of a corner over a face
+abbrev pub face_shadow : ShadowTest → Corner → List Corner → ℤ
+face_shadow test p face = shadow_of (test (p ∷ []) face)
+
+-- the winding number of a corner in a side: minus the sum of its shadows over all faces
+abbrev pub winding : ShadowTest → Corner → Side → ℤ
+winding test p q = neg_ℤ (total (λ t. face_shadow test p (face_of q.corners t)) q.triples)
+
+-- the corner of a point that is up on no axis
+abbrev pub plain_corner : List ℤ → Corner
+plain_corner point = corner_of point (false ∷ false ∷ false ∷ [])
+
+-- the shadow of a point over a triangle of points, spots placed to the nearest fine step, nothing moved up
+abbrev pub plain_shadow : List ℤ → List ℤ → List ℤ → List ℤ → ℤ
+plain_shadow p a b c = shadow_of (meet02 nearest (plain_corner p) (plain_corner a) (plain_corner b) (plain_corner c))
+
+-- the winding number of a point in a mesh: minus the sum of its shadows over all triangles
+abbrev pub winding_at : List ℤ → Mesh → ℤ
+winding_at point mesh =
+    neg_ℤ (total (λ t. plain_shadow point (get_or mesh.points t.0 []) (get_or mesh.points t.1 []) (get_or mesh.points t.2 [])) mesh.triples)
