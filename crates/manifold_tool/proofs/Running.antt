@@ -1,29 +1,51 @@
 -- A run by its words, and the statuses of halts.
-use Rattle.std.proofs.Common.{◌≡◌, ℕ, List, [], get_or, Option, Some, None, IsTrue, arith, ap, sym, ◌∙◌, refl, subst, inl, inr, ◌⊎◌}
+use Rattle.std.proofs.Common.{◌≡◌, ℕ, ℤ, codes, false, bytes_eq, Result, Ok, Err, IsOk, OnOk, IfErr, ◌∷◌, List, [], get_or, Option, Some, None, IsTrue, arith, ap, sym, ◌∙◌, refl, subst, inl, inr, ◌⊎◌}
 use Rattle.mesh_terms.specs.Limits.{Limits}
-use Rattle.obj_terms.specs.Reading.{narrow_obj}
 use Rattle.run_terms.specs.Files.{Bytes, Files}
 use Rattle.run_terms.specs.Runs.{World, Faults, Play, Done, status_of}
-use Rattle.play_terms.specs.Commands.{copy_play, narrow_play, narrow_play_of}
+use Rattle.play_terms.specs.Commands.{narrow_play, narrow_play_of}
 use Rattle.play_terms.specs.Meets.{RunMeets}
-use Rattle.play_terms.specs.Words.{Command, CopyFile, narrow_command}
-use Rattle.manifold_tool.specs.Halts.{halt_status}
+use Rattle.play_terms.specs.Words.{Command, CopyFile, InsideFile, narrow_command}
+use Rattle.manifold_tool.specs.Halts.{halt_status, halt_line, ended_status, ended_line}
+use Rattle.manifold_tool.specs.Winding.{winding_in}
 use Rattle.manifold_tool.specs.Stops.{stop_status, is_reading_stop}
 use Rattle.manifold_tool.specs.declared.halt.Halt.{Halt}
 use Rattle.manifold_tool.specs.declared.halt.Halt.TheVariants.{Reading, Saving, Reporting}
 use Rattle.manifold_tool.specs.declared.stop.Stop.{Stop}
 use Rattle.manifold_tool.specs.declared.stop.Stop.TheVariants.{Usage, Missing, BadText, BadEdge, Over, ReadFault, WriteFault, NoMemory}
 
--- a copy is what the words ask for
-pub as_asked : (limits : Limits) (files : Files) (words : List Bytes) (from to : Bytes) (w v : World) (status status' : ℕ) (before now : Faults) (line : Bytes)
-    → narrow_command words ≡ Some (CopyFile 4 (get_or words 1 []) (get_or words 2 [])) → from ≡ get_or words 1 [] → to ≡ get_or words 2 [] → status' ≡ status
-    → RunMeets (copy_play narrow_obj 4 limits files from to) w v status before now line
-    → RunMeets (narrow_play words files limits) w v status' before now line
-as_asked limits files words from to w v status status' before now line asked same_from same_to same meets =
-    let P : Option Command → Type 0 = λ command. RunMeets (narrow_play_of limits files command) w v status' before now line in
-    let Q : ℕ → Type 0 = λ s. RunMeets (copy_play narrow_obj 4 limits files from to) w v s before now line in
-    let command : narrow_command words ≡ Some (CopyFile 4 from to) = asked ∙ ap (λ f. Some (CopyFile 4 f (get_or words 2 []))) (sym same_from) ∙ ap (λ t. Some (CopyFile 4 from t)) (sym same_to) in
-    subst P (sym command) (subst Q (sym same) meets)
+-- a command is what the words ask for
+pub as_asked : (limits : Limits) (files : Files) (words : List Bytes) (command : Command) (w v : World) (status status' : ℕ) (before now : Faults) (line : Bytes)
+    → narrow_command words ≡ Some command → status' ≡ status
+    → RunMeets (narrow_play_of winding_in limits files (Some command)) w v status before now line
+    → RunMeets (narrow_play winding_in words files limits) w v status' before now line
+as_asked limits files words command w v status status' before now line asked same meets =
+    let P : Option Command → Type 0 = λ o. RunMeets (narrow_play_of winding_in limits files o) w v status' before now line in
+    let Q : ℕ → Type 0 = λ s. RunMeets (narrow_play_of winding_in limits files (Some command)) w v s before now line in
+    subst P (sym asked) (subst Q (sym same) meets)
+
+-- names of a copy by the words that hold them
+pub copy_asked : (command : Option Command) (a b from to : Bytes) → command ≡ Some (CopyFile 4 a b) → from ≡ a → to ≡ b → command ≡ Some (CopyFile 4 from to)
+copy_asked command a b from to asked same_from same_to = rw (same_from, same_to) asked
+
+-- the name of a file by the word that holds it
+pub inside_asked : (command : Option Command) (a file : Bytes) (point : List ℤ) → command ≡ Some (InsideFile 4 a point) → file ≡ a → command ≡ Some (InsideFile 4 file point)
+inside_asked command a file point asked same = rw same asked
+
+-- the run of a command that ended well or stopped
+pub ended_meets : (p : Play) (from to : Bytes) (w v : World) (before now : Faults) (ended : Result (Unit {0}) Halt)
+    → OnOk ended (RunMeets p w v 0 before now []) → IfErr ended (λ halt. RunMeets p w v (halt_status halt) before now (halt_line from to halt))
+    → RunMeets p w v (ended_status ended) before now (ended_line from to ended)
+ended_meets p from to w v before now (Ok x) done halted = done
+ended_meets p from to w v before now (Err halt) done halted = halted
+
+-- words that ask for one thing do not ask for another
+pub not_both : (words : List Bytes) → (narrow_command words ≡ None) ⊎ (bytes_eq (get_or words 0 []) (codes "copy") ≡ false)
+    → (narrow_command words ≡ None) ⊎ (bytes_eq (get_or words 0 []) (codes "inside") ≡ false) → narrow_command words ≡ None
+not_both [] copy inside = refl
+not_both words (inl none) inside = none
+not_both words copy (inl none) = none
+not_both (w ∷ ws) (inr copy) (inr inside) = rw (copy, inside) refl
 
 -- a stop in reading has no status of a write
 pub no_write : (stop : Stop) → IsTrue (is_reading_stop stop) → stop_status stop ≡ 7 → ⊥
@@ -36,11 +58,13 @@ no_write (Over what seen) reads is = cc
 no_write ReadFault reads is = cc
 no_write NoMemory reads is = cc
 
--- a halt with the status of a write is in saving or in reporting
-pub saves_or_reports : (halt : Halt) → ((stop : Stop) → halt ≡ Reading stop → IsTrue (is_reading_stop stop)) → halt_status halt ≡ 7 → (halt ≡ Saving) ⊎ (halt ≡ Reporting)
-saves_or_reports (Reading stop) reads is = absurd (no_write stop (reads stop refl) is)
-saves_or_reports Saving reads is = inl refl
-saves_or_reports Reporting reads is = inr refl
+-- a command that ended with the status of a write stopped in saving or in reporting
+pub ended_in_a_write : (ended : Result (Unit {0}) Halt) → ((stop : Stop) → ended ≡ Err (Reading stop) → IsTrue (is_reading_stop stop)) → ended_status ended ≡ 7
+    → (ended ≡ Err Saving) ⊎ (ended ≡ Err Reporting)
+ended_in_a_write (Ok x) reads is = cc
+ended_in_a_write (Err (Reading stop)) reads is = absurd (no_write stop (reads stop refl) is)
+ended_in_a_write (Err Saving) reads is = inl refl
+ended_in_a_write (Err Reporting) reads is = inr refl
 
 -- a stop in reading is not of the words
 pub no_usage : (stop : Stop) → IsTrue (is_reading_stop stop) → stop_status stop ≡ 1 → ⊥
@@ -53,11 +77,12 @@ no_usage (Over what seen) reads is = cc
 no_usage ReadFault reads is = cc
 no_usage NoMemory reads is = cc
 
--- a halt is not of the words
-pub halts_after_words : (halt : Halt) → ((stop : Stop) → halt ≡ Reading stop → IsTrue (is_reading_stop stop)) → halt_status halt ≡ 1 → ⊥
-halts_after_words (Reading stop) reads is = no_usage stop (reads stop refl) is
-halts_after_words Saving reads is = cc
-halts_after_words Reporting reads is = cc
+-- a command does not end with the status of the words
+pub ended_after_words : (ended : Result (Unit {0}) Halt) → ((stop : Stop) → ended ≡ Err (Reading stop) → IsTrue (is_reading_stop stop)) → ended_status ended ≡ 1 → ⊥
+ended_after_words (Ok x) reads is = cc
+ended_after_words (Err (Reading stop)) reads is = no_usage stop (reads stop refl) is
+ended_after_words (Err Saving) reads is = cc
+ended_after_words (Err Reporting) reads is = cc
 
 -- a run whose play ends well and in which no count rose did all, or memory ran out
 pub complete_run : (p : Play) (w v : World) (status : ℕ) (before now : Faults) (line : Bytes) → RunMeets p w v status before now line → p.end ≡ Done
@@ -79,8 +104,23 @@ stops_apart (Over what seen) is = cc
 stops_apart ReadFault is = cc
 stops_apart NoMemory is = cc
 
--- nor has a halt
-pub halts_apart : (halt : Halt) → halt_status halt ≡ 0 → ⊥
-halts_apart (Reading stop) is = stops_apart stop is
-halts_apart Saving is = cc
-halts_apart Reporting is = cc
+-- a command with the status of a run that went well ended well
+pub ended_well : (ended : Result (Unit {0}) Halt) → ended_status ended ≡ 0 → IsOk ended
+ended_well (Ok x) is = refl
+ended_well (Err (Reading stop)) is = absurd (stops_apart stop is)
+ended_well (Err Saving) is = cc
+ended_well (Err Reporting) is = cc
+
+-- a command with the status of a read fault stopped so
+pub ended_in_a_read : (ended : Result (Unit {0}) Halt) → ended_status ended ≡ 6 → ended ≡ Err (Reading ReadFault)
+ended_in_a_read (Ok x) is = cc
+ended_in_a_read (Err Saving) is = cc
+ended_in_a_read (Err Reporting) is = cc
+ended_in_a_read (Err (Reading ReadFault)) is = refl
+ended_in_a_read (Err (Reading Usage)) is = cc
+ended_in_a_read (Err (Reading WriteFault)) is = cc
+ended_in_a_read (Err (Reading Missing)) is = cc
+ended_in_a_read (Err (Reading (BadText line kind))) is = cc
+ended_in_a_read (Err (Reading (BadEdge from to))) is = cc
+ended_in_a_read (Err (Reading (Over what seen))) is = cc
+ended_in_a_read (Err (Reading NoMemory)) is = cc

@@ -1,4 +1,4 @@
-//! `manifold_tool`: copies closed triangle meshes from file to file. A result is closed for any input that is
+//! `manifold_tool`: copies closed triangle meshes from file to file, and says how often one winds round a point. A result is closed for any input that is
 //! accepted, and a run does exactly what its play says.
 //!
 //! `run` is the top call, and its contract is the program's promise; `main` only hands it the outside.
@@ -54,21 +54,24 @@ fn status_of(error: io::Error) -> Status {
     }
 }
 
+// The run of the program over the current folder, which counts its steps for nobody.
+fn run_here<R: Files, O: Sink, E: Sink, L: Ledger>(rt: &R, alloc: Global, words: &ArgList, out: &mut O, err: &mut E, blank: Blank) -> Status
+    requires outs { O.faults out.old < 2 ^ 64 - 1 }
+    requires errs { E.faults err.old < 2 ^ 64 - 1 }
+    requires name { blank.name ≡ L.name }
+    requires parts { blank.parts ≡ L.parts }
+    requires some { 0 < blank.parts }
+{
+    let mut shelf = FolderShelf::of(rt);
+    let mut steps = Steps::<L>::over(blank);
+    run(alloc, words, &Limits::program(), &mut shelf, out, err, &mut steps)
+}
+
 fn main(rt: HostRuntime) -> ExitCode {
     let mut out = StdSink::over(rt.stdout());
     let mut err = StdSink::over(rt.stderr());
     let status = match words_of(&rt, rt.alloc()) {
-        Ok(words) => {
-            let mut shelf = FolderShelf::of(&rt);
-            run(
-                rt.alloc(),
-                &words,
-                &Limits::program(),
-                &mut shelf,
-                &mut out,
-                &mut err,
-            )
-        }
+        Ok(words) => run_here::<_, _, _, Brand>(&rt, rt.alloc(), &words, &mut out, &mut err, Blank::new(1)),
         Err(status) => {
             report::tell_start(status, &mut err);
             status
