@@ -1,9 +1,10 @@
 -- The list of corners, step by step.
 use Rattle.std.proofs.Common.{arith, ◌≡◌, ℕ, ◌+◌, ◌<◌, ℤ, Bool, List, [], ◌∷◌, ◌++◌, length, take, get_or, map, min, ap, ◌∙◌, sym}
 use Rattle.std.specs.List.{zip}
-use Rattle.std.proofs.lemmas.List.{take_more, map_push, take_all, length-map}
+use Rattle.std.proofs.lemmas.List.{take_more, map_push, take_all, length-map, get_or-map}
 use Rattle.std.proofs.lemmas.Slice.Zip.{length-zip, get_or-zip}
 use Rattle.mb_base.specs.declared.point.Corner.{Corner}
+use Rattle.rounding.specs.Corners.{corner_at, blank_corner}
 use Rattle.lean.specs.Sides.{corner_of, corners_of}
 
 -- the corners of the first i points
@@ -29,3 +30,11 @@ corners_all ps us i e = ap (map (λ (m : List ℤ × List Bool). corner_of m.0 m
 -- as many corners as points
 pub corners_long : (ps : List (List ℤ)) (us : List (List Bool)) → length us ≡ length ps → length (corners_of ps us) ≡ length ps
 corners_long ps us e = length-map (zip ps us) (λ (m : List ℤ × List Bool). corner_of m.0 m.1) ∙ omega (arith, length-zip ps us, e)
+
+-- the corner at a place is that of the point and the marks there
+pub corners_at :
+    (ps : List (List ℤ)) (us : List (List Bool)) (i : ℕ) → i < length ps → i < length us →
+    corner_at (corners_of ps us) i ≡ corner_of (get_or ps i []) (get_or us i [])
+corners_at ps us i h k =
+    let g : (List ℤ × List Bool) → Corner = λ m. corner_of m.0 m.1 in
+    get_or-map g (zip ps us) i ([], []) blank_corner (omega (arith, length-zip ps us, h, k)) ∙ ap g (get_or-zip ps us i ([], []) h k)

@@ -8,8 +8,8 @@
 mod face;
 mod point;
 mod sum;
-
-
+#[cfg(test)]
+mod tests;
 
 pub use point::winding_at;
 pub use sum::winding_sum;

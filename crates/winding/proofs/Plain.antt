@@ -1,0 +1,47 @@
+-- A side whose marks are all unset has the winding numbers of its mesh.
+use Rattle.std.proofs.Common.{arith, ◌≡◌, ◌<◌, ℕ, ℤ, neg_ℤ, Bool, false, List, [], ◌∷◌, length, replicate, get_or, refl, ap, ◌∙◌, sym}
+use Rattle.std.specs.List.{All}
+use Rattle.std.proofs.lemmas.List.{get_or-replicate, length-replicate}
+use Rattle.chain_laws.specs.Sums.{total-same_all}
+use Rattle.mesh_terms.specs.Meshes.{Mesh, Triple, IsBelow}
+use Rattle.mb_base.specs.declared.point.Corner.{Corner}
+use Rattle.rounding.specs.Corners.{corner_at}
+use Rattle.rounding.specs.Nearest.{nearest}
+use Rattle.shadow_kernels.specs.Counts.{shadow_of}
+use Rattle.shadow_kernels.specs.Shadows.{meet02}
+use Rattle.lean.specs.Sides.{Side, corner_of, corners_of}
+use Rattle.lean.proofs.Corners.{corners_at}
+use Rattle.winding.specs.Windings.{ShadowTest, face_of, face_shadow, winding, plain_corner, plain_shadow, winding_at}
+
+abbrev pub no_marks : List Bool
+no_marks = false ∷ false ∷ false ∷ []
+
+-- the shadow test of a vertex and a face on the grid
+abbrev pub nearest_test : ShadowTest
+nearest_test p q = meet02 nearest (corner_at p 0) (corner_at q 0) (corner_at q 1) (corner_at q 2)
+
+-- a corner without marks
+pub plain_at : (points : List (List ℤ)) (i : ℕ) → i < length points → corner_at (corners_of points (replicate (length points) no_marks)) i ≡ plain_corner (get_or points i [])
+plain_at points i h =
+    let n = length points in
+    corners_at points (replicate n no_marks) i h (omega (arith, length-replicate n no_marks, h)) ∙ ap (corner_of (get_or points i [])) (get_or-replicate n i no_marks [] h)
+
+-- the shadow over one face
+pub plain_face : (point : List ℤ) (points : List (List ℤ)) (t : Triple) → IsBelow (length points) t →
+    face_shadow nearest_test (plain_corner point) (face_of (corners_of points (replicate (length points) no_marks)) t)
+    ≡ plain_shadow point (get_or points t.0 []) (get_or points t.1 []) (get_or points t.2 [])
+plain_face point points t h = rw (plain_at points t.0 h.a, plain_at points t.1 h.b, plain_at points t.2 h.c) refl
+
+-- the sum over all faces of the side of a mesh
+pub plain_winding : (point : List ℤ) (mesh : Mesh) (p : Corner) (side : Side) (ups : List (List Bool)) →
+    p ≡ plain_corner point → side.corners ≡ corners_of mesh.points ups → side.triples ≡ mesh.triples →
+    ups ≡ replicate (length mesh.points) no_marks → All (IsBelow (length mesh.points)) mesh.triples →
+    winding nearest_test p side ≡ winding_at point mesh
+plain_winding point mesh p side ups at corners triples plain below =
+    let cs = corners_of mesh.points (replicate (length mesh.points) no_marks) in
+    let f : Triple → ℤ = λ t. face_shadow nearest_test (plain_corner point) (face_of cs t) in
+    let g : Triple → ℤ = λ t. plain_shadow point (get_or mesh.points t.0 []) (get_or mesh.points t.1 []) (get_or mesh.points t.2 []) in
+    let corner = ap (λ c. winding nearest_test c side) at in
+    let marks = ap (λ l. winding nearest_test (plain_corner point) (record { corners = l; triples = side.triples })) (corners ∙ ap (corners_of mesh.points) plain) in
+    let faces = ap (λ ts. winding nearest_test (plain_corner point) (record { corners = cs; triples = ts })) triples in
+    corner ∙ marks ∙ faces ∙ ap neg_ℤ (total-same_all f g mesh.triples (λ k d h. plain_face point mesh.points (get_or mesh.triples k d) (below k d h)))

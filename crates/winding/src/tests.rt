@@ -1,0 +1,159 @@
+// Winding numbers in cubes, worked out by hand.
+ghost use Rattle.std.specs.Prelude.{◌≡◌, ◌<◌};
+ghost use Rattle.rounding.specs.Corners.{IsFineCorner};
+
+use crate::{winding_at, winding_sum};
+use lean::{Side, corner_of};
+use mb_base::{Corner, Point, Soup};
+use mesh_check::Mesh;
+use rounding::Nearest;
+use shadow_kernels::Grid;
+use std::alloc::Global;
+use std::marker::Brand;
+use std::sync::ledger::{Blank, Ledger};
+use std::test::Fail;
+use steps::Steps;
+
+// The two ends of a cube on each axis, in grid steps, and the eight corners between them.
+const OUTER: [[i32; 3]; 8] = [
+    [0, 0, 0],
+    [100_000, 0, 0],
+    [0, 100_000, 0],
+    [100_000, 100_000, 0],
+    [0, 0, 100_000],
+    [100_000, 0, 100_000],
+    [0, 100_000, 100_000],
+    [100_000, 100_000, 100_000],
+];
+
+const INNER: [[i32; 3]; 8] = [
+    [20_000, 20_000, 20_000],
+    [80_000, 20_000, 20_000],
+    [20_000, 80_000, 20_000],
+    [80_000, 80_000, 20_000],
+    [20_000, 20_000, 80_000],
+    [80_000, 20_000, 80_000],
+    [20_000, 80_000, 80_000],
+    [80_000, 80_000, 80_000],
+];
+
+const FACES: [[u32; 3]; 12] = [
+    [0, 3, 1],
+    [0, 2, 3],
+    [4, 5, 7],
+    [4, 7, 6],
+    [0, 1, 4],
+    [1, 5, 4],
+    [1, 3, 7],
+    [1, 7, 5],
+    [3, 2, 6],
+    [3, 6, 7],
+    [0, 4, 6],
+    [0, 6, 2],
+];
+
+fn push_points(points: &mut Vec<Point>, corners: &[[i32; 3]; 8]) -> Result<(), Fail> {
+    for [x, y, z] in corners {
+        points.push(Point::of(*x, *y, *z).ok_or("outside the grid")?)?;
+    }
+    Ok(())
+}
+
+fn mesh_of(alloc: Global, points: Vec<Point>, triples: Vec<[u32; 3]>) -> Result<Mesh, Fail> {
+    if !Soup::fits(&points, &triples) {
+        return Err("no soup".into());
+    }
+    Ok(Mesh::check(alloc, Soup::of(points, triples, 0))?)
+}
+
+fn cube(alloc: Global) -> Result<Mesh, Fail> {
+    let mut points = Vec::new(alloc);
+    push_points(&mut points, &OUTER)?;
+    mesh_of(alloc, points, FACES.to_vec(alloc)?)
+}
+
+fn turned_cube(alloc: Global) -> Result<Mesh, Fail> {
+    let mut points = Vec::new(alloc);
+    push_points(&mut points, &OUTER)?;
+    let mut triples = Vec::new(alloc);
+    for [a, b, c] in &FACES {
+        triples.push([*a, *c, *b])?;
+    }
+    mesh_of(alloc, points, triples)
+}
+
+fn nested_cubes(alloc: Global) -> Result<Mesh, Fail> {
+    let mut points = Vec::new(alloc);
+    push_points(&mut points, &OUTER)?;
+    push_points(&mut points, &INNER)?;
+    let mut triples = FACES.to_vec(alloc)?;
+    for [a, b, c] in &FACES {
+        triples.push([*a | 8, *b | 8, *c | 8])?;
+    }
+    mesh_of(alloc, points, triples)
+}
+
+// The winding number of a point in tens of thousands of grid steps.
+fn number_from<L: Ledger>(alloc: Global, mesh: &Mesh, at: [i8; 3], blank: Blank) -> Result<i64, Fail>
+    requires name { blank.name ≡ L.name }
+    requires parts { blank.parts ≡ L.parts }
+    requires some { 0 < blank.parts }
+{
+    let mut steps = Steps::<L>::over(blank);
+    let [x, y, z] = at;
+    let unit = 10_000;
+    let point = Point::of(x as i32 * unit, y as i32 * unit, z as i32 * unit);
+    Ok(winding_at(alloc, point.ok_or("outside the grid")?, mesh, &mut steps)?)
+}
+
+fn number(alloc: Global, mesh: &Mesh, x: i8, y: i8, z: i8) -> Result<i64, Fail> {
+    number_from::<Brand>(alloc, mesh, [x, y, z], Blank::new(1))
+}
+
+#[test]
+fn a_cube_winds_once_round_its_inside(rt: HostRuntime) -> Result<(), Fail> {
+    let mesh = cube(rt.alloc())?;
+    assert_eq!(rt; number(rt.alloc(), &mesh, 5, 4, 3)?, 1);
+    assert_eq!(rt; number(rt.alloc(), &mesh, 11, 4, 3)?, 0);
+    // On the mesh, a coordinate that is equal to a vertex's is not beyond it.
+    assert_eq!(rt; number(rt.alloc(), &mesh, 10, 10, 10)?, 1);
+    assert_eq!(rt; number(rt.alloc(), &mesh, 0, 0, 0)?, 0);
+    Ok(())
+}
+
+#[test]
+fn a_cube_inside_out_winds_backwards(rt: HostRuntime) -> Result<(), Fail> {
+    let mesh = turned_cube(rt.alloc())?;
+    assert_eq!(rt; number(rt.alloc(), &mesh, 5, 4, 3)?, -1);
+    Ok(())
+}
+
+#[test]
+fn nested_cubes_wind_twice(rt: HostRuntime) -> Result<(), Fail> {
+    let mesh = nested_cubes(rt.alloc())?;
+    assert_eq!(rt; number(rt.alloc(), &mesh, 5, 4, 3)?, 2);
+    assert_eq!(rt; number(rt.alloc(), &mesh, 1, 1, 1)?, 1);
+    Ok(())
+}
+
+fn sum_from<L: Ledger>(p: &Corner, q: &Side, blank: Blank) -> i64
+    requires fine { IsFineCorner p.now }
+    requires name { blank.name ≡ L.name }
+    requires parts { blank.parts ≡ L.parts }
+    requires some { 0 < blank.parts }
+{
+    let mut steps = Steps::<L>::over(blank);
+    winding_sum(p, q, &Grid { rounding: Nearest }, &mut steps)
+}
+
+#[test]
+fn a_corner_moved_up_lies_on_the_other_side(rt: HostRuntime) -> Result<(), Fail> {
+    let mesh = cube(rt.alloc())?;
+    let ups = vec![in rt.alloc(); [false; 3]; mesh.points().len()]?;
+    let side = Side::of(rt.alloc(), &mesh, ups)?;
+    let low = corner_of(Point::of(0, 0, 0).ok_or("outside the grid")?, [true; 3]);
+    assert_eq!(rt; sum_from::<Brand>(&low, &side, Blank::new(1)), 1);
+    let high = corner_of(Point::of(100_000, 5, 7).ok_or("outside the grid")?, [true; 3]);
+    assert_eq!(rt; sum_from::<Brand>(&high, &side, Blank::new(1)), 0);
+    Ok(())
+}
