@@ -14,9 +14,12 @@ numbered k (e ∷ es) = (e.0, e.1, k) ∷ numbered (suc k) es
 abbrev pub turned : Half → Half
 turned e = (e.1, e.0, e.2)
 
--- without the numbers
+-- without the number
+abbrev pub ends : Half → ℕ × ℕ
+ends e = (e.0, e.1)
+
 abbrev pub ends_of : List Half → List (ℕ × ℕ)
-ends_of es = map (λ e. (e.0, e.1)) es
+ends_of es = map ends es
 
 -- the half-edge at a place of a list
 abbrev pub half_at : List Half → ℕ → ℕ

@@ -1,11 +1,7 @@
 -- Which edge one list has more often than another.
-use Rattle.std.specs.Prelude.{◌≡◌, ℕ, ◌<◌, ◌≤◌, List, true, map}
+use Rattle.std.specs.Prelude.{◌≡◌, ℕ, ◌<◌, ◌≤◌, List, true}
 use Rattle.chain_terms.specs.Chains.{dir}
 use Rattle.mesh_terms.specs.OpenEdges.{is_lesser}
-
--- each edge the other way round
-abbrev pub reversed : List (ℕ × ℕ) → List (ℕ × ℕ)
-reversed es = map (λ e. (e.1, e.0)) es
 
 -- the first list has the edge more often than the second, and no lesser edge
 pub record IsLeastSurplus (es others : List (ℕ × ℕ)) (p : ℕ × ℕ) : Type 0 where

@@ -39,7 +39,7 @@ pub fn partners(alloc: Global, edges: &[(u32, u32, u32)], back: &[(u32, u32, u32
     requires same_length { length back.now ≡ length edges.now }
     requires one_each { ArePartners edges.now back.now }
     ensures length { IfOk result (λ twins. length twins.items ≡ length edges.now) }
-    ensures paired { IfOk result (λ twins. (i : ℕ) → i < length edges.now → get_or twins.items half_at edges.now i 0 ≡ half_at back.now i) }
+    ensures paired { IfOk result (λ twins. (i : ℕ) → i < length edges.now → get_or twins.items (half_at edges.now i) 0 ≡ half_at back.now i) }
 {
     let mut twins = vec![in alloc; 0; edges.len()]?;
     for i in 0..edges.len() {
