@@ -1,6 +1,7 @@
 pub mod Edges
+pub mod Numbers
 pub mod OpenPair
 pub mod Order
-pub mod Pairing
 pub mod Positions
+pub mod TwinPlaces
 pub mod Walk
