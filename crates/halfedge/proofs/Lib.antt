@@ -1,4 +1,5 @@
 pub mod Edges
+pub mod Listed
 pub mod Numbers
 pub mod OpenPair
 pub mod Order

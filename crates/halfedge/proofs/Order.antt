@@ -6,7 +6,7 @@ use Rattle.std.specs.Ordering.{nat_cmp, ordering_then, is_lt}
 use Rattle.std.proofs.lemmas.Bool.Decides.{nat_tests}
 use Rattle.chain_terms.specs.Chains.{is_edge}
 use Rattle.mesh_terms.specs.OpenEdges.{is_lesser}
-use Rattle.halfedge.specs.Pairing.{Half, ends}
+use Rattle.halfedge.specs.Pairing.{Half, ends, half_cmp}
 
 -- the order that pairs have in Rust
 abbrev pub edge_cmp : ℕ × ℕ → ℕ × ℕ → Ordering
@@ -59,10 +59,6 @@ not_greater_from_cmp p q h = grind (arith, nat_tests, h)
 -- where the comparison answers "greater"
 pub greater_from_cmp : (p q : ℕ × ℕ) → edge_cmp p q ≡ Greater → is_lesser q p ≡ true
 greater_from_cmp p q h = grind (arith, nat_tests, h)
-
--- the order that edges with numbers have in Rust
-abbrev pub half_cmp : Half → Half → Ordering
-half_cmp e f = ordering_then (ordering_then (nat_cmp e.0 f.0) (nat_cmp e.1 f.1)) (nat_cmp e.2 f.2)
 
 -- where an edge with a number is not less than another, its edge is not lesser
 pub not_lesser_half : (e f : Half) → is_lt (half_cmp e f) ≡ false → is_lesser (ends e) (ends f) ≡ false

@@ -14,8 +14,7 @@ use Rattle.chain_terms.specs.Chains.{is_edge, one_if}
 use Rattle.chain_laws.specs.Counts.{one_if-true, one_if-false, count_by-cons}
 use Rattle.chain_laws.specs.Ranks.{rank, start, finish, runs_as}
 use Rattle.mesh_terms.specs.OpenEdges.{is_lesser}
-use Rattle.halfedge.specs.Pairing.{Half, numbered, half_at}
-use Rattle.halfedge.proofs.Order.{half_cmp}
+use Rattle.halfedge.specs.Pairing.{Half, numbered, half_at, half_cmp}
 
 -- where no member from place i on passes, at most i do
 pub count_at_most : {X : Type 0} (p : X → Bool) (xs : List X) (i : ℕ) → ((j : ℕ) (d : X) → i ≤ j → j < length xs → p (get_or xs j d) ≡ false) → count_by p xs ≤ i

@@ -1,7 +1,9 @@
 -- Sorted half-edges and sorted turned half-edges of closed triangles: twins stand at the same places.
-use Rattle.std.proofs.Common.{◌≡◌, ◌<◌, ◌≤◌, ◌+◌, ◌⊎◌, inl, inr, ℕ, zero, suc, Bool, true, false, List, [], ◌∷◌, length, get_or, map, pos, refl, sym, ◌∙◌, ap, subst, arith}
+use Rattle.std.proofs.Common.{◌≡◌, ◌<◌, ◌≤◌, ◌+◌, ◌⊎◌, inl, inr, ℕ, zero, suc, Bool, true, false, List, [], ◌∷◌, length, get_or, map, pos, Option, refl, sym, ◌∙◌, ap, subst, arith}
 use Rattle.std.specs.Prelude.{count_by}
 use Rattle.std.specs.List.Sorted.{IsPermutation, IsSorted}
+use Rattle.std.specs.Option.{IsNone, IfSome}
+use Rattle.std.proofs.lemmas.List.Sorted.{IsPermutation-map, length_permutation}
 use Rattle.std.proofs.lemmas.Bool.{cases_Bool, and_from, eq-eqb}
 use Rattle.std.proofs.lemmas.Bool.Decides.{nat_tests}
 use Rattle.std.proofs.lemmas.Int.{ints}
@@ -14,9 +16,11 @@ use Rattle.chain_laws.specs.Ranks.{rank, IsPlace, start, finish, runs_as, runs_a
 use Rattle.chain_laws.proofs.Places.{get_or-up_from, length-up_from}
 use Rattle.chain_laws.proofs.Ranks.{same_place}
 use Rattle.chain_laws.proofs.Twins.{twin_place}
-use Rattle.mesh_terms.specs.OpenEdges.{is_lesser}
-use Rattle.halfedge.specs.Pairing.{Half, numbered, turned, half_at}
-use Rattle.halfedge.proofs.Order.{half_cmp, one_edge, same_edge, is_itself}
+use Rattle.mesh_terms.specs.OpenEdges.{is_lesser, open_pair}
+use Rattle.halfedge.specs.Surplus.{IsLeastSurplus, HasNoSurplus}
+use Rattle.halfedge.proofs.OpenPair.{open_pair_found}
+use Rattle.halfedge.specs.Pairing.{Half, numbered, turned, half_at, half_cmp, ends, ends_of, AreSorted, ArePartners}
+use Rattle.halfedge.proofs.Order.{one_edge, same_edge, is_itself}
 use Rattle.halfedge.proofs.Positions.{lesser_count, IsPlaced, placed, place_of, length-numbered}
 
 -- turned, the numbered edges are the numbered turned edges
@@ -143,3 +147,47 @@ all_twins es xs twins moved full each =
       where
         first : 0 + h ≡ h
         first = omega arith
+
+-- without the numbers the numbered edges are the edges
+ends-numbered : (k : ℕ) (es : List (ℕ × ℕ)) → ends_of (numbered k es) ≡ es
+ends-numbered k [] = refl
+ends-numbered k (e ∷ es) = ap (λ l. e ∷ l) (ends-numbered (suc k) es)
+
+-- the least edge that the sorted edges have more often than the turned ones is the least open edge
+pub open_found : (es : List (ℕ × ℕ)) (xs ys : List Half) (found : Option (ℕ × ℕ)) → AreSorted es xs ys → (IsNone found → HasNoSurplus (ends_of xs) (ends_of ys)) → IfSome found (IsLeastSurplus (ends_of xs) (ends_of ys)) → found ≡ open_pair es
+open_found es xs ys found sorted none least =
+    open_pair_found es (backward es) (ends_of xs) (ends_of ys) found refl
+    (subst (λ l. IsPermutation l (ends_of xs)) (ends-numbered 0 es) (IsPermutation-map ends (numbered 0 es) xs sorted.moved))
+    (subst (λ l. IsPermutation l (ends_of ys)) (ends-numbered 0 (backward es)) (IsPermutation-map ends (numbered 0 (backward es)) ys sorted.back_moved))
+    none least
+
+-- as many as half-edges stand in both sorted lists
+pub sorted_length : (es : List (ℕ × ℕ)) (xs ys : List Half) → AreSorted es xs ys → (length xs ≡ length es) × (length ys ≡ length xs)
+sorted_length es xs ys sorted = (
+  length_permutation (numbered 0 es) xs sorted.moved ∙ length-numbered 0 es,
+  length_permutation (numbered 0 (backward es)) ys sorted.back_moved ∙ length-numbered 0 (backward es) ∙ length-map es turned_edge ∙ sym (length_permutation (numbered 0 es) xs sorted.moved ∙ length-numbered 0 es),
+)
+
+-- at each place of the sorted lists stand a half-edge and its twin
+pub twin_beside : (es : List (ℕ × ℕ)) (xs ys : List Half) → AreSorted es xs ys → IsClosed es → (i : ℕ) → i < length xs → half_at ys i ≡ twin es (half_at xs i)
+twin_beside es xs ys sorted closed i below =
+    let full = sorted_length es xs ys sorted in
+    paired es closed xs ys sorted.moved sorted.back_moved sorted.up sorted.back_up i below (omega (arith, below, full.1))
+
+-- so equal half-edges have equal partners
+pub sorted_partners : (es : List (ℕ × ℕ)) (xs ys : List Half) → AreSorted es xs ys → IsClosed es → ArePartners xs ys
+sorted_partners es xs ys sorted closed = record {
+  below = λ i l. let full = sorted_length es xs ys sorted in omega (arith, full.0, (placed es xs sorted.moved sorted.up i l).within);
+  one = λ i j l m same. twin_beside es xs ys sorted closed i l ∙ ap (twin es) same ∙ sym (twin_beside es xs ys sorted closed j m);
+}
+
+-- and the list of partners is the list of twins
+pub partners_are_twins : (es : List (ℕ × ℕ)) (xs ys : List Half) (twins : List ℕ) → AreSorted es xs ys → IsClosed es → length twins ≡ length xs →
+    ((i : ℕ) → i < length xs → get_or twins (half_at xs i) 0 ≡ half_at ys i) → twins ≡ map (twin es) (upto (length es))
+partners_are_twins es xs ys twins sorted closed full each =
+    let same = sorted_length es xs ys sorted in
+    all_twins es xs twins sorted.moved (full ∙ same.0) (λ i l. each i l ∙ twin_beside es xs ys sorted closed i l)
+
+-- sorted lists, as they are read later
+pub sorted_as : (es : List (ℕ × ℕ)) (xs ys us vs : List Half) → us ≡ xs → vs ≡ ys → AreSorted es xs ys → AreSorted es us vs
+sorted_as es xs ys us vs first second sorted = subst (λ l. AreSorted es l vs) (sym first) (subst (λ l. AreSorted es xs l) (sym second) sorted)

@@ -3,9 +3,9 @@ use Rattle.std.proofs.Common.{◌≡◌, ◌<◌, ◌≤◌, ◌+◌, ℕ, Bool,
 use Rattle.std.specs.List.Sorted.{IsSorted}
 use Rattle.chain_terms.specs.Chains.{dir, is_edge, one_if}
 use Rattle.mesh_terms.specs.OpenEdges.{is_lesser}
-use Rattle.halfedge.specs.Pairing.{Half, ends, ends_of}
+use Rattle.halfedge.specs.Pairing.{Half, ends, ends_of, half_cmp}
 use Rattle.halfedge.specs.Surplus.{IsLeastSurplus}
-use Rattle.halfedge.proofs.Order.{edge_cmp, half_cmp, not_lesser_half, one_edge, through, before, lesser_is_other, is_itself, not_below_itself, not_lesser_from_cmp, not_greater_from_cmp, greater_from_cmp}
+use Rattle.halfedge.proofs.Order.{edge_cmp, not_lesser_half, one_edge, through, before, lesser_is_other, is_itself, not_below_itself, not_lesser_from_cmp, not_greater_from_cmp, greater_from_cmp}
 
 -- no edge that is lesser than an edge of the list stands after it
 abbrev pub IsRising : List (ℕ × ℕ) → Type 0

@@ -2,13 +2,26 @@
 ghost use Rattle.std.specs.Prelude.{◌≡◌, ◌<◌, ◌≤◌, ℕ, List, IfOk, length, get_or, map};
 ghost use Rattle.chain_terms.specs.Chains.{all_edges};
 ghost use Rattle.mesh_terms.specs.Meshes.{triples_of};
-ghost use Rattle.halfedge.specs.Pairing.{numbered, turned, half_at, ArePartners};
+ghost use Rattle.halfedge.specs.Pairing.{numbered, turned, half_at, AreSorted, ArePartners};
 
 use mb_base::NoMemory;
 use std::alloc::Global;
 
-/// The half-edges of the triangles in order, each as its start, its end and its number.
-pub fn numbered_edges(alloc: Global, triples: &[[u32; 3]]) -> Result<Vec<(u32, u32, u32)>, NoMemory>
+/// The half-edges of the triangles, each as its start, its end and its number, sorted; and the same
+/// with start and end exchanged, sorted.
+pub fn sorted_edges(alloc: Global, triples: &[[u32; 3]]) -> Result<(Vec<(u32, u32, u32)>, Vec<(u32, u32, u32)>), NoMemory>
+    requires { length triples.now ≤ 100000000 }
+    ensures { IfOk result (λ r. AreSorted (all_edges (triples_of triples.now)) r.0.items r.1.items) }
+{
+    let mut edges = numbered_edges(alloc, triples)?;
+    let mut back = turned_edges(alloc, &edges)?;
+    edges.sort_unstable();
+    back.sort_unstable();
+    Ok((edges, back))
+}
+
+// The half-edges of the triangles in order.
+fn numbered_edges(alloc: Global, triples: &[[u32; 3]]) -> Result<Vec<(u32, u32, u32)>, NoMemory>
     requires { length triples.now ≤ 100000000 }
     ensures { IfOk result (λ edges. edges.items ≡ numbered 0 (all_edges (triples_of triples.now))) }
 {
@@ -23,8 +36,8 @@ pub fn numbered_edges(alloc: Global, triples: &[[u32; 3]]) -> Result<Vec<(u32, u
     Ok(edges)
 }
 
-/// Each half-edge the other way round, with its number.
-pub fn turned_edges(alloc: Global, edges: &[(u32, u32, u32)]) -> Result<Vec<(u32, u32, u32)>, NoMemory>
+// Each half-edge the other way round, with its number.
+fn turned_edges(alloc: Global, edges: &[(u32, u32, u32)]) -> Result<Vec<(u32, u32, u32)>, NoMemory>
     ensures { IfOk result (λ back. back.items ≡ map turned edges.now) }
 {
     let mut back = Vec::with_capacity(alloc, edges.len())?;

@@ -9,7 +9,7 @@ ghost use Rattle.mesh_terms.specs.OpenEdges.{open_pair};
 ghost use Rattle.halfedge.specs.Halves.{next_half};
 ghost use Rattle.halfedge.specs.Twins.{IsTwinned};
 
-use crate::pairing::{numbered_edges, partners, turned_edges};
+use crate::pairing::{partners, sorted_edges};
 use crate::surplus::least_surplus;
 use mb_base::NoMemory;
 use std::alloc::Global;
@@ -66,10 +66,7 @@ impl Twins {
         ensures open { (a b : ℕ) → IsErrOf result (TwinFault.Open a b) → open_pair (all_edges (triples_of triples.now)) ≡ Some (a, b) }
         ensures accepts { IsClosed (all_edges (triples_of triples.now)) → IsOk result ⊎ IsErrOf result TwinFault.NoMemory }
     {
-        let mut edges = numbered_edges(alloc, triples)?;
-        let mut back = turned_edges(alloc, &edges)?;
-        edges.sort_unstable();
-        back.sort_unstable();
+        let (edges, back) = sorted_edges(alloc, triples)?;
         if let Some((from, to)) = least_surplus(&edges, &back) {
             return Err(TwinFault::Open { from, to });
         }
@@ -104,6 +101,7 @@ impl Twins {
         ensures below { result < 3 * length self.now.triples }
         ensures from { start (all_edges self.now.triples) result ≡ finish (all_edges self.now.triples) h }
     {
+        let _ = &self.triples;
         if h % 3 == 2 { h - 2 } else { h + 1 }
     }
 }
