@@ -1,4 +1,8 @@
+pub mod Around
 pub mod Edges
+pub mod FanOrder
+pub mod FanSteps
+pub mod FanWalk
 pub mod Listed
 pub mod Numbers
 pub mod OpenPair

@@ -140,7 +140,7 @@ length-numbered k [] = refl
 length-numbered k (e ∷ es) = omega (arith, length-numbered (suc k) es)
 
 -- the half-edge at a place of the numbered list
-numbered_at : (k : ℕ) (es : List (ℕ × ℕ)) (j : ℕ) (d : Half) → j < length es → get_or (numbered k es) j d ≡ (start es j, finish es j, k + j)
+pub numbered_at : (k : ℕ) (es : List (ℕ × ℕ)) (j : ℕ) (d : Half) → j < length es → get_or (numbered k es) j d ≡ (start es j, finish es j, k + j)
 numbered_at k [] j d below = absurd (omega (arith, below))
 numbered_at k (e ∷ es) zero d below = let here : k ≡ k + 0 = omega arith in ap (λ n. (e.0, e.1, n)) here
 numbered_at k (e ∷ es) (suc j) d below = let at : suc k + j ≡ k + suc j = omega arith in numbered_at (suc k) es j d (omega (arith, below)) ∙ ap (λ n. (start es j, finish es j, n)) at
