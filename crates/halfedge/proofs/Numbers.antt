@@ -1,8 +1,9 @@
 -- The numbered half-edges of triangles, one triangle more.
 use Rattle.std.proofs.Common.{◌≡◌, ◌<◌, ◌+◌, ◌*◌, ℕ, zero, suc, List, [], ◌∷◌, ◌++◌, length, get_or, take, map, refl, sym, ◌∙◌, ap, arith, add-one}
-use Rattle.std.proofs.lemmas.List.{append_assoc}
+use Rattle.std.proofs.lemmas.List.{append_assoc, map-append}
 use Rattle.chain_terms.specs.Chains.{edges, all_edges}
 use Rattle.mesh_terms.specs.Meshes.{Triple, triple_of, triples_of}
+use Rattle.halfedge.specs.Numbering.{by_starts}
 use Rattle.halfedge.specs.Pairing.{Half, numbered}
 
 -- the first i + 1 triangles
@@ -37,3 +38,14 @@ numbered_more ts i a b c h below is at =
 pub three_more : {X : Type 0} (before p q r s : List X) (x y z : X) → p ≡ before → q ≡ p ++ x ∷ [] → r ≡ q ++ y ∷ [] → s ≡ r ++ z ∷ [] → s ≡ ((before ++ x ∷ []) ++ y ∷ []) ++ z ∷ []
 three_more before p q r s x y z first second third fourth =
     fourth ∙ ap (λ l. l ++ z ∷ []) (third ∙ ap (λ l. l ++ y ∷ []) (second ∙ ap (λ l. l ++ x ∷ []) first))
+
+-- the half-edges behind their starts, one triangle more
+pub by_starts_more : (ts : List (List ℕ)) (i : ℕ) (a b c h : ℕ) → i < length ts → triple_of (get_or ts i []) ≡ (a, b, c) → h ≡ 3 * i →
+    by_starts (all_edges (triples_of (take (i + 1) ts))) ≡ ((by_starts (all_edges (triples_of (take i ts))) ++ (a, h) ∷ []) ++ (b, h + 1) ∷ []) ++ (c, h + 2) ∷ []
+by_starts_more ts i a b c h below is at =
+    let known : List Half = numbered 0 (all_edges (triples_of (take i ts))) in
+    let two : List Half = (known ++ (a, b, h) ∷ []) ++ (b, c, h + 1) ∷ [] in
+    let f : Half → ℕ × ℕ = λ e. (e.0, e.2) in
+    ap (map f) (numbered_more ts i a b c h below is at) ∙ map-append f two ((c, a, h + 2) ∷ [])
+    ∙ ap (λ (l : List (ℕ × ℕ)). l ++ (c, h + 2) ∷ []) (map-append f (known ++ (a, b, h) ∷ []) ((b, c, h + 1) ∷ []))
+    ∙ ap (λ (l : List (ℕ × ℕ)). (l ++ (b, h + 1) ∷ []) ++ (c, h + 2) ∷ []) (map-append f known ((a, b, h) ∷ []))

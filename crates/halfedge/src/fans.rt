@@ -1,9 +1,10 @@
 // Fans: the half-edges that start at one vertex, in the order in which they follow round it.
-ghost use Rattle.std.specs.Prelude.{◌≡◌, ◌<◌, ◌≤◌, ◌*◌, ◌⊎◌, ℕ, List, IfOk, length, get_or};
+ghost use Rattle.std.specs.Prelude.{◌≡◌, ◌<◌, ◌≤◌, IfOk, length, get_or};
 ghost use Rattle.chain_terms.specs.Chains.{all_edges};
-ghost use Rattle.chain_laws.specs.Ranks.{start};
-ghost use Rattle.halfedge.specs.Halves.{around};
+ghost use Rattle.mesh_terms.specs.Meshes.{triples_of};
 ghost use Rattle.halfedge.specs.Fans.{AreFans};
+ghost use Rattle.halfedge.specs.Numbering.{no_fan, by_starts, AreInOrder, AreKeptAround, IsFanNumbered};
+ghost use Rattle.halfedge.specs.Twins.{IsTwinned};
 
 use crate::twins::Twins;
 use mb_base::NoMemory;
@@ -21,12 +22,14 @@ pub struct Fans {
 }
 
 impl Twins {
-    /// The fans: the cycles of half-edges with one start under "the twin, then the next".
+    /// The fans: the cycles of half-edges with one start under "the twin, then the next". `NoMemory`
+    /// may come for any triangles. With n triangles it takes time n log n, and 9 words of 4 bytes
+    /// for each triangle, besides 1 for each fan, while it runs.
     pub fn fans(&self, alloc: Global) -> Result<Fans, NoMemory>
         ensures { IfOk result (λ fans. AreFans (all_edges self.now.triples) fans.of.items fans.first.items) }
     {
         let order = self.by_start(alloc)?;
-        let mut of = vec![in alloc; NO_FAN; order.len()]?;
+        let mut of = vec![in alloc; NO_FAN; 3 * self.triples().len()]?;
         let mut first = Vec::new(alloc);
         for (_, half) in &order {
             if of[*half as usize] == NO_FAN {
@@ -37,23 +40,24 @@ impl Twins {
         Ok(Fans { of, first })
     }
 
-    // The half-edges with their starts, by their starts and then by their numbers.
+    // The half-edges behind their starts, by their starts and then by their numbers.
     fn by_start(&self, alloc: Global) -> Result<Vec<(u32, u32)>, NoMemory>
+        ensures { IfOk result (λ order. AreInOrder (all_edges self.now.triples) order.items) }
     {
-        let mut order = Vec::with_capacity(alloc, 3 * self.triples().len())?;
-        let mut half = 0;
-        for [a, b, c] in self.triples() {
-            order.push((*a, half))?;
-            order.push((*b, half + 1))?;
-            order.push((*c, half + 2))?;
-            half += 3;
-        }
+        let mut order = behind_starts(alloc, self.triples())?;
         order.sort_unstable();
         Ok(order)
     }
 
-    // Gives the number to the half-edges of the fan of half-edge h.
+    // Gives the number to the half-edges of the fan of half-edge h, which have none.
     fn number_fan(&self, of: &mut [u32], h: u32, number: u32)
+        requires twinned { IsTwinned self.now.triples self.now.twins }
+        requires half { h < length (all_edges self.now.triples) }
+        requires full { length of.old ≡ length (all_edges self.now.triples) }
+        requires number { number < no_fan }
+        requires fresh { get_or of.old h 0 ≡ no_fan }
+        requires kept_around { AreKeptAround (all_edges self.now.triples) of.old }
+        ensures { IsFanNumbered (all_edges self.now.triples) h number of.old of.new }
     {
         let mut half = h;
         while of[half as usize] == NO_FAN {
@@ -61,4 +65,20 @@ impl Twins {
             half = self.next(self.twin(half));
         }
     }
+}
+
+// The half-edges of the triangles behind their starts.
+fn behind_starts(alloc: Global, triples: &[[u32; 3]]) -> Result<Vec<(u32, u32)>, NoMemory>
+    requires { length triples.now ≤ 100000000 }
+    ensures { IfOk result (λ order. order.items ≡ by_starts (all_edges (triples_of triples.now))) }
+{
+    let mut order = Vec::with_capacity(alloc, 3 * triples.len())?;
+    let mut half = 0;
+    for [a, b, c] in triples {
+        order.push((*a, half))?;
+        order.push((*b, half + 1))?;
+        order.push((*c, half + 2))?;
+        half += 3;
+    }
+    Ok(order)
 }

@@ -7,6 +7,7 @@ ghost use Rattle.chain_laws.specs.Ranks.{start, finish, twin, RunsBack};
 ghost use Rattle.mesh_terms.specs.Meshes.{HasThree, triples_of};
 ghost use Rattle.mesh_terms.specs.OpenEdges.{open_pair};
 ghost use Rattle.halfedge.specs.Halves.{next_half};
+ghost use Rattle.halfedge.specs.Laws.{PairUp, GoAround};
 ghost use Rattle.halfedge.specs.Twins.{IsTwinned};
 
 use crate::pairing::{partners, sorted_edges};
@@ -81,6 +82,17 @@ impl Twins {
         ensures twinned { IsTwinned self.now.triples self.now.twins }
     {
         &self.triples
+    }
+
+    /// The twin of each half-edge, with what twins keep, and what the half-edges round a vertex keep,
+    /// of which the next is the half-edge after the twin.
+    pub fn twins(&self) -> &[u32]
+        ensures value { result.now ≡ self.now.twins }
+        ensures twinned { IsTwinned self.now.triples self.now.twins }
+        ensures pairs { PairUp (all_edges self.now.triples) }
+        ensures around { GoAround (all_edges self.now.triples) }
+    {
+        &self.twins
     }
 
     /// The half-edge that runs back from the end of half-edge h to its start, with h's place among
