@@ -36,6 +36,11 @@ no_fans ts closed order n full = record {
   earlier = λ k few. absurd (omega (arith, few));
 }
 
+-- the lists, as they stand later
+pub fans_as : (es order : List (ℕ × ℕ)) (i : ℕ) (of of_later first first_later : List ℕ) → of_later ≡ of → first_later ≡ first → AreFansSoFar es order i of first → AreFansSoFar es order i of_later first_later
+fans_as es order i of of_later first first_later of_is first_is fans =
+    subst (λ l. AreFansSoFar es order i l first_later) (sym of_is) (subst (λ l. AreFansSoFar es order i of l) (sym first_is) fans)
+
 -- a half-edge that has a number is passed over
 pub fan_seen : (es order : List (ℕ × ℕ)) (i : ℕ) (of first : List ℕ) → AreInOrder es order → i < length order → AreFansSoFar es order i of first → get_or of (ordered_at order i) 0 ≢ no_fan → AreFansSoFar es order (i + 1) of first
 fan_seen es order i of first known below fans has = record {
