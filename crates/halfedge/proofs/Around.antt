@@ -1,9 +1,9 @@
 -- Twins in other triangles, and going around a vertex.
-use Rattle.std.proofs.Common.{◌≡◌, ◌≢◌, ◌<◌, ◌/◌, ℕ, zero, suc, List, length, refl, sym, ◌∙◌, ap, subst, arith}
+use Rattle.std.proofs.Common.{◌≡◌, ◌≢◌, ◌<◌, ◌/◌, ℕ, zero, suc, List, length, refl, sym, ◌∙◌, ap, arith}
 use Rattle.std.specs.List.{All}
 use Rattle.chain_terms.specs.Chains.{all_edges, IsClosed}
 use Rattle.chain_laws.specs.Permutations.{AreInverse, times}
-use Rattle.chain_laws.specs.Ranks.{start, finish, twin}
+use Rattle.chain_laws.specs.Ranks.{start, twin}
 use Rattle.chain_laws.proofs.Twins.{twin_runs_back, twin_twin, twin_keeps_order}
 use Rattle.chain_laws.proofs.Walks.{times_below}
 use Rattle.mesh_terms.specs.Meshes.{Triple, HasThree}

@@ -1,9 +1,9 @@
 -- Fans numbered one after the other, in the order of their starts.
-use Rattle.std.proofs.Common.{◌≡◌, ◌≢◌, ◌<◌, ◌≤◌, ◌+◌, ◌*◌, ◌⊎◌, inl, inr, ℕ, zero, suc, List, [], ◌∷◌, ◌++◌, length, get_or, replicate, refl, sym, ◌∙◌, ap, subst, arith}
-use Rattle.std.proofs.lemmas.Bool.{cases_lt, cases_eq, cases_order}
+use Rattle.std.proofs.Common.{◌≡◌, ◌≢◌, ◌<◌, ◌≤◌, ◌+◌, ◌⊎◌, inl, inr, ℕ, zero, suc, List, [], ◌∷◌, ◌++◌, length, get_or, replicate, refl, sym, ◌∙◌, ap, subst, arith}
+use Rattle.std.proofs.lemmas.Bool.{cases_lt, cases_eq}
 use Rattle.std.proofs.lemmas.List.{length-append, get_or_append_left, get_or_push, get_or-replicate, length-replicate}
 use Rattle.chain_terms.specs.Chains.{all_edges, IsClosed}
-use Rattle.chain_laws.specs.Permutations.{AreInverse, times, Returns}
+use Rattle.chain_laws.specs.Permutations.{Returns}
 use Rattle.chain_laws.specs.Ranks.{start, twin}
 use Rattle.chain_laws.proofs.Walks.{times_below, returns}
 use Rattle.mesh_terms.specs.Meshes.{Triple}

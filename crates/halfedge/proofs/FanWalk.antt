@@ -1,9 +1,9 @@
 -- A walk along a map with an inverse that numbers what it passes, until it meets a number.
-use Rattle.std.proofs.Common.{◌≡◌, ◌≢◌, ◌<◌, ◌≤◌, ◌+◌, ◌⊎◌, inl, inr, ℕ, zero, suc, List, length, get_or, slice_set, refl, sym, ◌∙◌, ap, subst, arith}
+use Rattle.std.proofs.Common.{◌≡◌, ◌≢◌, ◌<◌, ◌⊎◌, inl, inr, ℕ, zero, suc, List, length, get_or, slice_set, refl, sym, ◌∙◌, ap, subst, arith}
 use Rattle.std.proofs.lemmas.Bool.{cases_eq}
 use Rattle.std.proofs.lemmas.List.{get_or-set_same, get_or-set_other, length-set}
 use Rattle.chain_laws.specs.Permutations.{AreInverse, times}
-use Rattle.chain_laws.proofs.Walks.{times_below, IsOpen, IsOn, comes_back, next_is_on, back_is_on}
+use Rattle.chain_laws.proofs.Walks.{times_below, IsOn, comes_back, next_is_on, back_is_on}
 use Rattle.halfedge.specs.Numbering.{no_fan}
 
 -- x was passed on the first k steps of the walk from h

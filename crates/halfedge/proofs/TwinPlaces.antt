@@ -1,18 +1,17 @@
 -- Sorted half-edges and sorted turned half-edges of closed triangles: twins stand at the same places.
-use Rattle.std.proofs.Common.{◌≡◌, ◌<◌, ◌≤◌, ◌+◌, ◌⊎◌, inl, inr, ℕ, zero, suc, Bool, true, false, List, [], ◌∷◌, length, get_or, map, pos, Option, refl, sym, ◌∙◌, ap, subst, arith}
-use Rattle.std.specs.Prelude.{count_by}
+use Rattle.std.proofs.Common.{◌≡◌, ◌<◌, ◌≤◌, ◌+◌, ℕ, zero, suc, Bool, true, false, List, [], ◌∷◌, length, get_or, map, pos, Option, refl, sym, ◌∙◌, ap, subst, arith}
 use Rattle.std.specs.List.Sorted.{IsPermutation, IsSorted}
 use Rattle.std.specs.Option.{IsNone, IfSome}
 use Rattle.std.proofs.lemmas.List.Sorted.{IsPermutation-map, length_permutation}
-use Rattle.std.proofs.lemmas.Bool.{cases_Bool, and_from, eq-eqb}
+use Rattle.std.proofs.lemmas.Bool.{and_from, eq-eqb}
 use Rattle.std.proofs.lemmas.Bool.Decides.{nat_tests}
 use Rattle.std.proofs.lemmas.Int.{ints}
 use Rattle.std.proofs.lemmas.List.{length-map, get_or-map, same_lists, get_or_default}
 use Rattle.chain_terms.specs.Chains.{is_edge, one_if, dir, IsClosed}
-use Rattle.chain_terms.specs.Sums.{total, upto}
+use Rattle.chain_terms.specs.Sums.{upto}
 use Rattle.chain_laws.specs.Chains.{backward, turned_edge, edge_turned, dir-backward, total-same_dir}
 use Rattle.chain_laws.specs.Counts.{count_by-cons, total-count_by}
-use Rattle.chain_laws.specs.Ranks.{rank, IsPlace, start, finish, runs_as, runs_against, twin}
+use Rattle.chain_laws.specs.Ranks.{rank, start, finish, runs_as, runs_against, twin}
 use Rattle.chain_laws.proofs.Places.{get_or-up_from, length-up_from}
 use Rattle.chain_laws.proofs.Ranks.{same_place}
 use Rattle.chain_laws.proofs.Twins.{twin_place}

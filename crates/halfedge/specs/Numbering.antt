@@ -5,7 +5,7 @@ use Rattle.std.specs.Ordering.{nat_cmp, ordering_then}
 use Rattle.std.specs.declared.cmp.Ordering.{Ordering}
 use Rattle.chain_laws.specs.Ranks.{start}
 use Rattle.halfedge.specs.Halves.{around, SameFan}
-use Rattle.halfedge.specs.Pairing.{Half, numbered}
+use Rattle.halfedge.specs.Pairing.{numbered}
 
 -- the number that stands for none
 abbrev pub no_fan : ℕ

@@ -1,4 +1,4 @@
-use Rattle.std.proofs.Common.{rules, sym, refl, ◌∙◌, arith}
+use Rattle.std.proofs.Common.{sym, refl, ◌∙◌, arith}
 use Rattle.halfedge.proofs.Numbers.{numbered_more, three_more}
 use Rattle.halfedge.proofs.pairing.numbered_edges.Goals as goal
 

@@ -1,4 +1,4 @@
-use Rattle.std.proofs.Common.{◌≡◌, ◌*◌, take, ℕ}
+use Rattle.std.proofs.Common.{◌≡◌, ◌*◌, take}
 use Rattle.chain_terms.specs.Chains.{all_edges}
 use Rattle.mesh_terms.specs.Meshes.{triples_of}
 use Rattle.halfedge.specs.Pairing.{numbered}

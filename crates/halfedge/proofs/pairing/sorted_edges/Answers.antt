@@ -1,9 +1,9 @@
-use Rattle.std.proofs.Common.{rules, ◌≡◌, List, ap, sym, subst, map, ◌∙◌}
-use Rattle.std.specs.List.Sorted.{IsPermutation, IsSorted}
+use Rattle.std.proofs.Common.{◌≡◌, List, ap, subst, map, ◌∙◌}
+use Rattle.std.specs.List.Sorted.{IsPermutation}
 use Rattle.chain_terms.specs.Chains.{all_edges}
 use Rattle.chain_laws.specs.Chains.{backward}
 use Rattle.mesh_terms.specs.Meshes.{triples_of}
-use Rattle.halfedge.specs.Pairing.{Half, numbered, turned, half_cmp}
+use Rattle.halfedge.specs.Pairing.{Half, numbered, turned}
 use Rattle.halfedge.proofs.TwinPlaces.{turned-numbered}
 use Rattle.halfedge.proofs.pairing.sorted_edges.Goals as goal
 

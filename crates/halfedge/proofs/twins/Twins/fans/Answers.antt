@@ -1,4 +1,4 @@
-use Rattle.std.proofs.Common.{rules, ◌≡◌, ◌≢◌, ◌<◌, ◌≤◌, ◌*◌, List, [], ℕ, length, get_or, replicate, sym, subst, ap, ◌∙◌, arith, refl, ◌+◌, Fits, w32, Vec, Global}
+use Rattle.std.proofs.Common.{◌≡◌, ◌≢◌, ◌<◌, ◌*◌, List, ℕ, length, get_or, replicate, sym, subst, ap, ◌∙◌, arith, ◌+◌, Vec, Global}
 use Rattle.std.proofs.lemmas.List.{get_or_default, length-map, with_items_is}
 use Rattle.chain_terms.specs.Chains.{all_edges}
 use Rattle.halfedge.specs.Numbering.{no_fan, AreInOrder, ordered_at, IsFanNumbered, AreFansSoFar}

@@ -1,4 +1,4 @@
-use Rattle.std.proofs.Common.{rules, ◌≡◌, ◌≢◌, ◌<◌, length, get_or, slice_set, sym, subst, ap, ◌∙◌, arith}
+use Rattle.std.proofs.Common.{◌≡◌, ◌≢◌, length, slice_set, sym, subst, ap, ◌∙◌, arith}
 use Rattle.chain_terms.specs.Chains.{all_edges}
 use Rattle.chain_laws.specs.Ranks.{twin}
 use Rattle.halfedge.specs.Halves.{next_half, prev_half, around}

@@ -1,8 +1,7 @@
-use Rattle.std.proofs.Common.{rules, ◌≡◌, sym, subst, ap, ◌∙◌, Some, None, List, ℕ, arith}
+use Rattle.std.proofs.Common.{rules, sym, subst, ◌∙◌, arith}
 use Rattle.std.proofs.lemmas.List.{length-map}
 use Rattle.chain_terms.specs.Chains.{all_edges, IsClosed}
 use Rattle.mesh_terms.specs.Meshes.{triple_of, triples_of}
-use Rattle.mesh_terms.specs.OpenEdges.{open_pair}
 use Rattle.halfedge.specs.Twins.{IsTwinned}
 use Rattle.halfedge.proofs.OpenPair.{open_pair_closed, closed_from_open_pair}
 use Rattle.halfedge.proofs.TwinPlaces.{open_found, sorted_as, sorted_length, sorted_partners, partners_are_twins}
