@@ -15,7 +15,7 @@ use Rattle.halfedge.proofs.Edges.{length-all_edges}
 use Rattle.halfedge.proofs.FanOrder.{order_length, ordered_below, order_place, starts_ascend, halves_ascend}
 
 -- a number that is kept around is the same in the whole fan
-same_in_fan : (ts : List Triple) → IsClosed (all_edges ts) → (of : List ℕ) → AreKeptAround (all_edges ts) of → (h : ℕ) → h < length (all_edges ts) → (n : ℕ) → get_or of (around_times (all_edges ts) n h) 0 ≡ get_or of h 0
+pub same_in_fan : (ts : List Triple) → IsClosed (all_edges ts) → (of : List ℕ) → AreKeptAround (all_edges ts) of → (h : ℕ) → h < length (all_edges ts) → (n : ℕ) → get_or of (around_times (all_edges ts) n h) 0 ≡ get_or of h 0
 same_in_fan ts closed of kept h below zero = refl
 same_in_fan ts closed of kept h below (suc n) =
     kept (around_times (all_edges ts) n h) (times_below (around (all_edges ts)) (λ g. twin (all_edges ts) (prev_half g)) (length (all_edges ts)) (around_inverse ts closed) n h below) ∙ same_in_fan ts closed of kept h below n
@@ -200,7 +200,6 @@ fan_more ts closed few order i of new first known below fans none numbered = rec
       | inl l ↦ earlier_old k l (fans.earlier k l)
       | inr l ↦ (i, omega arith, sym (last_at k (omega (arith, l, m, more))))
     ]
-
 
 -- when all half-edges were looked at, these are the fans
 pub all_fans : (ts : List Triple) → IsClosed (all_edges ts) → length ts ≤ 100000000 → (order : List (ℕ × ℕ)) (of first : List ℕ) → AreInOrder (all_edges ts) order → AreFansSoFar (all_edges ts) order (length order) of first → AreFans (all_edges ts) of first

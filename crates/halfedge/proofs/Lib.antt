@@ -3,6 +3,7 @@ pub mod Edges
 pub mod FanOrder
 pub mod FanSteps
 pub mod FanWalk
+pub mod FansOnce
 pub mod Listed
 pub mod Numbers
 pub mod OpenPair

@@ -76,14 +76,14 @@ not_lesser : (es fs : List (ℕ × ℕ)) → ((x : ℕ × ℕ) → lesser_count 
 not_lesser es fs same i g h p q false is = is
 not_lesser es fs same i g h p q true is =
     absurd (
-      omega (
-        arith,
-        p.high,
-        q.low,
-        same (start fs h, finish fs h),
-        lesser_count_more es (start es g, finish es g) (start fs h, finish fs h) is,
-        rank_at_most es (start es g) (finish es g) (suc g),
-      )
+    omega (
+      arith,
+      p.high,
+      q.low,
+      same (start fs h, finish fs h),
+      lesser_count_more es (start es g, finish es g) (start fs h, finish fs h) is,
+      rank_at_most es (start es g) (finish es g) (suc g),
+    )
     )
 
 -- where the edge at a place runs

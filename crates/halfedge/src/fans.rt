@@ -1,5 +1,5 @@
 // Fans: the half-edges that start at one vertex, in the order in which they follow round it.
-ghost use Rattle.std.specs.Prelude.{◌≡◌, ◌<◌, ◌≤◌, IfOk, length, get_or};
+ghost use Rattle.std.specs.Prelude.{◌≡◌, ◌<◌, ◌≤◌, ℕ, List, IfOk, length, get_or};
 ghost use Rattle.chain_terms.specs.Chains.{all_edges};
 ghost use Rattle.mesh_terms.specs.Meshes.{triples_of};
 ghost use Rattle.halfedge.specs.Fans.{AreFans};
@@ -24,9 +24,10 @@ pub struct Fans {
 impl Twins {
     /// The fans: the cycles of half-edges with one start under "the twin, then the next". `NoMemory`
     /// may come for any triangles. With n triangles it takes time n log n, and 9 words of 4 bytes
-    /// for each triangle, besides 1 for each fan, while it runs.
+    /// for each triangle, besides a few for each fan, while it runs.
     pub fn fans(&self, alloc: Global) -> Result<Fans, NoMemory>
-        ensures { IfOk result (λ fans. AreFans (all_edges self.now.triples) fans.of.items fans.first.items) }
+        ensures fans { IfOk result (λ fans. AreFans (all_edges self.now.triples) fans.of.items fans.first.items) }
+        ensures only { IfOk result (λ fans. (of first : List ℕ) → AreFans (all_edges self.now.triples) of first → (of ≡ fans.of.items) × (first ≡ fans.first.items)) }
     {
         let order = self.by_start(alloc)?;
         let mut of = vec![in alloc; NO_FAN; 3 * self.triples().len()]?;

@@ -9,7 +9,10 @@ use std::alloc::Global;
 
 /// The half-edges of the triangles, each as its start, its end and its number, sorted; and the same
 /// with start and end exchanged, sorted.
-pub fn sorted_edges(alloc: Global, triples: &[[u32; 3]]) -> Result<(Vec<(u32, u32, u32)>, Vec<(u32, u32, u32)>), NoMemory>
+pub fn sorted_edges(
+    alloc: Global,
+    triples: &[[u32; 3]],
+) -> Result<(Vec<(u32, u32, u32)>, Vec<(u32, u32, u32)>), NoMemory>
     requires { length triples.now ≤ 100000000 }
     ensures { IfOk result (λ r. AreSorted (all_edges (triples_of triples.now)) r.0.items r.1.items) }
 {
@@ -48,7 +51,11 @@ fn turned_edges(alloc: Global, edges: &[(u32, u32, u32)]) -> Result<Vec<(u32, u3
 }
 
 /// For each half-edge of the first list the number of the one at its place in the second.
-pub fn partners(alloc: Global, edges: &[(u32, u32, u32)], back: &[(u32, u32, u32)]) -> Result<Vec<u32>, NoMemory>
+pub fn partners(
+    alloc: Global,
+    edges: &[(u32, u32, u32)],
+    back: &[(u32, u32, u32)],
+) -> Result<Vec<u32>, NoMemory>
     requires same_length { length back.now ≡ length edges.now }
     requires one_each { ArePartners edges.now back.now }
     ensures length { IfOk result (λ twins. length twins.items ≡ length edges.now) }

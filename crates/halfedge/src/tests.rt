@@ -14,7 +14,10 @@ fn the_tetrahedron_has_one_fan_at_each_vertex(rt: HostRuntime) -> Result<(), Fai
     assert_eq!(rt; twins.next(0), 1);
     let fans = twins.fans(rt.alloc())?;
     assert_eq!(rt; fans.first.as_slice(), [0, 2, 1, 5].as_slice());
-    assert_eq!(rt; fans.of.as_slice(), [0, 2, 1, 0, 1, 3, 1, 2, 3, 2, 0, 3].as_slice());
+    assert_eq!(rt;
+        fans.of.as_slice(),
+        [0, 2, 1, 0, 1, 3, 1, 2, 3, 2, 0, 3].as_slice()
+    );
     Ok(())
 }
 
@@ -30,9 +33,30 @@ fn an_edge_that_is_used_four_times_is_paired_in_order(rt: HostRuntime) -> Result
 
 // Two cubes that share vertex 7 of the first as vertex 0 of the second.
 const CUBES: [[u32; 3]; 24] = [
-    [0, 3, 1], [0, 2, 3], [4, 5, 7], [4, 7, 6], [0, 1, 4], [1, 5, 4], [1, 3, 7], [1, 7, 5], [3, 2, 6], [3, 6, 7],
-    [0, 4, 6], [0, 6, 2], [7, 10, 8], [7, 9, 10], [11, 12, 14], [11, 14, 13], [7, 8, 11], [8, 12, 11], [8, 10, 14],
-    [8, 14, 12], [10, 9, 13], [10, 13, 14], [7, 11, 13], [7, 13, 9],
+    [0, 3, 1],
+    [0, 2, 3],
+    [4, 5, 7],
+    [4, 7, 6],
+    [0, 1, 4],
+    [1, 5, 4],
+    [1, 3, 7],
+    [1, 7, 5],
+    [3, 2, 6],
+    [3, 6, 7],
+    [0, 4, 6],
+    [0, 6, 2],
+    [7, 10, 8],
+    [7, 9, 10],
+    [11, 12, 14],
+    [11, 14, 13],
+    [7, 8, 11],
+    [8, 12, 11],
+    [8, 10, 14],
+    [8, 14, 12],
+    [10, 9, 13],
+    [10, 13, 14],
+    [7, 11, 13],
+    [7, 13, 9],
 ];
 
 #[test]

@@ -57,7 +57,7 @@ impl Twins {
     /// to b is the twin of the k-th from b to a. Exactly where the triangles are not closed, which
     /// is where some edge runs more often one way than back, the answer is `Open` with the least
     /// such edge, or `NoMemory`, which may come for any triangles. With n triangles it takes time
-    /// n log n, and 24 words of 4 bytes for each triangle while it runs.
+    /// n log n, and 21 words of 4 bytes for each triangle while it runs.
     pub fn of(alloc: Global, triples: &[[u32; 3]]) -> Result<Twins, TwinFault>
         requires three { All HasThree (triples_of triples.now) }
         requires few { length triples.now ≤ 100000000 }
@@ -67,11 +67,7 @@ impl Twins {
         ensures open { (a b : ℕ) → IsErrOf result (TwinFault.Open a b) → open_pair (all_edges (triples_of triples.now)) ≡ Some (a, b) }
         ensures accepts { IsClosed (all_edges (triples_of triples.now)) → IsOk result ⊎ IsErrOf result TwinFault.NoMemory }
     {
-        let (edges, back) = sorted_edges(alloc, triples)?;
-        if let Some((from, to)) = least_surplus(&edges, &back) {
-            return Err(TwinFault::Open { from, to });
-        }
-        let twins = partners(alloc, &edges, &back)?;
+        let twins = listed_twins(alloc, triples)?;
         let triples = copied(alloc, triples)?;
         Ok(Twins { triples, twins })
     }
@@ -116,6 +112,21 @@ impl Twins {
         let _ = &self.triples;
         if h % 3 == 2 { h - 2 } else { h + 1 }
     }
+}
+
+// The twin of each half-edge.
+fn listed_twins(alloc: Global, triples: &[[u32; 3]]) -> Result<Vec<u32>, TwinFault>
+    requires { length triples.now ≤ 100000000 }
+    ensures twins { IfOk result (λ twins. twins.items ≡ map (twin (all_edges (triples_of triples.now))) (upto (length (all_edges (triples_of triples.now))))) }
+    ensures closed { IfOk result (λ _. IsClosed (all_edges (triples_of triples.now))) }
+    ensures open { (a b : ℕ) → IsErrOf result (TwinFault.Open a b) → open_pair (all_edges (triples_of triples.now)) ≡ Some (a, b) }
+    ensures accepts { IsClosed (all_edges (triples_of triples.now)) → IsOk result ⊎ IsErrOf result TwinFault.NoMemory }
+{
+    let (edges, back) = sorted_edges(alloc, triples)?;
+    if let Some((from, to)) = least_surplus(&edges, &back) {
+        return Err(TwinFault::Open { from, to });
+    }
+    Ok(partners(alloc, &edges, &back)?)
 }
 
 // A copy of the triangles.

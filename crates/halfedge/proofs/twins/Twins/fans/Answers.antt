@@ -5,6 +5,7 @@ use Rattle.halfedge.specs.Numbering.{no_fan, AreInOrder, ordered_at, IsFanNumber
 use Rattle.mesh_terms.specs.Meshes.{triple_of}
 use Rattle.halfedge.proofs.Edges.{length-all_edges}
 use Rattle.halfedge.proofs.FanOrder.{ordered_below, order_length}
+use Rattle.halfedge.proofs.FansOnce.{one_numbering}
 use Rattle.halfedge.proofs.FanSteps.{no_fans, fans_as, fan_seen, fan_more, all_fans}
 use Rattle.halfedge.proofs.twins.Twins.fans.Goals as goal
 use Rattle.halfedge.proofs.twins.Twins.fans.Goals.{then-index+in_ok-push, else-index}
@@ -67,7 +68,7 @@ loop-half-preserved c = elim c.if-index.branch [
       sym (get_or_default c.loop-half.of.items _ c.index.result.now 0 (omega (arith, below, inv.fans.full))) ∙ sym c.index.ensures ∙ w.if-index.true in
       let count : w.len.result ≡ length c.loop-half.first.items = w.len.ensures ∙ c.loop-half.first.ok.0 in
       let numbered = subst (λ n. IsFanNumbered es (ordered_at order i) n c.loop-half.of.items w.number_fan.new.of) count
-          (subst (λ l. IsFanNumbered es (ordered_at order i) w.len.result l w.number_fan.new.of) w.deref_mut.ensures.value w.number_fan.ensures) in
+      (subst (λ l. IsFanNumbered es (ordered_at order i) w.len.result l w.number_fan.new.of) w.deref_mut.ensures.value w.number_fan.ensures) in
       let full : length w.number_fan.new.of ≡ c.loop-half.of.len = numbered.full ∙ sym inv.fans.full ∙ sym c.loop-half.of.ok.0 in
       record {
         known = inv.known;
@@ -89,11 +90,15 @@ loop-half-preserved c = elim c.if-index.branch [
       }
 ]
 
-pub returns : goal.returns
-returns c =
+pub returns-clause-fans : goal.returns-clause-fans
+returns-clause-fans c =
     let ts = c.args.self.now.triples in
     let inv = c.loop-half.invariant in
     let order : List (ℕ × ℕ) = c.deref-half-items.result.now in
     let done : c.loop-half.half-index ≡ length order = omega (arith, c.loop-half-test.false, c.loop-half.auto.half-index-end) in
     all_fans ts c.triples.ensures.twinned.closed c.triples.ensures.twinned.few order c.loop-half.of.items c.loop-half.first.items inv.known
     (subst (λ n. AreFansSoFar (all_edges ts) order n c.loop-half.of.items c.loop-half.first.items) done inv.fans)
+
+pub returns-clause-only : goal.returns-clause-only
+returns-clause-only c of first again =
+    one_numbering c.args.self.now.triples c.triples.ensures.twinned.closed of first c.loop-half.of.items c.loop-half.first.items again (returns-clause-fans c)
