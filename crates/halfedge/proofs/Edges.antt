@@ -16,10 +16,11 @@ length-all_edges (t ∷ ts) = omega (arith, length-all_edges ts)
 next_later : (h : ℕ) → next_half (suc (suc (suc h))) ≡ suc (suc (suc (next_half h)))
 next_later h = omega arith
 
--- the next half-edge is one of the triangle, and starts where the half-edge ends
+-- the next half-edge is one of the triangle
 pub next_below : (ts : List Triple) (h : ℕ) → h < length (all_edges ts) → next_half h < length (all_edges ts)
 next_below ts h below = omega (arith, length-all_edges ts, below)
 
+-- it starts where the half-edge ends
 pub next_starts : (ts : List Triple) (h : ℕ) → h < length (all_edges ts) → start (all_edges ts) (next_half h) ≡ finish (all_edges ts) h
 next_starts [] h below = absurd (omega (arith, below))
 next_starts (t ∷ ts) zero below = refl
@@ -31,9 +32,11 @@ next_starts (t ∷ ts) (suc (suc (suc h))) below = ap (start (all_edges (t ∷ t
 pub prev_next : (h : ℕ) → prev_half (next_half h) ≡ h
 prev_next h = omega arith
 
+-- the next one is the one whose one before it is
 pub next_prev : (h : ℕ) → next_half (prev_half h) ≡ h
 next_prev h = omega arith
 
+-- the one before is one of the triangle
 pub prev_below : (ts : List Triple) (h : ℕ) → h < length (all_edges ts) → prev_half h < length (all_edges ts)
 prev_below ts h below = omega (arith, length-all_edges ts, below)
 

@@ -20,6 +20,7 @@ pair_order = ranks_by (then_total (on_total (λ (e : ℕ × ℕ). e.0) nat_cmp_t
 first_ascends : (e f : ℕ × ℕ) → is_lt (pair_cmp f e) ≡ false → e.0 ≤ f.0
 first_ascends e f h = grind (arith, nat_tests, h)
 
+-- and begin with the same number
 second_ascends : (e f : ℕ × ℕ) → is_lt (pair_cmp f e) ≡ false → e.0 ≡ f.0 → e.1 ≤ f.1
 second_ascends e f h same = grind (arith, nat_tests, h, same)
 
@@ -31,6 +32,7 @@ start_of es h = (start es h, h)
 length-by_starts : (es : List (ℕ × ℕ)) → length (by_starts es) ≡ length es
 length-by_starts es = length-map (numbered 0 es) (λ e. (e.0, e.2)) ∙ length-numbered 0 es
 
+-- each at its own place
 by_starts_at : (es : List (ℕ × ℕ)) (h : ℕ) (d : ℕ × ℕ) → h < length es → get_or (by_starts es) h d ≡ start_of es h
 by_starts_at es h d below =
     let first : 0 + h ≡ h = omega arith in
@@ -52,6 +54,7 @@ record HoldsStart (es order : List (ℕ × ℕ)) (i : ℕ) : Type 0 where
   within : half < length es
   is : (d : ℕ × ℕ) → get_or order i d ≡ start_of es half
 
+-- each place holds one
 holds_start : (es order : List (ℕ × ℕ)) → AreInOrder es order → (i : ℕ) → i < length order → HoldsStart es order i
 holds_start es order known i below =
     of_member (Contains-permutation order (by_starts es) (get_or order i (0, 0)) (IsPermutation-sym (by_starts es) order known.moved) (i, below, get_or_default order i (get_or order i (0, 0)) (0, 0) below))
@@ -67,6 +70,7 @@ ordered_below es order known i below =
     let held = holds_start es order known i below in
     subst (λ h. h < length es) (sym (ap (λ (e : ℕ × ℕ). e.1) (held.is (0, 0)))) held.within
 
+-- the whole pair
 pub ordered_is : (es order : List (ℕ × ℕ)) → AreInOrder es order → (i : ℕ) → i < length order → (d : ℕ × ℕ) → get_or order i d ≡ start_of es (ordered_at order i)
 ordered_is es order known i below d =
     let held = holds_start es order known i below in

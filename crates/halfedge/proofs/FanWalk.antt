@@ -79,6 +79,7 @@ pub record IsRoundNumbered (s : ℕ → ℕ) (n h number : ℕ) (old new : List 
 abbrev pub HasNumber : List ℕ → ℕ → Type 0
 HasNumber of x = get_or of x 0 ≢ no_fan
 
+-- a walk that has met a number has come round
 pub walk_done : (s t : ℕ → ℕ) (n : ℕ) → AreInverse s t n → (h number : ℕ) (old of : List ℕ) (g : ℕ) → h < n → ((x : ℕ) → x < n → get_or old (s x) 0 ≡ get_or old x 0) → get_or old h 0 ≡ no_fan →
     IsWalked s n h number old of g → HasNumber of g → IsRoundNumbered s n h number old of
 walk_done s t n inverse h number old of g hn kept fresh walk met = by walk.count refl

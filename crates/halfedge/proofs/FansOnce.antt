@@ -73,6 +73,7 @@ least_at_most ts closed of first others heads fans again h below =
         let same : get_or of h 0 ≡ get_or of g 0 = ap (λ x. get_or of x 0) (sym e) ∙ same_in_fan ts closed of fans.steps g gn n in
         subst (λ k. get_or first k 0 ≤ g) (sym same) (fans.least g gn)
 
+-- neither is greater
 same_least : (ts : List Triple) → IsClosed (all_edges ts) → (of first others heads : List ℕ) → AreFans (all_edges ts) of first → AreFans (all_edges ts) others heads → (h : ℕ) → h < length (all_edges ts) →
     get_or first (get_or of h 0) 0 ≡ get_or heads (get_or others h 0) 0
 same_least ts closed of first others heads fans again h below =

@@ -40,6 +40,7 @@ pub record IsBetween (xs : List Half) (i : ℕ) (e : Half) : Type 0 where
   pub low : count_by (λ c. is_lt (half_cmp c e)) xs ≤ i
   pub high : i < count_by (λ c. not (is_lt (half_cmp e c))) xs
 
+-- a sorted list has its members at such places
 pub between : IsStrictWeakOrder (λ x y. is_lt (half_cmp x y)) → (xs : List Half) → IsSortedBy (λ x y. is_lt (half_cmp x y)) xs → (i : ℕ) (e : Half) → i < length xs → ((d : Half) → get_or xs i d ≡ e) → IsBetween xs i e
 between order xs up i e below is = record {
   low = count_at_most (λ c. is_lt (half_cmp c e)) xs i (λ j d low high. ap (λ m. is_lt (half_cmp (get_or xs j d) m)) (sym (is d)) ∙ sorted_far (λ x y. is_lt (half_cmp x y)) order xs up i j d low high);
@@ -50,17 +51,19 @@ between order xs up i e below is = record {
 abbrev pub lesser_count : List (ℕ × ℕ) → ℕ × ℕ → ℕ
 lesser_count es x = count_by (λ e. is_lesser e x) es
 
--- a half-edge is less where its edge is lesser, or the same with a lower number
+-- beside one with a number that is not higher a half-edge is less where its edge is lesser
 less_low : (e x : ℕ × ℕ) (k g : ℕ) → g ≤ k → is_lt (half_cmp (e.0, e.1, k) (x.0, x.1, g)) ≡ is_lesser e x
 less_low e x k g low = grind (arith, nat_tests, low)
 
+-- beside one with a higher number also where its edge is the same
 less_high : (e x : ℕ × ℕ) (k g : ℕ) → k < g → one_if (is_lt (half_cmp (e.0, e.1, k) (x.0, x.1, g))) ≡ one_if (is_lesser e x) + one_if (is_edge e x.0 x.1)
 less_high e x k g high = grind (arith, nat_tests, high)
 
--- a half-edge is not greater where its edge is lesser, or the same with a number that is not higher
+-- beside one with a lower number a half-edge is not greater where its edge is lesser
 more_low : (e x : ℕ × ℕ) (k g : ℕ) → g < k → not (is_lt (half_cmp (x.0, x.1, g) (e.0, e.1, k))) ≡ is_lesser e x
 more_low e x k g low = grind (arith, nat_tests, low)
 
+-- beside one with a number that is not lower also where its edge is the same
 more_high : (e x : ℕ × ℕ) (k g : ℕ) → k ≤ g → one_if (not (is_lt (half_cmp (x.0, x.1, g) (e.0, e.1, k)))) ≡ one_if (is_lesser e x) + one_if (is_edge e x.0 x.1)
 more_high e x k g high = grind (arith, nat_tests, high)
 
@@ -157,6 +160,7 @@ pub record Holds (es : List (ℕ × ℕ)) (xs : List Half) (i : ℕ) : Type 0 wh
   pub within : half < length es
   pub is : (d : Half) → get_or xs i d ≡ (start es half, finish es half, half)
 
+-- each place holds one
 holds_at : (es : List (ℕ × ℕ)) (xs : List Half) → IsPermutation (numbered 0 es) xs → (i : ℕ) → i < length xs → Holds es xs i
 holds_at es xs moved i below = of_member (Contains-permutation xs (numbered 0 es) (get_or xs i (0, 0, 0)) (IsPermutation-sym (numbered 0 es) xs moved) (i, below, get_or_default xs i (get_or xs i (0, 0, 0)) (0, 0, 0) below))
   where

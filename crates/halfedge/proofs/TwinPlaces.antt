@@ -31,6 +31,7 @@ turned-numbered k (e ∷ es) = ap (λ l. (e.1, e.0, k) ∷ l) (turned-numbered (
 lesser_more : (e x y : ℕ × ℕ) → is_lesser x y ≡ true → one_if (is_lesser e x) + one_if (is_edge e x.0 x.1) ≤ one_if (is_lesser e y)
 lesser_more e x y less = grind (arith, nat_tests, less)
 
+-- so at least as many edges are lesser than y
 lesser_count_more : (es : List (ℕ × ℕ)) (x y : ℕ × ℕ) → is_lesser x y ≡ true → lesser_count es x + dir es x.0 x.1 ≤ lesser_count es y
 lesser_count_more [] x y less = omega arith
 lesser_count_more (e ∷ es) x y less =

@@ -33,6 +33,7 @@ pub record AreSorted (es : List (ℕ × ℕ)) (edges back : List Half) : Type 0 
 abbrev pub ends : Half → ℕ × ℕ
 ends e = (e.0, e.1)
 
+-- the same of each
 abbrev pub ends_of : List Half → List (ℕ × ℕ)
 ends_of es = map ends es
 

@@ -109,6 +109,7 @@ impl Twins {
         ensures below { result < 3 * length self.now.triples }
         ensures from { start (all_edges self.now.triples) result ≡ finish (all_edges self.now.triples) h }
     {
+        // Read so that what the type keeps is known here: so few triangles that the sum fits.
         let _ = &self.triples;
         if h % 3 == 2 { h - 2 } else { h + 1 }
     }
