@@ -1,0 +1,13 @@
+pub mod Around
+pub mod Edges
+pub mod FanOrder
+pub mod FanSteps
+pub mod FanWalk
+pub mod FansOnce
+pub mod Listed
+pub mod Numbers
+pub mod OpenPair
+pub mod Order
+pub mod Positions
+pub mod TwinPlaces
+pub mod Walk

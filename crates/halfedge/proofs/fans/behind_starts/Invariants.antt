@@ -1,0 +1,8 @@
+use Rattle.std.proofs.Common.{◌≡◌, ◌*◌, take}
+use Rattle.chain_terms.specs.Chains.{all_edges}
+use Rattle.mesh_terms.specs.Meshes.{triples_of}
+use Rattle.halfedge.specs.Numbering.{by_starts}
+use Rattle.halfedge.proofs.fans.behind_starts.Given as goal
+
+abbrev pub invariant-loop-a : goal.invariant-loop-a
+invariant-loop-a l = record { items : l.order.items ≡ by_starts (all_edges (triples_of (take l.a-index l.triples))); half : l.half ≡ 3 * l.a-index }

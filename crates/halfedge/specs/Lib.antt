@@ -1,0 +1,7 @@
+pub mod Fans
+pub mod Halves
+pub mod Laws
+pub mod Numbering
+pub mod Pairing
+pub mod Surplus
+pub mod Twins

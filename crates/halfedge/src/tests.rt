@@ -1,0 +1,80 @@
+// Small meshes, with twins and fans known from outside.
+use crate::{TwinFault, Twins};
+use std::alloc::Global;
+use std::test::Fail;
+
+const TETRAHEDRON: [[u32; 3]; 4] = [[0, 2, 1], [0, 1, 3], [1, 2, 3], [2, 0, 3]];
+
+#[test]
+fn the_tetrahedron_has_one_fan_at_each_vertex(rt: HostRuntime) -> Result<(), Fail> {
+    let twins = Twins::of(rt.alloc(), &TETRAHEDRON)?;
+    assert_eq!(rt; twins.triples(), TETRAHEDRON.as_slice());
+    assert_eq!(rt; twins.twin(0), 9);
+    assert_eq!(rt; twins.next(2), 0);
+    assert_eq!(rt; twins.next(0), 1);
+    let fans = twins.fans(rt.alloc())?;
+    assert_eq!(rt; fans.first.as_slice(), [0, 2, 1, 5].as_slice());
+    assert_eq!(rt;
+        fans.of.as_slice(),
+        [0, 2, 1, 0, 1, 3, 1, 2, 3, 2, 0, 3].as_slice()
+    );
+    Ok(())
+}
+
+#[test]
+fn an_edge_that_is_used_four_times_is_paired_in_order(rt: HostRuntime) -> Result<(), Fail> {
+    let [a, b, c, d] = TETRAHEDRON;
+    let twins = Twins::of(rt.alloc(), &[a, b, c, d, a, b, c, d])?;
+    assert_eq!(rt; twins.twin(0), 9);
+    assert_eq!(rt; twins.twin(12), 21);
+    assert_eq!(rt; twins.fans(rt.alloc())?.first.len(), 8);
+    Ok(())
+}
+
+// Two cubes that share vertex 7 of the first as vertex 0 of the second.
+const CUBES: [[u32; 3]; 24] = [
+    [0, 3, 1],
+    [0, 2, 3],
+    [4, 5, 7],
+    [4, 7, 6],
+    [0, 1, 4],
+    [1, 5, 4],
+    [1, 3, 7],
+    [1, 7, 5],
+    [3, 2, 6],
+    [3, 6, 7],
+    [0, 4, 6],
+    [0, 6, 2],
+    [7, 10, 8],
+    [7, 9, 10],
+    [11, 12, 14],
+    [11, 14, 13],
+    [7, 8, 11],
+    [8, 12, 11],
+    [8, 10, 14],
+    [8, 14, 12],
+    [10, 9, 13],
+    [10, 13, 14],
+    [7, 11, 13],
+    [7, 13, 9],
+];
+
+#[test]
+fn a_shared_vertex_has_two_fans(rt: HostRuntime) -> Result<(), Fail> {
+    let twins = Twins::of(rt.alloc(), &CUBES)?;
+    let fans = twins.fans(rt.alloc())?;
+    assert_eq!(rt; fans.first.len(), 16);
+    // The first cube's half-edges at vertex 7 begin with 8, the second's with 36.
+    assert_eq!(rt; fans.first[7], 8);
+    assert_eq!(rt; fans.first[8], 36);
+    Ok(())
+}
+
+#[test]
+fn the_least_open_edge_is_named(rt: HostRuntime) -> Result<(), Fail> {
+    let open = Twins::of(rt.alloc(), &TETRAHEDRON[..3]);
+    assert_eq!(rt; open.err(), Some(TwinFault::Open { from: 0, to: 2 }));
+    let thrice = Twins::of(rt.alloc(), &[[0, 1, 2], [1, 0, 3], [0, 1, 4]]);
+    assert_eq!(rt; thrice.err(), Some(TwinFault::Open { from: 0, to: 1 }));
+    Ok(())
+}

@@ -1,0 +1,138 @@
+// Twins of half-edges.
+ghost use Rattle.std.specs.Prelude.{◌≡◌, ◌<◌, ◌≤◌, ◌*◌, ◌⊎◌, ℕ, List, IfOk, IsOk, IsErrOf, Some, length, map, get_or};
+ghost use Rattle.std.specs.List.{All};
+ghost use Rattle.chain_terms.specs.Chains.{all_edges, IsClosed};
+ghost use Rattle.chain_terms.specs.Sums.{upto};
+ghost use Rattle.chain_laws.specs.Ranks.{start, finish, twin, RunsBack};
+ghost use Rattle.mesh_terms.specs.Meshes.{HasThree, triples_of};
+ghost use Rattle.mesh_terms.specs.OpenEdges.{open_pair};
+ghost use Rattle.halfedge.specs.Halves.{next_half};
+ghost use Rattle.halfedge.specs.Laws.{PairUp, GoAround};
+ghost use Rattle.halfedge.specs.Twins.{IsTwinned};
+
+use crate::pairing::{partners, sorted_edges};
+use crate::surplus::least_surplus;
+use mb_base::NoMemory;
+use std::alloc::Global;
+use std::marker::Model;
+
+/// Closed triangles, each with three different vertices, and the twin of each of their half-edges.
+#[derive(Drop)]
+pub struct Twins {
+    triples: Vec<[u32; 3]>,
+    twins: Vec<u32>,
+}
+
+impl Model for Twins {
+    ghost use Rattle.mesh_terms.specs.Meshes.{triples_of};
+    ghost use Rattle.halfedge.specs.Twins.{Twins as TheTwins, IsTwinned};
+
+    ghost Value = { TheTwins };
+
+    ghost view = { λ t. record { triples = triples_of t.triples.items; twins = t.twins.items } };
+
+    ghost invariant = { λ t. IsTwinned (triples_of t.triples.items) t.twins.items };
+}
+
+/// Why triangles have no twins: the least edge, by its start and then by its end, that runs more
+/// often one way than back; or want of memory.
+#[derive(Clone, Copy, Debug, PartialEq, Eq, Drop)]
+pub enum TwinFault {
+    Open { from: u32, to: u32 },
+    NoMemory,
+}
+
+impl From<NoMemory> for TwinFault {
+    ghost use Rattle.halfedge.specs.declared.twins.TwinFault.TheVariants.{NoMemory};
+
+    ghost from_gives = { λ _ e. e ≡ NoMemory };
+
+    fn from(_: NoMemory) -> Self {
+        TwinFault::NoMemory
+    }
+}
+
+impl Twins {
+    /// The triangles, of which this takes a copy, with the twin of each half-edge: the k-th from a
+    /// to b is the twin of the k-th from b to a. Exactly where the triangles are not closed, which
+    /// is where some edge runs more often one way than back, the answer is `Open` with the least
+    /// such edge, or `NoMemory`, which may come for any triangles. With n triangles it takes time
+    /// n log n, and 21 words of 4 bytes for each triangle while it runs.
+    pub fn of(alloc: Global, triples: &[[u32; 3]]) -> Result<Twins, TwinFault>
+        requires three { All HasThree (triples_of triples.now) }
+        requires few { length triples.now ≤ 100000000 }
+        ensures triples { IfOk result (λ t. t.triples ≡ triples_of triples.now) }
+        ensures twins { IfOk result (λ t. t.twins ≡ map (twin (all_edges (triples_of triples.now))) (upto (length (all_edges (triples_of triples.now))))) }
+        ensures closed { IfOk result (λ _. IsClosed (all_edges (triples_of triples.now))) }
+        ensures open { (a b : ℕ) → IsErrOf result (TwinFault.Open a b) → open_pair (all_edges (triples_of triples.now)) ≡ Some (a, b) }
+        ensures accepts { IsClosed (all_edges (triples_of triples.now)) → IsOk result ⊎ IsErrOf result TwinFault.NoMemory }
+    {
+        let twins = listed_twins(alloc, triples)?;
+        let triples = copied(alloc, triples)?;
+        Ok(Twins { triples, twins })
+    }
+
+    /// The triangles, each as three vertex numbers.
+    pub fn triples(&self) -> &[[u32; 3]]
+        ensures value { triples_of result.now ≡ self.now.triples }
+        ensures twinned { IsTwinned self.now.triples self.now.twins }
+    {
+        &self.triples
+    }
+
+    /// The twin of each half-edge, with what twins keep, and what the half-edges round a vertex keep,
+    /// of which the next is the half-edge after the twin.
+    pub fn twins(&self) -> &[u32]
+        ensures value { result.now ≡ self.now.twins }
+        ensures twinned { IsTwinned self.now.triples self.now.twins }
+        ensures pairs { PairUp (all_edges self.now.triples) }
+        ensures around { GoAround (all_edges self.now.triples) }
+    {
+        &self.twins
+    }
+
+    /// The half-edge that runs back from the end of half-edge h to its start, with h's place among
+    /// those that run the same way.
+    pub fn twin(&self, h: u32) -> u32
+        requires { h < 3 * length self.now.triples }
+        ensures value { result ≡ twin (all_edges self.now.triples) h }
+        ensures listed { result ≡ get_or self.now.twins h 0 }
+        ensures back { RunsBack (all_edges self.now.triples) h result }
+    {
+        self.twins[h as usize]
+    }
+
+    /// The half-edge that follows half-edge h round its triangle.
+    pub fn next(&self, h: u32) -> u32
+        requires { h < 3 * length self.now.triples }
+        ensures value { result ≡ next_half h }
+        ensures below { result < 3 * length self.now.triples }
+        ensures from { start (all_edges self.now.triples) result ≡ finish (all_edges self.now.triples) h }
+    {
+        // Read so that what the type keeps is known here: so few triangles that the sum fits.
+        let _ = &self.triples;
+        if h % 3 == 2 { h - 2 } else { h + 1 }
+    }
+}
+
+// The twin of each half-edge.
+fn listed_twins(alloc: Global, triples: &[[u32; 3]]) -> Result<Vec<u32>, TwinFault>
+    requires { length triples.now ≤ 100000000 }
+    ensures twins { IfOk result (λ twins. twins.items ≡ map (twin (all_edges (triples_of triples.now))) (upto (length (all_edges (triples_of triples.now))))) }
+    ensures closed { IfOk result (λ _. IsClosed (all_edges (triples_of triples.now))) }
+    ensures open { (a b : ℕ) → IsErrOf result (TwinFault.Open a b) → open_pair (all_edges (triples_of triples.now)) ≡ Some (a, b) }
+    ensures accepts { IsClosed (all_edges (triples_of triples.now)) → IsOk result ⊎ IsErrOf result TwinFault.NoMemory }
+{
+    let (edges, back) = sorted_edges(alloc, triples)?;
+    if let Some((from, to)) = least_surplus(&edges, &back) {
+        return Err(TwinFault::Open { from, to });
+    }
+    Ok(partners(alloc, &edges, &back)?)
+}
+
+// A copy of the triangles.
+fn copied(alloc: Global, triples: &[[u32; 3]]) -> Result<Vec<[u32; 3]>, NoMemory>
+    ensures { IfOk result (λ copy. copy.items ≡ triples.now) }
+{
+    Ok(triples.to_vec(alloc)?)
+}
