@@ -13,7 +13,11 @@ pub fn corner_of(point: Point, up: [bool; 3]) -> Corner
 {
     let [x, y, z] = point.at();
     Corner {
-        at: [fine_steps(x, UNIT), fine_steps(y, UNIT), fine_steps(z, UNIT)],
+        at: [
+            fine_steps(x, UNIT),
+            fine_steps(y, UNIT),
+            fine_steps(z, UNIT),
+        ],
         up,
     }
 }

@@ -16,7 +16,11 @@ pub fn face_at(corners: &[Corner], triple: &[u32; 3]) -> [Corner; 3]
     ensures fine { AllFine result }
 {
     let [a, b, c] = *triple;
-    [corners[a as usize], corners[b as usize], corners[c as usize]]
+    [
+        corners[a as usize],
+        corners[b as usize],
+        corners[c as usize],
+    ]
 }
 
 // The shadow of a corner over a face.
