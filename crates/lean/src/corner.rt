@@ -1,5 +1,5 @@
 // Points of the grid as corners in fine steps.
-ghost use Rattle.std.specs.Prelude.{◌≡◌, ◌≤◌, ◌^◌, ◌*ℤ◌, unsigned_abs};
+ghost use Rattle.std.specs.Prelude.{◌≡◌, ◌≤◌, ◌*ℤ◌, unsigned_abs};
 ghost use Rattle.rounding.specs.Corners.{IsFineCorner};
 ghost use Rattle.lean.specs.Sides.{corner_of};
 

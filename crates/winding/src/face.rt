@@ -2,7 +2,6 @@
 ghost use Rattle.std.specs.Prelude.{◌≡◌, ◌∷◌, [], ◌≤ℤ◌, pos, negsuc, length};
 ghost use Rattle.mesh_terms.specs.Meshes.{IsBelow, triple_of};
 ghost use Rattle.rounding.specs.Corners.{AllFine, IsFineCorner};
-ghost use Rattle.shadow_kernels.specs.Counts.{shadow_of};
 ghost use Rattle.winding.specs.Windings.{face_of, face_shadow};
 
 use mb_base::Corner;

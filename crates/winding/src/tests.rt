@@ -13,7 +13,7 @@ use std::sync::ledger::{Blank, Ledger};
 use std::test::Fail;
 use steps::Steps;
 
-// The two ends of a cube on each axis, in grid steps, and the eight corners between them.
+// The corners of two cubes, in grid steps.
 const OUTER: [[i32; 3]; 8] = [
     [0, 0, 0],
     [100_000, 0, 0],
