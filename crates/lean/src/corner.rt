@@ -1,5 +1,5 @@
 // Points of the grid as corners in fine steps.
-ghost use Rattle.std.specs.Prelude.{◌≡◌, ◌≤◌, ◌^◌, ◌*ℤ◌, unsigned_abs};
+ghost use Rattle.std.specs.Prelude.{◌≡◌, ◌≤◌, ◌*ℤ◌, unsigned_abs};
 ghost use Rattle.rounding.specs.Corners.{IsFineCorner};
 ghost use Rattle.lean.specs.Sides.{corner_of};
 
@@ -13,7 +13,11 @@ pub fn corner_of(point: Point, up: [bool; 3]) -> Corner
 {
     let [x, y, z] = point.at();
     Corner {
-        at: [fine_steps(x, UNIT), fine_steps(y, UNIT), fine_steps(z, UNIT)],
+        at: [
+            fine_steps(x, UNIT),
+            fine_steps(y, UNIT),
+            fine_steps(z, UNIT),
+        ],
         up,
     }
 }

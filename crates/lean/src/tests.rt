@@ -22,9 +22,15 @@ fn corners_are_points_in_fine_steps(rt: HostRuntime) -> Result<(), Fail> {
     let side = Side::of(rt.alloc(), &mesh, ups)?;
     assert_eq!(rt; side.triples(), mesh.triples());
     assert_eq!(rt; side.corners().len(), 3);
-    assert_eq!(rt; side.corners()[1].at, [(1 << 30) * UNIT, -5 * UNIT, 7 * UNIT]);
+    assert_eq!(rt;
+        side.corners()[1].at,
+        [(1 << 30) * UNIT, -5 * UNIT, 7 * UNIT]
+    );
     assert_eq!(rt; side.corners()[1].up, [true, false, true]);
-    assert_eq!(rt; side.corners()[2].at, [3 * UNIT, -(1 << 30) * UNIT, 2 * UNIT]);
+    assert_eq!(rt;
+        side.corners()[2].at,
+        [3 * UNIT, -(1 << 30) * UNIT, 2 * UNIT]
+    );
     assert_eq!(rt; side.corners()[2].up, [false, true, false]);
     Ok(())
 }

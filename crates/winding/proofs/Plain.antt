@@ -1,5 +1,5 @@
 -- A side whose marks are all unset has the winding numbers of its mesh.
-use Rattle.std.proofs.Common.{arith, ◌≡◌, ◌<◌, ℕ, ℤ, neg_ℤ, Bool, false, List, [], ◌∷◌, length, replicate, get_or, refl, ap, ◌∙◌, sym}
+use Rattle.std.proofs.Common.{arith, ◌≡◌, ◌<◌, ℕ, ℤ, neg_ℤ, Bool, false, List, [], ◌∷◌, length, replicate, get_or, refl, ap, ◌∙◌}
 use Rattle.std.specs.List.{All}
 use Rattle.std.proofs.lemmas.List.{get_or-replicate, length-replicate}
 use Rattle.chain_laws.specs.Sums.{total-same_all}
@@ -7,7 +7,6 @@ use Rattle.mesh_terms.specs.Meshes.{Mesh, Triple, IsBelow}
 use Rattle.mb_base.specs.declared.point.Corner.{Corner}
 use Rattle.rounding.specs.Corners.{corner_at}
 use Rattle.rounding.specs.Nearest.{nearest}
-use Rattle.shadow_kernels.specs.Counts.{shadow_of}
 use Rattle.shadow_kernels.specs.Shadows.{meet02}
 use Rattle.lean.specs.Sides.{Side, corner_of, corners_of}
 use Rattle.lean.proofs.Corners.{corners_at}

@@ -1,5 +1,5 @@
 -- How often a mesh winds round a point.
-use Rattle.std.specs.Prelude.{ℤ, neg_ℤ, Bool, false, Option, List, [], ◌∷◌, get_or}
+use Rattle.std.specs.Prelude.{ℤ, neg_ℤ, false, Option, List, [], ◌∷◌, get_or}
 use Rattle.chain_terms.specs.Sums.{total}
 use Rattle.mesh_terms.specs.Meshes.{Mesh, Triple}
 use Rattle.mb_base.specs.declared.point.Corner.{Corner}

@@ -2,7 +2,6 @@
 ghost use Rattle.std.specs.Prelude.{◌≡◌, ◌∷◌, [], ◌≤ℤ◌, pos, negsuc, length};
 ghost use Rattle.mesh_terms.specs.Meshes.{IsBelow, triple_of};
 ghost use Rattle.rounding.specs.Corners.{AllFine, IsFineCorner};
-ghost use Rattle.shadow_kernels.specs.Counts.{shadow_of};
 ghost use Rattle.winding.specs.Windings.{face_of, face_shadow};
 
 use mb_base::Corner;
@@ -16,7 +15,11 @@ pub fn face_at(corners: &[Corner], triple: &[u32; 3]) -> [Corner; 3]
     ensures fine { AllFine result }
 {
     let [a, b, c] = *triple;
-    [corners[a as usize], corners[b as usize], corners[c as usize]]
+    [
+        corners[a as usize],
+        corners[b as usize],
+        corners[c as usize],
+    ]
 }
 
 // The shadow of a corner over a face.

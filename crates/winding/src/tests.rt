@@ -1,10 +1,9 @@
 // Winding numbers in cubes, worked out by hand.
 ghost use Rattle.std.specs.Prelude.{◌≡◌, ◌<◌};
-ghost use Rattle.rounding.specs.Corners.{IsFineCorner};
 
 use crate::{winding_at, winding_sum};
 use lean::{Side, corner_of};
-use mb_base::{Corner, Point, Soup};
+use mb_base::{Point, Soup};
 use mesh_check::Mesh;
 use rounding::Nearest;
 use shadow_kernels::Grid;
@@ -14,7 +13,7 @@ use std::sync::ledger::{Blank, Ledger};
 use std::test::Fail;
 use steps::Steps;
 
-// The two ends of a cube on each axis, in grid steps, and the eight corners between them.
+// The corners of two cubes, in grid steps.
 const OUTER: [[i32; 3]; 8] = [
     [0, 0, 0],
     [100_000, 0, 0],
@@ -94,66 +93,80 @@ fn nested_cubes(alloc: Global) -> Result<Mesh, Fail> {
 }
 
 // The winding number of a point in tens of thousands of grid steps.
-fn number_from<L: Ledger>(alloc: Global, mesh: &Mesh, at: [i8; 3], blank: Blank) -> Result<i64, Fail>
+fn number_from<L: Ledger>(
+    alloc: Global,
+    mesh: &Mesh,
+    at: &[i8; 3],
+    blank: Blank,
+) -> Result<i64, Fail>
     requires name { blank.name ≡ L.name }
     requires parts { blank.parts ≡ L.parts }
     requires some { 0 < blank.parts }
 {
     let mut steps = Steps::<L>::over(blank);
-    let [x, y, z] = at;
+    let [x, y, z] = *at;
     let unit = 10_000;
     let point = Point::of(x as i32 * unit, y as i32 * unit, z as i32 * unit);
     Ok(winding_at(alloc, point.ok_or("outside the grid")?, mesh, &mut steps)?)
 }
 
-fn number(alloc: Global, mesh: &Mesh, x: i8, y: i8, z: i8) -> Result<i64, Fail> {
-    number_from::<Brand>(alloc, mesh, [x, y, z], Blank::new(1))
+// Whether the mesh has these winding numbers at these points.
+fn has_numbers(alloc: Global, mesh: &Mesh, numbers: &[([i8; 3], i64)]) -> Result<bool, Fail> {
+    for (at, number) in numbers {
+        if number_from::<Brand>(alloc, mesh, at, Blank::new(1))? != *number {
+            return Ok(false);
+        }
+    }
+    Ok(true)
 }
 
+// On the mesh, a coordinate that is equal to a vertex's is not beyond it.
 #[test]
 fn a_cube_winds_once_round_its_inside(rt: HostRuntime) -> Result<(), Fail> {
     let mesh = cube(rt.alloc())?;
-    assert_eq!(rt; number(rt.alloc(), &mesh, 5, 4, 3)?, 1);
-    assert_eq!(rt; number(rt.alloc(), &mesh, 11, 4, 3)?, 0);
-    // On the mesh, a coordinate that is equal to a vertex's is not beyond it.
-    assert_eq!(rt; number(rt.alloc(), &mesh, 10, 10, 10)?, 1);
-    assert_eq!(rt; number(rt.alloc(), &mesh, 0, 0, 0)?, 0);
+    let numbers = [
+        ([5, 4, 3], 1),
+        ([11, 4, 3], 0),
+        ([10, 10, 10], 1),
+        ([0, 0, 0], 0),
+    ];
+    assert!(rt; has_numbers(rt.alloc(), &mesh, &numbers)?);
     Ok(())
 }
 
 #[test]
 fn a_cube_inside_out_winds_backwards(rt: HostRuntime) -> Result<(), Fail> {
     let mesh = turned_cube(rt.alloc())?;
-    assert_eq!(rt; number(rt.alloc(), &mesh, 5, 4, 3)?, -1);
+    assert!(rt; has_numbers(rt.alloc(), &mesh, &[([5, 4, 3], -1)])?);
     Ok(())
 }
 
 #[test]
 fn nested_cubes_wind_twice(rt: HostRuntime) -> Result<(), Fail> {
     let mesh = nested_cubes(rt.alloc())?;
-    assert_eq!(rt; number(rt.alloc(), &mesh, 5, 4, 3)?, 2);
-    assert_eq!(rt; number(rt.alloc(), &mesh, 1, 1, 1)?, 1);
+    assert!(rt; has_numbers(rt.alloc(), &mesh, &[([5, 4, 3], 2), ([1, 1, 1], 1)])?);
     Ok(())
 }
 
-fn sum_from<L: Ledger>(p: &Corner, q: &Side, blank: Blank) -> i64
-    requires fine { IsFineCorner p.now }
+// The winding number of a point that is moved up on each axis.
+fn sum_from<L: Ledger>(point: Point, q: &Side, blank: Blank) -> i64
     requires name { blank.name ≡ L.name }
     requires parts { blank.parts ≡ L.parts }
     requires some { 0 < blank.parts }
 {
     let mut steps = Steps::<L>::over(blank);
-    winding_sum(p, q, &Grid { rounding: Nearest }, &mut steps)
+    let p = corner_of(point, [true; 3]);
+    winding_sum(&p, q, &Grid { rounding: Nearest }, &mut steps)
 }
 
 #[test]
-fn a_corner_moved_up_lies_on_the_other_side(rt: HostRuntime) -> Result<(), Fail> {
+fn a_point_moved_up_lies_on_the_other_side(rt: HostRuntime) -> Result<(), Fail> {
     let mesh = cube(rt.alloc())?;
     let ups = vec![in rt.alloc(); [false; 3]; mesh.points().len()]?;
     let side = Side::of(rt.alloc(), &mesh, ups)?;
-    let low = corner_of(Point::of(0, 0, 0).ok_or("outside the grid")?, [true; 3]);
-    assert_eq!(rt; sum_from::<Brand>(&low, &side, Blank::new(1)), 1);
-    let high = corner_of(Point::of(100_000, 5, 7).ok_or("outside the grid")?, [true; 3]);
-    assert_eq!(rt; sum_from::<Brand>(&high, &side, Blank::new(1)), 0);
+    let low = Point::of(0, 0, 0).ok_or("outside the grid")?;
+    assert_eq!(rt; sum_from::<Brand>(low, &side, Blank::new(1)), 1);
+    let high = Point::of(100_000, 5, 7).ok_or("outside the grid")?;
+    assert_eq!(rt; sum_from::<Brand>(high, &side, Blank::new(1)), 0);
     Ok(())
 }

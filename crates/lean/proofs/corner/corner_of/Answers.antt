@@ -1,4 +1,4 @@
-use Rattle.std.proofs.Common.{arith, refl, ◌≡◌, ◌^◌, ◌≤◌, ◌*ℤ◌, ◌≤ℤ◌, ℤ, pos, unsigned_abs, to_z, of_z, w32, w64, ap, ◌∙◌}
+use Rattle.std.proofs.Common.{arith, ◌≡◌, ◌*ℤ◌, ℤ, to_z, of_z, w32, w64, ap}
 use Rattle.std.proofs.lemmas.Int.{ints}
 use Rattle.mb_base.specs.declared.TheConstants.{UNIT}
 use Rattle.mesh_terms.specs.Points.{IsOnGrid, coordinate_of}

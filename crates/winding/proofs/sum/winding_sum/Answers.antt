@@ -1,4 +1,4 @@
-use Rattle.std.proofs.Common.{rules, arith, refl, ◌≡◌, ◌-ℤ◌, ℤ, [], ◌∷◌, get_or, length, ap, ◌∙◌, sym, to_z, of_z, w64}
+use Rattle.std.proofs.Common.{rules, arith, refl, ◌≡◌, ◌-ℤ◌, ℤ, [], get_or, length, ap, ◌∙◌, to_z, of_z, w64}
 use Rattle.std.proofs.lemmas.Int.{ints}
 use Rattle.mesh_terms.specs.Meshes.{Triple, triple_of}
 use Rattle.winding.specs.Windings.{face_of, face_shadow}
