@@ -1,0 +1,31 @@
+-- Corners by their coordinates and marks.
+use Rattle.std.specs.Prelude.{ℕ, ℤ, pos, Bool, false, List, [], slice_index_or}
+use Rattle.std.specs.List.{All}
+use Rattle.mb_base.specs.declared.point.Corner.{Corner}
+use Rattle.rounding.specs.Fine.{IsFine}
+
+-- a corner with nothing in it
+abbrev pub blank_corner : Corner
+blank_corner = record { at = []; up = [] }
+
+-- the corner at a place of a list
+abbrev pub corner_at : List Corner → ℕ → Corner
+corner_at cs i = slice_index_or cs i blank_corner
+
+-- the coordinate on axis i: 0 for x, 1 for y, 2 for z
+abbrev pub axis : ℕ → Corner → ℤ
+axis i c = slice_index_or c.at i (pos 0)
+
+-- whether the corner counts as moved up on axis i
+abbrev pub up_on : ℕ → Corner → Bool
+up_on i c = slice_index_or c.up i false
+
+-- the three coordinates are fine
+pub record IsFineCorner (c : Corner) : Type 0 where
+  pub x : IsFine (axis 0 c)
+  pub y : IsFine (axis 1 c)
+  pub z : IsFine (axis 2 c)
+
+-- all coordinates of all corners are fine
+abbrev pub AllFine : List Corner → Type 0
+AllFine cs = All IsFineCorner cs

@@ -1,0 +1,6 @@
+pub mod Fine
+pub mod Corners
+pub mod Nearest
+pub mod Floor
+pub mod Shares
+pub mod Lawful

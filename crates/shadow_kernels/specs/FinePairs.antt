@@ -1,0 +1,54 @@
+-- The answers of edges with vertices are sized and have fine spots.
+use Rattle.std.specs.Prelude.{List, [], ◌∷◌, Option, None, Some, IfSome}
+use Rattle.std.proofs.Common.{arith}
+use Rattle.std.proofs.lemmas.List.Elements.{All-cons, All-nil}
+use Rattle.mb_base.specs.declared.point.Corner.{Corner}
+use Rattle.rounding.specs.Corners.{IsFineCorner, AllFine}
+use Rattle.shadow_kernels.specs.declared.Meet.{Meet}
+use Rattle.shadow_kernels.specs.Spots.{Between}
+use Rattle.shadow_kernels.specs.Shadows.{meet01, meet10}
+use Rattle.shadow_kernels.specs.Boxes.{IsInHull}
+use Rattle.shadow_kernels.specs.Bounds.{IsFineSpot, IsFinePair, hull_fine}
+use Rattle.shadow_kernels.specs.Hulls.{StaysBetween, placed, hull01, hull10}
+use Rattle.shadow_kernels.specs.Squares.{sized01, sized10}
+
+-- one fine corner
+pub fine_one : (p : Corner) → IsFineCorner p → AllFine (p ∷ [])
+fine_one p h = All-cons IsFineCorner p [] h (All-nil IsFineCorner)
+
+-- two fine corners
+pub fine_two : (p q : Corner) → IsFineCorner p → IsFineCorner q → AllFine (p ∷ q ∷ [])
+fine_two p q h k = All-cons IsFineCorner p (q ∷ []) h (fine_one q k)
+
+-- three fine corners
+pub fine_three : (p q r : Corner) → IsFineCorner p → IsFineCorner q → IsFineCorner r → AllFine (p ∷ q ∷ r ∷ [])
+fine_three p q r h k l = All-cons IsFineCorner p (q ∷ r ∷ []) h (fine_two q r k l)
+
+-- an answer with its spot in the boxes of fine corners has a fine spot
+fine_spot : (ps qs : List Corner) → AllFine ps → AllFine qs → (m : Option Meet) → IfSome m (λ n. IsInHull ps qs n.spot) → IfSome m (λ n. IsFineSpot n.spot)
+fine_spot ps qs fp fq None h = tt
+fine_spot ps qs fp fq (Some m) h = hull_fine ps qs m.spot fp fq h
+
+-- a vertex and an edge
+pub fine01 : (w : Between) → StaysBetween w → (p c d : Corner) → IsFineCorner p → IsFineCorner c → IsFineCorner d → IsFinePair (meet01 w p c d)
+fine01 w stays p c d hp hc hd =
+    let ps = p ∷ [] in
+    let qs = c ∷ d ∷ [] in
+    let fp = fine_one p hp in
+    let fq = fine_two c d hc hd in
+    record {
+      sized = sized01 w p c d;
+      fine = fine_spot ps qs fp fq (meet01 w p c d) (hull01 w stays ps qs p c d (placed ps 0 fp (omega arith)) (placed qs 0 fq (omega arith)) (placed qs 1 fq (omega arith)));
+    }
+
+-- an edge and a vertex
+pub fine10 : (w : Between) → StaysBetween w → (a b q : Corner) → IsFineCorner a → IsFineCorner b → IsFineCorner q → IsFinePair (meet10 w a b q)
+fine10 w stays a b q ha hb hq =
+    let ps = a ∷ b ∷ [] in
+    let qs = q ∷ [] in
+    let fp = fine_two a b ha hb in
+    let fq = fine_one q hq in
+    record {
+      sized = sized10 w a b q;
+      fine = fine_spot ps qs fp fq (meet10 w a b q) (hull10 w stays ps qs a b q (placed ps 0 fp (omega arith)) (placed ps 1 fp (omega arith)) (placed qs 0 fq (omega arith)));
+    }

@@ -1,0 +1,118 @@
+-- Sizes of counts, and what the two ends of an edge give.
+use Rattle.std.specs.Prelude.{◌≡◌, ◌≢◌, ℤ, pos, negsuc, neg_ℤ, ◌≤ℤ◌, ◌⊎◌, Bool, true, false, if◌then◌else◌, Option, None, Some, IfSome}
+use Rattle.std.specs.Ordering.{int_eq}
+use Rattle.std.proofs.Common.{arith, refl, sym, ap, inl, inr, ◌∙◌}
+use Rattle.std.proofs.lemmas.Int.{ints}
+use Rattle.std.proofs.lemmas.Bool.Decides.{Decides-int_eq}
+use Rattle.shadow_kernels.specs.declared.Spot.{Spot}
+use Rattle.shadow_kernels.specs.declared.Meet.{Meet}
+use Rattle.shadow_kernels.specs.Counts.{count_of, shadow_of, turned, met}
+
+-- 1 or -1
+abbrev pub IsUnit : ℤ → Type 0
+IsUnit z = (z ≡ pos 1) ⊎ (z ≡ negsuc 0)
+
+-- an answer's count is 1 or -1
+abbrev pub IsSized : Option Meet → Type 0
+IsSized None = Unit {0}
+IsSized (Some m) = IsUnit m.count
+
+-- by whether a number is 0
+pub by_zero : {A : Type 0} (c : ℤ) → (c ≡ pos 0 → A) → (c ≢ pos 0 → A) → A
+by_zero {A} c f g = by (int_eq c (pos 0)) refl where
+  by : (t : Bool) → int_eq c (pos 0) ≡ t → A
+  by true e = f ((Decides-int_eq c (pos 0)).0 e)
+  by false e = g (λ z. let k = (Decides-int_eq c (pos 0)).1 z in absurd (cc))
+
+-- there is no answer at count 0
+pub met_none : (c : ℤ) (above : Bool) (s : Spot) → c ≡ pos 0 → met c above s ≡ None
+unfolding met
+met_none c above s e = ap (λ (t : Bool). if t then None else Some (record { count = c; above = above; spot = s })) ((Decides-int_eq c (pos 0)).1 e)
+
+-- a number that is not 0 is not equal to 0
+not_eq : (c : ℤ) (t : Bool) → int_eq c (pos 0) ≡ t → c ≢ pos 0 → t ≡ false
+not_eq c true e n = absurd (n ((Decides-int_eq c (pos 0)).0 e))
+not_eq c false e n = refl
+
+-- there is one at every other count
+pub met_some : (c : ℤ) (above : Bool) (s : Spot) → c ≢ pos 0 → met c above s ≡ Some (record { count = c; above = above; spot = s })
+unfolding met
+met_some c above s n = ap (λ (t : Bool). if t then None else Some (record { count = c; above = above; spot = s })) (not_eq c (int_eq c (pos 0)) refl n)
+
+-- an answer has the count that it was made of
+pub met_count : (c : ℤ) (above : Bool) (s : Spot) → count_of (met c above s) ≡ c
+met_count c above s = by_zero c
+    (λ e. ap count_of (met_none c above s e) ∙ sym e)
+    (λ n. ap count_of (met_some c above s n))
+
+-- what holds of the spot at every count that is not 0 holds of the answer
+pub met_holds : (P : Meet → Type 0) (c : ℤ) (above : Bool) (s : Spot) → (c ≢ pos 0 → P (record { count = c; above = above; spot = s })) → IfSome (met c above s) P
+met_holds P c above s f = by_zero c
+    (λ e. rw (met_none c above s e) tt)
+    (λ n. rw (met_some c above s n) (f n))
+
+-- an answer at the count turned
+pub met_turned : (c : ℤ) (above : Bool) (s : Spot) → met (neg_ℤ c) above s ≡ turned (met c above s)
+met_turned c above s = by_zero c
+    (λ e. met_none (neg_ℤ c) above s (omega (arith, ints)) ∙ ap turned (sym (met_none c above s e)))
+    (λ n. met_some (neg_ℤ c) above s (λ z. n (omega (arith, ints))) ∙ ap turned (sym (met_some c above s n)))
+
+-- an answer of a count that is 0, 1 or -1 is sized
+pub met_sized : (c : ℤ) (above : Bool) (s : Spot) → negsuc 0 ≤ℤ c → c ≤ℤ pos 1 → IsSized (met c above s)
+met_sized c above s l h = by_zero c
+    (λ e. rw (met_none c above s e) tt)
+    (λ n. rw (met_some c above s n) (units c l h n))
+  where
+    units : (c : ℤ) → negsuc 0 ≤ℤ c → c ≤ℤ pos 1 → c ≢ pos 0 → IsUnit c
+    units (pos n) l h k = inl (omega (arith, ints))
+    units (negsuc n) l h k = inr (omega (arith, ints))
+
+-- a sized answer has a count of -1, 0 or 1
+pub sized_bounds : (m : Option Meet) → IsSized m → (negsuc 0 ≤ℤ count_of m) × (count_of m ≤ℤ pos 1)
+sized_bounds None h = (omega (arith, ints), omega (arith, ints))
+sized_bounds (Some m) (inl e) = (omega (arith, ints), omega (arith, ints))
+sized_bounds (Some m) (inr e) = (omega (arith, ints), omega (arith, ints))
+
+-- and its shadow too
+pub shadow_bounds : (m : Option Meet) → IsSized m → (negsuc 0 ≤ℤ shadow_of m) × (shadow_of m ≤ℤ pos 1)
+shadow_bounds None h = (omega (arith, ints), omega (arith, ints))
+shadow_bounds (Some m) h = by m.above m.count h where
+  by : (b : Bool) (n : ℤ) → IsUnit n → (negsuc 0 ≤ℤ (if b then n else pos 0)) × ((if b then n else pos 0) ≤ℤ pos 1)
+  by true n (inl e) = (omega (arith, ints), omega (arith, ints))
+  by true n (inr e) = (omega (arith, ints), omega (arith, ints))
+  by false n e = (omega (arith, ints), omega (arith, ints))
+
+-- a sized answer that is there has a count other than 0
+pub sized_present : (m : Option Meet) → IsSized m → IfSome m (λ n. n.count ≢ pos 0)
+sized_present None h = tt
+sized_present (Some m) (inl e) = λ z. omega (arith, ints)
+sized_present (Some m) (inr e) = λ z. omega (arith, ints)
+
+-- turning keeps the size
+pub turned_sized : (m : Option Meet) → IsSized m → IsSized (turned m)
+turned_sized None h = tt
+turned_sized (Some m) (inl e) = inr (ap neg_ℤ e)
+turned_sized (Some m) (inr e) = inl (ap neg_ℤ e)
+
+-- turning turns the count
+pub turned_count : (m : Option Meet) → count_of (turned m) ≡ neg_ℤ (count_of m)
+turned_count None = refl
+turned_count (Some m) = refl
+
+-- turning turns the shadow
+pub turned_shadow : (m : Option Meet) → shadow_of (turned m) ≡ neg_ℤ (shadow_of m)
+turned_shadow None = refl
+turned_shadow (Some m) = by m.above m.count where
+  by : (b : Bool) (n : ℤ) → (if b then neg_ℤ n else pos 0) ≡ neg_ℤ (if b then n else pos 0)
+  by true n = refl
+  by false n = refl
+
+-- turning keeps what is said of the spot
+pub turned_holds : (P : Spot → Type 0) (m : Option Meet) → IfSome m (λ n. P n.spot) → IfSome (turned m) (λ n. P n.spot)
+turned_holds P None h = tt
+turned_holds P (Some m) h = h
+
+-- turning keeps the mark above
+pub turned_above : (b : Bool) (m : Option Meet) → IfSome m (λ n. n.above ≡ b) → IfSome (turned m) (λ n. n.above ≡ b)
+turned_above b None h = tt
+turned_above b (Some m) h = h

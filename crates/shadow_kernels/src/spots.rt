@@ -1,0 +1,149 @@
+//! Spots, and the comparisons at them.
+
+ghost use Rattle.std.specs.Prelude.{◌≡◌, ◌≤ℤ◌, pos, ◌-ℤ◌};
+ghost use Rattle.rounding.specs.Fine.{IsFine, IsWeight};
+ghost use Rattle.rounding.specs.Corners.{axis, IsFineCorner};
+ghost use Rattle.shadow_kernels.specs.Spots.{beats, beyond, mark, marks, gap, spot00, spot01, spot10, spot_between};
+ghost use Rattle.shadow_kernels.specs.Bounds.{IsFineSpot};
+
+use crate::Spot;
+use mb_base::Corner;
+use rounding::Rounding;
+
+/// Whether a value of P is beyond one of Q: greater, or equal and up.
+pub(crate) fn exceeds(p: i64, q: i64, up: bool) -> bool
+    ensures { result ≡ beats p q up }
+{
+    q < p || (p == q && up)
+}
+
+/// Whether a vertex of P is beyond one of Q in x.
+pub(crate) fn is_beyond(p: &Corner, q: &Corner) -> bool
+    ensures { result ≡ beyond p.now q.now }
+{
+    exceeds(p.at[0], q.at[0], p.up[0])
+}
+
+/// A mark between two: the first at weight a = 0, the second at weight b = 0, else up where both are.
+fn mark_between(a: i64, b: i64, first: bool, second: bool) -> bool
+    ensures { result ≡ mark a b first second }
+{
+    if a == 0 {
+        first
+    } else if b == 0 {
+        second
+    } else {
+        first && second
+    }
+}
+
+/// The three marks between two times three.
+fn marks_between(a: i64, b: i64, first: &[bool; 3], second: &[bool; 3]) -> [bool; 3]
+    ensures { result ≡ marks a b first.now second.now }
+{
+    [
+        mark_between(a, b, first[0], second[0]),
+        mark_between(a, b, first[1], second[1]),
+        mark_between(a, b, first[2], second[2]),
+    ]
+}
+
+/// The difference of two fine values without its sign.
+fn gap_of(p: i64, q: i64) -> i64
+    requires p_fine { IsFine p }
+    requires q_fine { IsFine q }
+    ensures value { result ≡ gap p q }
+    ensures weight { IsWeight result }
+{
+    (p - q).abs()
+}
+
+/// The spot of two vertices.
+pub(crate) fn vertex_vertex_spot(p: &Corner, q: &Corner) -> Spot
+    ensures { result ≡ spot00 p.now q.now }
+{
+    Spot {
+        x: p.at[0],
+        py: p.at[1],
+        qy: q.at[1],
+        pz: p.at[2],
+        qz: q.at[2],
+        up: p.up,
+    }
+}
+
+/// The spot of a vertex and an edge, where left is the end of the edge with the smaller x.
+pub(crate) fn vertex_edge_spot<R: Rounding>(
+    rounding: &R,
+    p: &Corner,
+    left: &Corner,
+    right: &Corner,
+) -> Spot
+    requires p_fine { IsFineCorner p.now }
+    requires left_fine { IsFineCorner left.now }
+    requires right_fine { IsFineCorner right.now }
+    requires after_left { axis 0 left.now ≤ℤ axis 0 p.now }
+    requires before_right { axis 0 p.now ≤ℤ axis 0 right.now }
+    ensures { result ≡ spot01 (R.between_of rounding.now) p.now left.now right.now }
+{
+    let before = p.at[0] - left.at[0];
+    let after = right.at[0] - p.at[0];
+    let qy = rounding.between(left.at[1], right.at[1], before, after);
+    let qz = rounding.between(left.at[2], right.at[2], before, after);
+    Spot {
+        x: p.at[0],
+        py: p.at[1],
+        qy,
+        pz: p.at[2],
+        qz,
+        up: p.up,
+    }
+}
+
+/// The spot of an edge and a vertex, where left is the end of the edge with the smaller x, or, where both have the same
+/// x, the one that is not up.
+pub(crate) fn edge_vertex_spot<R: Rounding>(
+    rounding: &R,
+    left: &Corner,
+    right: &Corner,
+    q: &Corner,
+) -> Spot
+    requires left_fine { IsFineCorner left.now }
+    requires right_fine { IsFineCorner right.now }
+    requires q_fine { IsFineCorner q.now }
+    requires after_left { axis 0 left.now ≤ℤ axis 0 q.now }
+    requires before_right { axis 0 q.now ≤ℤ axis 0 right.now }
+    ensures { result ≡ spot10 (R.between_of rounding.now) left.now right.now q.now }
+{
+    let before = q.at[0] - left.at[0];
+    let after = right.at[0] - q.at[0];
+    let py = rounding.between(left.at[1], right.at[1], before, after);
+    let pz = rounding.between(left.at[2], right.at[2], before, after);
+    let up = marks_between(before, after, &left.up, &right.up);
+    Spot {
+        x: q.at[0],
+        py,
+        qy: q.at[1],
+        pz,
+        qz: q.at[2],
+        up,
+    }
+}
+
+/// The spot between one that is not above and one that is, weighted by their gaps in y.
+pub(crate) fn spot_between_spots<R: Rounding>(rounding: &R, below: &Spot, above: &Spot) -> Spot
+    requires below_fine { IsFineSpot below.now }
+    requires above_fine { IsFineSpot above.now }
+    ensures { result ≡ spot_between (R.between_of rounding.now) below.now above.now }
+{
+    let a = gap_of(below.py, below.qy);
+    let b = gap_of(above.py, above.qy);
+    Spot {
+        x: rounding.between(below.x, above.x, a, b),
+        py: rounding.between(below.py, above.py, a, b),
+        qy: rounding.between(below.qy, above.qy, a, b),
+        pz: rounding.between(below.pz, above.pz, a, b),
+        qz: rounding.between(below.qz, above.qz, a, b),
+        up: marks_between(a, b, &below.up, &above.up),
+    }
+}

@@ -1,0 +1,188 @@
+ghost use Rattle.std.specs.Prelude.{◌≡◌, ◌∷◌, [], ◌≤ℤ◌, pos, negsuc};
+ghost use Rattle.rounding.specs.Corners.{IsFineCorner, AllFine};
+ghost use Rattle.shadow_kernels.specs.Counts.{count_of, shadow_of};
+
+use super::*;
+use crate::more_rows::{ROWS_5, ROWS_6, ROWS_7, ROWS_8, ROWS_9};
+use crate::rows::{ROWS_0, ROWS_1, ROWS_2, ROWS_3, ROWS_4};
+use rounding::Nearest;
+
+/// The count of the edges from a to b and from c to d, with Q's edge taken the other way round where it meets a vertex:
+/// right under any kernels, by the laws alone.
+fn edge_count<K: Flats>(kernels: &K, a: &Corner, b: &Corner, c: &Corner, d: &Corner) -> i64
+    requires a_fine { IsFineCorner a.now }
+    requires b_fine { IsFineCorner b.now }
+    requires c_fine { IsFineCorner c.now }
+    requires d_fine { IsFineCorner d.now }
+    ensures { result ≡ count_of (⟦<K as Meets<2, 2>>⟧.meet_of kernels.now (a.now ∷ b.now ∷ []) (c.now ∷ d.now ∷ [])) }
+{
+    let ends = vertex_shadow(kernels, a, d, c) - vertex_shadow(kernels, b, d, c);
+    ends + edge_shadow(kernels, a, b, d) - edge_shadow(kernels, a, b, c)
+}
+
+/// The shadow of a vertex and the edge from c to d.
+fn vertex_shadow<K: Meets<1, 2>>(kernels: &K, p: &Corner, c: &Corner, d: &Corner) -> i64
+    requires p_fine { IsFineCorner p.now }
+    requires c_fine { IsFineCorner c.now }
+    requires d_fine { IsFineCorner d.now }
+    ensures value { result ≡ shadow_of (K.meet_of kernels.now (p.now ∷ []) (c.now ∷ d.now ∷ [])) }
+    ensures low { negsuc 0 ≤ℤ result }
+    ensures high { result ≤ℤ pos 1 }
+{
+    match kernels.meet(&[*p], &[*c, *d]) {
+        None => 0,
+        Some(m) => m.shadow() as i64,
+    }
+}
+
+/// The shadow of the edge from a to b and a vertex.
+fn edge_shadow<K: Meets<2, 1>>(kernels: &K, a: &Corner, b: &Corner, q: &Corner) -> i64
+    requires a_fine { IsFineCorner a.now }
+    requires b_fine { IsFineCorner b.now }
+    requires q_fine { IsFineCorner q.now }
+    ensures value { result ≡ shadow_of (K.meet_of kernels.now (a.now ∷ b.now ∷ []) (q.now ∷ [])) }
+    ensures low { negsuc 0 ≤ℤ result }
+    ensures high { result ≤ℤ pos 1 }
+{
+    match kernels.meet(&[*a, *b], &[*q]) {
+        None => 0,
+        Some(m) => m.shadow() as i64,
+    }
+}
+
+/// A corner from its nine bits.
+fn corner(code: u64) -> Corner
+    ensures { IsFineCorner result }
+{
+    Corner {
+        at: [
+            (code % 4) as i64,
+            (code / 4 % 4) as i64,
+            (code / 16 % 4) as i64,
+        ],
+        up: [code / 64 % 2 == 1, code / 128 % 2 == 1, code / 256 % 2 == 1],
+    }
+}
+
+/// An answer from its sixteen bits.
+fn answer(code: u128) -> Option<Meet> {
+    if code % 4 == 0 {
+        return None;
+    }
+    let spot = Spot {
+        x: (code / 8 % 4) as i64,
+        py: (code / 32 % 4) as i64,
+        qy: (code / 128 % 4) as i64,
+        pz: (code / 512 % 4) as i64,
+        qz: (code / 2048 % 4) as i64,
+        up: [
+            code / 8192 % 2 == 1,
+            code / 16384 % 2 == 1,
+            code / 32768 % 2 == 1,
+        ],
+    };
+    let count = if code % 4 == 1 { 1 } else { -1 };
+    Some(Meet {
+        count,
+        above: code / 4 % 2 == 1,
+        spot,
+    })
+}
+
+/// Whether the answers of vertices and edges are those that are wanted.
+fn flats_agree(a: &Corner, b: &Corner, u: &Corner, v: &Corner, answers: u128) -> bool
+    requires a_fine { IsFineCorner a.now }
+    requires b_fine { IsFineCorner b.now }
+    requires u_fine { IsFineCorner u.now }
+    requires v_fine { IsFineCorner v.now }
+{
+    let grid = Grid { rounding: Nearest };
+    grid.meet(&[*a], &[*u]) == answer(answers)
+        && grid.meet(&[*a], &[*u, *v]) == answer(answers >> 16)
+        && grid.meet(&[*a, *b], &[*u]) == answer(answers >> 32)
+        && grid.meet(&[*a, *b], &[*u, *v]) == answer(answers >> 48)
+}
+
+/// Whether the answers of vertices with faces are those that are wanted.
+fn faces_agree(p: &[Corner; 3], q: &[Corner; 3], answers: u128) -> bool
+    requires p_fine { AllFine p.now }
+    requires q_fine { AllFine q.now }
+{
+    let grid = Grid { rounding: Nearest };
+    grid.meet(&[p[0]], q) == answer(answers >> 64) && grid.meet(p, &[q[0]]) == answer(answers >> 80)
+}
+
+/// Three corners from their bits.
+fn three(codes: u64) -> [Corner; 3]
+    ensures { AllFine result }
+{
+    [corner(codes), corner(codes >> 9), corner(codes >> 18)]
+}
+
+/// Whether the answers of a row are those of its corners.
+fn agrees(corners: u64, answers: u128) -> bool {
+    let p = three(corners);
+    let q = three(corners >> 27);
+    flats_agree(&p[0], &p[1], &q[0], &q[1], answers) && faces_agree(&p, &q, answers)
+}
+
+/// Whether the answers of all rows are those of their corners.
+fn all_agree(rows: &[(u64, u128)]) -> bool {
+    rows.iter().all(|row| agrees(row.0, row.1))
+}
+
+#[test]
+fn agrees_with_the_table(rt: HostRuntime) {
+    assert!(rt; all_agree(&ROWS_0));
+    assert!(rt; all_agree(&ROWS_1));
+    assert!(rt; all_agree(&ROWS_2));
+    assert!(rt; all_agree(&ROWS_3));
+    assert!(rt; all_agree(&ROWS_4));
+    assert!(rt; all_agree(&ROWS_5));
+    assert!(rt; all_agree(&ROWS_6));
+    assert!(rt; all_agree(&ROWS_7));
+    assert!(rt; all_agree(&ROWS_8));
+    assert!(rt; all_agree(&ROWS_9));
+}
+
+// Both ends have the x of q: the left end is the one that is not up, whichever way the edge runs.
+#[test]
+fn left_is_not_up_at_a_tie(rt: HostRuntime) {
+    let grid = Grid { rounding: Nearest };
+    let a = Corner {
+        at: [5, 0, 0],
+        up: [true, false, false],
+    };
+    let b = Corner {
+        at: [5, 8, 0],
+        up: [false; 3],
+    };
+    let q = Corner {
+        at: [5, 4, 0],
+        up: [false; 3],
+    };
+    let spot = Spot {
+        x: 5,
+        py: 8,
+        qy: 4,
+        pz: 0,
+        qz: 0,
+        up: [false; 3],
+    };
+    assert_eq!(rt;
+        grid.meet(&[a, b], &[q]),
+        Some(Meet {
+            count: -1,
+            above: true,
+            spot
+        })
+    );
+    assert_eq!(rt;
+        grid.meet(&[b, a], &[q]),
+        Some(Meet {
+            count: 1,
+            above: true,
+            spot
+        })
+    );
+}
