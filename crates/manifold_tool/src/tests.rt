@@ -34,7 +34,8 @@ struct Case<'a> {
     status: u8,
     out: &'a [u8],
     err: &'a [u8],
-    saved: Option<&'a [u8]>,
+    is_saved: bool,
+    saved: &'a [u8],
     ghost some: { 0 < most },
 }
 
@@ -79,7 +80,13 @@ fn judge<R: Abort + AllocGlobal>(rt: &R, case: &Case<'_>) -> Result<(), NoMemory
     assert_eq!(rt; outcome.status, case.status);
     assert_eq!(rt; outcome.out.bytes(), case.out);
     assert_eq!(rt; outcome.err.bytes(), case.err);
-    assert_eq!(rt; outcome.shelf.get("u.obj"), case.saved);
+    match outcome.shelf.get("u.obj") {
+        Some(bytes) => {
+            assert!(rt; case.is_saved);
+            assert_eq!(rt; bytes, case.saved);
+        }
+        None => assert!(rt; !case.is_saved),
+    }
     Ok(())
 }
 
@@ -102,82 +109,169 @@ fn plain<'a>(
         status,
         out: b"",
         err,
-        saved: None,
+        is_saved: false,
+        saved: b"",
+    }
+}
+
+// A copy without faults, under the program's limits.
+fn copied<'a>(words: &'a [&'a str], name: &'a str, bytes: &'a [u8], out: &'a [u8]) -> Case<'a> {
+    Case {
+        words,
+        name,
+        bytes,
+        most: ROOM,
+        shelf_fails: 0,
+        out_fails: 0,
+        limits: Limits::program(),
+        status: 0,
+        out,
+        err: b"",
+        is_saved: true,
+        saved: bytes,
     }
 }
 
 #[test]
 fn what_is_copied_is_saved_and_reported(rt: HostRuntime) -> Result<(), Fail> {
-    let mut case = plain(&["copy", "t.obj", "u.obj"], "t.obj", TETRAHEDRON, 0, b"");
-    case.out = b"copied u.obj: points 4, triangles 4, unused 0\n";
-    case.saved = Some(TETRAHEDRON);
+    let words = ["copy", "t.obj", "u.obj"];
+    let case = copied(
+        &words,
+        "t.obj",
+        TETRAHEDRON,
+        b"copied u.obj: points 4, triangles 4, unused 0\n",
+    );
     judge(&rt, &case)?;
-    let mut case = plain(&["copy", "e.obj", "u.obj"], "e.obj", b"", 0, b"");
-    case.out = b"copied u.obj: points 0, triangles 0, unused 0\n";
-    case.saved = Some(b"");
+    let words = ["copy", "e.obj", "u.obj"];
+    let case = copied(
+        &words,
+        "e.obj",
+        b"",
+        b"copied u.obj: points 0, triangles 0, unused 0\n",
+    );
     judge(&rt, &case)?;
     Ok(())
 }
 
 #[test]
-fn each_refusal_has_its_status_and_line(rt: HostRuntime) -> Result<(), Fail> {
+fn a_faulty_mesh_has_its_line(rt: HostRuntime) -> Result<(), Fail> {
     let words = ["copy", "c.obj", "u.obj"];
-    judge(
-        &rt,
-        &plain(&words, "c.obj", OPEN_CUBE, 4, b"c.obj: 11 OpenEdge 5 7\n"),
-    )?;
-    judge(
-        &rt,
-        &plain(
-            &words,
-            "c.obj",
-            b"v 0 0 0\nvn 1 0 0\n",
-            4,
-            b"c.obj:2: 1 UnknownLine\n",
-        ),
-    )?;
-    judge(
-        &rt,
-        &plain(&words, "t.obj", TETRAHEDRON, 3, b"c.obj: missing\n"),
-    )?;
-    judge(
-        &rt,
-        &plain(&["copy", "t.obj"], "t.obj", TETRAHEDRON, 1, USAGE),
-    )?;
-    judge(
-        &rt,
-        &plain(&["copy", "t.obj", "u.ply"], "t.obj", TETRAHEDRON, 1, USAGE),
-    )?;
+    let open = plain(&words, "c.obj", OPEN_CUBE, 4, b"c.obj: 11 OpenEdge 5 7\n");
+    judge(&rt, &open)?;
+    let bad = plain(
+        &words,
+        "c.obj",
+        b"v 0 0 0\nvn 1 0 0\n",
+        4,
+        b"c.obj:2: 1 UnknownLine\n",
+    );
+    judge(&rt, &bad)?;
+    let missing = plain(&words, "t.obj", TETRAHEDRON, 3, b"c.obj: missing\n");
+    judge(&rt, &missing)?;
     Ok(())
+}
+
+#[test]
+fn other_words_are_usage(rt: HostRuntime) -> Result<(), Fail> {
+    let few = ["copy", "t.obj"];
+    let case = plain(&few, "t.obj", TETRAHEDRON, 1, USAGE);
+    judge(&rt, &case)?;
+    let other = ["copy", "t.obj", "u.ply"];
+    let case = plain(&other, "t.obj", TETRAHEDRON, 1, USAGE);
+    judge(&rt, &case)?;
+    Ok(())
+}
+
+// A copy of the tetrahedron, or of so many blanks, under small limits.
+fn limited<'a>(words: &'a [&'a str], bytes: &'a [u8], limits: Limits, err: &'a [u8]) -> Case<'a> {
+    Case {
+        words,
+        name: "t.obj",
+        bytes,
+        most: ROOM,
+        shelf_fails: 0,
+        out_fails: 0,
+        limits,
+        status: 5,
+        out: b"",
+        err,
+        is_saved: false,
+        saved: b"",
+    }
 }
 
 #[test]
 fn the_first_count_past_its_limit_is_named(rt: HostRuntime) -> Result<(), Fail> {
     let words = ["copy", "t.obj", "u.obj"];
-    let mut case = plain(&words, "t.obj", TETRAHEDRON, 5, b"limit points 4\n");
-    case.limits = Limits::of(187, 3, 2, 0).ok_or("these limits are lawful")?;
+    let limits = Limits::of(187, 3, 2, 0).ok_or("these limits are lawful")?;
+    let case = limited(&words, TETRAHEDRON, limits, b"limit points 4\n");
     judge(&rt, &case)?;
-    let mut case = plain(&words, "t.obj", &[32; 188], 5, b"limit file_bytes 188\n");
-    case.limits = Limits::of(187, 3, 2, 0).ok_or("these limits are lawful")?;
+    let limits = Limits::of(187, 3, 2, 0).ok_or("these limits are lawful")?;
+    let blanks = [32; 188];
+    let case = limited(&words, &blanks, limits, b"limit file_bytes 188\n");
     judge(&rt, &case)?;
     Ok(())
 }
 
 #[test]
-fn a_fault_ends_the_run_and_leaves_a_part(rt: HostRuntime) -> Result<(), Fail> {
+fn a_read_fault_ends_the_run(rt: HostRuntime) -> Result<(), Fail> {
     let words = ["copy", "t.obj", "u.obj"];
-    let mut case = plain(&words, "t.obj", TETRAHEDRON, 6, b"t.obj: read fault\n");
-    case.shelf_fails = 2;
+    let case = Case {
+        words: &words,
+        name: "t.obj",
+        bytes: TETRAHEDRON,
+        most: ROOM,
+        shelf_fails: 2,
+        out_fails: 0,
+        limits: Limits::program(),
+        status: 6,
+        out: b"",
+        err: b"t.obj: read fault\n",
+        is_saved: false,
+        saved: b"",
+    };
     judge(&rt, &case)?;
-    let mut case = plain(&words, "t.obj", TETRAHEDRON, 7, b"u.obj: write fault\n");
-    case.most = 10;
-    case.shelf_fails = 12;
-    case.saved = Some(b"v 0 0 0\nv 1 0 0\nv 0 ");
+    Ok(())
+}
+
+#[test]
+fn a_write_fault_leaves_a_part(rt: HostRuntime) -> Result<(), Fail> {
+    let words = ["copy", "t.obj", "u.obj"];
+    let case = Case {
+        words: &words,
+        name: "t.obj",
+        bytes: TETRAHEDRON,
+        most: 10,
+        shelf_fails: 12,
+        out_fails: 0,
+        limits: Limits::program(),
+        status: 7,
+        out: b"",
+        err: b"u.obj: write fault\n",
+        is_saved: true,
+        saved: b"v 0 0 0\nv 1 0 0\nv 0 ",
+    };
     judge(&rt, &case)?;
-    let mut case = plain(&words, "t.obj", TETRAHEDRON, 7, b"report: write fault\n");
-    case.out_fails = 2;
-    case.out = b"copied ";
-    case.saved = Some(TETRAHEDRON);
+    Ok(())
+}
+
+#[test]
+fn a_fault_of_the_report_comes_after_the_file(rt: HostRuntime) -> Result<(), Fail> {
+    let words = ["copy", "t.obj", "u.obj"];
+    let case = Case {
+        words: &words,
+        name: "t.obj",
+        bytes: TETRAHEDRON,
+        most: ROOM,
+        shelf_fails: 0,
+        out_fails: 2,
+        limits: Limits::program(),
+        status: 7,
+        out: b"copied ",
+        err: b"report: write fault\n",
+        is_saved: true,
+        saved: TETRAHEDRON,
+    };
     judge(&rt, &case)?;
     Ok(())
 }
