@@ -1,1 +1,4 @@
+pub mod Counts
 pub mod OpenPair
+pub mod Order
+pub mod Walk

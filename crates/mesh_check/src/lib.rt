@@ -3,6 +3,7 @@
 #![tactic(auto)]
 
 mod mesh;
+mod open_edge;
 #[cfg(test)]
 mod tests;
 
