@@ -3,11 +3,16 @@
 # Prints seconds and peak memory.
 side=${1:-500}
 top=$(cd "$(dirname "$0")/.." && pwd) || exit 1
+program=$top/crates/manifold_tool/out/manifold_tool
+if [ ! -x "$program" ]; then
+    echo "copy.sh: bin/manifold_tool builds the program: run it once first" >&2
+    exit 1
+fi
 folder=$(mktemp -d) || exit 1
 python3 "$top/benches/grid_mesh.py" "$side" > "$folder/in.obj" || exit 1
 cd "$folder" || exit 1
 ls -l in.obj
-python3 - "$top/crates/manifold_tool/out/manifold_tool" <<'P'
+python3 - "$program" <<'P'
 import resource, subprocess, sys, time
 began = time.time()
 status = subprocess.call([sys.argv[1], "copy", "in.obj", "out.obj"])
@@ -16,4 +21,6 @@ print("peak memory %d MB" % (resource.getrusage(resource.RUSAGE_CHILDREN).ru_max
 sys.exit(status)
 P
 cmp in.obj out.obj && echo "the copy equals the file"
+status=$?
 rm -r "$folder"
+exit $status
