@@ -157,13 +157,18 @@ saying_stopped from line others r soup fw fv old new before now is says same som
     let P : Result Soup Refusal → Type 0 = λ r. RunMeets (play_of from others r) (world fw old) (world fv new) 7 before now report_fault in
     let more = told_more old new part.0 some part.2 in
     let after : world fv new ≡ world_of fw (text_of old ++ part.0) = rw (same, more) refl in
-    subst P (sym is) (inr (inr (inr (inl (record {
-      first = record { whole = Ask from ∷ []; rest = others soup; split = refl; mid = world_of fw (text_of old); reached = refl };
-      line = line;
-      later = [];
-      next = says;
-      part = (part.0, part.1, after);
-      rose = rose }, refl, refl)))))
+    subst P (sym is) (inr (inr (inr (inl (
+      record {
+        first = record { whole = Ask from ∷ []; rest = others soup; split = refl; mid = world_of fw (text_of old); reached = refl };
+        line = line;
+        later = [];
+        next = says;
+        part = (part.0, part.1, after);
+        rose = rose;
+      },
+      refl,
+      refl,
+    )))))
 
 -- the line was said after the file was read
 pub said_done : (from line : Bytes) (others : Soup → List Action) (r : Result Soup Refusal) (soup : Soup) (fw fv : Files) (old new : Option Bytes) (before now : Faults)

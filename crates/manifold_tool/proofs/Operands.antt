@@ -74,7 +74,6 @@ read_taken (c ∷ cs) steps some digits is on small =
     let read : to_z w32 (of_z w32 steps) ≡ steps = rw (← same) (to_z-of_z w32 (pos (digits_value (c ∷ cs) * 10000)) (fits_signed_from_abs w32 (pos (digits_value (c ∷ cs) * 10000)) (omega (arith, bound)))) in
     ap Some read ∙ operand_taken c cs steps alone is (under steps (rw read at small))
 
-
 -- an operand that was read and is too great
 pub read_great : (word : List ℕ) (steps : ℤ) → (word ≡ [] → ⊥) → list_all is_digit word ≡ true → grid_number 4 word ≡ Some steps → IsTrue (is_on_grid steps)
     → le_z (to_z w32 (of_z w32 steps)) (pos 1073740000) ≡ false → None ≡ narrow_operand word
@@ -103,7 +102,6 @@ not_read (c ∷ cs) OutOfGrid some digits none off =
     let great : 2 ^ 30 < n = leb-false n (2 ^ 30) beyond in
     operand_great c cs alone (omega (arith, great))
 
-
 -- five words that ask for a point
 pub asks_inside : (words : List (List ℕ)) (x y z : ℤ) (point : List ℤ) → length words ≡ 5 → bytes_eq (get_or words 0 []) (codes "inside") ≡ true
     → narrow_name (get_or words 1 []) ≡ true → Some x ≡ narrow_operand (get_or words 2 []) → Some y ≡ narrow_operand (get_or words 3 []) → Some z ≡ narrow_operand (get_or words 4 [])
@@ -113,7 +111,7 @@ asks_inside (w ∷ f ∷ a ∷ b ∷ d ∷ []) x y z point five is_inside is_nam
     let P : List ℕ → Type 0 = λ v. narrow_command (v ∷ f ∷ a ∷ b ∷ d ∷ []) ≡ Some (InsideFile 4 f point) in
     let values = λ (u v t : Option ℤ). put_value u (put_value v (put_value t (Some []))) in
     let named : narrow_inside (f ∷ a ∷ b ∷ d ∷ []) ≡ inside_at 4 f (values (narrow_operand a) (narrow_operand b) (narrow_operand d)) =
-        ap (λ (t : Bool). cond t (inside_at 4 f (values (narrow_operand a) (narrow_operand b) (narrow_operand d))) None) is_name in
+    ap (λ (t : Bool). cond t (inside_at 4 f (values (narrow_operand a) (narrow_operand b) (narrow_operand d))) None) is_name in
     let read = ap (λ o. inside_at 4 f (values o (narrow_operand b) (narrow_operand d))) (sym is_x)
     ∙ ap (λ o. inside_at 4 f (values (Some x) o (narrow_operand d))) (sym is_y) ∙ ap (λ o. inside_at 4 f (values (Some x) (Some y) o)) (sym is_z) in
     subst P (sym word) (named ∙ read ∙ ap (λ q. Some (InsideFile 4 f q)) (sym same))
@@ -133,13 +131,13 @@ pub operand_read : (word : List ℕ) (x : ℤ) → Some x ≡ narrow_operand wor
 operand_read word x is =
     let test = is_digits word && nat_le (digits_value word) 107374 in
     elim (cases_Bool test) [
-      inl passed ↦
-      let there : narrow_operand word ≡ Some (pos (digits_value word * 10000)) = ap (λ b. cond b (Some (pos (digits_value word * 10000))) None) passed in
-      let same : x ≡ pos (digits_value word * 10000) = in_some _ _ (is ∙ there) in
-      let small = leb-true (digits_value word) 107374 (and_parts (is_digits word) (nat_le (digits_value word) 107374) passed).1 in
-      let read : to_z w32 (of_z w32 x) ≡ x = rw same (to_z-of_z w32 (pos (digits_value word * 10000)) (fits_signed_from_abs w32 (pos (digits_value word * 10000)) (omega (arith, small)))) in
-      ap Some read ∙ is
-    | inr failed ↦
-      let none : narrow_operand word ≡ None = ap (λ b. cond b (Some (pos (digits_value word * 10000))) None) failed in
-      absurd (apart _ x (sym is) none)
+      | inl passed ↦
+          let there : narrow_operand word ≡ Some (pos (digits_value word * 10000)) = ap (λ b. cond b (Some (pos (digits_value word * 10000))) None) passed in
+          let same : x ≡ pos (digits_value word * 10000) = in_some _ _ (is ∙ there) in
+          let small = leb-true (digits_value word) 107374 (and_parts (is_digits word) (nat_le (digits_value word) 107374) passed).1 in
+          let read : to_z w32 (of_z w32 x) ≡ x = rw same (to_z-of_z w32 (pos (digits_value word * 10000)) (fits_signed_from_abs w32 (pos (digits_value word * 10000)) (omega (arith, small)))) in
+          ap Some read ∙ is
+      | inr failed ↦
+          let none : narrow_operand word ≡ None = ap (λ b. cond b (Some (pos (digits_value word * 10000))) None) failed in
+          absurd (apart _ x (sym is) none)
     ]

@@ -25,7 +25,15 @@ const DIGITS: u8 = 4;
 
 /// Reads a mesh from a file and reports the winding number of a point in it. It stops at the first thing that goes wrong. It counts one
 /// step where it ends well, and at most one.
-pub fn inside<S: Shelf, O: Sink, L: Ledger>(alloc: Global, file: &str, point: Point, limits: &Limits, shelf: &mut S, out: &mut O, steps: &mut Steps<L>) -> Result<(), Halt>
+pub fn inside<S: Shelf, O: Sink, L: Ledger>(
+    alloc: Global,
+    file: &str,
+    point: Point,
+    limits: &Limits,
+    shelf: &mut S,
+    out: &mut O,
+    steps: &mut Steps<L>,
+) -> Result<(), Halt>
     requires reads { S.read_faults shelf.old < 2 ^ 64 - 1 }
     requires outs { O.faults out.old < 2 ^ 64 - 1 }
     ensures done { OnOk result (IsTrue (S.tells shelf.old) → IsSome (O.told out.old) →

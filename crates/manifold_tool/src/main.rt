@@ -55,7 +55,14 @@ fn status_of(error: io::Error) -> Status {
 }
 
 // The run of the program over the current folder, which counts its steps for nobody.
-fn run_here<R: Files, O: Sink, E: Sink, L: Ledger>(rt: &R, alloc: Global, words: &ArgList, out: &mut O, err: &mut E, blank: Blank) -> Status
+fn run_here<R: Files, O: Sink, E: Sink, L: Ledger>(
+    rt: &R,
+    alloc: Global,
+    words: &ArgList,
+    out: &mut O,
+    err: &mut E,
+    blank: Blank,
+) -> Status
     requires outs { O.faults out.old < 2 ^ 64 - 1 }
     requires errs { E.faults err.old < 2 ^ 64 - 1 }
     requires name { blank.name ≡ L.name }
@@ -64,14 +71,29 @@ fn run_here<R: Files, O: Sink, E: Sink, L: Ledger>(rt: &R, alloc: Global, words:
 {
     let mut shelf = FolderShelf::of(rt);
     let mut steps = Steps::<L>::over(blank);
-    run(alloc, words, &Limits::program(), &mut shelf, out, err, &mut steps)
+    run(
+        alloc,
+        words,
+        &Limits::program(),
+        &mut shelf,
+        out,
+        err,
+        &mut steps,
+    )
 }
 
 fn main(rt: HostRuntime) -> ExitCode {
     let mut out = StdSink::over(rt.stdout());
     let mut err = StdSink::over(rt.stderr());
     let status = match words_of(&rt, rt.alloc()) {
-        Ok(words) => run_here::<_, _, _, Brand>(&rt, rt.alloc(), &words, &mut out, &mut err, Blank::new(1)),
+        Ok(words) => run_here::<_, _, _, Brand>(
+            &rt,
+            rt.alloc(),
+            &words,
+            &mut out,
+            &mut err,
+            Blank::new(1),
+        ),
         Err(status) => {
             report::tell_start(status, &mut err);
             status

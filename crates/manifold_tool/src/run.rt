@@ -51,7 +51,15 @@ fn concluded<E: Sink>(from: &str, to: &str, ended: Result<(), Halt>, err: &mut E
 /// are those of the play's end; with 6 a file could not be read, with 7 a file or a line was written in part or not at all, and with 8
 /// memory ran out between two actions. So a run whose play ends well, and in which no fault came, ends with 0, or for want of memory; and
 /// what a copy saved is read as the mesh that was copied.
-pub fn run<S: Shelf, O: Sink, E: Sink, L: Ledger>(alloc: Global, words: &ArgList, limits: &Limits, shelf: &mut S, out: &mut O, err: &mut E, steps: &mut Steps<L>) -> Status
+pub fn run<S: Shelf, O: Sink, E: Sink, L: Ledger>(
+    alloc: Global,
+    words: &ArgList,
+    limits: &Limits,
+    shelf: &mut S,
+    out: &mut O,
+    err: &mut E,
+    steps: &mut Steps<L>,
+) -> Status
     requires reads { S.read_faults shelf.old < 2 ^ 64 - 1 }
     requires writes { S.write_faults shelf.old < 2 ^ 64 - 1 }
     requires outs { O.faults out.old < 2 ^ 64 - 1 }

@@ -17,13 +17,16 @@ const TETRAHEDRON: &[u8] =
     b"v 0 0 0\nv 1 0 0\nv 0 1 0\nv 0 0 1\nf 1 3 2\nf 1 2 4\nf 2 3 4\nf 3 1 4\n";
 
 // A cube.
-const CUBE: &[u8] = b"v 0 0 0\nv 10 0 0\nv 0 10 0\nv 10 10 0\nv 0 0 10\nv 10 0 10\nv 0 10 10\nv 10 10 10\nf 1 4 2\nf 1 3 4\nf 5 6 8\nf 5 8 7\nf 1 2 5\nf 2 6 5\nf 2 4 8\nf 2 8 6\nf 4 3 7\nf 4 7 8\nf 1 5 7\nf 1 7 3\n";
+const CUBE: &[u8] =
+    b"v 0 0 0\nv 10 0 0\nv 0 10 0\nv 10 10 0\nv 0 0 10\nv 10 0 10\nv 0 10 10\nv 10 10 10\nf 1 4 2\nf 1 3 4\nf 5 6 8\nf 5 8 7\nf 1 2 5\nf 2 6 5\nf 2 4 8\nf 2 8 6\nf 4 3 7\nf 4 7 8\nf 1 5 7\nf 1 7 3\n";
 
 // A cube with its inside out.
-const TURNED_CUBE: &[u8] = b"v 0 0 0\nv 10 0 0\nv 0 10 0\nv 10 10 0\nv 0 0 10\nv 10 0 10\nv 0 10 10\nv 10 10 10\nf 1 2 4\nf 1 4 3\nf 5 8 6\nf 5 7 8\nf 1 5 2\nf 2 5 6\nf 2 8 4\nf 2 6 8\nf 4 7 3\nf 4 8 7\nf 1 7 5\nf 1 3 7\n";
+const TURNED_CUBE: &[u8] =
+    b"v 0 0 0\nv 10 0 0\nv 0 10 0\nv 10 10 0\nv 0 0 10\nv 10 0 10\nv 0 10 10\nv 10 10 10\nf 1 2 4\nf 1 4 3\nf 5 8 6\nf 5 7 8\nf 1 5 2\nf 2 5 6\nf 2 8 4\nf 2 6 8\nf 4 7 3\nf 4 8 7\nf 1 7 5\nf 1 3 7\n";
 
 // A cube in a cube.
-const NESTED_CUBES: &[u8] = b"v 0 0 0\nv 10 0 0\nv 0 10 0\nv 10 10 0\nv 0 0 10\nv 10 0 10\nv 0 10 10\nv 10 10 10\nv 2 2 2\nv 8 2 2\nv 2 8 2\nv 8 8 2\nv 2 2 8\nv 8 2 8\nv 2 8 8\nv 8 8 8\nf 1 4 2\nf 1 3 4\nf 5 6 8\nf 5 8 7\nf 1 2 5\nf 2 6 5\nf 2 4 8\nf 2 8 6\nf 4 3 7\nf 4 7 8\nf 1 5 7\nf 1 7 3\nf 9 12 10\nf 9 11 12\nf 13 14 16\nf 13 16 15\nf 9 10 13\nf 10 14 13\nf 10 12 16\nf 10 16 14\nf 12 11 15\nf 12 15 16\nf 9 13 15\nf 9 15 11\n";
+const NESTED_CUBES: &[u8] =
+    b"v 0 0 0\nv 10 0 0\nv 0 10 0\nv 10 10 0\nv 0 0 10\nv 10 0 10\nv 0 10 10\nv 10 10 10\nv 2 2 2\nv 8 2 2\nv 2 8 2\nv 8 8 2\nv 2 2 8\nv 8 2 8\nv 2 8 8\nv 8 8 8\nf 1 4 2\nf 1 3 4\nf 5 6 8\nf 5 8 7\nf 1 2 5\nf 2 6 5\nf 2 4 8\nf 2 8 6\nf 4 3 7\nf 4 7 8\nf 1 5 7\nf 1 7 3\nf 9 12 10\nf 9 11 12\nf 13 14 16\nf 13 16 15\nf 9 10 13\nf 10 14 13\nf 10 12 16\nf 10 16 14\nf 12 11 15\nf 12 15 16\nf 9 13 15\nf 9 15 11\n";
 
 // A cube without one of its twelve triangles.
 const OPEN_CUBE: &[u8] =
@@ -83,7 +86,15 @@ fn ran<L: Ledger>(alloc: Global, case: &Case<'_>, blank: Blank) -> Result<Outcom
     let mut out = MemorySink::of(alloc, ROOM, ROOM, failing(alloc, case.out_fails)?)?;
     let mut err = MemorySink::of(alloc, ROOM, ROOM, Vec::new(alloc))?;
     let mut steps = Steps::<L>::over(blank);
-    let status = run(alloc, &words, &case.limits, &mut shelf, &mut out, &mut err, &mut steps);
+    let status = run(
+        alloc,
+        &words,
+        &case.limits,
+        &mut shelf,
+        &mut out,
+        &mut err,
+        &mut steps,
+    );
     Ok(Outcome {
         status: status.number(),
         shelf,
@@ -152,10 +163,20 @@ fn copied<'a>(words: &'a [&'a str], name: &'a str, bytes: &'a [u8], out: &'a [u8
 #[test]
 fn what_is_copied_is_saved_and_reported(rt: HostRuntime) -> Result<(), Fail> {
     let words = ["copy", "t.obj", "u.obj"];
-    let case = copied(&words, "t.obj", TETRAHEDRON, b"copied u.obj: points 4, triangles 4, unused 0\n");
+    let case = copied(
+        &words,
+        "t.obj",
+        TETRAHEDRON,
+        b"copied u.obj: points 4, triangles 4, unused 0\n",
+    );
     judge(&rt, &case)?;
     let words = ["copy", "e.obj", "u.obj"];
-    let case = copied(&words, "e.obj", b"", b"copied u.obj: points 0, triangles 0, unused 0\n");
+    let case = copied(
+        &words,
+        "e.obj",
+        b"",
+        b"copied u.obj: points 0, triangles 0, unused 0\n",
+    );
     judge(&rt, &case)?;
     Ok(())
 }
@@ -165,7 +186,13 @@ fn a_faulty_mesh_has_its_line(rt: HostRuntime) -> Result<(), Fail> {
     let words = ["copy", "c.obj", "u.obj"];
     let open = plain(&words, "c.obj", OPEN_CUBE, 4, b"c.obj: 11 OpenEdge 5 7\n");
     judge(&rt, &open)?;
-    let bad = plain(&words, "c.obj", b"v 0 0 0\nvn 1 0 0\n", 4, b"c.obj:2: 1 UnknownLine\n");
+    let bad = plain(
+        &words,
+        "c.obj",
+        b"v 0 0 0\nvn 1 0 0\n",
+        4,
+        b"c.obj:2: 1 UnknownLine\n",
+    );
     judge(&rt, &bad)?;
     let missing = plain(&words, "t.obj", TETRAHEDRON, 3, b"c.obj: missing\n");
     judge(&rt, &missing)?;
@@ -278,7 +305,14 @@ fn a_fault_of_the_report_comes_after_the_file(rt: HostRuntime) -> Result<(), Fai
 }
 
 // A winding number, by three operands.
-fn judge_winding<R: Abort + AllocGlobal>(rt: &R, bytes: &[u8], x: &str, y: &str, z: &str, line: &[u8]) -> Result<(), NoMemory> {
+fn judge_winding<R: Abort + AllocGlobal>(
+    rt: &R,
+    bytes: &[u8],
+    x: &str,
+    y: &str,
+    z: &str,
+    line: &[u8],
+) -> Result<(), NoMemory> {
     let words = ["inside", "c.obj", x, y, z];
     let case = Case {
         words: &words,

@@ -13,17 +13,19 @@ returns-then-is_copy-clause-usage g c =
 pub returns-then-is_copy-clause-play : goal.returns-then-is_copy-clause-play
 returns-then-is_copy-clause-play g c told some =
     let e = c.copy-ended.ensures in
-    let asked = copy_asked _ _ _ c.get-from.result.now c.get-to.result.now (c.is_copy.ensures.yes c.if-is_copy.true).1 c.get-from.ensures c.get-to.ensures in
-    (ended_line c.get-from.result.now c.get-to.result.now c.copy-ended.result,
-    as_asked c.args.limits.now (g.S.Shelf.files c.args.shelf.now) c.args.words.now _ _ _ _ _ _ _ _ asked c.concluded.ensures.status
-    (ended_meets _ c.get-from.result.now c.get-to.result.now _ _ _ _ c.copy-ended.result (on_ok_weaker c.copy-ended.result (λ meets. meets told some) e.done) (IfErr-weaker c.copy-ended.result _ _ (λ halt meets. meets told some) e.halted)), c.concluded.ensures.report)
+    let asked = copy_asked _ _ _ c.get-from.result.now c.get-to.result.now (c.is_copy.ensures.yes c.if-is_copy.true).1 c.get-from.ensures c.get-to.ensures in (
+      ended_line c.get-from.result.now c.get-to.result.now c.copy-ended.result,
+      as_asked c.args.limits.now (g.S.Shelf.files c.args.shelf.now) c.args.words.now _ _ _ _ _ _ _ _ asked c.concluded.ensures.status
+          (ended_meets _ c.get-from.result.now c.get-to.result.now _ _ _ _ c.copy-ended.result (on_ok_weaker c.copy-ended.result (λ meets. meets told some) e.done) (IfErr-weaker c.copy-ended.result _ _ (λ halt meets. meets told some) e.halted)),
+      c.concluded.ensures.report,
+    )
 
 pub returns-then-is_copy-clause-write_fault : goal.returns-then-is_copy-clause-write_fault
 returns-then-is_copy-clause-write_fault g c is =
     let e = c.copy-ended.ensures in
     elim (ended_in_a_write c.copy-ended.result e.reading (sym c.concluded.ensures.status ∙ ap status_number is)) [
-      inl saving ↦ inl (e.saved saving)
-    | inr reporting ↦ inr (e.reported reporting)
+      | inl saving ↦ inl (e.saved saving)
+      | inr reporting ↦ inr (e.reported reporting)
     ]
 
 pub returns-clause-usage : goal.returns-clause-usage
@@ -34,15 +36,17 @@ returns-clause-usage g c =
 pub returns-clause-play : goal.returns-clause-play
 returns-clause-play g c told some =
     let e = c.inside-ended.ensures in
-    let asked = inside_asked _ _ c.get-file.result.now c.in-Some.point c.in-Some.ensures.yes.1 c.get-file.ensures in
-    (ended_line c.get-file.result.now c.get-file.result.now c.inside-ended.result,
-    as_asked c.args.limits.now (g.S.Shelf.files c.args.shelf.now) c.args.words.now _ _ _ _ _ _ _ _ asked c.concluded-2.ensures.status
-    (ended_meets _ c.get-file.result.now c.get-file.result.now _ _ _ _ c.inside-ended.result (on_ok_weaker c.inside-ended.result (λ meets. meets told some) e.done) (IfErr-weaker c.inside-ended.result _ _ (λ halt meets. meets told some) e.halted)), c.concluded-2.ensures.report)
+    let asked = inside_asked _ _ c.get-file.result.now c.in-Some.point c.in-Some.ensures.yes.1 c.get-file.ensures in (
+      ended_line c.get-file.result.now c.get-file.result.now c.inside-ended.result,
+      as_asked c.args.limits.now (g.S.Shelf.files c.args.shelf.now) c.args.words.now _ _ _ _ _ _ _ _ asked c.concluded-2.ensures.status
+          (ended_meets _ c.get-file.result.now c.get-file.result.now _ _ _ _ c.inside-ended.result (on_ok_weaker c.inside-ended.result (λ meets. meets told some) e.done) (IfErr-weaker c.inside-ended.result _ _ (λ halt meets. meets told some) e.halted)),
+      c.concluded-2.ensures.report,
+    )
 
 pub returns-clause-write_fault : goal.returns-clause-write_fault
 returns-clause-write_fault g c is =
     let e = c.inside-ended.ensures in
     elim (ended_in_a_write c.inside-ended.result e.reading (sym c.concluded-2.ensures.status ∙ ap status_number is)) [
-      inl saving ↦ inl (e.saved saving)
-    | inr reporting ↦ inr (e.reported reporting)
+      | inl saving ↦ inl (e.saved saving)
+      | inr reporting ↦ inr (e.reported reporting)
     ]

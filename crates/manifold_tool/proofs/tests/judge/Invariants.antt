@@ -1,4 +1,4 @@
 use Rattle.manifold_tool.proofs.tests.judge.Given as goal
 
 abbrev pub ghosts-ran : goal.ghosts-ran
-ghosts-ran a = record { name = a.blank.name; parts = a.blank.parts }
+ghosts-ran g a = record { name = a.blank.name; parts = a.blank.parts }
