@@ -1,4 +1,1 @@
-pub mod Counts
 pub mod OpenPair
-pub mod Order
-pub mod Walk

@@ -3,7 +3,6 @@
 #![tactic(auto)]
 
 mod mesh;
-mod open_edge;
 #[cfg(test)]
 mod tests;
 

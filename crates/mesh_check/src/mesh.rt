@@ -4,7 +4,7 @@ ghost use Rattle.chain_terms.specs.Chains.{all_edges, IsClosed};
 ghost use Rattle.mesh_terms.specs.Meshes.{IsAccepted, triples_of};
 ghost use Rattle.mesh_terms.specs.OpenEdges.{open_pair};
 
-use crate::open_edge::open_edge;
+use halfedge::{TwinFault, Twins};
 use mb_base::{NoMemory, Point, Soup};
 use std::alloc::Global;
 use std::marker::Model;
@@ -50,8 +50,8 @@ impl From<NoMemory> for MeshFault {
 impl Mesh {
     /// The mesh of a soup: accepted exactly where its edges are closed, with its points and
     /// triangles as they stand; otherwise `OpenEdge` with the least open edge, vertices counted
-    /// from 0. `NoMemory` may come for any soup. With n triangles it takes time n log n, and twelve
-    /// words of 4 bytes for each triangle while it runs.
+    /// from 0. `NoMemory` may come for any soup. With n triangles it takes time n log n, and 21 words
+    /// of 4 bytes for each triangle while it runs.
     pub fn check(alloc: Global, soup: Soup) -> Result<Mesh, MeshFault>
         ensures points { IfOk result (λ m. m.points ≡ soup.points) }
         ensures triples { IfOk result (λ m. m.triples ≡ soup.triples) }
@@ -59,10 +59,13 @@ impl Mesh {
         ensures open { (a b : ℕ) → IsErrOf result (MeshFault.OpenEdge a b) → open_pair (all_edges soup.triples) ≡ Some (a, b) }
         ensures accepts { IsClosed (all_edges soup.triples) → IsOk result ⊎ IsErrOf result MeshFault.NoMemory }
     {
-        let (points, triples) = soup.into_parts();
-        match open_edge(alloc, &triples)? {
-            Some((from, to)) => Err(MeshFault::OpenEdge { from, to }),
-            None => Ok(Mesh { points, triples }),
+        match Twins::of(alloc, soup.triples()) {
+            Ok(_) => {
+                let (points, triples) = soup.into_parts();
+                Ok(Mesh { points, triples })
+            }
+            Err(TwinFault::Open { from, to }) => Err(MeshFault::OpenEdge { from, to }),
+            Err(TwinFault::NoMemory) => Err(MeshFault::NoMemory),
         }
     }
 

@@ -19,7 +19,7 @@ pub record HasSides (ms : List (Option Meet)) (s : Sides) : Type 0 where
   pub below : s.below ≡ first_spot false ms
   pub above : s.above ≡ first_spot true ms
 
--- no pairs
+-- the sides of no pairs
 pub no_sides : (s : Sides) → s ≡ record { count = pos 0; below = no_spot; above = no_spot } → HasSides [] s
 no_sides s e = record {
   count = ap (λ (x : Sides). x.count) e;
@@ -27,7 +27,7 @@ no_sides s e = record {
   above = ap (λ (x : Sides). x.above) e;
 }
 
--- one more pair before the others
+-- the sides with one more pair before the others
 pub put_sides : (m : Option Meet) (ms : List (Option Meet)) (s t : Sides) → HasSides ms s → t.count ≡ shadow_of m +ℤ s.count → t.below ≡ chosen false m s.below → t.above ≡ chosen true m s.above → HasSides (m ∷ ms) t
 put_sides m ms s t h a b c = record {
   count = a ∙ ap (λ (x : ℤ). shadow_of m +ℤ x) h.count;

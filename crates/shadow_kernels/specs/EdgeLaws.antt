@@ -16,24 +16,24 @@ use Rattle.shadow_kernels.specs.Sizes.{IsSized, turned_shadow, turned_holds, tur
 use Rattle.shadow_kernels.specs.Squares.{square_balanced, reverse11_p, reverse11_q}
 use Rattle.shadow_kernels.specs.Tally.{Each}
 
--- the count is the signed sum of the shadows of the ends with the other edge
+-- two edges: the count is the signed sum of the shadows of the ends with the other edge
 pub lift11 : (w : Between) (a b c d : Corner) →
     count_of (meet11 w a b c d) ≡ shadow_of (meet01 w b c d) -ℤ shadow_of (meet01 w a c d) +ℤ shadow_of (meet10 w a b d) -ℤ shadow_of (meet10 w a b c)
 unfolding meet11
 lift11 w a b c d =
     let e = lifted_is w (boundary11 w a b c d) in omega (arith, ints, e, turned_shadow (meet01 w a c d), turned_shadow (meet10 w a b c))
 
--- its size
+-- the count of two edges is 1 or -1, if there is an answer
 pub sized11 : (w : Between) (a b c d : Corner) → IsSized (meet11 w a b c d)
 unfolding meet11
 sized11 w a b c d = lifted_sized w (boundary11 w a b c d) (square_balanced w a b c d)
 
--- exchanging the ends of P's edge turns the answer
+-- exchanging two corners of P's edge turns the answer of two edges
 pub reverse11_p_law : (w : Between) (c d : Corner) (p : List Corner) (i j : ℕ) → i < j → j < 2 → length p ≡ 2 →
     meet11 w (corner_at (swap p i j) 0) (corner_at (swap p i j) 1) c d ≡ turned (meet11 w (corner_at p 0) (corner_at p 1) c d)
 reverse11_p_law w c d p i j l m n = reverse_two (λ a b. meet11 w a b c d) (λ a b. reverse11_p w a b c d) p i j l m n
 
--- exchanging the ends of Q's edge turns it too
+-- exchanging two corners of Q's edge turns the answer of two edges
 pub reverse11_q_law : (w : Between) (a b : Corner) (q : List Corner) (i j : ℕ) → i < j → j < 2 → length q ≡ 2 →
     meet11 w a b (corner_at (swap q i j) 0) (corner_at (swap q i j) 1) ≡ turned (meet11 w a b (corner_at q 0) (corner_at q 1))
 reverse11_q_law w a b q i j l m n = reverse_two (λ c d. meet11 w a b c d) (λ c d. reverse11_q w a b c d) q i j l m n
@@ -45,7 +45,7 @@ pub record ArePlaced (ps qs : List Corner) (a b c d : Corner) : Type 0 where
   pub c_placed : IsPlaced qs c
   pub d_placed : IsPlaced qs d
 
--- those of two lists
+-- the corners of two lists of two, each in its list's box
 four_placed : (p q : List Corner) → length p ≡ 2 → length q ≡ 2 → AllFine p → AllFine q → ArePlaced p q (corner_at p 0) (corner_at p 1) (corner_at q 0) (corner_at q 1)
 four_placed p q l m fp fq = record { a_placed = placed p 0 fp (omega arith); b_placed = placed p 1 fp (omega arith); c_placed = placed q 0 fq (omega arith); d_placed = placed q 1 fq (omega arith) }
 
@@ -70,7 +70,7 @@ hull11_law w stays p q l m fp fq =
     lifted_hull w stays p q (boundary11 w (corner_at p 0) (corner_at p 1) (corner_at q 0) (corner_at q 1)) fp fq (square_balanced w (corner_at p 0) (corner_at p 1) (corner_at q 0) (corner_at q 1))
     (hulls11 w stays p q (corner_at p 0) (corner_at p 1) (corner_at q 0) (corner_at q 1) (four_placed p q l m fp fq))
 
--- boxes strictly apart in x
+-- two edges whose boxes are strictly apart in x
 apart11_x : (w : Between) (t : Bool) (ps qs : List Corner) (a b c d : Corner) → IsOnSide 0 ps qs t → ArePlaced ps qs a b c d → meet11 w a b c d ≡ None
 unfolding meet11
 apart11_x w t ps qs a b c d s h =
@@ -80,7 +80,7 @@ apart11_x w t ps qs a b c d s h =
     let v = ap shadow_of (apart10 w t ps qs a b c s h.a_placed h.b_placed h.c_placed) in
     lifted_none w (boundary11 w a b c d) (omega (arith, ints, x, y, z, v, turned_shadow (meet01 w a c d), turned_shadow (meet10 w a b c)))
 
--- boxes strictly apart in y
+-- two edges whose boxes are strictly apart in y
 apart11_y : (w : Between) → StaysBetween w → (t : Bool) (ps qs : List Corner) (a b c d : Corner) → IsOnSide 1 ps qs t → ArePlaced ps qs a b c d → meet11 w a b c d ≡ None
 unfolding meet11
 apart11_y w stays t ps qs a b c d s h =
@@ -95,7 +95,7 @@ apart11_y w stays t ps qs a b c d s h =
       ),
     )
 
--- boxes strictly apart in x or y give no answer
+-- boxes strictly apart in x or y give no answer of two edges
 pub apart11_law : (w : Between) → StaysBetween w → (p q : List Corner) (i : ℕ) → length p ≡ 2 → length q ≡ 2 → AllFine p → AllFine q → i + 2 < 4 → AreApart i p q →
     meet11 w (corner_at p 0) (corner_at p 1) (corner_at q 0) (corner_at q 1) ≡ None
 apart11_law w stays p q zero l m fp fq h a =
@@ -104,7 +104,7 @@ apart11_law w stays p q (suc zero) l m fp fq h a =
     by_side 1 p q (λ b s. apart11_y w stays b p q (corner_at p 0) (corner_at p 1) (corner_at q 0) (corner_at q 1) s (four_placed p q l m fp fq)) a
 apart11_law w stays p q (suc (suc i)) l m fp fq h a = absurd (omega arith)
 
--- boxes strictly apart in z decide the mark
+-- boxes strictly apart in z decide the mark of two edges
 pub side11_law : (w : Between) → StaysBetween w → (p q : List Corner) (i : ℕ) → length p ≡ 2 → length q ≡ 2 → AllFine p → AllFine q → i + 2 ≡ 4 →
     IfSome (meet11 w (corner_at p 0) (corner_at p 1) (corner_at q 0) (corner_at q 1)) (λ m. (IsBelow i p q → m.above ≡ false) × (IsBelow i q p → m.above ≡ true))
 unfolding meet11

@@ -17,7 +17,7 @@ ends_count true false x y = refl
 ends_count false true x y = refl
 ends_count false false x y = refl
 
--- its size is 1
+-- the count from two ends is 1 or -1, if there is an answer
 pub ends_sized : (s t : Bool) (x y : Spot) → IsSized (by_ends s t x y)
 unfolding by_ends met
 ends_sized true true x y = tt

@@ -55,28 +55,28 @@ pub lift02 : (w : Between) (p u v t : Corner) → count_of (meet02 w p u v t) �
 unfolding meet02
 lift02 w p u v t = lifted_is w (boundary02 w p u v t)
 
--- a face and a vertex
+-- a face and a vertex: the count is the sum of the shadows of the edges
 pub lift20 : (w : Between) (u v t q : Corner) → count_of (meet20 w u v t q) ≡ shadow_of (meet10 w u v q) +ℤ (shadow_of (meet10 w v t q) +ℤ (shadow_of (meet10 w t u q) +ℤ pos 0))
 unfolding meet20
 lift20 w u v t q = lifted_is w (boundary20 w u v t q)
 
--- its size
+-- the count of a vertex and a face is 1 or -1, if there is an answer
 pub sized02 : (w : Between) (p u v t : Corner) → IsSized (meet02 w p u v t)
 unfolding meet02
 sized02 w p u v t = lifted_sized w (boundary02 w p u v t) (balanced02 w p u v t)
 
--- and the other's
+-- the count of a face and a vertex is 1 or -1, if there is an answer
 pub sized20 : (w : Between) (u v t q : Corner) → IsSized (meet20 w u v t q)
 unfolding meet20
 sized20 w u v t q = lifted_sized w (boundary20 w u v t q) (balanced20 w u v t q)
 
--- exchanging two corners of the face turns the answer
+-- exchanging two corners of a face turns the answer of a vertex and the face
 pub reverse02_law : (w : Between) (p : Corner) (q : List Corner) (i j : ℕ) → i < j → j < 3 → length q ≡ 3 →
     meet02 w p (corner_at (swap q i j) 0) (corner_at (swap q i j) 1) (corner_at (swap q i j) 2) ≡ turned (meet02 w p (corner_at q 0) (corner_at q 1) (corner_at q 2))
 unfolding meet02
 reverse02_law w p q i j l m n = reverse_three w (meet01 w p) (beyond p) (edgewise01 w p) q i j l m n
 
--- here too
+-- exchanging two corners of a face turns the answer of the face and a vertex
 pub reverse20_law : (w : Between) (q : Corner) (p : List Corner) (i j : ℕ) → i < j → j < 3 → length p ≡ 3 →
     meet20 w (corner_at (swap p i j) 0) (corner_at (swap p i j) 1) (corner_at (swap p i j) 2) q ≡ turned (meet20 w (corner_at p 0) (corner_at p 1) (corner_at p 2) q)
 unfolding meet20
@@ -140,7 +140,7 @@ apart20_y w stays b ps qs u v t q s hu hv ht hq =
     lifted_one_side w b (boundary20 w u v t q) (balanced20 w u v t q).whole
     (side10 w stays b ps qs u v q s hu hv hq, (side10 w stays b ps qs v t q s hv ht hq, (side10 w stays b ps qs t u q s ht hu hq, tt)))
 
--- boxes strictly apart in x or y give no answer
+-- boxes strictly apart in x or y give no answer of a vertex and a face
 pub apart02_law : (w : Between) → StaysBetween w → (p q : List Corner) (i : ℕ) → length p ≡ 1 → length q ≡ 3 → AllFine p → AllFine q → i + 2 < 4 → AreApart i p q →
     meet02 w (corner_at p 0) (corner_at q 0) (corner_at q 1) (corner_at q 2) ≡ None
 apart02_law w stays p q zero l m fp fq h a =
@@ -149,7 +149,7 @@ apart02_law w stays p q (suc zero) l m fp fq h a =
     by_side 1 p q (λ b s. apart02_y w stays b p q (corner_at p 0) (corner_at q 0) (corner_at q 1) (corner_at q 2) s (placed p 0 fp (omega arith)) (placed q 0 fq (omega arith)) (placed q 1 fq (omega arith)) (placed q 2 fq (omega arith))) a
 apart02_law w stays p q (suc (suc i)) l m fp fq h a = absurd (omega arith)
 
--- here too
+-- boxes strictly apart in x or y give no answer of a face and a vertex
 pub apart20_law : (w : Between) → StaysBetween w → (p q : List Corner) (i : ℕ) → length p ≡ 3 → length q ≡ 1 → AllFine p → AllFine q → i + 2 < 4 → AreApart i p q →
     meet20 w (corner_at p 0) (corner_at p 1) (corner_at p 2) (corner_at q 0) ≡ None
 apart20_law w stays p q zero l m fp fq h a =

@@ -29,7 +29,7 @@ fine_spot : (ps qs : List Corner) → AllFine ps → AllFine qs → (m : Option 
 fine_spot ps qs fp fq None h = tt
 fine_spot ps qs fp fq (Some m) h = hull_fine ps qs m.spot fp fq h
 
--- a vertex and an edge
+-- the answer of a vertex and an edge is sized and has a fine spot
 pub fine01 : (w : Between) → StaysBetween w → (p c d : Corner) → IsFineCorner p → IsFineCorner c → IsFineCorner d → IsFinePair (meet01 w p c d)
 fine01 w stays p c d hp hc hd =
     let ps = p ∷ [] in
@@ -41,7 +41,7 @@ fine01 w stays p c d hp hc hd =
       fine = fine_spot ps qs fp fq (meet01 w p c d) (hull01 w stays ps qs p c d (placed ps 0 fp (omega arith)) (placed qs 0 fq (omega arith)) (placed qs 1 fq (omega arith)));
     }
 
--- an edge and a vertex
+-- the answer of an edge and a vertex is sized and has a fine spot
 pub fine10 : (w : Between) → StaysBetween w → (a b q : Corner) → IsFineCorner a → IsFineCorner b → IsFineCorner q → IsFinePair (meet10 w a b q)
 fine10 w stays a b q ha hb hq =
     let ps = a ∷ b ∷ [] in

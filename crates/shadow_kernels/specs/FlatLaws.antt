@@ -23,11 +23,11 @@ pub both_sides : (i : ℕ) (ps qs : List Corner) (m : Option Meet) → ((b : Boo
 both_sides i ps qs None f = tt
 both_sides i ps qs (Some m) f = (λ h. f false h, λ h. f true h)
 
--- two vertices: the count is 1
+-- the count of two vertices is within the bounds
 pub size00 : (p q : Corner) → (negsuc 0 ≤ℤ count_of (meet00 p q)) × (count_of (meet00 p q) ≤ℤ pos 1)
 size00 p q = (omega (arith, ints), omega (arith, ints))
 
--- and is not 0
+-- the count of two vertices is not 0
 pub present00 : (p q : Corner) → IfSome (meet00 p q) (λ m. m.count ≢ pos 0)
 present00 p q = λ z. omega (arith, ints)
 
@@ -46,24 +46,24 @@ side00_law p q (suc i) l m fp fq h = absurd (omega arith)
 pub lift01 : (w : Between) (p c d : Corner) → count_of (meet01 w p c d) ≡ shadow_of (meet00 p c) -ℤ shadow_of (meet00 p d)
 lift01 w p c d = omega (arith, ints, count01 w p c d, shadow00 p c, shadow00 p d)
 
--- an edge and a vertex
+-- an edge and a vertex: the count is the difference of the shadows of the ends
 pub lift10 : (w : Between) (a b q : Corner) → count_of (meet10 w a b q) ≡ shadow_of (meet00 b q) -ℤ shadow_of (meet00 a q)
 lift10 w a b q = omega (arith, ints, count10 w a b q, shadow00 b q, shadow00 a q)
 
--- a vertex and an edge: the spot lies in the boxes
+-- a vertex and an edge: the spot lies in the boxes of the lists
 pub hull01_law : (w : Between) → StaysBetween w → (p q : List Corner) → length p ≡ 1 → length q ≡ 2 → AllFine p → AllFine q →
     IfSome (meet01 w (corner_at p 0) (corner_at q 0) (corner_at q 1)) (λ m. IsInHull p q m.spot)
 hull01_law w stays p q l m fp fq =
     hull01 w stays p q (corner_at p 0) (corner_at q 0) (corner_at q 1) (placed p 0 fp (omega arith)) (placed q 0 fq (omega arith)) (placed q 1 fq (omega arith))
 
--- boxes strictly apart in x give no answer
+-- boxes strictly apart in x give no answer of a vertex and an edge
 pub apart01_law : (w : Between) (p q : List Corner) (i : ℕ) → length p ≡ 1 → length q ≡ 2 → AllFine p → AllFine q → i + 2 < 3 → AreApart i p q →
     meet01 w (corner_at p 0) (corner_at q 0) (corner_at q 1) ≡ None
 apart01_law w p q zero l m fp fq h a =
     by_side 0 p q (λ b s. apart01 w b p q (corner_at p 0) (corner_at q 0) (corner_at q 1) s (placed p 0 fp (omega arith)) (placed q 0 fq (omega arith)) (placed q 1 fq (omega arith))) a
 apart01_law w p q (suc i) l m fp fq h a = absurd (omega arith)
 
--- boxes strictly apart in y decide the mark
+-- boxes strictly apart in y decide the mark of a vertex and an edge
 pub side01_law : (w : Between) → StaysBetween w → (p q : List Corner) (i : ℕ) → length p ≡ 1 → length q ≡ 2 → AllFine p → AllFine q → i + 2 ≡ 3 →
     IfSome (meet01 w (corner_at p 0) (corner_at q 0) (corner_at q 1)) (λ m. (IsBelow i p q → m.above ≡ false) × (IsBelow i q p → m.above ≡ true))
 side01_law w stays p q zero l m fp fq h = absurd (omega arith)
@@ -72,20 +72,20 @@ side01_law w stays p q (suc zero) l m fp fq h =
     (λ b s. side01 w stays b p q (corner_at p 0) (corner_at q 0) (corner_at q 1) s (placed p 0 fp (omega arith)) (placed q 0 fq (omega arith)) (placed q 1 fq (omega arith)))
 side01_law w stays p q (suc (suc i)) l m fp fq h = absurd (omega arith)
 
--- an edge and a vertex: the spot lies in the boxes
+-- an edge and a vertex: the spot lies in the boxes of the lists
 pub hull10_law : (w : Between) → StaysBetween w → (p q : List Corner) → length p ≡ 2 → length q ≡ 1 → AllFine p → AllFine q →
     IfSome (meet10 w (corner_at p 0) (corner_at p 1) (corner_at q 0)) (λ m. IsInHull p q m.spot)
 hull10_law w stays p q l m fp fq =
     hull10 w stays p q (corner_at p 0) (corner_at p 1) (corner_at q 0) (placed p 0 fp (omega arith)) (placed p 1 fp (omega arith)) (placed q 0 fq (omega arith))
 
--- boxes strictly apart in x give no answer
+-- boxes strictly apart in x give no answer of an edge and a vertex
 pub apart10_law : (w : Between) (p q : List Corner) (i : ℕ) → length p ≡ 2 → length q ≡ 1 → AllFine p → AllFine q → i + 2 < 3 → AreApart i p q →
     meet10 w (corner_at p 0) (corner_at p 1) (corner_at q 0) ≡ None
 apart10_law w p q zero l m fp fq h a =
     by_side 0 p q (λ b s. apart10 w b p q (corner_at p 0) (corner_at p 1) (corner_at q 0) s (placed p 0 fp (omega arith)) (placed p 1 fp (omega arith)) (placed q 0 fq (omega arith))) a
 apart10_law w p q (suc i) l m fp fq h a = absurd (omega arith)
 
--- boxes strictly apart in y decide the mark
+-- boxes strictly apart in y decide the mark of an edge and a vertex
 pub side10_law : (w : Between) → StaysBetween w → (p q : List Corner) (i : ℕ) → length p ≡ 2 → length q ≡ 1 → AllFine p → AllFine q → i + 2 ≡ 3 →
     IfSome (meet10 w (corner_at p 0) (corner_at p 1) (corner_at q 0)) (λ m. (IsBelow i p q → m.above ≡ false) × (IsBelow i q p → m.above ≡ true))
 side10_law w stays p q zero l m fp fq h = absurd (omega arith)

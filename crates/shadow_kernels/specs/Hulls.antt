@@ -36,7 +36,7 @@ distance_weight u v h k l = record { low = omega (arith, ints); high = omega (ar
 edge_value : (w : Between) → StaysBetween w → (i : ℕ) (qs : List Corner) (u v a b : ℤ) → IsFine u → IsFine v → IsWeight a → IsWeight b → IsInBox i qs u → IsInBox i qs v → IsInBox i qs (w u v a b)
 edge_value w stays i qs u v a b f g h k x y = box_between i qs u v (w u v a b) x y (stays.within u v a b f g h k)
 
--- the spot of a vertex and an edge
+-- the spot of a vertex and an edge lies in their boxes
 pub spot01_hull : (w : Between) → StaysBetween w → (ps qs : List Corner) (p l r : Corner) → IsPlaced ps p → IsPlaced qs l → IsPlaced qs r →
     axis 0 l ≤ℤ axis 0 p → axis 0 p ≤ℤ axis 0 r → IsInHull ps qs (spot01 w p l r)
 unfolding spot01
@@ -54,7 +54,7 @@ spot01_hull w stays ps qs p l r hp hl hr left right =
       qz = edge_value w stays 2 qs (axis 2 l) (axis 2 r) before after hl.fine.z hr.fine.z a b hl.z hr.z;
     }
 
--- the spot of an edge and a vertex
+-- the spot of an edge and a vertex lies in their boxes
 pub spot10_hull : (w : Between) → StaysBetween w → (ps qs : List Corner) (l r q : Corner) → IsPlaced ps l → IsPlaced ps r → IsPlaced qs q →
     axis 0 l ≤ℤ axis 0 q → axis 0 q ≤ℤ axis 0 r → IsInHull ps qs (spot10 w l r q)
 unfolding spot10

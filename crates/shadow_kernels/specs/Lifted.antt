@@ -17,13 +17,13 @@ use Rattle.shadow_kernels.specs.Sizes.{IsSized, met_none, met_count, met_sized, 
 use Rattle.shadow_kernels.specs.Tally.{Each, hit, hits, IsBalanced, tally, balanced_size}
 use Rattle.shadow_kernels.specs.Hulls.{StaysBetween, IsOnSide, side_z}
 
--- the count is the sum of the shadows
+-- the count from boundary pairs is the sum of their shadows
 pub lifted_is : (w : Between) (ms : List (Option Meet)) → count_of (lifted w ms) ≡ total shadow_of ms
 unfolding lifted joined
 lifted_is w ms =
     let s = spot_between w (first_spot false ms) (first_spot true ms) in met_count (total shadow_of ms) (above_z s) s
 
--- it is 1 or -1
+-- the count from balanced boundary pairs is 1 or -1, if there is an answer
 pub lifted_sized : (w : Between) (ms : List (Option Meet)) → IsBalanced ms → IsSized (lifted w ms)
 unfolding lifted joined
 lifted_sized w ms h =
@@ -49,7 +49,7 @@ chosen_holds P false (Some m) x h k = by m.above where
   by true = k
   by false = h
 
--- and of the first spot of a list
+-- what holds of each spot, and of the spot of nothing, holds of the first spot
 pub first_holds : (P : Spot → Type 0) (want : Bool) (ms : List (Option Meet)) → P no_spot → Each (λ m. IfSome m (λ n. P n.spot)) ms → P (first_spot want ms)
 first_holds P want [] h e = h
 first_holds P want (m ∷ ms) h e = chosen_holds P want m (first_spot want ms) e.0 (first_holds P want ms h e.1)
@@ -110,7 +110,7 @@ spot_hull w stays ps qs ms fp fq balanced each n =
     positive : (k : ℕ) → (k ≡ 0 → ⊥) → 0 < k
     positive k h = omega arith
 
--- its spot lies in the boxes
+-- the spot from boundary pairs with their spots in the boxes lies in the boxes
 pub lifted_hull : (w : Between) → StaysBetween w → (ps qs : List Corner) (ms : List (Option Meet)) → AllFine ps → AllFine qs → IsBalanced ms → Each (λ m. IfSome m (λ n. IsInHull ps qs n.spot)) ms →
     IfSome (lifted w ms) (λ m. IsInHull ps qs m.spot)
 unfolding lifted joined
@@ -118,7 +118,7 @@ lifted_hull w stays ps qs ms fp fq balanced each =
     let s = spot_between w (first_spot false ms) (first_spot true ms) in
     met_holds (λ m. IsInHull ps qs m.spot) (total shadow_of ms) (above_z s) s (λ n. spot_hull w stays ps qs ms fp fq balanced each n)
 
--- boxes strictly apart in z decide its mark
+-- boxes strictly apart in z decide the mark of the answer from boundary pairs
 pub lifted_side : (w : Between) → StaysBetween w → (b : Bool) (ps qs : List Corner) (ms : List (Option Meet)) → AllFine ps → AllFine qs → IsOnSide 2 ps qs b → IsBalanced ms → Each (λ m. IfSome m (λ n. IsInHull ps qs n.spot)) ms →
     IfSome (lifted w ms) (λ m. m.above ≡ b)
 unfolding lifted joined

@@ -22,7 +22,7 @@ pub record IsEdgewise (f : Corner → Corner → Option Meet) (test : Corner →
   pub count : (a b : Corner) → count_of (f a b) +ℤ bit (test b) ≡ bit (test a)
   pub turns : (a b : Corner) → f b a ≡ turned (f a b)
 
--- the counts round a face add up to nothing
+-- the counts round a face add up to nothing, and there are three
 pub rim_balanced : (f : Corner → Corner → Option Meet) (test : Corner → Bool) → IsEdgewise f test → (u v t : Corner) → IsBalanced (rim f u v t)
 rim_balanced f test h u v t = record {
   sized = (h.sized u v, (h.sized v t, (h.sized t u, tt)));

@@ -5,7 +5,7 @@ use Rattle.shadow_kernels.specs.declared.Meet.{Meet}
 use Rattle.shadow_kernels.specs.Spots.{Between, beyond, spot00, spot01, spot10}
 use Rattle.shadow_kernels.specs.Counts.{turned, by_ends, lifted}
 
--- two vertices
+-- the answer of two vertices
 abbrev pub meet00 : Corner → Corner → Option Meet
 meet00 p q = Some (record { count = pos 1; above = beyond p q; spot = spot00 p q })
 
@@ -29,14 +29,14 @@ boundary02 between p u v w = meet01 between p u v ∷ meet01 between p v w ∷ m
 abbrev pub boundary20 : Between → Corner → Corner → Corner → Corner → List (Option Meet)
 boundary20 between u v w q = meet10 between u v q ∷ meet10 between v w q ∷ meet10 between w u q ∷ []
 
--- two edges
+-- the answer of two edges, from their ends with the other edge
 unfoldable pub meet11 : Between → Corner → Corner → Corner → Corner → Option Meet
 meet11 between a b c d = lifted between (boundary11 between a b c d)
 
--- a vertex and a face
+-- the answer of a vertex and a face, from the three edges
 unfoldable pub meet02 : Between → Corner → Corner → Corner → Corner → Option Meet
 meet02 between p u v w = lifted between (boundary02 between p u v w)
 
--- a face and a vertex
+-- the answer of a face and a vertex, from the three edges
 unfoldable pub meet20 : Between → Corner → Corner → Corner → Corner → Option Meet
 meet20 between u v w q = lifted between (boundary20 between u v w q)

@@ -73,7 +73,7 @@ sized_bounds None h = (omega (arith, ints), omega (arith, ints))
 sized_bounds (Some m) (inl e) = (omega (arith, ints), omega (arith, ints))
 sized_bounds (Some m) (inr e) = (omega (arith, ints), omega (arith, ints))
 
--- and its shadow too
+-- the shadow of a sized answer is -1, 0 or 1
 pub shadow_bounds : (m : Option Meet) → IsSized m → (negsuc 0 ≤ℤ shadow_of m) × (shadow_of m ≤ℤ pos 1)
 shadow_bounds None h = (omega (arith, ints), omega (arith, ints))
 shadow_bounds (Some m) h = by m.above m.count h where

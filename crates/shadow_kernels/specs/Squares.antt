@@ -53,22 +53,22 @@ pub count10 : (w : Between) (a b q : Corner) → count_of (meet10 w a b q) ≡ b
 unfolding meet10
 count10 w a b q = ends_count (beyond b q) (beyond a q) (spot10 w a b q) (spot10 w b a q)
 
--- its size
+-- the count of a vertex and an edge is 1 or -1, if there is an answer
 pub sized01 : (w : Between) (p c d : Corner) → IsSized (meet01 w p c d)
 unfolding meet01
 sized01 w p c d = ends_sized (beyond p c) (beyond p d) (spot01 w p c d) (spot01 w p d c)
 
--- and the other's
+-- the count of an edge and a vertex is 1 or -1, if there is an answer
 pub sized10 : (w : Between) (a b q : Corner) → IsSized (meet10 w a b q)
 unfolding meet10
 sized10 w a b q = ends_sized (beyond b q) (beyond a q) (spot10 w a b q) (spot10 w b a q)
 
--- exchanging the ends of the edge turns the answer
+-- exchanging the ends of the edge turns the answer of a vertex and the edge
 pub reverse01 : (w : Between) (p c d : Corner) → meet01 w p d c ≡ turned (meet01 w p c d)
 unfolding meet01
 reverse01 w p c d = ends_turned (beyond p c) (beyond p d) (spot01 w p c d) (spot01 w p d c)
 
--- here too
+-- exchanging the ends of the edge turns the answer of the edge and a vertex
 pub reverse10 : (w : Between) (a b q : Corner) → meet10 w b a q ≡ turned (meet10 w a b q)
 unfolding meet10
 reverse10 w a b q = ends_turned (beyond b q) (beyond a q) (spot10 w a b q) (spot10 w b a q)
@@ -108,7 +108,7 @@ reverse11_p w a b c d =
     four w (turned y) x z (turned t) y (turned x) (meet10 w b a d) (turned (meet10 w b a c)) (sym (turned_twice y)) refl (reverse10 w a b d) (ap turned (reverse10 w a b c))
     ∙ ap turned (sym (lifted_agree w (boundary11 w a b c d) (turned y ∷ x ∷ z ∷ turned t ∷ []) (balanced_pair (boundary11 w a b c d) (square_balanced w a b c d)) (agree_swap x (turned y) (z ∷ turned t ∷ []))))
 
--- exchanging the ends of Q's edge turns it too
+-- exchanging the ends of Q's edge turns the answer of two edges
 pub reverse11_q : (w : Between) (a b c d : Corner) → meet11 w a b d c ≡ turned (meet11 w a b c d)
 unfolding meet11
 reverse11_q w a b c d =

@@ -33,7 +33,7 @@ pub record Tally (number whole : ℤ) (above below : ℕ) : Type 0 where
   pub rest_high : (whole -ℤ number) ≤ℤ pos below
   pub even : whole +ℤ pos (above + below) ≡ pos (plus + plus)
 
--- one answer
+-- the tally of one answer
 one_tally : (m : Option Meet) → IsSized m → Tally (shadow_of m) (count_of m) (hit true m) (hit false m)
 one_tally None h = record { plus = 0; low = omega (arith, ints); high = omega (arith, ints); rest_low = omega (arith, ints); rest_high = omega (arith, ints); even = refl }
 one_tally (Some m) h = by m.above m.count h where
@@ -48,7 +48,7 @@ both : (n m w v : ℤ) (a b c d : ℕ) → Tally n w a b → Tally m v c d → T
 both n m w v a b c d x y =
     record { plus = x.plus + y.plus; low = omega (arith, ints, x.low, y.low); high = omega (arith, ints, x.high, y.high); rest_low = omega (arith, ints, x.rest_low, y.rest_low); rest_high = omega (arith, ints, x.rest_high, y.rest_high); even = omega (arith, ints, x.even, y.even) }
 
--- a list of answers
+-- the tally of a list of answers
 pub tally : (ms : List (Option Meet)) → Each IsSized ms → Tally (total shadow_of ms) (total count_of ms) (hits true ms) (hits false ms)
 tally [] h = record { plus = 0; low = omega (arith, ints); high = omega (arith, ints); rest_low = omega (arith, ints); rest_high = omega (arith, ints); even = refl }
 tally (m ∷ ms) h =
@@ -60,7 +60,7 @@ pub record IsBalanced (ms : List (Option Meet)) : Type 0 where
   pub whole : total count_of ms ≡ pos 0
   pub few : hits true ms + hits false ms ≤ 3
 
--- the sum of their shadows is -1, 0 or 1
+-- the sum of the shadows of balanced pairs is -1, 0 or 1
 pub balanced_size : (ms : List (Option Meet)) → IsBalanced ms → (negsuc 0 ≤ℤ total shadow_of ms) × (total shadow_of ms ≤ℤ pos 1)
 balanced_size ms h =
     let t = tally ms h.sized in (
@@ -68,7 +68,7 @@ balanced_size ms h =
       omega (arith, ints, h.whole, h.few, t.low, t.high, t.rest_low, t.rest_high, t.even),
     )
 
--- it is 0, or exactly one of them is above and exactly one is not
+-- the sum of the shadows of balanced pairs is 0, or exactly one pair is above and exactly one is not
 pub balanced_pair : (ms : List (Option Meet)) → IsBalanced ms → (total shadow_of ms ≡ pos 0) ⊎ ((hits true ms ≡ 1) × (hits false ms ≡ 1))
 balanced_pair ms h =
     let t = tally ms h.sized in by (hits true ms) (hits false ms) (total shadow_of ms) (total count_of ms) h.whole h.few t
