@@ -1,10 +1,10 @@
 -- A copy meets its play, wherever it ends.
-use Rattle.std.proofs.Common.{◌≡◌, ℕ, ◌<◌, ◌^◌, ◌-◌, ◌+◌, ◌≤◌, min, List, [], ◌∷◌, ◌++◌, Option, Some, None, Result, Ok, Err, Bool, IsTrue, ap, sym, ◌∙◌, refl, subst, inl, inr, ◌⊎◌, arith}
+use Rattle.std.proofs.Common.{◌≡◌, ℕ, ◌<◌, ◌^◌, ◌-◌, List, [], ◌∷◌, ◌++◌, Option, Some, Result, Ok, Err, IsTrue, sym, refl, subst, inl, inr, arith}
 use Rattle.std.specs.Option.{option_map}
 use Rattle.mesh_terms.specs.Meshes.{Soup}
 use Rattle.obj_terms.specs.Written.{obj_text}
-use Rattle.run_terms.specs.Files.{Bytes, Files, Rose, put, IsPrefix}
-use Rattle.run_terms.specs.Runs.{Action, Ask, Write, Say, World, Faults, Refusal, Play, FirstDone, Finished, ReadStop, WriteStop, SayStop, MemoryStop, Partial, done_all}
+use Rattle.run_terms.specs.Files.{Bytes, Files, Rose, put}
+use Rattle.run_terms.specs.Runs.{Action, Ask, Write, Say, World, Faults, Refusal, Play, FirstDone, Partial, done_all}
 use Rattle.play_terms.specs.Commands.{played, copy_actions}
 use Rattle.play_terms.specs.Lines.{copied_line, write_fault, report_fault, no_memory}
 use Rattle.play_terms.specs.Meets.{RunMeets}

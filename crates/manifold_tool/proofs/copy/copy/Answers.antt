@@ -2,13 +2,12 @@ use Rattle.std.proofs.Common.{◌≡◌, ◌<◌, ◌^◌, ◌-◌, ℕ, Bool, I
 use Rattle.mesh_terms.specs.Meshes.{Soup}
 use Rattle.obj_terms.specs.Reading.{narrow_obj}
 use Rattle.obj_terms.specs.Written.{obj_text}
-use Rattle.run_terms.specs.Files.{Bytes, Files, put}
+use Rattle.run_terms.specs.Files.{Files, put}
 use Rattle.run_terms.specs.Runs.{Refusal}
 use Rattle.play_terms.specs.Commands.{copy_actions, mesh_of}
 use Rattle.manifold_tool.specs.Pieces.{soup_with}
 use Rattle.manifold_tool.specs.Reports.{world}
 use Rattle.manifold_tool.specs.Saves.{IsSavedInPart}
-use Rattle.manifold_tool.specs.declared.stop.Stop.{Stop}
 use Rattle.manifold_tool.specs.declared.stop.Stop.TheVariants.{ReadFault}
 use Rattle.manifold_tool.proofs.Back.{saved_is_taken}
 use Rattle.manifold_tool.proofs.Copying.{greater, same_faults, reading_stopped, saving_stopped, reporting_stopped, copy_done}
