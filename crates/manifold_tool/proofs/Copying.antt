@@ -1,10 +1,10 @@
 -- A copy meets its play, wherever it ends.
-use Rattle.std.proofs.Common.{◌≡◌, ℕ, ◌<◌, ◌^◌, ◌-◌, ◌+◌, ◌≤◌, min, List, [], ◌∷◌, ◌++◌, Option, Some, None, Result, Ok, Err, Bool, IsTrue, IsSome, ap, sym, ◌∙◌, refl, subst, inl, inr, ◌⊎◌, arith}
+use Rattle.std.proofs.Common.{◌≡◌, ℕ, ◌<◌, ◌^◌, ◌-◌, List, [], ◌∷◌, ◌++◌, Option, Some, Result, Ok, Err, IsTrue, sym, refl, subst, inl, inr, arith}
 use Rattle.std.specs.Option.{option_map}
 use Rattle.mesh_terms.specs.Meshes.{Soup}
 use Rattle.obj_terms.specs.Written.{obj_text}
-use Rattle.run_terms.specs.Files.{Bytes, Files, Rose, put, text_of, IsPrefix}
-use Rattle.run_terms.specs.Runs.{Action, Ask, Write, Say, World, Faults, Refusal, Play, FirstDone, Finished, ReadStop, WriteStop, SayStop, MemoryStop, Partial, done_all}
+use Rattle.run_terms.specs.Files.{Bytes, Files, Rose, put}
+use Rattle.run_terms.specs.Runs.{Action, Ask, Write, Say, World, Faults, Refusal, Play, FirstDone, Partial, done_all}
 use Rattle.play_terms.specs.Commands.{played, copy_actions}
 use Rattle.play_terms.specs.Lines.{copied_line, write_fault, report_fault, no_memory}
 use Rattle.play_terms.specs.Meets.{RunMeets}
@@ -55,37 +55,37 @@ refused_run from others r why w v before now is same calm =
 -- reading stopped
 pub reading_stopped : (from : Bytes) (others : Soup → List Action) (r : Result Soup Refusal) (w v : World) (before now : Faults) (stop : Stop)
     → ((why : Refusal) → refusal_of from stop ≡ Some why → r ≡ Err why) → IsTrue (is_reading_stop stop) → v ≡ w
-    → ((stop ≡ ReadFault → ⊥) → now ≡ before) → (stop ≡ ReadFault → before.read < now.read)
+    → ((stop ≡ ReadFault → ⊥) → now ≡ before) → (stop ≡ ReadFault → before.read < now.read) → now.write ≡ before.write → now.out ≡ before.out
     → RunMeets (play_of from others r) w v (stop_status stop) before now (stop_line from stop)
-reading_stopped from others r w v before now Usage refuses reads same calm rose = cc
-reading_stopped from others r w v before now WriteFault refuses reads same calm rose = cc
-reading_stopped from others r w v before now Missing refuses reads same calm rose =
+reading_stopped from others r w v before now Usage refuses reads same calm rose write out = cc
+reading_stopped from others r w v before now WriteFault refuses reads same calm rose write out = cc
+reading_stopped from others r w v before now Missing refuses reads same calm rose write out =
     refused_run from others r _ w v before now (refuses _ refl) same (calm (λ e. cc))
-reading_stopped from others r w v before now (BadText line kind) refuses reads same calm rose =
+reading_stopped from others r w v before now (BadText line kind) refuses reads same calm rose write out =
     refused_run from others r _ w v before now (refuses _ refl) same (calm (λ e. cc))
-reading_stopped from others r w v before now (BadEdge a b) refuses reads same calm rose =
+reading_stopped from others r w v before now (BadEdge a b) refuses reads same calm rose write out =
     refused_run from others r _ w v before now (refuses _ refl) same (calm (λ e. cc))
-reading_stopped from others r w v before now (Over what seen) refuses reads same calm rose =
+reading_stopped from others r w v before now (Over what seen) refuses reads same calm rose write out =
     refused_run from others r _ w v before now (refuses _ refl) same (calm (λ e. cc))
-reading_stopped from others r w v before now ReadFault refuses reads same calm rose =
-    inr (inl (record { first = none_done (play_of from others r).actions w; name = from; later = after_asking others r; next = asks_first from others r; same = same; rose = rose refl }, refl, refl))
-reading_stopped from others r w v before now NoMemory refuses reads same calm rose =
-    inr (inr (inr (inr (record { first = none_done (play_of from others r).actions w; same = same }, refl, refl))))
+reading_stopped from others r w v before now ReadFault refuses reads same calm rose write out =
+    inr (inl (record { first = none_done (play_of from others r).actions w; name = from; later = after_asking others r; next = asks_first from others r; same = same; rose = rose refl; write = write; out = out }, refl, refl))
+reading_stopped from others r w v before now NoMemory refuses reads same calm rose write out =
+    inr (inr (inr (inr (record { first = none_done (play_of from others r).actions w; same = same; no_fault = calm (λ e. cc) }, refl, refl))))
 
 -- the world of these files and this output
-abbrev pub world_of : Files → Bytes → World
+abbrev pub world_of : Files → Option Bytes → World
 world_of files out = record { files = files; out = out }
 
 -- a file that was saved in part left a part of the action
-pub saved_in_part : (to text : Bytes) (fw fv : Files) (ow ov : Bytes) → IsSavedInPart to text fw fv → ov ≡ ow → Partial (Write to text) (world_of fw ow) (world_of fv ov)
+pub saved_in_part : (to text : Bytes) (fw fv : Files) (ow ov : Option Bytes) → IsSavedInPart to text fw fv → ov ≡ ow → Partial (Write to text) (world_of fw ow) (world_of fv ov)
 saved_in_part to text fw fv ow ov (inl same) out = inl (rw (same, out) refl)
 saved_in_part to text fw fv ow ov (inr part) out = inr (part.0, part.1, rw (part.2, out) refl)
 
 -- saving stopped
-pub saving_stopped : (from : Bytes) (k : ℕ) (to : Bytes) (r : Result Soup Refusal) (soup : Soup) (fw fv : Files) (ow ov : Bytes) (before now : Faults)
-    → r ≡ Ok soup → IsSavedInPart to (obj_text k soup.points soup.triples) fw fv → ov ≡ ow → before.write < now.write
+pub saving_stopped : (from : Bytes) (k : ℕ) (to : Bytes) (r : Result Soup Refusal) (soup : Soup) (fw fv : Files) (ow ov : Option Bytes) (before now : Faults)
+    → r ≡ Ok soup → IsSavedInPart to (obj_text k soup.points soup.triples) fw fv → ov ≡ ow → before.write < now.write → now.read ≡ before.read → now.out ≡ before.out
     → RunMeets (play_of from (copy_actions k to) r) (world_of fw ow) (world_of fv ov) 7 before now (write_fault to)
-saving_stopped from k to r soup fw fv ow ov before now is part out rose =
+saving_stopped from k to r soup fw fv ow ov before now is part same rose read out =
     let P : Result Soup Refusal → Type 0 = λ r. RunMeets (play_of from (copy_actions k to) r) (world_of fw ow) (world_of fv ov) 7 before now (write_fault to) in
     let text = obj_text k soup.points soup.triples in
     let later : List Action = Say (copied_line to soup) ∷ [] in
@@ -96,29 +96,25 @@ saving_stopped from k to r soup fw fv ow ov before now is part out rose =
         bytes = text;
         later = later;
         next = refl;
-        part = saved_in_part to text fw fv ow ov part out;
+        part = saved_in_part to text fw fv ow ov part same;
         rose = rose;
+        read = read;
+        out = out;
       },
       refl,
       refl,
     ))))
 
--- told bytes and more are told together
-pub told_more : (old new : Option Bytes) (more : Bytes) → IsSome old → new ≡ option_map (λ held. held ++ more) old → text_of new ≡ text_of old ++ more
-told_more None new more some is = cc
-told_more (Some old) new more some is = ap text_of is
-
 -- reporting stopped
 pub reporting_stopped : (from : Bytes) (k : ℕ) (to : Bytes) (r : Result Soup Refusal) (soup : Soup) (fw fv : Files) (old new : Option Bytes) (before now : Faults)
-    → r ≡ Ok soup → fv ≡ put to (obj_text k soup.points soup.triples) fw → IsSome old → AddsPart (copied_line to soup) old new → before.out < now.out
+    → r ≡ Ok soup → fv ≡ put to (obj_text k soup.points soup.triples) fw → AddsPart (copied_line to soup) old new → before.out < now.out → now.read ≡ before.read → now.write ≡ before.write
     → RunMeets (play_of from (copy_actions k to) r) (world fw old) (world fv new) 7 before now report_fault
-reporting_stopped from k to r soup fw fv old new before now is saved some part rose =
+reporting_stopped from k to r soup fw fv old new before now is saved part rose read write =
     let P : Result Soup Refusal → Type 0 = λ r. RunMeets (play_of from (copy_actions k to) r) (world fw old) (world fv new) 7 before now report_fault in
     let text = obj_text k soup.points soup.triples in
     let line = copied_line to soup in
-    let mid = world_of (put to text fw) (text_of old) in
-    let more = told_more old new part.0 some part.2 in
-    let after : world fv new ≡ world_of (put to text fw) (text_of old ++ part.0) = rw (saved, more) refl in
+    let mid = world_of (put to text fw) old in
+    let after : world fv new ≡ world_of (put to text fw) (option_map (λ held. held ++ part.0) old) = rw (saved, part.2) refl in
     subst P (sym is) (inr (inr (inr (inl (
       record {
         first = record { whole = Ask from ∷ Write to text ∷ []; rest = Say line ∷ []; split = refl; mid = mid; reached = refl };
@@ -127,6 +123,8 @@ reporting_stopped from k to r soup fw fv old new before now is saved some part r
         next = refl;
         part = (part.0, part.1, after);
         rose = rose;
+        read = read;
+        write = write;
       },
       refl,
       refl,
@@ -134,37 +132,37 @@ reporting_stopped from k to r soup fw fv old new before now is saved some part r
 
 -- all was done
 pub copy_done : (from : Bytes) (k : ℕ) (to : Bytes) (r : Result Soup Refusal) (soup : Soup) (fw fv : Files) (old new : Option Bytes) (before now : Faults)
-    → r ≡ Ok soup → fv ≡ put to (obj_text k soup.points soup.triples) fw → IsSome old → new ≡ option_map (λ held. held ++ copied_line to soup) old → now ≡ before
+    → r ≡ Ok soup → fv ≡ put to (obj_text k soup.points soup.triples) fw → new ≡ option_map (λ held. held ++ copied_line to soup) old → now ≡ before
     → RunMeets (play_of from (copy_actions k to) r) (world fw old) (world fv new) 0 before now []
-copy_done from k to r soup fw fv old new before now is saved some said calm =
+copy_done from k to r soup fw fv old new before now is saved said calm =
     let P : Result Soup Refusal → Type 0 = λ r. RunMeets (play_of from (copy_actions k to) r) (world fw old) (world fv new) 0 before now [] in
     let text = obj_text k soup.points soup.triples in
-    let more = told_more old new (copied_line to soup) some said in
-    let after : world fv new ≡ world_of (put to text fw) (text_of old ++ copied_line to soup) = rw (saved, more) refl in
+    let after : world fv new ≡ world_of (put to text fw) (option_map (λ held. held ++ copied_line to soup) old) = rw (saved, said) refl in
     subst P (sym is) (inl (record { all_done = after; same_status = refl; no_fault = calm }, refl))
 
 -- memory ran out after the file was read
-pub starved_run : (from : Bytes) (others : Soup → List Action) (r : Result Soup Refusal) (w v : World) (before now : Faults) → v ≡ w
+pub starved_run : (from : Bytes) (others : Soup → List Action) (r : Result Soup Refusal) (w v : World) (before now : Faults) → v ≡ w → now ≡ before
     → RunMeets (play_of from others r) w v 8 before now no_memory
-starved_run from others r w v before now same =
-    inr (inr (inr (inr (record { first = none_done (play_of from others r).actions w; same = same }, refl, refl))))
+starved_run from others r w v before now same calm =
+    inr (inr (inr (inr (record { first = none_done (play_of from others r).actions w; same = same; no_fault = calm }, refl, refl))))
 
 -- reporting stopped after the file was read
 pub saying_stopped : (from line : Bytes) (others : Soup → List Action) (r : Result Soup Refusal) (soup : Soup) (fw fv : Files) (old new : Option Bytes) (before now : Faults)
-    → r ≡ Ok soup → others soup ≡ Say line ∷ [] → fv ≡ fw → IsSome old → AddsPart line old new → before.out < now.out
+    → r ≡ Ok soup → others soup ≡ Say line ∷ [] → fv ≡ fw → AddsPart line old new → before.out < now.out → now.read ≡ before.read → now.write ≡ before.write
     → RunMeets (play_of from others r) (world fw old) (world fv new) 7 before now report_fault
-saying_stopped from line others r soup fw fv old new before now is says same some part rose =
+saying_stopped from line others r soup fw fv old new before now is says same part rose read write =
     let P : Result Soup Refusal → Type 0 = λ r. RunMeets (play_of from others r) (world fw old) (world fv new) 7 before now report_fault in
-    let more = told_more old new part.0 some part.2 in
-    let after : world fv new ≡ world_of fw (text_of old ++ part.0) = rw (same, more) refl in
+    let after : world fv new ≡ world_of fw (option_map (λ held. held ++ part.0) old) = rw (same, part.2) refl in
     subst P (sym is) (inr (inr (inr (inl (
       record {
-        first = record { whole = Ask from ∷ []; rest = others soup; split = refl; mid = world_of fw (text_of old); reached = refl };
+        first = record { whole = Ask from ∷ []; rest = others soup; split = refl; mid = world_of fw old; reached = refl };
         line = line;
         later = [];
         next = says;
         part = (part.0, part.1, after);
         rose = rose;
+        read = read;
+        write = write;
       },
       refl,
       refl,
@@ -172,11 +170,10 @@ saying_stopped from line others r soup fw fv old new before now is says same som
 
 -- the line was said after the file was read
 pub said_done : (from line : Bytes) (others : Soup → List Action) (r : Result Soup Refusal) (soup : Soup) (fw fv : Files) (old new : Option Bytes) (before now : Faults)
-    → r ≡ Ok soup → others soup ≡ Say line ∷ [] → fv ≡ fw → IsSome old → new ≡ option_map (λ held. held ++ line) old → now ≡ before
+    → r ≡ Ok soup → others soup ≡ Say line ∷ [] → fv ≡ fw → new ≡ option_map (λ held. held ++ line) old → now ≡ before
     → RunMeets (play_of from others r) (world fw old) (world fv new) 0 before now []
-said_done from line others r soup fw fv old new before now is says same some said calm =
+said_done from line others r soup fw fv old new before now is says same said calm =
     let P : Result Soup Refusal → Type 0 = λ r. RunMeets (play_of from others r) (world fw old) (world fv new) 0 before now [] in
-    let more = told_more old new line some said in
     let Q : List Action → Type 0 = λ actions. world fv new ≡ done_all (Ask from ∷ actions) (world fw old) in
-    let after : world fv new ≡ world_of fw (text_of old ++ line) = rw (same, more) refl in
+    let after : world fv new ≡ world_of fw (option_map (λ held. held ++ line) old) = rw (same, said) refl in
     subst P (sym is) (inl (record { all_done = subst Q (sym says) after; same_status = refl; no_fault = calm }, refl))

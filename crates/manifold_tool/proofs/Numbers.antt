@@ -1,5 +1,5 @@
 -- Statuses are told apart by their numbers.
-use Rattle.std.proofs.Common.{◌≡◌, ℕ, refl, ◌⊎◌, inl, inr}
+use Rattle.std.proofs.Common.{◌≡◌, refl, ◌⊎◌, inl, inr}
 use Rattle.manifold_tool.specs.Statuses.{status_number}
 use Rattle.manifold_tool.specs.declared.status.Status.{Status}
 use Rattle.manifold_tool.specs.declared.status.Status.TheVariants.{Done, Usage, BadScript, MissingFile, BadMesh, Limit, ReadFault, WriteFault, NoMemory}

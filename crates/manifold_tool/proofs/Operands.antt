@@ -1,11 +1,11 @@
 -- Operands of digits alone as grid numbers.
-use Rattle.std.proofs.Common.{◌≡◌, ℕ, of_z, to_z, w32, ◌^◌, ◌*◌, ◌<◌, ◌≤◌, ◌&&◌, nat_le, inl, inr, ℤ, pos, ◌≤ℤ◌, ◌<ℤ◌, List, [], ◌∷◌, ◌++◌, Bool, true, false, cond, IsTrue, length, get_or, codes, IfSome, Option, Some, None, ap, sym, ◌∙◌, refl, subst, arith, append-nil}
+use Rattle.std.proofs.Common.{◌≡◌, ℕ, of_z, to_z, w32, ◌^◌, ◌*◌, ◌<◌, ◌≤◌, ◌&&◌, nat_le, inl, inr, ℤ, pos, ◌≤ℤ◌, ◌<ℤ◌, List, [], ◌∷◌, Bool, true, false, cond, IsTrue, length, get_or, codes, IfSome, Option, Some, None, ap, sym, ◌∙◌, refl, subst, arith, append-nil}
 use Rattle.std.specs.List.{list_all}
 use Rattle.std.specs.Option.{option_map}
 use Rattle.std.proofs.lemmas.Bool.{cases_Bool, and_parts, le-leb, lt-leb, leb-true, leb-false}
 use Rattle.std.proofs.lemmas.Int.{ints, to_z-of_z, fits_signed_from_abs}
 use Rattle.std.specs.Int.Signed.{le_z}
-use Rattle.text_terms.specs.Numbers.{is_digit, all_digits, digits_value, is_digits, cut_at, is_e, signed, number_parts, value_of, grid_number, is_on_grid}
+use Rattle.text_terms.specs.Numbers.{is_digit, all_digits, digits_value, is_digits, cut_at, is_e, signed, value_of, grid_number, is_on_grid}
 use Rattle.grid_number.specs.Reading.{IsOffGrid, parts_after, parts_from, is_point}
 use Rattle.grid_number.proofs.Cuts.{signed-digits, cut_at-only_digits, digit_is_no_e, digit_is_no_point}
 use Rattle.grid_number.specs.declared.read.NumberFault.{NumberFault}

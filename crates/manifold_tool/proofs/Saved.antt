@@ -1,11 +1,10 @@
 -- Files of which one was written.
-use Rattle.std.proofs.Common.{◌≡◌, ℕ, List, [], ◌++◌, Option, Some, None, ap, sym, ◌∙◌, refl, inl, inr, ◌⊎◌, Bool, true, false, cond}
+use Rattle.std.proofs.Common.{◌≡◌, [], Some, None, ap, sym, ◌∙◌, refl, inl, inr, ◌⊎◌, true, false, cond}
 use Rattle.std.proofs.Math.Path.{fun_ext}
-use Rattle.std.specs.Bool.{Decides}
 use Rattle.std.specs.Str.{bytes_eq}
 use Rattle.std.proofs.lemmas.Bool.{cases_Bool}
 use Rattle.std.proofs.lemmas.Slice.Eq.{bytes_eq-Decides}
-use Rattle.run_terms.specs.Files.{Bytes, Files, put, OthersStay, IsPrefix, IsKeptOrEmpty}
+use Rattle.run_terms.specs.Files.{Bytes, Files, put, OthersStay, IsKeptOrEmpty}
 use Rattle.mesh_writer.specs.Pages.{without}
 use Rattle.manifold_tool.specs.Saves.{IsSavedInPart}
 

@@ -1,5 +1,5 @@
 -- Parts of a text, and what a mesh of a text is.
-use Rattle.std.proofs.Common.{◌≡◌, ℕ, ◌+◌, ◌≤◌, List, ◌++◌, length, take, drop, ap, sym, ◌∙◌, refl, arith, Option, Some, None, Result, Ok, Err, ℤ}
+use Rattle.std.proofs.Common.{◌≡◌, ℕ, ◌+◌, ◌≤◌, List, ◌++◌, length, take, drop, ap, sym, ◌∙◌, refl, arith, Option, Some, None, Result, Ok, ℤ}
 use Rattle.std.proofs.Math.Seq.{take-add}
 use Rattle.std.proofs.lemmas.Bool.{le-ltb}
 use Rattle.std.proofs.lemmas.Grind.{common_steps}
@@ -9,7 +9,6 @@ use Rattle.mesh_terms.specs.Limits.{Limits}
 use Rattle.mesh_terms.specs.Meshes.{Soup, Triple}
 use Rattle.mesh_check.proofs.OpenPair.{open_pair_closed}
 use Rattle.run_terms.specs.Files.{Bytes, text_of, length_of}
-use Rattle.run_terms.specs.Runs.{Refusal}
 use Rattle.play_terms.specs.Commands.{Reader, checked, if_closed, mesh_of}
 use Rattle.manifold_tool.specs.Pieces.{ReadsOn}
 

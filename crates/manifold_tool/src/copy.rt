@@ -1,5 +1,5 @@
 // The command copy.
-ghost use Rattle.std.specs.Prelude.{◌≡◌, ◌<◌, ◌^◌, ◌-◌, [], IsTrue, IsSome, OnOk, IfErr, Ok, Err};
+ghost use Rattle.std.specs.Prelude.{◌≡◌, ◌<◌, ◌^◌, ◌-◌, [], IsTrue, OnOk, IfErr, Ok, Err};
 ghost use Rattle.mesh_terms.specs.Meshes.{Soup};
 ghost use Rattle.obj_terms.specs.Reading.{narrow_obj};
 ghost use Rattle.play_terms.specs.Commands.{copy_play, mesh_of};
@@ -33,12 +33,12 @@ pub fn copy<S: Shelf, O: Sink>(
     requires reads { S.read_faults shelf.old < 2 ^ 64 - 1 }
     requires writes { S.write_faults shelf.old < 2 ^ 64 - 1 }
     requires outs { O.faults out.old < 2 ^ 64 - 1 }
-    ensures done { OnOk result (IsTrue (S.tells shelf.old) → IsSome (O.told out.old) →
+    ensures done { OnOk result (IsTrue (S.tells shelf.old) →
         RunMeets (copy_play narrow_obj 4 limits.now (S.files shelf.old) from.now to.now)
         (world (S.files shelf.old) (O.told out.old)) (world (S.files shelf.new) (O.told out.new)) 0
         (record { read = S.read_faults shelf.old; write = S.write_faults shelf.old; out = O.faults out.old })
         (record { read = S.read_faults shelf.new; write = S.write_faults shelf.new; out = O.faults out.new }) []) }
-    ensures halted { IfErr result (λ halt. IsTrue (S.tells shelf.old) → IsSome (O.told out.old) →
+    ensures halted { IfErr result (λ halt. IsTrue (S.tells shelf.old) →
         RunMeets (copy_play narrow_obj 4 limits.now (S.files shelf.old) from.now to.now)
         (world (S.files shelf.old) (O.told out.old)) (world (S.files shelf.new) (O.told out.new)) (halt_status halt)
         (record { read = S.read_faults shelf.old; write = S.write_faults shelf.old; out = O.faults out.old })
@@ -47,6 +47,9 @@ pub fn copy<S: Shelf, O: Sink>(
     ensures saved { result ≡ Err Halt.Saving → S.write_faults shelf.old < S.write_faults shelf.new }
     ensures reported { result ≡ Err Halt.Reporting → O.faults out.old < O.faults out.new }
     ensures reading { (stop : Stop) → result ≡ Err (Halt.Reading stop) → IsTrue (is_reading_stop stop) }
+    ensures reads_kept { (result ≡ Err (Halt.Reading Stop.ReadFault) → ⊥) → S.read_faults shelf.new ≡ S.read_faults shelf.old }
+    ensures writes_kept { (result ≡ Err Halt.Saving → ⊥) → S.write_faults shelf.new ≡ S.write_faults shelf.old }
+    ensures outs_kept { (result ≡ Err Halt.Reporting → ⊥) → O.faults out.new ≡ O.faults out.old }
     ensures back { OnOk result (IsTrue (S.tells shelf.old) → (soup : Soup) →
         mesh_of narrow_obj limits.now from.now (S.files shelf.old from.now) ≡ Ok soup →
         mesh_of narrow_obj limits.now to.now (S.files shelf.new to.now) ≡ Ok soup) }

@@ -1,5 +1,5 @@
 // The command inside.
-ghost use Rattle.std.specs.Prelude.{◌≡◌, ◌<◌, ◌^◌, ◌-◌, ◌+◌, ◌≤◌, [], IsTrue, IsSome, OnOk, IfErr, Err};
+ghost use Rattle.std.specs.Prelude.{◌≡◌, ◌<◌, ◌^◌, ◌-◌, ◌+◌, ◌≤◌, [], IsTrue, OnOk, IfErr, Err};
 ghost use Rattle.obj_terms.specs.Reading.{narrow_obj};
 ghost use Rattle.play_terms.specs.Commands.{inside_play};
 ghost use Rattle.play_terms.specs.Meets.{RunMeets};
@@ -24,7 +24,7 @@ use winding::winding_at;
 const DIGITS: u8 = 4;
 
 /// Reads a mesh from a file and reports the winding number of a point in it. It stops at the first thing that goes wrong. It counts one
-/// step where it ends well, and at most one.
+/// step where it ends well, at most one, and none where it stops before the number is found.
 pub fn inside<S: Shelf, O: Sink, L: Ledger>(
     alloc: Global,
     file: &str,
@@ -36,22 +36,26 @@ pub fn inside<S: Shelf, O: Sink, L: Ledger>(
 ) -> Result<(), Halt>
     requires reads { S.read_faults shelf.old < 2 ^ 64 - 1 }
     requires outs { O.faults out.old < 2 ^ 64 - 1 }
-    ensures done { OnOk result (IsTrue (S.tells shelf.old) → IsSome (O.told out.old) →
+    ensures done { OnOk result (IsTrue (S.tells shelf.old) →
         RunMeets (inside_play narrow_obj winding_in limits.now (S.files shelf.old) file.now point)
         (world (S.files shelf.old) (O.told out.old)) (world (S.files shelf.new) (O.told out.new)) 0
         (record { read = S.read_faults shelf.old; write = S.write_faults shelf.old; out = O.faults out.old })
         (record { read = S.read_faults shelf.new; write = S.write_faults shelf.new; out = O.faults out.new }) []) }
-    ensures halted { IfErr result (λ halt. IsTrue (S.tells shelf.old) → IsSome (O.told out.old) →
+    ensures halted { IfErr result (λ halt. IsTrue (S.tells shelf.old) →
         RunMeets (inside_play narrow_obj winding_in limits.now (S.files shelf.old) file.now point)
         (world (S.files shelf.old) (O.told out.old)) (world (S.files shelf.new) (O.told out.new)) (halt_status halt)
         (record { read = S.read_faults shelf.old; write = S.write_faults shelf.old; out = O.faults out.old })
         (record { read = S.read_faults shelf.new; write = S.write_faults shelf.new; out = O.faults out.new }) (halt_line file.now file.now halt)) }
     ensures read { result ≡ Err (Halt.Reading Stop.ReadFault) → IsTrue (S.tells shelf.old) → S.read_faults shelf.old < S.read_faults shelf.new }
-    ensures saved { result ≡ Err Halt.Saving → S.write_faults shelf.old < S.write_faults shelf.new }
     ensures reported { result ≡ Err Halt.Reporting → O.faults out.old < O.faults out.new }
     ensures reading { (stop : Stop) → result ≡ Err (Halt.Reading stop) → IsTrue (is_reading_stop stop) }
+    ensures unsaved { result ≡ Err Halt.Saving → ⊥ }
+    ensures reads_kept { (result ≡ Err (Halt.Reading Stop.ReadFault) → ⊥) → S.read_faults shelf.new ≡ S.read_faults shelf.old }
+    ensures writes_kept { S.write_faults shelf.new ≡ S.write_faults shelf.old }
+    ensures outs_kept { (result ≡ Err Halt.Reporting → ⊥) → O.faults out.new ≡ O.faults out.old }
     ensures cost { OnOk result (steps.new ≡ steps.old + 1) }
     ensures most { steps.new ≤ steps.old + 1 }
+    ensures unread { (stop : Stop) → result ≡ Err (Halt.Reading stop) → steps.new ≡ steps.old }
 {
     let read = match read_mesh(alloc, file, DIGITS, limits, shelf) {
         Ok(read) => read,

@@ -4,7 +4,8 @@
 //! `run` is the top call, and its contract is the program's promise; `main` only hands it the outside.
 #![tactic(auto)]
 
-ghost use Rattle.std.specs.Prelude.{◌≡◌, ◌<◌, ◌^◌, ◌-◌};
+ghost use Rattle.std.specs.Prelude.{◌≡◌, ◌<◌, ◌^◌, ◌-◌, ◌⊎◌, IfErr};
+ghost use Rattle.std.specs.IoError.{error_kind};
 
 mod copy;
 mod halt;
@@ -33,7 +34,9 @@ use std::sync::ledger::{Blank, Ledger};
 use steps::Steps;
 
 // The words after the program's name, or the status of a run that has none: Usage where a word is not UTF-8.
-fn words_of<R: Env + AllocGlobal>(rt: &R, alloc: Global) -> Result<ArgList, Status> {
+fn words_of<R: Env + AllocGlobal>(rt: &R, alloc: Global) -> Result<ArgList, Status>
+    ensures { IfErr result (λ status. (status ≡ Status.Usage) ⊎ (status ≡ Status.NoMemory)) }
+{
     let mut words = ArgList::start(alloc);
     let mut first = true;
     for word in std::env::args(rt).map_err(status_of)? {
@@ -45,8 +48,11 @@ fn words_of<R: Env + AllocGlobal>(rt: &R, alloc: Global) -> Result<ArgList, Stat
     Ok(words)
 }
 
-// The status of a run whose words can't be had.
-fn status_of(error: io::Error) -> Status {
+// The status of a run whose words can't be had: Usage where a word is not UTF-8.
+fn status_of(error: io::Error) -> Status
+    ensures usage { error_kind error ≡ ErrorKind.InvalidData → result ≡ Status.Usage }
+    ensures memory { (error_kind error ≡ ErrorKind.InvalidData → ⊥) → result ≡ Status.NoMemory }
+{
     if error.kind() == ErrorKind::InvalidData {
         Status::Usage
     } else {

@@ -118,7 +118,7 @@ fn mesh_of_text(alloc: Global, bytes: &[u8], digits: u8, limits: &Limits) -> Res
 /// without its reverse. Where the shelf tells its files, `ReadFault` comes only where its count of read faults rose;
 /// where it tells none, also where the file ended before the size that was told. No file changes.
 ///
-/// It takes memory for the file's bytes and the mesh, and time `n log n`.
+/// It takes memory for the file's bytes and the mesh.
 pub fn read_mesh<S: Shelf>(
     alloc: Global,
     name: &str,

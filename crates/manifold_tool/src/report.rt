@@ -3,7 +3,7 @@ ghost use Rattle.std.specs.Prelude.{◌≡◌, ◌<◌, ◌^◌, ◌-◌, ◌++�
 ghost use Rattle.std.specs.Option.{option_map};
 ghost use Rattle.run_terms.specs.Files.{Counts};
 ghost use Rattle.mb_outside.specs.Sinks.{AddsPart};
-ghost use Rattle.play_terms.specs.Lines.{copied_line, usage, winding_line};
+ghost use Rattle.play_terms.specs.Lines.{copied_line, no_memory, usage, winding_line};
 ghost use Rattle.manifold_tool.specs.Halts.{halt_line};
 ghost use Rattle.manifold_tool.specs.Reports.{IsReported};
 ghost use Rattle.manifold_tool.specs.Stops.{stop_line};
@@ -93,6 +93,8 @@ pub fn tell_halt<K: Sink>(from: &str, to: &str, halt: &Halt, sink: &mut K)
 /// Writes the line that tells why a run could not start: the usage line, or that memory ran out.
 pub fn tell_start<K: Sink>(status: Status, sink: &mut K)
     requires { K.faults sink.old < 2 ^ 64 - 1 }
+    ensures usage { status ≡ Status.Usage → IsReported usage.line (K.told sink.old) (K.told sink.new) (K.faults sink.old) (K.faults sink.new) }
+    ensures memory { (status ≡ Status.Usage → ⊥) → IsReported no_memory (K.told sink.old) (K.told sink.new) (K.faults sink.old) (K.faults sink.new) }
 {
     match status {
         Status::Usage => tell_usage(sink),

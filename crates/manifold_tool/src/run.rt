@@ -1,5 +1,5 @@
 // The top call.
-ghost use Rattle.std.specs.Prelude.{◌≡◌, ◌≤◌, ◌<◌, ◌+◌, ℤ, List, ◌^◌, ◌-◌, ◌↔◌, ◌⊎◌, IsTrue, IsSome, Some, None, Ok};
+ghost use Rattle.std.specs.Prelude.{◌≡◌, ◌≤◌, ◌<◌, ◌+◌, ℤ, List, ◌^◌, ◌-◌, ◌↔◌, ◌⊎◌, IsTrue, Some, None, Ok};
 ghost use Rattle.mesh_terms.specs.Meshes.{Soup};
 ghost use Rattle.obj_terms.specs.Reading.{narrow_obj};
 ghost use Rattle.play_terms.specs.Commands.{mesh_of, narrow_play};
@@ -43,14 +43,17 @@ fn concluded<E: Sink>(from: &str, to: &str, ended: Result<(), Halt>, err: &mut E
 ///
 /// The words are `copy IN OUT` or `inside FILE X Y Z`; any other are `Usage`, and nothing is done. `copy` reads and checks the mesh of IN,
 /// saves it to OUT and reports that on `out` in one line. `inside` reads and checks the mesh of FILE and reports the winding number of the point in
-/// it, and counts one step. Whatever goes wrong first ends the run with its status and one line on `err`, and a fault of
-/// `err` changes no status.
+/// it, and counts one step; a run that ends before the number is found counts none. Whatever goes wrong first ends the run with its status and
+/// one line on `err`, and a fault of `err` changes no status.
 ///
-/// Where the shelf tells its files and `out` its bytes, the run meets its play, which is a function of the words, the files and the
-/// limits: with status 0 to 5 every action of the play was done whole, no count of faults rose, and the status and the line
-/// are those of the play's end; with 6 a file could not be read, with 7 a file or a line was written in part or not at all, and with 8
-/// memory ran out between two actions. So a run whose play ends well, and in which no fault came, ends with 0, or for want of memory; and
-/// what a copy saved is read as the mesh that was copied.
+/// Where the shelf tells its files, the run meets its play, which is a function of the words, the files and the limits; of `out`
+/// it says the bytes where `out` tells them. With status 0 to 5 every action of the play was done whole, and the status and the
+/// line are those of the play's end; with 6 a file could not be read, with 7 a file or a line was written in part or not at
+/// all, and with 8 memory ran out between two actions. So a run whose play ends well, and in which no fault came, ends with 0, or for want
+/// of memory; and what a copy saved is read as the mesh that was copied.
+///
+/// The read faults of the shelf rise with status 6 alone, its write faults and the faults of `out` with 7 alone, and one of the two does. With
+/// 6 the read faults rose, or the shelf tells no files.
 pub fn run<S: Shelf, O: Sink, E: Sink, L: Ledger>(
     alloc: Global,
     words: &ArgList,
@@ -65,15 +68,20 @@ pub fn run<S: Shelf, O: Sink, E: Sink, L: Ledger>(
     requires outs { O.faults out.old < 2 ^ 64 - 1 }
     requires errs { E.faults err.old < 2 ^ 64 - 1 }
     ensures usage { (result ≡ Status.Usage) ↔ (narrow_command words.now ≡ None) }
-    ensures play { IsTrue (S.tells shelf.old) → IsSome (O.told out.old) →
+    ensures play { IsTrue (S.tells shelf.old) →
         (line : Bytes) × RunMeets (narrow_play winding_in words.now (S.files shelf.old) limits.now)
         (world (S.files shelf.old) (O.told out.old)) (world (S.files shelf.new) (O.told out.new)) (status_number result)
         (record { read = S.read_faults shelf.old; write = S.write_faults shelf.old; out = O.faults out.old })
         (record { read = S.read_faults shelf.new; write = S.write_faults shelf.new; out = O.faults out.new }) line
         × IsReported line (E.told err.old) (E.told err.new) (E.faults err.old) (E.faults err.new) }
     ensures read_fault { result ≡ Status.ReadFault → IsTrue (S.tells shelf.old) → S.read_faults shelf.old < S.read_faults shelf.new }
-    ensures write_fault { result ≡ Status.WriteFault → (S.write_faults shelf.old < S.write_faults shelf.new) ⊎ (O.faults out.old < O.faults out.new) }
-    ensures complete { (narrow_play winding_in words.now (S.files shelf.old) limits.now).end ≡ Done → IsTrue (S.tells shelf.old) → IsSome (O.told out.old) →
+    ensures write_fault { result ≡ Status.WriteFault →
+        ((S.write_faults shelf.old < S.write_faults shelf.new) × (O.faults out.new ≡ O.faults out.old))
+        ⊎ ((O.faults out.old < O.faults out.new) × (S.write_faults shelf.new ≡ S.write_faults shelf.old)) }
+    ensures reads_kept { (result ≡ Status.ReadFault → ⊥) → S.read_faults shelf.new ≡ S.read_faults shelf.old }
+    ensures writes_kept { (result ≡ Status.WriteFault → ⊥) → S.write_faults shelf.new ≡ S.write_faults shelf.old }
+    ensures outs_kept { (result ≡ Status.WriteFault → ⊥) → O.faults out.new ≡ O.faults out.old }
+    ensures complete { (narrow_play winding_in words.now (S.files shelf.old) limits.now).end ≡ Done → IsTrue (S.tells shelf.old) →
         S.read_faults shelf.new ≡ S.read_faults shelf.old → S.write_faults shelf.new ≡ S.write_faults shelf.old → O.faults out.new ≡ O.faults out.old →
         (result ≡ Status.Done) ⊎ (result ≡ Status.NoMemory) }
     ensures back { result ≡ Status.Done → IsTrue (S.tells shelf.old) → (from to : Bytes) (soup : Soup) →
@@ -82,6 +90,7 @@ pub fn run<S: Shelf, O: Sink, E: Sink, L: Ledger>(
     ensures copies_uncounted { (from to : Bytes) → narrow_command words.now ≡ Some (CopyFile 4 from to) → steps.new ≡ steps.old }
     ensures counted { (file : Bytes) (point : List ℤ) → narrow_command words.now ≡ Some (InsideFile 4 file point) → result ≡ Status.Done → steps.new ≡ steps.old + 1 }
     ensures most { steps.new ≤ steps.old + 1 }
+    ensures uncounted { (result ≡ Status.Done → ⊥) → (result ≡ Status.WriteFault → ⊥) → steps.new ≡ steps.old }
 {
     if is_copy(words) {
         let (from, to) = (words.get(1), words.get(2));

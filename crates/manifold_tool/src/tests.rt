@@ -170,13 +170,27 @@ fn what_is_copied_is_saved_and_reported(rt: HostRuntime) -> Result<(), Fail> {
         b"copied u.obj: points 4, triangles 4, unused 0\n",
     );
     judge(&rt, &case)?;
+    Ok(())
+}
+
+#[test]
+fn an_empty_file_is_copied_by_two_calls(rt: HostRuntime) -> Result<(), Fail> {
     let words = ["copy", "e.obj", "u.obj"];
-    let case = copied(
-        &words,
-        "e.obj",
-        b"",
-        b"copied u.obj: points 0, triangles 0, unused 0\n",
-    );
+    // The size is asked and the copy is begun: a third call would fail.
+    let case = Case {
+        words: &words,
+        name: "e.obj",
+        bytes: b"",
+        most: ROOM,
+        shelf_fails: 3,
+        out_fails: 0,
+        limits: Limits::program(),
+        status: 0,
+        out: b"copied u.obj: points 0, triangles 0, unused 0\n",
+        err: b"",
+        is_saved: true,
+        saved: b"",
+    };
     judge(&rt, &case)?;
     Ok(())
 }
@@ -194,19 +208,33 @@ fn a_faulty_mesh_has_its_line(rt: HostRuntime) -> Result<(), Fail> {
         b"c.obj:2: 1 UnknownLine\n",
     );
     judge(&rt, &bad)?;
-    let missing = plain(&words, "t.obj", TETRAHEDRON, 3, b"c.obj: missing\n");
-    judge(&rt, &missing)?;
     Ok(())
 }
 
 #[test]
+fn a_missing_file_is_named(rt: HostRuntime) -> Result<(), Fail> {
+    let words = ["copy", "none.obj", "u.obj"];
+    let case = plain(&words, "t.obj", TETRAHEDRON, 3, b"none.obj: missing\n");
+    judge(&rt, &case)?;
+    Ok(())
+}
+
+// Words that are no command line.
+fn judge_usage<R: Abort + AllocGlobal>(rt: &R, words: &[&str]) -> Result<(), NoMemory> {
+    let case = plain(words, "c.obj", CUBE, 1, USAGE);
+    judge(rt, &case)
+}
+
+#[test]
 fn other_words_are_usage(rt: HostRuntime) -> Result<(), Fail> {
-    let few = ["copy", "t.obj"];
-    let case = plain(&few, "t.obj", TETRAHEDRON, 1, USAGE);
-    judge(&rt, &case)?;
-    let other = ["copy", "t.obj", "u.ply"];
-    let case = plain(&other, "t.obj", TETRAHEDRON, 1, USAGE);
-    judge(&rt, &case)?;
+    judge_usage(&rt, &[])?;
+    judge_usage(&rt, &["copy", "c.obj"])?;
+    judge_usage(&rt, &["copy", "c.obj", "u.ply"])?;
+    judge_usage(&rt, &["copy", "c.obj", "u.obj", "v.obj"])?;
+    judge_usage(&rt, &["inside", "c.obj", "-5", "4", "3"])?;
+    judge_usage(&rt, &["inside", "c.obj", "5", "107375", "3"])?;
+    judge_usage(&rt, &["inside", "c.obj", "5", "4"])?;
+    judge_usage(&rt, &["inside", "5", "4", "3"])?;
     Ok(())
 }
 

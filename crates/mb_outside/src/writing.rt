@@ -1,5 +1,5 @@
 // Writing the whole of a text to a sink.
-ghost use Rattle.std.specs.Prelude.{◌≡◌, ◌≤◌, ◌++◌, ◌-◌, ℕ, Some, length, IsOk, OnOk, OnErr};
+ghost use Rattle.std.specs.Prelude.{◌≡◌, ◌≤◌, ◌++◌, ◌-◌, ℕ, Some, [], length, IsOk, OnOk, OnErr};
 ghost use Rattle.std.specs.Option.{option_map};
 ghost use Rattle.run_terms.specs.Files.{Counts};
 ghost use Rattle.mb_outside.specs.Sinks.{AddsPart};
@@ -10,11 +10,12 @@ use crate::sink::Sink;
 /// Writes a text to a sink, piece after piece, until all of it is taken.
 ///
 /// After `Failed`, which comes only where the sink's count rose, a first part of the text was taken. A text that fits the
-/// room that the sink tells is taken whole. An empty text makes no call.
+/// room that the sink tells is taken whole. An empty text makes no call, and the sink is as it was.
 pub fn write_all<K: Sink>(sink: &mut K, text: &[u8]) -> Result<(), Failed>
     ensures added { OnOk result (K.told sink.new ≡ option_map (λ held. held ++ text.now) (K.told sink.old)) }
     ensures part { OnErr result (AddsPart text.now (K.told sink.old) (K.told sink.new)) }
     ensures count { Counts (K.faults sink.old) (K.faults sink.new) result }
+    ensures idle { text.now ≡ [] → sink.new ≡ sink.old }
     ensures other { K.other sink.new ≡ K.other sink.old }
     ensures rest { K.rest sink.new ≡ K.rest sink.old }
     ensures loan { K.loan sink.new ≡ K.loan sink.old }

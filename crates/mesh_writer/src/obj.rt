@@ -1,5 +1,5 @@
 // The OBJ text of a mesh.
-ghost use Rattle.std.specs.Prelude.{◌≡◌, ◌≤◌, ◌++◌, ℕ, Some, length, IsOk, OnOk, OnErr};
+ghost use Rattle.std.specs.Prelude.{◌≡◌, ◌≤◌, ◌++◌, ℕ, Some, [], length, IsOk, OnOk, OnErr};
 ghost use Rattle.std.specs.Option.{option_map};
 ghost use Rattle.std.specs.List.{flat_map};
 ghost use Rattle.arrayvec.specs.ArrayVec.{array_vec_len};
@@ -27,6 +27,7 @@ fn write_points<K: Sink>(
     ensures passed { OnOk result (Passed (flat_map (point_line digits) points.now) page.old.items page.new.items (K.told sink.old) (K.told sink.new) (K.room sink.old) (K.room sink.new)) }
     ensures stopped { OnErr result (Stopped (flat_map (point_line digits) points.now) page.old.items (K.told sink.old) (K.told sink.new) (K.room sink.old)) }
     ensures free { OnOk result (array_vec_len page.new ≤ 3968) }
+    ensures idle { points.now ≡ [] → (sink.new ≡ sink.old) × (page.new.items ≡ page.old.items) }
     ensures count { Counts (K.faults sink.old) (K.faults sink.new) result }
     ensures other { K.other sink.new ≡ K.other sink.old }
     ensures rest { K.rest sink.new ≡ K.rest sink.old }
@@ -44,6 +45,7 @@ fn write_faces<K: Sink>(triples: &[[u32; 3]], page: &mut Page, sink: &mut K) -> 
     requires { array_vec_len page.old ≤ 3968 }
     ensures passed { OnOk result (Passed (flat_map (λ t. face_line (triple_of t)) triples.now) page.old.items page.new.items (K.told sink.old) (K.told sink.new) (K.room sink.old) (K.room sink.new)) }
     ensures stopped { OnErr result (Stopped (flat_map (λ t. face_line (triple_of t)) triples.now) page.old.items (K.told sink.old) (K.told sink.new) (K.room sink.old)) }
+    ensures idle { triples.now ≡ [] → (sink.new ≡ sink.old) × (page.new.items ≡ page.old.items) }
     ensures count { Counts (K.faults sink.old) (K.faults sink.new) result }
     ensures other { K.other sink.new ≡ K.other sink.old }
     ensures rest { K.rest sink.new ≡ K.rest sink.old }
@@ -61,11 +63,12 @@ fn write_faces<K: Sink>(triples: &[[u32; 3]], page: &mut Page, sink: &mut K) -> 
 ///
 /// After `Failed`, which comes only where the sink's count of faults rose, a first part of the text was written. A text that fits
 /// the room that the sink tells is written whole. It takes no memory; a page of 4,096 bytes goes to the sink
-/// where fewer than 128 bytes are free on it, and at the end. The time is linear in the text.
+/// where fewer than 128 bytes are free on it, and at the end where it is not empty. So of an empty mesh nothing is written.
 pub fn write_obj<K: Sink>(mesh: &Mesh, digits: u8, sink: &mut K) -> Result<(), Failed>
     requires { digits ≤ 6 }
     ensures added { OnOk result (K.told sink.new ≡ option_map (λ held. held ++ obj_text digits mesh.now.points mesh.now.triples) (K.told sink.old)) }
     ensures part { OnErr result (AddsPart (obj_text digits mesh.now.points mesh.now.triples) (K.told sink.old) (K.told sink.new)) }
+    ensures idle { obj_text digits mesh.now.points mesh.now.triples ≡ [] → sink.new ≡ sink.old }
     ensures count { Counts (K.faults sink.old) (K.faults sink.new) result }
     ensures other { K.other sink.new ≡ K.other sink.old }
     ensures rest { K.rest sink.new ≡ K.rest sink.old }

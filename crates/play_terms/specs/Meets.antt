@@ -10,4 +10,4 @@ RunMeets p w v status before now line =
     (Finished p w v status before now × (line ≡ end_line p.end))
     ⊎ (((s : ReadStop p w v before now) × (status ≡ 6) × (line ≡ read_fault s.name))
     ⊎ (((s : WriteStop p w v before now) × (status ≡ 7) × (line ≡ write_fault s.name))
-    ⊎ ((SayStop p w v before now × (status ≡ 7) × (line ≡ report_fault)) ⊎ (MemoryStop p w v × (status ≡ 8) × (line ≡ no_memory)))))
+    ⊎ ((SayStop p w v before now × (status ≡ 7) × (line ≡ report_fault)) ⊎ (MemoryStop p w v before now × (status ≡ 8) × (line ≡ no_memory)))))

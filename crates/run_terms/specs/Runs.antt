@@ -1,5 +1,6 @@
 -- A run as a list of actions with an end, and what stands after a run that did them or stopped.
-use Rattle.std.specs.Prelude.{◌≡◌, ◌<◌, ℕ, List, [], ◌∷◌, ◌++◌, ◌⊎◌}
+use Rattle.std.specs.Prelude.{◌≡◌, ◌<◌, ℕ, List, [], ◌∷◌, ◌++◌, ◌⊎◌, Option}
+use Rattle.std.specs.Option.{option_map}
 use Rattle.run_terms.specs.Files.{Bytes, Files, put, IsPrefix}
 
 -- asking for a file, writing a whole file, saying a line
@@ -8,16 +9,16 @@ pub data Action : Type 0 where
   Write : (name bytes : Bytes) → Action
   Say : (line : Bytes) → Action
 
--- the files, and the bytes that the output holds
+-- the files, and the bytes that the output holds where it tells them
 pub record World : Type 0 where
   pub files : Files
-  pub out : Bytes
+  pub out : Option Bytes
 
 -- what an action does
 abbrev pub done : Action → World → World
 done (Ask name) w = w
 done (Write name bytes) w = record { files = put name bytes w.files; out = w.out }
-done (Say line) w = record { files = w.files; out = w.out ++ line }
+done (Say line) w = record { files = w.files; out = option_map (λ held. held ++ line) w.out }
 
 abbrev pub done_all : List Action → World → World
 done_all [] w = w
@@ -27,7 +28,7 @@ done_all (a ∷ xs) w = done_all xs (done a w)
 abbrev pub Partial : Action → World → World → Type 0
 Partial (Ask name) w v = v ≡ w
 Partial (Write name bytes) w v = (v ≡ w) ⊎ ((part : Bytes) × IsPrefix part bytes × (v ≡ record { files = put name part w.files; out = w.out }))
-Partial (Say line) w v = (part : Bytes) × IsPrefix part line × (v ≡ record { files = w.files; out = w.out ++ part })
+Partial (Say line) w v = (part : Bytes) × IsPrefix part line × (v ≡ record { files = w.files; out = option_map (λ held. held ++ part) w.out })
 
 -- a status from 1 to 5 with its line
 pub record Refusal : Type 0 where
@@ -72,7 +73,7 @@ pub record Finished (p : Play) (w v : World) (status : ℕ) (before now : Faults
   pub same_status : status ≡ status_of p.end
   pub no_fault : now ≡ before
 
--- the next action is a file that was asked for and not read, and nothing else changed
+-- the next action is a file that was asked for and not read, and nothing else changed, nor did another count rise
 pub record ReadStop (p : Play) (w v : World) (before now : Faults) : Type 0 where
   pub first : FirstDone p.actions w
   pub name : Bytes
@@ -80,8 +81,10 @@ pub record ReadStop (p : Play) (w v : World) (before now : Faults) : Type 0 wher
   pub next : first.rest ≡ Ask name ∷ later
   pub same : v ≡ first.mid
   pub rose : before.read < now.read
+  pub write : now.write ≡ before.write
+  pub out : now.out ≡ before.out
 
--- the next action is a file of which a prefix stands, or what it held
+-- the next action is a file of which a prefix stands, or what it held; no other count rose
 pub record WriteStop (p : Play) (w v : World) (before now : Faults) : Type 0 where
   pub first : FirstDone p.actions w
   pub name : Bytes
@@ -90,8 +93,10 @@ pub record WriteStop (p : Play) (w v : World) (before now : Faults) : Type 0 whe
   pub next : first.rest ≡ Write name bytes ∷ later
   pub part : Partial (Write name bytes) first.mid v
   pub rose : before.write < now.write
+  pub read : now.read ≡ before.read
+  pub out : now.out ≡ before.out
 
--- the next action is a line of which a prefix stands
+-- the next action is a line of which a prefix stands; no other count rose
 pub record SayStop (p : Play) (w v : World) (before now : Faults) : Type 0 where
   pub first : FirstDone p.actions w
   pub line : Bytes
@@ -99,8 +104,11 @@ pub record SayStop (p : Play) (w v : World) (before now : Faults) : Type 0 where
   pub next : first.rest ≡ Say line ∷ later
   pub part : Partial (Say line) first.mid v
   pub rose : before.out < now.out
+  pub read : now.read ≡ before.read
+  pub write : now.write ≡ before.write
 
--- memory ran out between two actions, and nothing else changed
-pub record MemoryStop (p : Play) (w v : World) : Type 0 where
+-- memory ran out between two actions, nothing else changed, and no count rose
+pub record MemoryStop (p : Play) (w v : World) (before now : Faults) : Type 0 where
   pub first : FirstDone p.actions w
   pub same : v ≡ first.mid
+  pub no_fault : now ≡ before

@@ -1,4 +1,4 @@
-use Rattle.std.proofs.Common.{◌≡◌, IsTrue, Bool, List, ℕ, Result, Some, Ok, subst, sym, ap, ◌∙◌}
+use Rattle.std.proofs.Common.{IsTrue, Bool, Result, subst, sym, ap, ◌∙◌}
 use Rattle.std.proofs.lemmas.Result.{IfErr-at_err}
 use Rattle.mesh_terms.specs.Meshes.{Soup}
 use Rattle.obj_terms.specs.Reading.{narrow_obj}

@@ -1,4 +1,4 @@
-use Rattle.std.proofs.Common.{rules, ◌≡◌, ◌∙◌, sym, ap, subst, IsTrue, Bool, List, ℕ, arith}
+use Rattle.std.proofs.Common.{rules, ◌∙◌, sym, subst, IsTrue, Bool, arith}
 use Rattle.run_terms.specs.Files.{text_of, Files}
 use Rattle.manifold_tool.specs.Pieces.{ReadsOn}
 use Rattle.manifold_tool.proofs.Texts.{reads_on, all_of}

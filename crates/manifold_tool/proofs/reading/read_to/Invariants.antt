@@ -1,4 +1,4 @@
-use Rattle.std.proofs.Common.{length, ◌-◌, ◌≡◌, ◌≤◌, take, IsTrue, vec_len}
+use Rattle.std.proofs.Common.{◌-◌, ◌≡◌, ◌≤◌, take, IsTrue, vec_len}
 use Rattle.run_terms.specs.Files.{text_of}
 use Rattle.manifold_tool.proofs.reading.read_to.Given as goal
 

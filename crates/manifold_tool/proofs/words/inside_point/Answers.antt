@@ -1,4 +1,4 @@
-use Rattle.std.proofs.Common.{rules, ◌≡◌, ◌∙◌, Some, true, codes, get_or, length, []}
+use Rattle.std.proofs.Common.{rules, ◌≡◌, Some, true, codes, get_or, length, []}
 use Rattle.std.specs.Str.{bytes_eq}
 use Rattle.play_terms.specs.Words.{narrow_name, narrow_operand}
 use Rattle.manifold_tool.proofs.Operands.{asks_inside, if_some, operand_read}

@@ -8,6 +8,7 @@ loop-done-preserved g c =
     let e = c.in_ok-done.ensures in
     record {
       within = omega (arith, e.within, c.split_at.ensures.back_len, inv.within);
+      idle = λ none. absurd (omega (arith, none, c.loop-done-test.true));
       told = told_on _ _ _ c.args.text.now _ c.loop-done.done c.in_ok-done.field-0 c.split_at.ensures.back inv.told e.added;
       count = e.count.ok (search rules) ∙ inv.count;
       other = e.other ∙ inv.other;

@@ -5,6 +5,7 @@ use Rattle.mb_outside.proofs.writing.write_all.Given as goal
 abbrev pub invariant-loop-done : goal.invariant-loop-done
 invariant-loop-done g l = record {
   within : l.done ≤ length l.text;
+  idle : length l.text ≡ 0 → l.sink ≡ l.initial.sink;
   told : g.K.Sink.told l.sink ≡ option_map (λ held. held ++ take l.done l.text) (g.K.Sink.told l.initial.sink);
   count : g.K.Sink.faults l.sink ≡ g.K.Sink.faults l.initial.sink;
   other : g.K.Sink.other l.sink ≡ g.K.Sink.other l.initial.sink;

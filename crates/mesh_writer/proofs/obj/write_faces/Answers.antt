@@ -1,4 +1,4 @@
-use Rattle.std.proofs.Common.{get_or, refl, ◌∙◌, rules, []}
+use Rattle.std.proofs.Common.{get_or, refl, ◌∙◌, arith, rules, []}
 use Rattle.std.proofs.lemmas.Result.{err_from_is_err_and}
 use Rattle.mesh_terms.specs.Meshes.{triple_of}
 use Rattle.obj_terms.specs.Written.{face_line}
@@ -8,6 +8,7 @@ use Rattle.mesh_writer.proofs.obj.write_faces.Goals as goal
 pub loop-triple-init : goal.loop-triple-init
 loop-triple-init g c = record {
   free = search rules;
+  idle = λ none. (refl, refl);
   passed = passed-none c.args.page.now.items (g.K.Sink.told c.args.sink.now) (g.K.Sink.room c.args.sink.now);
   count = search rules;
   other = search rules;
@@ -21,6 +22,7 @@ loop-triple-preserved g c =
     let e = c.in_ok-send_full.ensures in
     record {
       free = e.free;
+      idle = λ none. absurd (omega (arith, none, c.loop-triple-test.true));
       passed = line_passed (λ t. face_line (triple_of t)) c.args.triples.now c.loop-triple.triple-index [] (get_or c.args.triples.now c.loop-triple.triple-index []) refl c.loop-triple-test.true _ _ _ _ _ _ _ _ _ _ inv.passed c.put_face.ensures e.passed;
       count = e.count.ok (search rules) ∙ inv.count;
       other = e.other ∙ inv.other;

@@ -1,4 +1,4 @@
-use Rattle.std.proofs.Common.{◌≡◌, ◌≤◌, take}
+use Rattle.std.proofs.Common.{◌≡◌, ◌≤◌, length, take}
 use Rattle.std.specs.List.{flat_map}
 use Rattle.arrayvec.specs.ArrayVec.{array_vec_len}
 use Rattle.mesh_terms.specs.Meshes.{triple_of}
@@ -9,6 +9,7 @@ use Rattle.mesh_writer.proofs.obj.write_faces.Given as goal
 abbrev pub invariant-loop-triple : goal.invariant-loop-triple
 invariant-loop-triple g l = record {
   free : array_vec_len l.page ≤ 3968;
+  idle : length l.triples ≡ 0 → (l.sink ≡ l.initial.sink) × (l.page.items ≡ l.initial.page.items);
   passed : Passed (flat_map (λ t. face_line (triple_of t)) (take l.triple-index l.triples)) l.initial.page.items l.page.items (g.K.Sink.told l.initial.sink) (g.K.Sink.told l.sink) (g.K.Sink.room l.initial.sink) (g.K.Sink.room l.sink);
   count : g.K.Sink.faults l.sink ≡ g.K.Sink.faults l.initial.sink;
   other : g.K.Sink.other l.sink ≡ g.K.Sink.other l.initial.sink;

@@ -1,4 +1,4 @@
-use Rattle.std.proofs.Common.{◌≡◌, ◌≤◌, ◌++◌, ◌-◌, arith, ℕ, List, ℤ, [], length, ap, sym, ◌∙◌, subst}
+use Rattle.std.proofs.Common.{◌≡◌, ◌≤◌, ◌++◌, ◌-◌, arith, ℕ, List, ℤ, [], ◌∷◌, length, ap, sym, ◌∙◌, refl, subst}
 use Rattle.std.specs.List.{flat_map}
 use Rattle.std.specs.Option.{option_map}
 use Rattle.std.proofs.lemmas.List.Folds.{flat_map-map}
@@ -16,6 +16,17 @@ text_of_lists k points ps triples ts same_points same_triples =
     ap (λ x. flat_map (point_line k) points ++ x) (sym (flat_map-map face_line triple_of triples))
     ∙ ap (λ x. flat_map (point_line k) x ++ flat_map face_line (triples_of triples)) same_points
     ∙ ap (λ x. flat_map (point_line k) ps ++ flat_map face_line x) same_triples
+
+-- a text without bytes has no lines of points
+no_points : (k : ℕ) (points : List (List ℤ)) (rest : List ℕ) → flat_map (point_line k) points ++ rest ≡ [] → points ≡ []
+no_points k [] rest none = refl
+no_points k (p ∷ ps) rest none = cc
+
+-- a text without bytes has no lines
+no_lines : (k : ℕ) (points : List (List ℤ)) (triples : List (List ℕ)) → flat_map (point_line k) points ++ flat_map (λ t. face_line (triple_of t)) triples ≡ [] → (points ≡ []) × (triples ≡ [])
+no_lines k [] [] none = (refl, refl)
+no_lines k [] (t ∷ ts) none = cc
+no_lines k (p ∷ ps) triples none = cc
 
 pub returns-in_err-write_points-clause-part : goal.returns-in_err-write_points-clause-part
 returns-in_err-write_points-clause-part g c =
@@ -63,3 +74,23 @@ returns-clause-sure g c free is fits =
     let short = subst P (sym same) fits in
     let left = last_fits _ _ _ _ _ _ whole free short in
     c.write_all.ensures.sure (free - length whole.sent) (whole.room free is (omega (arith, short))) (rw c.as_slice.ensures.value left)
+
+pub returns-in_err-write_points-clause-idle : goal.returns-in_err-write_points-clause-idle
+returns-in_err-write_points-clause-idle g c none =
+    let lines = flat_map face_line c.args.mesh.now.triples in
+    let same = ap (λ (points : List (List ℤ)). flat_map (point_line c.args.digits) points ++ lines) c.points.ensures.value in
+    (c.in_err-write_points.ensures.idle (no_points c.args.digits c.points.result.now lines (same ∙ none))).0
+
+pub returns-in_err-write_faces-clause-idle : goal.returns-in_err-write_faces-clause-idle
+returns-in_err-write_faces-clause-idle g c none =
+    let same = text_of_lists c.args.digits c.points.result.now c.args.mesh.now.points c.triples.result.now c.args.mesh.now.triples c.points.ensures.value c.triples.ensures.value in
+    let lists = no_lines c.args.digits c.points.result.now c.triples.result.now (same ∙ none) in
+    (c.in_err-write_faces.ensures.idle lists.1).0 ∙ (c.in_ok-write_points.ensures.idle lists.0).0
+
+pub returns-clause-idle : goal.returns-clause-idle
+returns-clause-idle g c none =
+    let same = text_of_lists c.args.digits c.points.result.now c.args.mesh.now.points c.triples.result.now c.args.mesh.now.triples c.points.ensures.value c.triples.ensures.value in
+    let lists = no_lines c.args.digits c.points.result.now c.triples.result.now (same ∙ none) in
+    let points = c.in_ok-write_points.ensures.idle lists.0 in
+    let faces = c.in_ok-write_faces.ensures.idle lists.1 in
+    c.write_all.ensures.idle (c.as_slice.ensures.value ∙ faces.1 ∙ points.1 ∙ c.new-page.ensures) ∙ faces.0 ∙ points.0

@@ -1,4 +1,4 @@
-use Rattle.std.proofs.Common.{◌∙◌, rules}
+use Rattle.std.proofs.Common.{◌∙◌, refl, arith, rules}
 use Rattle.std.proofs.lemmas.Result.{err_from_is_err_and}
 use Rattle.obj_terms.specs.Written.{point_line}
 use Rattle.mesh_writer.proofs.Passing.{passed-none, line_passed, line_stopped}
@@ -7,6 +7,7 @@ use Rattle.mesh_writer.proofs.obj.write_points.Goals as goal
 pub loop-point-init : goal.loop-point-init
 loop-point-init g c = record {
   free = search rules;
+  idle = λ none. (refl, refl);
   passed = passed-none c.args.page.now.items (g.K.Sink.told c.args.sink.now) (g.K.Sink.room c.args.sink.now);
   count = search rules;
   other = search rules;
@@ -20,6 +21,7 @@ loop-point-preserved g c =
     let e = c.in_ok-send_full.ensures in
     record {
       free = e.free;
+      idle = λ none. absurd (omega (arith, none, c.loop-point-test.true));
       passed = line_passed (point_line c.args.digits) c.args.points.now c.loop-point.point-index c.point-item.result c.point-item.result c.point-item.is c.loop-point-test.true _ _ _ _ _ _ _ _ _ _ inv.passed c.put_point.ensures e.passed;
       count = e.count.ok (search rules) ∙ inv.count;
       other = e.other ∙ inv.other;
