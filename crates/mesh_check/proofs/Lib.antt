@@ -1,1 +1,2 @@
 pub mod OpenPair
+mod Examples
