@@ -1,2 +1,4 @@
-pub mod OpenPair
 mod Examples
+pub mod Kept
+pub mod OpenPair
+pub mod Orientations

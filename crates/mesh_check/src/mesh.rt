@@ -7,7 +7,7 @@ ghost use Rattle.mesh_terms.specs.OpenEdges.{open_pair};
 
 use halfedge::{TwinFault, Twins};
 use mb_base::{NoMemory, Point, Soup};
-use std::alloc::Global;
+use std::alloc::{AllocError, Global};
 use std::marker::Model;
 
 /// A closed triangle mesh: points and triangles, each triangle with three different vertices, each
@@ -29,6 +29,16 @@ impl Model for Mesh {
     ghost view = { λ m. record { points = m.points.items; triples = m.twins.triples } };
 
     ghost invariant = { λ m. IsAccepted (length m.points.items) m.twins.triples };
+}
+
+impl Clone for Mesh {
+    ghost is_clone = { λ m copy. copy ≡ m };
+
+    fn clone(&self) -> Result<Mesh, AllocError> {
+        let points = self.points.to_vec(*self.points.allocator())?;
+        let twins = self.twins.clone()?;
+        Ok(Mesh { points, twins })
+    }
 }
 
 /// Why a soup is no mesh: the least edge, by its start and then by its end, that runs more often
