@@ -9,5 +9,6 @@ pub mod Numbers
 pub mod OpenPair
 pub mod Order
 pub mod Positions
+pub mod Single
 pub mod TwinPlaces
 pub mod Walk

@@ -1,5 +1,5 @@
 -- Sorted half-edges and sorted turned half-edges of closed triangles: twins stand at the same places.
-use Rattle.std.proofs.Common.{◌≡◌, ◌<◌, ◌≤◌, ◌+◌, ℕ, zero, suc, Bool, true, false, List, [], ◌∷◌, length, get_or, map, pos, Option, refl, sym, ◌∙◌, ap, subst, arith}
+use Rattle.std.proofs.Common.{◌≡◌, ◌<◌, ◌≤◌, ◌+◌, ◌↔◌, IsTrue, ℕ, zero, suc, Bool, true, false, List, [], ◌∷◌, length, get_or, map, pos, Option, refl, sym, ◌∙◌, ap, subst, arith}
 use Rattle.std.specs.List.Sorted.{IsPermutation, IsSorted}
 use Rattle.std.specs.Option.{IsNone, IfSome}
 use Rattle.std.proofs.lemmas.List.Sorted.{IsPermutation-map, length_permutation}
@@ -9,13 +9,14 @@ use Rattle.std.proofs.lemmas.Int.{ints}
 use Rattle.std.proofs.lemmas.List.{length-map, get_or-map, same_lists, get_or_default}
 use Rattle.chain_terms.specs.Chains.{is_edge, one_if, dir, IsClosed}
 use Rattle.chain_terms.specs.Sums.{upto}
-use Rattle.chain_laws.specs.Chains.{backward, turned_edge, edge_turned, dir-backward, total-same_dir}
+use Rattle.chain_laws.specs.Chains.{backward, turned_edge, edge_turned, dir-backward, dir-permutation, total-same_dir}
 use Rattle.chain_laws.specs.Counts.{count_by-cons, total-count_by}
 use Rattle.chain_laws.specs.Ranks.{rank, start, finish, runs_as, runs_against, twin}
 use Rattle.chain_laws.proofs.Places.{get_or-up_from, length-up_from}
 use Rattle.chain_laws.proofs.Ranks.{same_place}
 use Rattle.chain_laws.proofs.Twins.{twin_place}
 use Rattle.mesh_terms.specs.OpenEdges.{is_lesser, open_pair}
+use Rattle.halfedge.specs.Laws.{AreSingle}
 use Rattle.halfedge.specs.Surplus.{IsLeastSurplus, HasNoSurplus}
 use Rattle.halfedge.proofs.OpenPair.{open_pair_found}
 use Rattle.halfedge.specs.Pairing.{Half, numbered, turned, half_at, half_cmp, ends, ends_of, AreSorted, ArePartners}
@@ -160,6 +161,18 @@ open_found es xs ys found sorted none least =
     (subst (λ l. IsPermutation l (ends_of xs)) (ends-numbered 0 es) (IsPermutation-map ends (numbered 0 es) xs sorted.moved))
     (subst (λ l. IsPermutation l (ends_of ys)) (ends-numbered 0 (backward es)) (IsPermutation-map ends (numbered 0 (backward es)) ys sorted.back_moved))
     none least
+
+-- an edge runs as often among the sorted half-edges
+dir-sorted : (es : List (ℕ × ℕ)) (xs : List Half) → IsPermutation (numbered 0 es) xs → (a b : ℕ) → dir (ends_of xs) a b ≡ dir es a b
+dir-sorted es xs moved a b =
+    dir-permutation (ends_of (numbered 0 es)) (ends_of xs) (IsPermutation-map ends (numbered 0 es) xs moved) a b ∙ ap (λ l. dir l a b) (ends-numbered 0 es)
+
+-- so the sorted half-edges are single where the edges are
+pub single_sorted : (es : List (ℕ × ℕ)) (xs ys : List Half) (single : Bool) → AreSorted es xs ys → (IsTrue single ↔ AreSingle (ends_of xs)) → (IsTrue single ↔ AreSingle es)
+single_sorted es xs ys single sorted known = (
+  (λ yes a b. omega (arith, known.0 yes a b, dir-sorted es xs sorted.moved a b)),
+  (λ all. known.1 (λ a b. omega (arith, all a b, dir-sorted es xs sorted.moved a b))),
+)
 
 -- as many as half-edges stand in both sorted lists
 pub sorted_length : (es : List (ℕ × ℕ)) (xs ys : List Half) → AreSorted es xs ys → (length xs ≡ length es) × (length ys ≡ length xs)

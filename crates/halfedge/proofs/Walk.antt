@@ -33,11 +33,11 @@ first_occurs : (x : ℕ × ℕ) (xs : List (ℕ × ℕ)) → 0 < dir (x ∷ xs) 
 first_occurs x xs = omega (arith, ap one_if (is_itself x))
 
 -- an edge that is lesser than the first of a rising list does not occur
-none_lesser : (x q : ℕ × ℕ) (xs : List (ℕ × ℕ)) → IsRising (x ∷ xs) → is_lesser q x ≡ true → dir (x ∷ xs) q.0 q.1 ≡ 0
+pub none_lesser : (x q : ℕ × ℕ) (xs : List (ℕ × ℕ)) → IsRising (x ∷ xs) → is_lesser q x ≡ true → dir (x ∷ xs) q.0 q.1 ≡ 0
 none_lesser x q xs rising less = past x xs q.0 q.1 (lesser_is_other q x less) ∙ rising.0 q less
 
 -- a list without its first edge is sorted where the list is
-later_sorted : (x : Half) (xs : List Half) → IsSorted half_cmp (x ∷ xs) → IsSorted half_cmp xs
+pub later_sorted : (x : Half) (xs : List Half) → IsSorted half_cmp (x ∷ xs) → IsSorted half_cmp xs
 later_sorted x xs sorted k d low in_list =
     let P : ℕ → Type 0 = λ n. is_lt (half_cmp (get_or (x ∷ xs) n d) (get_or (x ∷ xs) (suc k) d)) ≡ false in
     let next : suc k + 1 ≡ suc (k + 1) = omega arith in

@@ -1,5 +1,6 @@
 -- What twins and going around keep.
-use Rattle.std.specs.Prelude.{◌≡◌, ◌≢◌, ℕ, ◌<◌, ◌/◌, List, length}
+use Rattle.std.specs.Prelude.{◌≡◌, ◌≢◌, ℕ, ◌<◌, ◌≤◌, ◌/◌, List, length}
+use Rattle.chain_terms.specs.Chains.{dir}
 use Rattle.chain_laws.specs.Permutations.{AreInverse}
 use Rattle.chain_laws.specs.Ranks.{start, finish, twin, RunsBack}
 use Rattle.halfedge.specs.Halves.{prev_half, around}
@@ -17,3 +18,7 @@ pub record GoAround (es : List (ℕ × ℕ)) : Type 0 where
   pub inverse : AreInverse (around es) (λ h. twin es (prev_half h)) (length es)
   pub start_stays : (h : ℕ) → h < length es → start es (around es h) ≡ start es h
   pub moves : (h : ℕ) → h < length es → around es h ≢ h
+
+-- no two edges run the same way
+abbrev pub AreSingle : List (ℕ × ℕ) → Type 0
+AreSingle es = (a b : ℕ) → dir es a b ≤ 1

@@ -1,8 +1,9 @@
 // Half-edges with their numbers, sorted by where they run, and paired with those that run back.
-ghost use Rattle.std.specs.Prelude.{◌≡◌, ◌<◌, ◌≤◌, ℕ, List, IfOk, length, get_or, map};
+ghost use Rattle.std.specs.Prelude.{◌≡◌, ◌<◌, ◌≤◌, ◌↔◌, ℕ, List, IfOk, IsSorted, IsTrue, length, get_or, map};
 ghost use Rattle.chain_terms.specs.Chains.{all_edges};
 ghost use Rattle.mesh_terms.specs.Meshes.{triples_of};
-ghost use Rattle.halfedge.specs.Pairing.{numbered, turned, half_at, AreSorted, ArePartners};
+ghost use Rattle.halfedge.specs.Laws.{AreSingle};
+ghost use Rattle.halfedge.specs.Pairing.{numbered, turned, half_at, ends_of, AreSorted, ArePartners};
 
 use mb_base::NoMemory;
 use std::alloc::Global;
@@ -48,6 +49,19 @@ fn turned_edges(alloc: Global, edges: &[(u32, u32, u32)]) -> Result<Vec<(u32, u3
         back.push((*to, *from, *half))?;
     }
     Ok(back)
+}
+
+/// Whether no two half-edges of the sorted list run the same way.
+pub fn are_single(edges: &[(u32, u32, u32)]) -> bool
+    requires { IsSorted ⟦<(u32, u32, u32) as Ord>⟧.cmp edges.now }
+    ensures { IsTrue result ↔ AreSingle (ends_of edges.now) }
+{
+    for i in 1..edges.len() {
+        if (edges[i - 1].0, edges[i - 1].1) == (edges[i].0, edges[i].1) {
+            return false;
+        }
+    }
+    true
 }
 
 /// For each half-edge of the first list the number of the one at its place in the second.

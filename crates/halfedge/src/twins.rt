@@ -1,5 +1,5 @@
 // Twins of half-edges.
-ghost use Rattle.std.specs.Prelude.{◌≡◌, ◌<◌, ◌≤◌, ◌*◌, ◌⊎◌, ℕ, List, IfOk, IsOk, IsErrOf, Some, length, map, get_or};
+ghost use Rattle.std.specs.Prelude.{◌≡◌, ◌<◌, ◌≤◌, ◌*◌, ◌⊎◌, ◌↔◌, ℕ, List, IfOk, IsOk, IsErrOf, IsTrue, Some, length, map, get_or};
 ghost use Rattle.std.specs.List.{All};
 ghost use Rattle.chain_terms.specs.Chains.{all_edges, IsClosed};
 ghost use Rattle.chain_terms.specs.Sums.{upto};
@@ -7,13 +7,13 @@ ghost use Rattle.chain_laws.specs.Ranks.{start, finish, twin, RunsBack};
 ghost use Rattle.mesh_terms.specs.Meshes.{HasThree, triples_of};
 ghost use Rattle.mesh_terms.specs.OpenEdges.{open_pair};
 ghost use Rattle.halfedge.specs.Halves.{next_half};
-ghost use Rattle.halfedge.specs.Laws.{PairUp, GoAround};
+ghost use Rattle.halfedge.specs.Laws.{PairUp, GoAround, AreSingle};
 ghost use Rattle.halfedge.specs.Twins.{IsTwinned};
 
-use crate::pairing::{partners, sorted_edges};
+use crate::pairing::{are_single, partners, sorted_edges};
 use crate::surplus::least_surplus;
 use mb_base::NoMemory;
-use std::alloc::Global;
+use std::alloc::{AllocError, Global};
 use std::marker::Model;
 
 /// Closed triangles, each with three different vertices, and the twin of each of their half-edges.
@@ -21,17 +21,34 @@ use std::marker::Model;
 pub struct Twins {
     triples: Vec<[u32; 3]>,
     twins: Vec<u32>,
+    // Whether no two half-edges run the same way.
+    single: bool,
 }
 
 impl Model for Twins {
     ghost use Rattle.mesh_terms.specs.Meshes.{triples_of};
-    ghost use Rattle.halfedge.specs.Twins.{Twins as TheTwins, IsTwinned};
+    ghost use Rattle.halfedge.specs.Twins.{Twins as TheTwins, IsKept};
 
     ghost Value = { TheTwins };
 
     ghost view = { λ t. record { triples = triples_of t.triples.items; twins = t.twins.items } };
 
-    ghost invariant = { λ t. IsTwinned (triples_of t.triples.items) t.twins.items };
+    ghost invariant = { λ t. IsKept (triples_of t.triples.items) t.twins.items t.single };
+}
+
+impl Clone for Twins {
+    ghost is_clone = { λ t copy. copy ≡ t };
+
+    fn clone(&self) -> Result<Twins, AllocError> {
+        let alloc = *self.twins.allocator();
+        let triples = self.triples.to_vec(alloc)?;
+        let twins = self.twins.to_vec(alloc)?;
+        Ok(Twins {
+            triples,
+            twins,
+            single: self.single,
+        })
+    }
 }
 
 /// Why triangles have no twins: the least edge, by its start and then by its end, that runs more
@@ -56,8 +73,8 @@ impl Twins {
     /// The triangles, of which this takes a copy, with the twin of each half-edge: the k-th from a
     /// to b is the twin of the k-th from b to a. Exactly where the triangles are not closed, which
     /// is where some edge runs more often one way than back, the answer is `Open` with the least
-    /// such edge, or `NoMemory`, which may come for any triangles. With n triangles it takes time
-    /// n log n, and 21 words of 4 bytes for each triangle while it runs.
+    /// such edge, or `NoMemory`, which may come for any triangles. It sorts the half-edges by where
+    /// they run, and a second list of them by where they run back.
     pub fn of(alloc: Global, triples: &[[u32; 3]]) -> Result<Twins, TwinFault>
         requires three { All HasThree (triples_of triples.now) }
         requires few { length triples.now ≤ 100000000 }
@@ -67,9 +84,13 @@ impl Twins {
         ensures open { (a b : ℕ) → IsErrOf result (TwinFault.Open a b) → open_pair (all_edges (triples_of triples.now)) ≡ Some (a, b) }
         ensures accepts { IsClosed (all_edges (triples_of triples.now)) → IsOk result ⊎ IsErrOf result TwinFault.NoMemory }
     {
-        let twins = listed_twins(alloc, triples)?;
+        let (twins, single) = listed_twins(alloc, triples)?;
         let triples = copied(alloc, triples)?;
-        Ok(Twins { triples, twins })
+        Ok(Twins {
+            triples,
+            twins,
+            single,
+        })
     }
 
     /// The triangles, each as three vertex numbers.
@@ -89,6 +110,13 @@ impl Twins {
         ensures around { GoAround (all_edges self.now.triples) }
     {
         &self.twins
+    }
+
+    /// Whether no two half-edges run the same way, from the same vertex to the same vertex.
+    pub fn are_single(&self) -> bool
+        ensures { IsTrue result ↔ AreSingle (all_edges self.now.triples) }
+    {
+        self.single
     }
 
     /// The half-edge that runs back from the end of half-edge h to its start, with h's place among
@@ -115,10 +143,11 @@ impl Twins {
     }
 }
 
-// The twin of each half-edge.
-fn listed_twins(alloc: Global, triples: &[[u32; 3]]) -> Result<Vec<u32>, TwinFault>
+// The twin of each half-edge, and whether no two run the same way.
+fn listed_twins(alloc: Global, triples: &[[u32; 3]]) -> Result<(Vec<u32>, bool), TwinFault>
     requires { length triples.now ≤ 100000000 }
-    ensures twins { IfOk result (λ twins. twins.items ≡ map (twin (all_edges (triples_of triples.now))) (upto (length (all_edges (triples_of triples.now))))) }
+    ensures single { IfOk result (λ r. IsTrue r.1 ↔ AreSingle (all_edges (triples_of triples.now))) }
+    ensures twins { IfOk result (λ r. r.0.items ≡ map (twin (all_edges (triples_of triples.now))) (upto (length (all_edges (triples_of triples.now))))) }
     ensures closed { IfOk result (λ _. IsClosed (all_edges (triples_of triples.now))) }
     ensures open { (a b : ℕ) → IsErrOf result (TwinFault.Open a b) → open_pair (all_edges (triples_of triples.now)) ≡ Some (a, b) }
     ensures accepts { IsClosed (all_edges (triples_of triples.now)) → IsOk result ⊎ IsErrOf result TwinFault.NoMemory }
@@ -127,7 +156,8 @@ fn listed_twins(alloc: Global, triples: &[[u32; 3]]) -> Result<Vec<u32>, TwinFau
     if let Some((from, to)) = least_surplus(&edges, &back) {
         return Err(TwinFault::Open { from, to });
     }
-    Ok(partners(alloc, &edges, &back)?)
+    let twins = partners(alloc, &edges, &back)?;
+    Ok((twins, are_single(&edges)))
 }
 
 // A copy of the triangles.

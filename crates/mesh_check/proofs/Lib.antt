@@ -1,1 +1,4 @@
+mod Examples
+pub mod Kept
 pub mod OpenPair
+pub mod Orientations

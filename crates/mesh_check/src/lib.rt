@@ -2,8 +2,13 @@
 //! often as its reverse, and names the least open edge where one does not.
 #![tactic(auto)]
 
+mod cancel;
 mod mesh;
+mod oriented;
+mod reduction;
+mod sides;
 #[cfg(test)]
 mod tests;
 
 pub use mesh::{Mesh, MeshFault};
+pub use reduction::reduce;

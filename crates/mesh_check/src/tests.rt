@@ -1,5 +1,5 @@
 // Small meshes, closed and open.
-use crate::{Mesh, MeshFault};
+use crate::{Mesh, MeshFault, reduce};
 use mb_base::{Point, Soup};
 use std::alloc::Global;
 use std::test::Fail;
@@ -26,6 +26,10 @@ fn a_closed_mesh_keeps_its_lists(rt: HostRuntime) -> Result<(), Fail> {
     assert_eq!(rt; mesh.points().len(), 4);
     assert_eq!(rt; mesh.points()[3].at(), [3, 0, 0]);
     assert_eq!(rt; mesh.triples(), TETRAHEDRON.as_slice());
+    assert_eq!(rt;
+        mesh.twins().twins(),
+        [9, 6, 3, 2, 8, 10, 1, 11, 4, 0, 5, 7].as_slice()
+    );
     Ok(())
 }
 
@@ -51,5 +55,35 @@ fn the_least_open_edge_is_named(rt: HostRuntime) -> Result<(), Fail> {
     let turned = soup_of(rt.alloc(), 5, &[[0, 1, 2], [1, 0, 3], [0, 1, 4]])?;
     let fault = MeshFault::OpenEdge { from: 0, to: 1 };
     assert_eq!(rt; Mesh::check(rt.alloc(), turned).err(), Some(fault));
+    Ok(())
+}
+
+// A box with corners 0 to 7, and a two-sided triangle beside it.
+const BOX_AND_SHEET: [[u32; 3]; 14] = [
+    [0, 3, 1],
+    [0, 2, 3],
+    [4, 5, 7],
+    [4, 7, 6],
+    [0, 1, 4],
+    [1, 5, 4],
+    [1, 3, 7],
+    [1, 7, 5],
+    [3, 2, 6],
+    [3, 6, 7],
+    [0, 4, 6],
+    [0, 6, 2],
+    [8, 9, 10],
+    [8, 10, 9],
+];
+
+#[test]
+fn a_two_sided_triangle_goes_with_its_points(rt: HostRuntime) -> Result<(), Fail> {
+    let mesh = Mesh::check(rt.alloc(), soup_of(rt.alloc(), 11, &BOX_AND_SHEET)?)?;
+    let reduced = reduce(rt.alloc(), &mesh)?;
+    assert_eq!(rt; reduced.points().len(), 8);
+    assert_eq!(rt; reduced.triples(), &BOX_AND_SHEET[..12]);
+    let again = reduce(rt.alloc(), &reduced)?;
+    assert_eq!(rt; again.points().len(), 8);
+    assert_eq!(rt; again.triples(), reduced.triples());
     Ok(())
 }

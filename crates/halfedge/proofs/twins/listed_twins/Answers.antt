@@ -2,7 +2,7 @@ use Rattle.std.proofs.Common.{rules, sym, ◌∙◌}
 use Rattle.chain_terms.specs.Chains.{all_edges}
 use Rattle.mesh_terms.specs.Meshes.{triples_of}
 use Rattle.halfedge.proofs.OpenPair.{open_pair_closed, closed_from_open_pair}
-use Rattle.halfedge.proofs.TwinPlaces.{open_found, sorted_as, sorted_length, sorted_partners, partners_are_twins}
+use Rattle.halfedge.proofs.TwinPlaces.{open_found, sorted_as, sorted_length, sorted_partners, partners_are_twins, single_sorted}
 use Rattle.halfedge.proofs.twins.listed_twins.Goals as goal
 
 pub returns-in-Some-clause-accepts : goal.returns-in-Some-clause-accepts
@@ -47,4 +47,10 @@ pub returns-clause-twins : goal.returns-clause-twins
 returns-clause-twins c =
     let es = all_edges (triples_of c.args.triples.now) in
     let sorted = sorted_as es _ _ _ _ c.deref-3.ensures.value c.deref-4.ensures.value c.in_ok-edges.ensures in
-    partners_are_twins es _ _ _ sorted (returns-clause-closed c) c.in_ok-partners.ensures.length c.in_ok-partners.ensures.paired
+    partners_are_twins es _ _ _ sorted (returns-clause-closed c) c.in_ok-twins.ensures.length c.in_ok-twins.ensures.paired
+
+pub returns-clause-single : goal.returns-clause-single
+returns-clause-single c =
+    let es = all_edges (triples_of c.args.triples.now) in
+    let sorted = sorted_as es _ _ _ _ c.deref-5.ensures.value c.deref-4.ensures.value c.in_ok-edges.ensures in
+    single_sorted es _ _ _ sorted c.are_single.ensures

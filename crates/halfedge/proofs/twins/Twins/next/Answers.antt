@@ -8,7 +8,7 @@ use Rattle.halfedge.proofs.twins.Twins.next.Goals as goal
 
 pub overflow_add-result : goal.overflow_add-result
 overflow_add-result c =
-    let few = c.self.invariant.few in
+    let few = c.self.invariant.twinned.few in
     let same = ap (λ (v : Twins). length v.triples) c.self.view_is in
     omega (arith, c.requires, same, few)
 

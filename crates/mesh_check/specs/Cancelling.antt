@@ -1,0 +1,36 @@
+-- Oriented triangles as half-edges, and which are left when each goes with one of the other orientation.
+use Rattle.std.specs.Prelude.{ℕ, List, Bool, nat_le, length, get_or, map}
+use Rattle.chain_terms.specs.Chains.{dir}
+use Rattle.chain_terms.specs.Sums.{upto}
+use Rattle.chain_laws.specs.Ranks.{rank, start, finish, runs_as}
+use Rattle.halfedge.specs.Pairing.{Half}
+use Rattle.mesh_terms.specs.Meshes.{Triple}
+use Rattle.mesh_check.specs.declared.oriented.Oriented.{Oriented}
+use Rattle.mesh_check.specs.Orientations.{edge_of}
+use Rattle.mesh_check.specs.Reduced.{is_kept}
+
+-- the vertices of an oriented triangle
+abbrev pub vertices_of : Oriented → Triple
+vertices_of o = (o.least, o.second, o.third)
+
+-- its orientation as an edge, with its place
+abbrev pub half_of : Oriented → Half
+half_of o = ((edge_of (vertices_of o)).0, (edge_of (vertices_of o)).1, o.place)
+
+abbrev pub halves_of : List Oriented → List Half
+halves_of os = map half_of os
+
+-- with the other orientation
+abbrev pub turned_over : Oriented → Oriented
+turned_over o = record { least = o.least; second = o.third; third = o.second; place = o.place }
+
+-- the edge at place h is left when the k-th from a to b goes with the k-th from b to a
+abbrev pub is_left : List (ℕ × ℕ) → ℕ → Bool
+is_left es h = nat_le (dir es (finish es h) (start es h)) (rank (runs_as es h) es h)
+
+abbrev pub left_marks : List (ℕ × ℕ) → List Bool
+left_marks es = map (is_left es) (upto (length es))
+
+-- for each triple whether it is kept
+abbrev pub kept_marks : List Triple → List Bool
+kept_marks ts = map (λ i. is_kept ts i (get_or ts i (0, 0, 0))) (upto (length ts))

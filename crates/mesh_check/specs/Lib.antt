@@ -1,0 +1,3 @@
+pub mod Cancelling
+pub mod Orientations
+pub mod Reduced

@@ -1,0 +1,37 @@
+-- The reduced mesh: of triangles on the same three vertices as many are removed as have the other orientation.
+use Rattle.std.specs.Prelude.{◌≡◌, ℕ, suc, ℤ, List, [], ◌∷◌, ◌++◌, Bool, false, cond, ◌==◌, ◌&&◌, ◌||◌, nat_le, take, count_by}
+use Rattle.std.specs.List.{Contains}
+use Rattle.mesh_terms.specs.Meshes.{Triple, Soup, soup_of}
+
+-- the same vertices in the same places
+abbrev pub same_triple : Triple → Triple → Bool
+same_triple s t = (s.0 == t.0) && (s.1 == t.1) && (s.2 == t.2)
+
+-- one is a rotation of the other
+abbrev pub same_way : Triple → Triple → Bool
+same_way s t = same_triple s t || same_triple s (t.1, t.2, t.0) || same_triple s (t.2, t.0, t.1)
+
+-- the same three vertices, the other way round
+abbrev pub opposite : Triple → Triple → Bool
+opposite s t = same_way s (t.0, t.2, t.1)
+
+-- triple t, which stands at place i, is not among the first of its orientation that go: as many stand before it as have the other
+abbrev pub is_kept : List Triple → ℕ → Triple → Bool
+is_kept ts i t = nat_le (count_by (opposite t) ts) (count_by (same_way t) (take i ts))
+
+-- the kept ones of the rest, which begins at place i of all
+abbrev pub kept_from : List Triple → ℕ → List Triple → List Triple
+kept_from all i [] = []
+kept_from all i (t ∷ ts) = cond (is_kept all i t) (t ∷ []) [] ++ kept_from all (suc i) ts
+
+-- the kept triples, in their order
+abbrev pub kept_triples : List Triple → List Triple
+kept_triples ts = kept_from ts 0 ts
+
+-- points and kept triples, without the points that none of these uses
+abbrev pub reduced : List (List ℤ) → List Triple → Soup
+reduced points ts = soup_of points (kept_triples ts)
+
+-- no two triples have the same three vertices with different orientations
+abbrev pub NoOpposite : List Triple → Type 0
+NoOpposite ts = (s t : Triple) → Contains ts s → Contains ts t → opposite s t ≡ false

@@ -1,0 +1,62 @@
+// Triangles by their vertices, which say the orientation.
+ghost use Rattle.std.specs.Prelude.{◌≡◌, ◌≤◌, ℕ, List, IfOk, length, map};
+ghost use Rattle.halfedge.specs.Pairing.{numbered};
+ghost use Rattle.mesh_terms.specs.Meshes.{triple_of, triples_of};
+ghost use Rattle.mesh_check.specs.Orientations.{least_first, orientation_edges};
+
+use mb_base::NoMemory;
+use std::alloc::Global;
+
+/// A triangle from its least vertex on, and its place among others. Triangles on the same three
+/// vertices have the same numbers here where they have the same orientation.
+#[derive(Clone, Copy, Debug, PartialEq, Eq, PartialOrd, Ord, Drop)]
+pub struct Oriented {
+    pub least: u32,
+    pub second: u32,
+    pub third: u32,
+    pub place: u32,
+}
+
+impl Oriented {
+    ghost use Rattle.mesh_check.specs.Cancelling.{vertices_of, turned_over};
+
+    /// The triangle at this place.
+    pub fn of(triple: &[u32; 3], place: u32) -> Oriented
+        ensures vertices { vertices_of result ≡ least_first (triple_of triple.now) }
+        ensures place { result.place ≡ place }
+    {
+        let [a, b, c] = *triple;
+        let (least, second, third) = if b < a && b < c {
+            (b, c, a)
+        } else if c < a && c < b {
+            (c, a, b)
+        } else {
+            (a, b, c)
+        };
+        Oriented {
+            least,
+            second,
+            third,
+            place,
+        }
+    }
+
+    /// The vertices.
+    pub fn vertices(&self) -> (u32, u32, u32)
+        ensures { result ≡ vertices_of self.now }
+    {
+        (self.least, self.second, self.third)
+    }
+
+    /// The same vertices the other way round, at the same place.
+    pub fn other_side(&self) -> Oriented
+        ensures { result ≡ turned_over self.now }
+    {
+        Oriented {
+            least: self.least,
+            second: self.third,
+            third: self.second,
+            place: self.place,
+        }
+    }
+}
