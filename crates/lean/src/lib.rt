@@ -2,9 +2,11 @@
 #![tactic(auto)]
 
 mod corner;
+mod marks;
 mod side;
 #[cfg(test)]
 mod tests;
 
 pub use corner::corner_of;
+pub use marks::leans;
 pub use side::Side;
