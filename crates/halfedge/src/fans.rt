@@ -23,8 +23,8 @@ pub struct Fans {
 
 impl Twins {
     /// The fans: the cycles of half-edges with one start under "the twin, then the next". `NoMemory`
-    /// may come for any triangles. With n triangles it takes time n log n, and 9 words of 4 bytes
-    /// for each triangle, besides a few for each fan, while it runs.
+    /// may come for any triangles. It sorts the half-edges by their starts, and goes round each fan
+    /// once.
     pub fn fans(&self, alloc: Global) -> Result<Fans, NoMemory>
         ensures fans { IfOk result (λ fans. AreFans (all_edges self.now.triples) fans.of.items fans.first.items) }
         ensures only { IfOk result (λ fans. (of first : List ℕ) → AreFans (all_edges self.now.triples) of first → (of ≡ fans.of.items) × (first ≡ fans.first.items)) }

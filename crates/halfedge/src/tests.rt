@@ -12,6 +12,9 @@ fn the_tetrahedron_has_one_fan_at_each_vertex(rt: HostRuntime) -> Result<(), Fai
     assert_eq!(rt; twins.twin(0), 9);
     assert_eq!(rt; twins.next(2), 0);
     assert_eq!(rt; twins.next(0), 1);
+    let copy = twins.clone()?;
+    assert_eq!(rt; copy.triples(), twins.triples());
+    assert_eq!(rt; copy.twins(), twins.twins());
     let fans = twins.fans(rt.alloc())?;
     assert_eq!(rt; fans.first.as_slice(), [0, 2, 1, 5].as_slice());
     assert_eq!(rt;

@@ -13,7 +13,7 @@ ghost use Rattle.halfedge.specs.Twins.{IsTwinned};
 use crate::pairing::{partners, sorted_edges};
 use crate::surplus::least_surplus;
 use mb_base::NoMemory;
-use std::alloc::Global;
+use std::alloc::{AllocError, Global};
 use std::marker::Model;
 
 /// Closed triangles, each with three different vertices, and the twin of each of their half-edges.
@@ -32,6 +32,17 @@ impl Model for Twins {
     ghost view = { λ t. record { triples = triples_of t.triples.items; twins = t.twins.items } };
 
     ghost invariant = { λ t. IsTwinned (triples_of t.triples.items) t.twins.items };
+}
+
+impl Clone for Twins {
+    ghost is_clone = { λ t copy. copy ≡ t };
+
+    fn clone(&self) -> Result<Twins, AllocError> {
+        let alloc = *self.twins.allocator();
+        let triples = self.triples.to_vec(alloc)?;
+        let twins = self.twins.to_vec(alloc)?;
+        Ok(Twins { triples, twins })
+    }
 }
 
 /// Why triangles have no twins: the least edge, by its start and then by its end, that runs more
@@ -56,8 +67,8 @@ impl Twins {
     /// The triangles, of which this takes a copy, with the twin of each half-edge: the k-th from a
     /// to b is the twin of the k-th from b to a. Exactly where the triangles are not closed, which
     /// is where some edge runs more often one way than back, the answer is `Open` with the least
-    /// such edge, or `NoMemory`, which may come for any triangles. With n triangles it takes time
-    /// n log n, and 21 words of 4 bytes for each triangle while it runs.
+    /// such edge, or `NoMemory`, which may come for any triangles. It sorts the half-edges by where
+    /// they run, and a second list of them by where they run back.
     pub fn of(alloc: Global, triples: &[[u32; 3]]) -> Result<Twins, TwinFault>
         requires three { All HasThree (triples_of triples.now) }
         requires few { length triples.now ≤ 100000000 }

@@ -1,6 +1,7 @@
 // Accepted meshes.
 ghost use Rattle.std.specs.Prelude.{◌≡◌, ◌⊎◌, ℕ, List, IfOk, IsOk, IsErrOf, Some, length};
 ghost use Rattle.chain_terms.specs.Chains.{all_edges, IsClosed};
+ghost use Rattle.halfedge.specs.Twins.{IsTwinned};
 ghost use Rattle.mesh_terms.specs.Meshes.{IsAccepted, triples_of};
 ghost use Rattle.mesh_terms.specs.OpenEdges.{open_pair};
 
@@ -11,22 +12,23 @@ use std::marker::Model;
 
 /// A closed triangle mesh: points and triangles, each triangle with three different vertices, each
 /// point in a triangle, and each directed edge as often as its reverse. Triangles may repeat,
-/// touch, cross or cancel; an edge may have more than two triangles.
+/// touch, cross or cancel; an edge may have more than two triangles. The twins of its half-edges
+/// are kept beside the triangles.
 #[derive(Drop)]
 pub struct Mesh {
     points: Vec<Point>,
-    triples: Vec<[u32; 3]>,
+    twins: Twins,
 }
 
 impl Model for Mesh {
     ghost use Rattle.std.specs.Prelude.{length};
-    ghost use Rattle.mesh_terms.specs.Meshes.{Mesh as TheMesh, IsAccepted, triples_of};
+    ghost use Rattle.mesh_terms.specs.Meshes.{Mesh as TheMesh, IsAccepted};
 
     ghost Value = { TheMesh };
 
-    ghost view = { λ m. record { points = m.points.items; triples = triples_of m.triples.items } };
+    ghost view = { λ m. record { points = m.points.items; triples = m.twins.triples } };
 
-    ghost invariant = { λ m. IsAccepted (length m.points.items) (triples_of m.triples.items) };
+    ghost invariant = { λ m. IsAccepted (length m.points.items) m.twins.triples };
 }
 
 /// Why a soup is no mesh: the least edge, by its start and then by its end, that runs more often
@@ -50,8 +52,8 @@ impl From<NoMemory> for MeshFault {
 impl Mesh {
     /// The mesh of a soup: accepted exactly where its edges are closed, with its points and
     /// triangles as they stand; otherwise `OpenEdge` with the least open edge, vertices counted
-    /// from 0. `NoMemory` may come for any soup. With n triangles it takes time n log n, and 21 words
-    /// of 4 bytes for each triangle while it runs.
+    /// from 0. `NoMemory` may come for any soup. It sorts the half-edges to find their twins, which
+    /// the mesh keeps.
     pub fn check(alloc: Global, soup: Soup) -> Result<Mesh, MeshFault>
         ensures points { IfOk result (λ m. m.points ≡ soup.points) }
         ensures triples { IfOk result (λ m. m.triples ≡ soup.triples) }
@@ -60,9 +62,9 @@ impl Mesh {
         ensures accepts { IsClosed (all_edges soup.triples) → IsOk result ⊎ IsErrOf result MeshFault.NoMemory }
     {
         match Twins::of(alloc, soup.triples()) {
-            Ok(_) => {
-                let (points, triples) = soup.into_parts();
-                Ok(Mesh { points, triples })
+            Ok(twins) => {
+                let (points, _) = soup.into_parts();
+                Ok(Mesh { points, twins })
             }
             Err(TwinFault::Open { from, to }) => Err(MeshFault::OpenEdge { from, to }),
             Err(TwinFault::NoMemory) => Err(MeshFault::NoMemory),
@@ -82,6 +84,17 @@ impl Mesh {
         ensures value { triples_of result.now ≡ self.now.triples }
         ensures accepted { IsAccepted (length self.now.points) self.now.triples }
     {
-        &self.triples
+        self.twins.triples()
+    }
+
+    /// The twins of the half-edges, with the triangles.
+    pub fn twins(&self) -> &Twins
+        ensures triples { result.now.triples ≡ self.now.triples }
+        ensures twins { IsTwinned self.now.triples result.now.twins }
+        ensures accepted { IsAccepted (length self.now.points) self.now.triples }
+    {
+        // Read so that what the type of the twins keeps is known here.
+        let _ = self.twins.triples();
+        &self.twins
     }
 }

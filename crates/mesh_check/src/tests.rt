@@ -26,6 +26,10 @@ fn a_closed_mesh_keeps_its_lists(rt: HostRuntime) -> Result<(), Fail> {
     assert_eq!(rt; mesh.points().len(), 4);
     assert_eq!(rt; mesh.points()[3].at(), [3, 0, 0]);
     assert_eq!(rt; mesh.triples(), TETRAHEDRON.as_slice());
+    assert_eq!(rt;
+        mesh.twins().twins(),
+        [9, 6, 3, 2, 8, 10, 1, 11, 4, 0, 5, 7].as_slice()
+    );
     Ok(())
 }
 
