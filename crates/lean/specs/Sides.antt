@@ -1,16 +1,18 @@
--- The two lists of a side: the corners of a mesh in fine steps, and its triangles.
-use Rattle.std.specs.Prelude.{ℤ, ◌*ℤ◌, Bool, List, [], ◌∷◌, length, map}
+-- The lists of a side: the corners of a mesh in fine steps, its triangles, and the twins of their half-edges.
+use Rattle.std.specs.Prelude.{ℕ, ℤ, ◌*ℤ◌, Bool, List, [], ◌∷◌, length, map}
 use Rattle.std.specs.List.{zip}
 use Rattle.mb_base.specs.declared.TheConstants.{UNIT}
 use Rattle.mb_base.specs.declared.point.Corner.{Corner}
+use Rattle.halfedge.specs.Twins.{IsTwinned}
 use Rattle.mesh_terms.specs.Points.{coordinate_of}
 use Rattle.mesh_terms.specs.Meshes.{Triple, IsAccepted}
 use Rattle.rounding.specs.Corners.{AllFine}
 
--- corners, and triangles by the numbers of their corners
+-- corners, triangles by the numbers of their corners, and the twin of each half-edge
 pub record Side : Type 0 where
   pub corners : List Corner
   pub triples : List Triple
+  pub twins : List ℕ
 
 -- the corner of a point with its marks: each coordinate in fine steps
 abbrev pub corner_of : List ℤ → List Bool → Corner
@@ -21,7 +23,8 @@ corner_of point up =
 abbrev pub corners_of : List (List ℤ) → List (List Bool) → List Corner
 corners_of points ups = map (λ m. corner_of m.0 m.1) (zip points ups)
 
--- what every side keeps: fine corners, and triangles that are a closed mesh on them
-pub record IsSide (corners : List Corner) (ts : List Triple) : Type 0 where
-  pub fine : AllFine corners
-  pub accepted : IsAccepted (length corners) ts
+-- what every side keeps: fine corners, triangles that are a closed mesh on them, and their twins
+pub record IsSide (side : Side) : Type 0 where
+  pub fine : AllFine side.corners
+  pub accepted : IsAccepted (length side.corners) side.triples
+  pub twinned : IsTwinned side.triples side.twins

@@ -1,4 +1,5 @@
-//! A mesh as the shadow tests take it: its points in fine steps, each with its marks, and its triangles.
+//! A mesh as the shadow tests take it: its points in fine steps, each with its marks, its triangles, and the twins of
+//! their half-edges. `leans` marks the first mesh of an operation; the second has no marks.
 #![tactic(auto)]
 
 mod corner;

@@ -8,11 +8,10 @@ use mb_base::{NoMemory, Op, Point, cross};
 use mesh_check::Mesh;
 use std::alloc::Global;
 
-/// The marks of each vertex, one for each axis, for the first mesh of an operation. The cross products of a vertex's
-/// triangles, each of twice the triangle's area in length and pointing out of a solid, are added up: for a union the
-/// vertex is up on the axes on which the sum is above 0, for an intersection or a difference on those on which it is
-/// below. So where two meshes touch, the first grows in a union and shrinks in the others. It takes time and memory in
-/// proportion to the points and triangles. `NoMemory` may come for any mesh.
+/// The marks of each vertex, one for each axis, for the first mesh of an operation. The cross products of the triangles
+/// at a vertex, which point out of a solid, are added up. For a union the vertex is up on the axes on which the sum is
+/// above 0, as if the mesh grew a little; for an intersection or a difference on those on which it is below 0, as if it
+/// shrank. It goes over the triangles once, and takes memory for a sum for each point. `NoMemory` may come for any mesh.
 pub fn leans(alloc: Global, mesh: &Mesh, op: Op) -> Result<Vec<[bool; 3]>, NoMemory>
     ensures value { IfOk result (λ ups. ups.items ≡ leans_of op mesh.now) }
     ensures length { IfOk result (λ ups. length ups.items ≡ length mesh.now.points) }

@@ -103,6 +103,7 @@ fn corners_are_points_in_fine_steps(rt: HostRuntime) -> Result<(), Fail> {
     }
     let side = Side::of(rt.alloc(), &mesh, ups)?;
     assert_eq!(rt; side.triples(), mesh.triples());
+    assert_eq!(rt; side.twins().twins(), [4, 3, 5, 1, 0, 2].as_slice());
     assert_eq!(rt; side.corners().len(), 3);
     assert_eq!(rt;
         side.corners()[1].at,

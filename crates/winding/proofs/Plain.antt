@@ -41,6 +41,6 @@ plain_winding point mesh p side ups at corners triples plain below =
     let f : Triple → ℤ = λ t. face_shadow nearest_test (plain_corner point) (face_of cs t) in
     let g : Triple → ℤ = λ t. plain_shadow point (get_or mesh.points t.0 []) (get_or mesh.points t.1 []) (get_or mesh.points t.2 []) in
     let corner = ap (λ c. winding nearest_test c side) at in
-    let marks = ap (λ l. winding nearest_test (plain_corner point) (record { corners = l; triples = side.triples })) (corners ∙ ap (corners_of mesh.points) plain) in
-    let faces = ap (λ ts. winding nearest_test (plain_corner point) (record { corners = cs; triples = ts })) triples in
+    let marks = ap (λ l. winding nearest_test (plain_corner point) (record { corners = l; triples = side.triples; twins = side.twins })) (corners ∙ ap (corners_of mesh.points) plain) in
+    let faces = ap (λ ts. winding nearest_test (plain_corner point) (record { corners = cs; triples = ts; twins = side.twins })) triples in
     corner ∙ marks ∙ faces ∙ ap neg_ℤ (total-same_all f g mesh.triples (λ k d h. plain_face point mesh.points (get_or mesh.triples k d) (below k d h)))

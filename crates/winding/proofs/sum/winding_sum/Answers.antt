@@ -10,7 +10,7 @@ face_at-face-requires-clause-below g c =
     let q = c.args.q.now in
     let xs = c.triples-triple-items.result.now in
     let i = c.loop-triple.triple-index in
-    let below = below_at (length q.corners) q.triples xs i (get_or xs i []) c.triples-triple-items.ensures.value c.triples-triple-items.ensures.accepted.mesh.below c.loop-triple-test.true refl in
+    let below = below_at (length q.corners) q.triples xs i (get_or xs i []) c.triples-triple-items.ensures.value c.triples-triple-items.ensures.side.accepted.mesh.below c.loop-triple-test.true refl in
     rw c.corners-corners.ensures.value below
 
 pub loop-triple-preserved : goal.loop-triple-preserved
