@@ -68,7 +68,13 @@ impl Rounding for Nearest {
     ghost units = { λ r k p. settle_units k };
 
     /// `u + round((v - u) * a, a + b)`, and u where a + b is 0.
-    fn between(&self, u: i64, v: i64, a: i64, b: i64) -> i64 {
+    fn between(&self, u: i64, v: i64, a: i64, b: i64) -> i64
+        requires u_fine { IsFine u }
+        requires v_fine { IsFine v }
+        requires a_weight { IsWeight a }
+        requires b_weight { IsWeight b }
+        ensures value { result ≡ nearest u v a b }
+    {
         let whole = a + b;
         if whole == 0 {
             u
@@ -79,7 +85,10 @@ impl Rounding for Nearest {
     }
 
     /// `round(fine, UNIT)`.
-    fn settle(&self, fine: i64) -> i32 {
+    fn settle(&self, fine: i64) -> i32
+        requires { IsFine fine }
+        ensures value { result ≡ settle_nearest fine }
+    {
         round(fine as i128, UNIT) as i32
     }
 }

@@ -1,10 +1,10 @@
 -- What the branches of an edge's answer return.
-use Rattle.std.proofs.Common.{◌≡◌, ℤ, Bool, true, false, not, pos, negsuc, Option, Some, None, refl, ap, sym, ◌∙◌}
+use Rattle.std.proofs.Common.{◌≡◌, ℤ, Bool, true, false, not, pos, negsuc, if◌then◌else◌, Option, Some, None, refl, ap, sym, ◌∙◌}
 use mathlib.Core.Bool.{beq}
 use Rattle.shadow_kernels.specs.declared.Spot.{Spot}
 use Rattle.shadow_kernels.specs.declared.Meet.{Meet}
 use Rattle.shadow_kernels.specs.Spots.{above_y, above_z}
-use Rattle.shadow_kernels.specs.Counts.{by_ends}
+use Rattle.shadow_kernels.specs.Counts.{shadow_of, by_ends}
 use Rattle.shadow_kernels.specs.Ends.{ends_same, ends_first, ends_second}
 
 -- tests that were found equal are
@@ -40,6 +40,24 @@ at_second a b s t x y z m e f h is same made =
     let other : not false ≡ t = ap not (sym is) ∙ sym k ∙ f in
     let spot : Spot → Meet = λ z. record { count = negsuc 0; above = above_y z; spot = z } in
     ap (λ (n : Meet). Some n) (made ∙ ap spot same) ∙ sym (ends_second s t x y (sym e ∙ is) (sym other))
+
+-- where the tests at both ends answer alike there is no shadow
+pub shadow_neither : (a b s t : Bool) (x y : Spot) → a ≡ s → b ≡ t → beq a b ≡ true → pos 0 ≡ shadow_of (by_ends s t x y)
+shadow_neither a b s t x y e f h = ap shadow_of (at_neither a b s t x y e f h)
+
+-- the shadow where the test at the first end alone holds
+pub shadow_first : (a b s t : Bool) (x y : Spot) (r : ℤ) (above : Bool) → a ≡ s → b ≡ t → beq a b ≡ false → a ≡ true → above ≡ above_y x → r ≡ (if above then pos 1 else pos 0) → r ≡ shadow_of (by_ends s t x y)
+shadow_first a b s t x y r above e f h is same made =
+    made
+    ∙ ap (λ (u : Bool). if u then pos 1 else pos 0) same
+    ∙ ap shadow_of (at_first a b s t x y x (record { count = pos 1; above = above_y x; spot = x }) e f h is refl refl)
+
+-- the shadow where the test at the second end alone holds
+pub shadow_second : (a b s t : Bool) (x y : Spot) (r : ℤ) (above : Bool) → a ≡ s → b ≡ t → beq a b ≡ false → a ≡ false → above ≡ above_y y → r ≡ (if above then negsuc 0 else pos 0) → r ≡ shadow_of (by_ends s t x y)
+shadow_second a b s t x y r above e f h is same made =
+    made
+    ∙ ap (λ (u : Bool). if u then negsuc 0 else pos 0) same
+    ∙ ap shadow_of (at_second a b s t x y y (record { count = negsuc 0; above = above_y y; spot = y }) e f h is refl refl)
 
 -- an answer of equal count at an equal spot
 pub at_spot : (n k : ℤ) (s z : Spot) (m : Meet) → k ≡ n → z ≡ s → m ≡ record { count = k; above = above_z z; spot = z } →

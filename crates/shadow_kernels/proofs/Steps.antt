@@ -9,15 +9,10 @@ use Rattle.shadow_kernels.specs.declared.sides.Sides.{Sides}
 use Rattle.shadow_kernels.specs.Spots.{Between, no_spot}
 use Rattle.shadow_kernels.specs.Counts.{shadow_of, turned, chosen, first_spot, joined, lifted}
 use Rattle.shadow_kernels.specs.Bounds.{IsFineSpot, IsFinePair}
+use Rattle.shadow_kernels.specs.Sides.{HasSides, IsFineSides}
 use Rattle.shadow_kernels.specs.Sizes.{turned_holds}
 use Rattle.shadow_kernels.specs.Tally.{Each}
 use Rattle.shadow_kernels.specs.Lifted.{first_holds}
-
--- sides hold the sum of the shadows of a list of pairs, and its first spots
-pub record HasSides (ms : List (Option Meet)) (s : Sides) : Type 0 where
-  pub count : s.count ≡ total shadow_of ms
-  pub below : s.below ≡ first_spot false ms
-  pub above : s.above ≡ first_spot true ms
 
 -- the sides of no pairs
 pub no_sides : (s : Sides) → s ≡ record { count = pos 0; below = no_spot; above = no_spot } → HasSides [] s
@@ -62,19 +57,21 @@ turned_fine m h = turned_holds IsFineSpot m h.fine
 pub fine_at : (r m : Option Meet) → r ≡ m → IsFinePair m → IsFinePair r
 fine_at r m e h = subst IsFinePair (sym e) h
 
--- the answers from three equal pairs
-pub same_three : (w : Between) (r a b c a' b' c' : Option Meet) → r ≡ lifted w (a ∷ b ∷ c ∷ []) → a ≡ a' → b ≡ b' → c ≡ c' → r ≡ lifted w (a' ∷ b' ∷ c' ∷ [])
-same_three w r a b c a' b' c' h e f g =
-    h
-    ∙ ap (λ (x : Option Meet). lifted w (x ∷ b ∷ c ∷ [])) e
-    ∙ ap (λ (x : Option Meet). lifted w (a' ∷ x ∷ c ∷ [])) f
-    ∙ ap (λ (x : Option Meet). lifted w (a' ∷ b' ∷ x ∷ [])) g
+-- sides of a list have fine spots where each pair has
+pub fine_sides : (ms : List (Option Meet)) (s : Sides) → Each (λ m. IfSome m (λ n. IsFineSpot n.spot)) ms → HasSides ms s → IsFineSides s
+fine_sides ms s each h = record { below = fine_first false ms s.below each h.below; above = fine_first true ms s.above each h.above }
 
--- the answers from four equal pairs
-pub same_four : (w : Between) (r a b c d a' b' c' d' : Option Meet) → r ≡ lifted w (a ∷ turned b ∷ c ∷ turned d ∷ []) → a ≡ a' → b ≡ b' → c ≡ c' → d ≡ d' → r ≡ lifted w (a' ∷ turned b' ∷ c' ∷ turned d' ∷ [])
-same_four w r a b c d a' b' c' d' h e f g k =
-    h
-    ∙ ap (λ (x : Option Meet). lifted w (x ∷ turned b ∷ c ∷ turned d ∷ [])) e
-    ∙ ap (λ (x : Option Meet). lifted w (a' ∷ turned x ∷ c ∷ turned d ∷ [])) f
-    ∙ ap (λ (x : Option Meet). lifted w (a' ∷ turned b' ∷ x ∷ turned d ∷ [])) g
-    ∙ ap (λ (x : Option Meet). lifted w (a' ∷ turned b' ∷ c' ∷ turned x ∷ [])) k
+-- the sides of three equal pairs
+pub same_three : (s : Sides) (a b c a' b' c' : Option Meet) → HasSides (a ∷ b ∷ c ∷ []) s → a ≡ a' → b ≡ b' → c ≡ c' → HasSides (a' ∷ b' ∷ c' ∷ []) s
+same_three s a b c a' b' c' h e f g =
+    subst (λ (x : Option Meet). HasSides (a' ∷ b' ∷ x ∷ []) s) g
+    (subst (λ (x : Option Meet). HasSides (a' ∷ x ∷ c ∷ []) s) f
+    (subst (λ (x : Option Meet). HasSides (x ∷ b ∷ c ∷ []) s) e h))
+
+-- the sides of four equal pairs
+pub same_four : (s : Sides) (a b c d a' b' c' d' : Option Meet) → HasSides (a ∷ turned b ∷ c ∷ turned d ∷ []) s → a ≡ a' → b ≡ b' → c ≡ c' → d ≡ d' → HasSides (a' ∷ turned b' ∷ c' ∷ turned d' ∷ []) s
+same_four s a b c d a' b' c' d' h e f g k =
+    subst (λ (x : Option Meet). HasSides (a' ∷ turned b' ∷ c' ∷ turned x ∷ []) s) k
+    (subst (λ (x : Option Meet). HasSides (a' ∷ turned b' ∷ x ∷ turned d ∷ []) s) g
+    (subst (λ (x : Option Meet). HasSides (a' ∷ turned x ∷ c ∷ turned d ∷ []) s) f
+    (subst (λ (x : Option Meet). HasSides (x ∷ turned b ∷ c ∷ turned d ∷ []) s) e h)))

@@ -4,7 +4,7 @@ use Rattle.std.proofs.lemmas.Int.{ints}
 use Rattle.std.specs.Int.{Width, w64, cast_signed, cast_unsigned}
 use Rattle.rounding.specs.Fine.{IsFine, IsWeight}
 use Rattle.shadow_kernels.specs.declared.Spot.{Spot}
-use Rattle.shadow_kernels.specs.Spots.{Between, marks, gap}
+use Rattle.shadow_kernels.specs.Spots.{Between, mark, marks, gap}
 
 -- a number as it stands after it was kept at a width
 abbrev pub seen : Width → ℤ → ℤ
@@ -25,6 +25,10 @@ same_spot x py qy pz qz x' py' qy' pz' qz' up up' a b c d e f =
     ∙ ap (λ (z : ℤ). s x' py' qy' z qz up) d
     ∙ ap (λ (z : ℤ). s x' py' qy' pz' z up) e
     ∙ ap (λ (u : List Bool). s x' py' qy' pz' qz' u) f
+
+-- a mark between equal weights
+pub same_mark : (m : Bool) (a b a' b' : ℤ) (s t : Bool) → m ≡ mark a b s t → a ≡ a' → b ≡ b' → m ≡ mark a' b' s t
+same_mark m a b a' b' s t h e f = h ∙ ap (λ (z : ℤ). mark z b s t) e ∙ ap (λ (z : ℤ). mark a' z s t) f
 
 -- marks between equal weights
 pub same_marks : (r : List Bool) (a b a' b' : ℤ) (us vs : List Bool) → r ≡ marks a b us vs → a ≡ a' → b ≡ b' → r ≡ marks a' b' us vs

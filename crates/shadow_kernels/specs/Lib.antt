@@ -8,6 +8,7 @@ pub mod Ends
 pub mod Tally
 pub mod Swaps
 pub mod Bounds
+pub mod Sides
 pub mod Hulls
 pub mod Lifted
 pub mod Rims

@@ -71,7 +71,11 @@ impl<R: Rounding> Meets<1, 2> for Grid<R> {
 
     ghost side = { λ k p q i m n a b h. side01_law (R.between_of k.rounding) (record { within = R.within k.rounding }) p q i m n a b h };
 
-    fn meet(&self, p: &[Corner; 1], q: &[Corner; 2]) -> Option<Meet> {
+    fn meet(&self, p: &[Corner; 1], q: &[Corner; 2]) -> Option<Meet>
+        requires p_fine { AllFine p.now }
+        requires q_fine { AllFine q.now }
+        ensures value { result ≡ meet01 (R.between_of self.now.rounding) (corner_at p.now 0) (corner_at q.now 0) (corner_at q.now 1) }
+    {
         vertex_edge(&self.rounding, &p[0], &q[0], &q[1])
     }
 }
@@ -93,7 +97,11 @@ impl<R: Rounding> Meets<2, 1> for Grid<R> {
 
     ghost side = { λ k p q i m n a b h. side10_law (R.between_of k.rounding) (record { within = R.within k.rounding }) p q i m n a b h };
 
-    fn meet(&self, p: &[Corner; 2], q: &[Corner; 1]) -> Option<Meet> {
+    fn meet(&self, p: &[Corner; 2], q: &[Corner; 1]) -> Option<Meet>
+        requires p_fine { AllFine p.now }
+        requires q_fine { AllFine q.now }
+        ensures value { result ≡ meet10 (R.between_of self.now.rounding) (corner_at p.now 0) (corner_at p.now 1) (corner_at q.now 0) }
+    {
         edge_vertex(&self.rounding, &p[0], &p[1], &q[0])
     }
 }
@@ -115,7 +123,11 @@ impl<R: Rounding> Meets<2, 2> for Grid<R> {
 
     ghost side = { λ k p q i m n a b h. side11_law (R.between_of k.rounding) (record { within = R.within k.rounding }) p q i m n a b h };
 
-    fn meet(&self, p: &[Corner; 2], q: &[Corner; 2]) -> Option<Meet> {
+    fn meet(&self, p: &[Corner; 2], q: &[Corner; 2]) -> Option<Meet>
+        requires p_fine { AllFine p.now }
+        requires q_fine { AllFine q.now }
+        ensures value { result ≡ meet11 (R.between_of self.now.rounding) (corner_at p.now 0) (corner_at p.now 1) (corner_at q.now 0) (corner_at q.now 1) }
+    {
         edge_edge(&self.rounding, &p[0], &p[1], &q[0], &q[1])
     }
 }

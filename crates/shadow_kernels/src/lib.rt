@@ -13,10 +13,15 @@ ghost use Rattle.shadow_kernels.specs.Counts.{count_of, shadow_of, turned};
 
 pub use grid::Grid;
 use mb_base::Corner;
+pub use shadows::{
+    edge_vertex_shadow, is_edge_above_edge, is_face_above_vertex, is_vertex_above_face,
+    vertex_edge_shadow,
+};
 
 mod edges;
 mod grid;
 mod pairs;
+mod shadows;
 mod sides;
 mod spots;
 

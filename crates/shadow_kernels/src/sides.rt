@@ -1,12 +1,13 @@
 //! The boundary pairs of a pair of simplices: the sum of their shadows, and the spots on both sides.
 
 ghost use Rattle.std.specs.Prelude.{◌≡◌, ◌≤◌, ◌∷◌, [], ◌+ℤ◌, pos, unsigned_abs, true, false, if◌then◌else◌};
-ghost use Rattle.shadow_kernels.specs.Spots.{no_spot, above_z};
-ghost use Rattle.shadow_kernels.specs.Counts.{shadow_of, turned, chosen, joined, lifted};
-ghost use Rattle.shadow_kernels.specs.Bounds.{IsFineSpot, IsFinePair};
+ghost use Rattle.shadow_kernels.specs.Spots.{no_spot, spot_between, above_z};
+ghost use Rattle.shadow_kernels.specs.Counts.{shadow_of, turned, chosen, joined};
+ghost use Rattle.shadow_kernels.specs.Bounds.{IsFinePair};
+ghost use Rattle.shadow_kernels.specs.Sides.{HasSides, IsFineSides};
 ghost use Rattle.shadow_kernels.specs.Sizes.{IsSized};
 
-use crate::spots::{exceeds, spot_between_spots};
+use crate::spots::{exceeds, gap_of, mark_between, spot_between_spots};
 use crate::{Meet, Spot};
 use rounding::Rounding;
 
@@ -80,51 +81,50 @@ impl Sides {
     }
 }
 
-/// The answer from three boundary pairs. The last goes first, since each is put before the others.
-pub(crate) fn from_three<R: Rounding>(
-    rounding: &R,
+/// The sides of three boundary pairs. The last goes first, since each is put before the others.
+pub(crate) fn three_sides(
     first: &Option<Meet>,
     second: &Option<Meet>,
     third: &Option<Meet>,
-) -> Option<Meet>
+) -> Sides
     requires first_fine { IsFinePair first.now }
     requires second_fine { IsFinePair second.now }
     requires third_fine { IsFinePair third.now }
-    ensures { result ≡ lifted (R.between_of rounding.now) (first.now ∷ second.now ∷ third.now ∷ []) }
+    ensures sides { HasSides (first.now ∷ second.now ∷ third.now ∷ []) result }
+    ensures fine { IsFineSides result }
 {
     let mut sides = Sides::none();
     sides.put(third);
     sides.put(second);
     sides.put(first);
-    joined_sides(rounding, &sides)
+    sides
 }
 
-/// The answer from four boundary pairs, of which the second and the fourth count with the other sign.
-pub(crate) fn from_four<R: Rounding>(
-    rounding: &R,
+/// The sides of four boundary pairs, of which the second and the fourth count with the other sign.
+pub(crate) fn four_sides(
     first: &Option<Meet>,
     second: &Option<Meet>,
     third: &Option<Meet>,
     fourth: &Option<Meet>,
-) -> Option<Meet>
+) -> Sides
     requires first_fine { IsFinePair first.now }
     requires second_fine { IsFinePair second.now }
     requires third_fine { IsFinePair third.now }
     requires fourth_fine { IsFinePair fourth.now }
-    ensures { result ≡ lifted (R.between_of rounding.now) (first.now ∷ turned second.now ∷ third.now ∷ turned fourth.now ∷ []) }
+    ensures sides { HasSides (first.now ∷ turned second.now ∷ third.now ∷ turned fourth.now ∷ []) result }
+    ensures fine { IsFineSides result }
 {
     let mut sides = Sides::none();
     sides.put_turned(fourth);
     sides.put(third);
     sides.put_turned(second);
     sides.put(first);
-    joined_sides(rounding, &sides)
+    sides
 }
 
 /// The answer of boundary pairs: none where their shadows add up to nothing, else at the spot between the two sides.
-fn joined_sides<R: Rounding>(rounding: &R, sides: &Sides) -> Option<Meet>
-    requires below_fine { IsFineSpot sides.now.below }
-    requires above_fine { IsFineSpot sides.now.above }
+pub(crate) fn joined_sides<R: Rounding>(rounding: &R, sides: &Sides) -> Option<Meet>
+    requires { IsFineSides sides.now }
     ensures { result ≡ joined (R.between_of rounding.now) sides.now.count sides.now.below sides.now.above }
 {
     if sides.count == 0 {
@@ -140,4 +140,18 @@ fn met_in_z(count: i8, spot: Spot) -> Meet
 {
     let above = exceeds(spot.pz, spot.qz, spot.up[2]);
     Meet { count, above, spot }
+}
+
+/// Whether P is beyond Q in z at the spot between the two sides.
+pub(crate) fn is_above_between<R: Rounding>(rounding: &R, sides: &Sides) -> bool
+    requires { IsFineSides sides.now }
+    ensures { result ≡ above_z (spot_between (R.between_of rounding.now) sides.now.below sides.now.above) }
+{
+    let below = &sides.below;
+    let above = &sides.above;
+    let a = gap_of(below.py, below.qy);
+    let b = gap_of(above.py, above.qy);
+    let pz = rounding.between(below.pz, above.pz, a, b);
+    let qz = rounding.between(below.qz, above.qz, a, b);
+    exceeds(pz, qz, mark_between(a, b, below.up[2], above.up[2]))
 }

@@ -25,7 +25,7 @@ pub(crate) fn is_beyond(p: &Corner, q: &Corner) -> bool
 }
 
 /// A mark between two: the first at weight a = 0, the second at weight b = 0, else up where both are.
-fn mark_between(a: i64, b: i64, first: bool, second: bool) -> bool
+pub(crate) fn mark_between(a: i64, b: i64, first: bool, second: bool) -> bool
     ensures { result ≡ mark a b first second }
 {
     if a == 0 {
@@ -49,7 +49,7 @@ fn marks_between(a: i64, b: i64, first: &[bool; 3], second: &[bool; 3]) -> [bool
 }
 
 /// The difference of two fine values without its sign.
-fn gap_of(p: i64, q: i64) -> i64
+pub(crate) fn gap_of(p: i64, q: i64) -> i64
     requires p_fine { IsFine p }
     requires q_fine { IsFine q }
     ensures value { result ≡ gap p q }

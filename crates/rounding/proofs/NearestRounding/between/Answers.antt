@@ -54,7 +54,7 @@ overflow_add-result c =
 pub returns-then-whole-eq0 : goal.returns-then-whole-eq0
 returns-then-whole-eq0 c =
     let kept : seen w64 c.args.u ≡ c.args.u = omega (arith, ints) in
-    kept ∙ sym (nearest_still c.args.u c.args.v c.args.a c.args.b (omega (arith, ints)))
+    record { value = kept ∙ sym (nearest_still c.args.u c.args.v c.args.a c.args.b (omega (arith, ints))) }
 
 pub returns-else-whole-eq0 : goal.returns-else-whole-eq0
 returns-else-whole-eq0 c =
@@ -63,4 +63,4 @@ returns-else-whole-eq0 c =
     let s = share before in
     let q = c.round.ensures in
     let n = nearest_moved c.args.u c.args.v c.args.a c.args.b (omega (arith, ints)) in
-    omega (arith, ints, e, s, q, n)
+    record { value = omega (arith, ints, e, s, q, n) }

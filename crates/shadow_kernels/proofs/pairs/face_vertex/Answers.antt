@@ -1,32 +1,9 @@
-use Rattle.shadow_kernels.specs.FinePairs.{fine10}
-use Rattle.shadow_kernels.specs.Hulls.{StaysBetween}
-use Rattle.shadow_kernels.specs.Shadows.{meet10, meet20}
-use Rattle.shadow_kernels.specs.Spots.{Between}
-use Rattle.shadow_kernels.proofs.Steps.{fine_at, same_three}
+use Rattle.shadow_kernels.specs.Shadows.{boundary20, meet20}
+use Rattle.shadow_kernels.proofs.Steps.{from_sides}
 use Rattle.shadow_kernels.proofs.pairs.face_vertex.Goals as goal
-
-pub from_three-requires-clause-first_fine : goal.from_three-requires-clause-first_fine
-from_three-requires-clause-first_fine g c =
-    let w : Between = g.R.Rounding.between_of c.args.rounding.now in
-    let stays : StaysBetween w = record { within = g.met.R.Rounding.within c.args.rounding.now } in
-    fine_at c.edge_vertex.result (meet10 w c.args.u.now c.args.v.now c.args.q.now) c.edge_vertex.ensures (fine10 w stays c.args.u.now c.args.v.now c.args.q.now c.requires.u_fine c.requires.v_fine c.requires.q_fine)
-
-pub from_three-requires-clause-second_fine : goal.from_three-requires-clause-second_fine
-from_three-requires-clause-second_fine g c =
-    let w : Between = g.R.Rounding.between_of c.args.rounding.now in
-    let stays : StaysBetween w = record { within = g.met.R.Rounding.within c.args.rounding.now } in
-    fine_at c.edge_vertex-2.result (meet10 w c.args.v.now c.args.w.now c.args.q.now) c.edge_vertex-2.ensures (fine10 w stays c.args.v.now c.args.w.now c.args.q.now c.requires.v_fine c.requires.w_fine c.requires.q_fine)
-
-pub from_three-requires-clause-third_fine : goal.from_three-requires-clause-third_fine
-from_three-requires-clause-third_fine g c =
-    let w : Between = g.R.Rounding.between_of c.args.rounding.now in
-    let stays : StaysBetween w = record { within = g.met.R.Rounding.within c.args.rounding.now } in
-    fine_at c.edge_vertex-3.result (meet10 w c.args.w.now c.args.u.now c.args.q.now) c.edge_vertex-3.ensures (fine10 w stays c.args.w.now c.args.u.now c.args.q.now c.requires.w_fine c.requires.u_fine c.requires.q_fine)
 
 pub returns : goal.returns
 unfolding meet20
 returns g c =
-    let w : Between = g.R.Rounding.between_of c.args.rounding.now in
-    same_three w c.from_three.result c.edge_vertex.result c.edge_vertex-2.result c.edge_vertex-3.result
-    (meet10 w c.args.u.now c.args.v.now c.args.q.now) (meet10 w c.args.v.now c.args.w.now c.args.q.now) (meet10 w c.args.w.now c.args.u.now c.args.q.now)
-    c.from_three.ensures c.edge_vertex.ensures c.edge_vertex-2.ensures c.edge_vertex-3.ensures
+    from_sides (g.R.Rounding.between_of c.args.rounding.now) (boundary20 (g.R.Rounding.between_of c.args.rounding.now) c.args.u.now c.args.v.now c.args.w.now c.args.q.now) c.joined_sides.result c.face_vertex_sides.result
+    c.face_vertex_sides.ensures.sides c.joined_sides.ensures

@@ -1,0 +1,89 @@
+//! How often an edge of one side crosses a face of the other, with its sign, and where. The number is what the shadow
+//! tests of the edge's ends and of the edge itself leave over, so crossings and winding numbers never contradict each
+//! other, whatever the rounding did. After J. M. Smith's thesis "Towards robust inexact geometric computation" and the
+//! Manifold library.
+#![tactic(auto)]
+
+ghost use Rattle.std.specs.Prelude.{◌≡◌, ◌≢◌, ◌<◌, ◌∷◌, [], ℕ, ℤ, pos, negsuc, neg_ℤ, ◌≤ℤ◌, Option, None, IfSome, List, length, swap};
+ghost use Rattle.chain_terms.specs.Sums.{total};
+ghost use Rattle.mb_base.specs.declared.point.Corner.{Corner};
+ghost use Rattle.rounding.specs.Corners.{AllFine};
+ghost use Rattle.shadow_kernels.specs.Boxes.{AreApart};
+ghost use Rattle.shadow_kernels.specs.Counts.{count_of, shadow_of};
+ghost use Rattle.edge_face.specs.declared.Cross.{Cross};
+ghost use Rattle.edge_face.specs.Crossings.{number_of, rim, number12, number21};
+ghost use Rattle.edge_face.specs.Wholes.{AllWhole, IsPointIn};
+
+use mb_base::{Corner, Point};
+use shadow_kernels::{Flats, Meets};
+
+/// How often an edge crosses a face, with its sign, and the point of the grid where it does.
+#[derive(Clone, Copy, Debug, PartialEq, Eq, Drop)]
+pub struct Cross {
+    pub number: i8,
+    pub at: Point,
+}
+
+/// The crossings of a simplex of P with M corners and one of Q with N corners, of which one is an edge (2) and the other
+/// a face (3). Every coordinate lies within `UNIT * 2^30` of 0. There is no answer where the number is 0.
+pub trait Crosses<const M: usize, const N: usize> {
+    /// What `cross` answers.
+    ghost cross_of: { Self → List Corner → List Corner → Option Cross };
+
+    /// The answer for the corners of p and of q.
+    fn cross(&self, p: &[Corner; M], q: &[Corner; N]) -> Option<Cross>
+        requires p_fine { AllFine p.now }
+        requires q_fine { AllFine q.now }
+        ensures { result ≡ cross_of self.now p.now q.now };
+
+    /// The number of an answer is not 0.
+    ghost present: { (k : Self) (p q : List Corner) → length p ≡ M → length q ≡ N → AllFine p → AllFine q →
+        IfSome (cross_of k p q) (λ c. c.number ≢ pos 0) };
+
+    /// The number lies from -2 to 2.
+    ghost size: { (k : Self) (p q : List Corner) → length p ≡ M → length q ≡ N → AllFine p → AllFine q →
+        (negsuc 1 ≤ℤ number_of (cross_of k p q)) × (number_of (cross_of k p q) ≤ℤ pos 2) };
+
+    /// Exchanging the ends of P's edge turns the sign of the number.
+    ghost turn_p: { (k : Self) (p q : List Corner) → M ≡ 2 → length p ≡ M → length q ≡ N → AllFine p → AllFine q →
+        number_of (cross_of k (swap p 0 1) q) ≡ neg_ℤ (number_of (cross_of k p q)) };
+
+    /// Exchanging the ends of Q's edge does so too.
+    ghost turn_q: { (k : Self) (p q : List Corner) → N ≡ 2 → length p ≡ M → length q ≡ N → AllFine p → AllFine q →
+        number_of (cross_of k p (swap q 0 1)) ≡ neg_ℤ (number_of (cross_of k p q)) };
+
+    /// Where the boxes are strictly apart on an axis, there is no answer.
+    ghost apart: { (k : Self) (p q : List Corner) (i : ℕ) → length p ≡ M → length q ≡ N → AllFine p → AllFine q → i < 3 → AreApart i p q →
+        cross_of k p q ≡ None };
+
+    /// Where every coordinate is a multiple of `UNIT`, the point lies in the box of the edge: of P's.
+    ghost inside_p: { (k : Self) (p q : List Corner) → M ≡ 2 → length p ≡ M → length q ≡ N → AllFine p → AllFine q → AllWhole p → AllWhole q →
+        IfSome (cross_of k p q) (λ c. IsPointIn p c.at) };
+
+    /// Or of Q's.
+    ghost inside_q: { (k : Self) (p q : List Corner) → N ≡ 2 → length p ≡ M → length q ≡ N → AllFine p → AllFine q → AllWhole p → AllWhole q →
+        IfSome (cross_of k p q) (λ c. IsPointIn q c.at) };
+}
+
+/// All shadow tests and crossings. Their counts and numbers are the signed sums of the shadows of their boundary pairs.
+pub trait Kernels: Flats + Meets<1, 3> + Meets<3, 1> + Crosses<2, 3> + Crosses<3, 2> {
+    /// A vertex and a face.
+    ghost lift_02: { (k : Self) (p u v w : Corner) → AllFine (p ∷ []) → AllFine (u ∷ v ∷ w ∷ []) →
+        count_of (⟦<Self as Meets<1, 3>>⟧.meet_of k (p ∷ []) (u ∷ v ∷ w ∷ []))
+        ≡ total (λ e. shadow_of (⟦<Self as Meets<1, 2>>⟧.meet_of k (p ∷ []) e)) (rim u v w) };
+
+    /// A face and a vertex.
+    ghost lift_20: { (k : Self) (u v w q : Corner) → AllFine (u ∷ v ∷ w ∷ []) → AllFine (q ∷ []) →
+        count_of (⟦<Self as Meets<3, 1>>⟧.meet_of k (u ∷ v ∷ w ∷ []) (q ∷ []))
+        ≡ total (λ e. shadow_of (⟦<Self as Meets<2, 1>>⟧.meet_of k e (q ∷ []))) (rim u v w) };
+
+    /// An edge of P and a face of Q.
+    ghost lift_12: { (k : Self) (a b u v w : Corner) → AllFine (a ∷ b ∷ []) → AllFine (u ∷ v ∷ w ∷ []) →
+        number_of (⟦<Self as Crosses<2, 3>>⟧.cross_of k (a ∷ b ∷ []) (u ∷ v ∷ w ∷ []))
+        ≡ number12 (⟦<Self as Meets<1, 3>>⟧.meet_of k) (⟦<Self as Meets<2, 2>>⟧.meet_of k) a b u v w };
+
+    /// A face of P and an edge of Q.
+    ghost lift_21: { (k : Self) (u v w c d : Corner) → AllFine (u ∷ v ∷ w ∷ []) → AllFine (c ∷ d ∷ []) →
+        number_of (⟦<Self as Crosses<3, 2>>⟧.cross_of k (u ∷ v ∷ w ∷ []) (c ∷ d ∷ []))
+        ≡ number21 (⟦<Self as Meets<3, 1>>⟧.meet_of k) (⟦<Self as Meets<2, 2>>⟧.meet_of k) u v w c d };
+}
