@@ -1,11 +1,11 @@
 // The lists of a side.
-ghost use Rattle.std.specs.Prelude.{◌≡◌, IfOk, length, map};
+ghost use Rattle.std.specs.Prelude.{◌≡◌, ◌<◌, ◌*◌, IfOk, length, map};
 ghost use Rattle.chain_terms.specs.Chains.{all_edges};
 ghost use Rattle.chain_terms.specs.Sums.{upto};
-ghost use Rattle.chain_laws.specs.Ranks.{twin};
+ghost use Rattle.chain_laws.specs.Ranks.{start, twin};
 ghost use Rattle.mesh_terms.specs.Meshes.{triples_of};
-ghost use Rattle.rounding.specs.Corners.{AllFine};
-ghost use Rattle.lean.specs.Sides.{IsSide, corners_of};
+ghost use Rattle.rounding.specs.Corners.{corner_at, AllFine, IsFineCorner};
+ghost use Rattle.lean.specs.Sides.{IsSide, corners_of, face_at, edge_at};
 
 use crate::corner::corner_of;
 use halfedge::Twins;
@@ -69,6 +69,46 @@ impl Side {
         ensures side { IsSide self.now }
     {
         &self.twins
+    }
+
+    /// The corners of a triangle.
+    pub fn face(&self, face: u32) -> [Corner; 3]
+        requires { face < length self.now.triples }
+        ensures value { result ≡ face_at self.now face }
+        ensures fine { AllFine result }
+    {
+        let [a, b, c] = self.triples()[face as usize];
+        [self.corner(a), self.corner(b), self.corner(c)]
+    }
+
+    /// The corners at the start and the end of a half-edge.
+    pub fn edge(&self, half: u32) -> [Corner; 2]
+        requires { half < 3 * length self.now.triples }
+        ensures value { result ≡ edge_at self.now half }
+        ensures fine { AllFine result }
+    {
+        let from = self.start(half);
+        let to = self.start(self.twins.next(half));
+        [self.corner(from), self.corner(to)]
+    }
+
+    // The vertex at which a half-edge starts.
+    fn start(&self, half: u32) -> u32
+        requires { half < 3 * length self.now.triples }
+        ensures value { result ≡ start (all_edges self.now.triples) half }
+        ensures below { result < length self.now.corners }
+    {
+        let half = half as usize;
+        self.triples()[half / 3][half % 3]
+    }
+
+    // The corner of a vertex.
+    fn corner(&self, vertex: u32) -> Corner
+        requires { vertex < length self.now.corners }
+        ensures value { result ≡ corner_at self.now.corners vertex }
+        ensures fine { IsFineCorner result }
+    {
+        self.corners[vertex as usize]
     }
 }
 
