@@ -8,9 +8,10 @@ use Rattle.mb_base.specs.declared.point.Corner.{Corner}
 use Rattle.rounding.specs.Corners.{corner_at}
 use Rattle.rounding.specs.Nearest.{nearest}
 use Rattle.shadow_kernels.specs.Shadows.{meet02}
-use Rattle.lean.specs.Sides.{Side, corner_of, corners_of}
+use Rattle.edge_face.specs.Crossings.{ShadowTest}
+use Rattle.lean.specs.Sides.{Side, corner_of, corners_of, face_of}
 use Rattle.lean.proofs.Corners.{corners_at}
-use Rattle.winding.specs.Windings.{ShadowTest, face_of, face_shadow, winding, plain_corner, plain_shadow, winding_at}
+use Rattle.winding.specs.Windings.{face_shadow, winding, plain_corner, plain_shadow, winding_at}
 
 abbrev pub no_marks : List Bool
 no_marks = false ∷ false ∷ false ∷ []
