@@ -1,11 +1,15 @@
--- The list of corners, step by step.
-use Rattle.std.proofs.Common.{arith, ◌≡◌, ℕ, ◌+◌, ◌<◌, ℤ, Bool, List, [], ◌∷◌, ◌++◌, length, take, get_or, map, min, ap, ◌∙◌}
+-- The list of corners, step by step, and its corners.
+use Rattle.std.proofs.Common.{arith, ◌≡◌, ℕ, zero, suc, ◌+◌, ◌<◌, ℤ, pos, Bool, List, [], ◌∷◌, ◌++◌, length, take, get_or, map, min, ap, ◌∙◌}
 use Rattle.std.specs.List.{zip}
+use Rattle.std.proofs.lemmas.Int.{ints}
+use Rattle.std.proofs.lemmas.List.Elements.{All-cons, All-head, All-nil, All-tail}
 use Rattle.std.proofs.lemmas.List.{take_more, map_push, take_all, length-map, get_or-map}
 use Rattle.std.proofs.lemmas.Slice.Zip.{length-zip, get_or-zip}
 use Rattle.mb_base.specs.declared.point.Corner.{Corner}
-use Rattle.rounding.specs.Corners.{corner_at, blank_corner}
-use Rattle.lean.specs.Sides.{corner_of, corners_of}
+use Rattle.rounding.specs.Corners.{corner_at, blank_corner, AllFine, IsFineCorner}
+use Rattle.rounding.specs.Fine.{IsFine}
+use Rattle.mesh_terms.specs.Meshes.{Triple}
+use Rattle.lean.specs.Sides.{corner_of, corners_of, edge_of, face_of}
 
 -- the corners of the first i points
 abbrev pub corners_to : List (List ℤ) → List (List Bool) → ℕ → List Corner
@@ -38,3 +42,19 @@ pub corners_at :
 corners_at ps us i h k =
     let g : (List ℤ × List Bool) → Corner = λ m. corner_of m.0 m.1 in
     get_or-map g (zip ps us) i ([], []) blank_corner (omega (arith, length-zip ps us, h, k)) ∙ ap g (get_or-zip ps us i ([], []) h k)
+
+-- where all corners of a list are fine, so is the one at any place: past the end it is blank
+pub corner_fine : (cs : List Corner) → AllFine cs → (i : ℕ) → IsFineCorner (corner_at cs i)
+corner_fine [] h i = record { x = zero_fine; y = zero_fine; z = zero_fine }
+  where
+    zero_fine : IsFine (pos 0)
+    zero_fine = record { low = omega (arith, ints); high = omega (arith, ints) }
+corner_fine (c ∷ cs) h zero = All-head IsFineCorner c cs h
+corner_fine (c ∷ cs) h (suc i) = corner_fine cs (All-tail IsFineCorner c cs h) i
+
+-- and so are the corners of an edge and of a triangle
+pub edge_fine : (cs : List Corner) → AllFine cs → (a b : ℕ) → AllFine (edge_of cs a b)
+edge_fine cs h a b = All-cons IsFineCorner (corner_at cs a) (corner_at cs b ∷ []) (corner_fine cs h a) (All-cons IsFineCorner (corner_at cs b) [] (corner_fine cs h b) (All-nil IsFineCorner))
+
+pub face_fine : (cs : List Corner) → AllFine cs → (t : Triple) → AllFine (face_of cs t)
+face_fine cs h t = All-cons IsFineCorner (corner_at cs t.0) (edge_of cs t.1 t.2) (corner_fine cs h t.0) (edge_fine cs h t.1 t.2)

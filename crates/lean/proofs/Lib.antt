@@ -1,1 +1,4 @@
 pub mod Corners
+pub mod Normals
+pub mod Rows
+pub mod Triangles

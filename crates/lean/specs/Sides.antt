@@ -1,16 +1,20 @@
--- The two lists of a side: the corners of a mesh in fine steps, and its triangles.
-use Rattle.std.specs.Prelude.{ℤ, ◌*ℤ◌, Bool, List, [], ◌∷◌, length, map}
+-- The lists of a side: the corners of a mesh in fine steps, its triangles, and the twins of their half-edges.
+use Rattle.std.specs.Prelude.{ℕ, ℤ, ◌*ℤ◌, Bool, List, [], ◌∷◌, get_or, length, map}
 use Rattle.std.specs.List.{zip}
+use Rattle.chain_terms.specs.Chains.{all_edges}
+use Rattle.chain_laws.specs.Ranks.{start, finish}
 use Rattle.mb_base.specs.declared.TheConstants.{UNIT}
 use Rattle.mb_base.specs.declared.point.Corner.{Corner}
+use Rattle.halfedge.specs.Twins.{IsTwinned}
 use Rattle.mesh_terms.specs.Points.{coordinate_of}
 use Rattle.mesh_terms.specs.Meshes.{Triple, IsAccepted}
-use Rattle.rounding.specs.Corners.{AllFine}
+use Rattle.rounding.specs.Corners.{corner_at, AllFine}
 
--- corners, and triangles by the numbers of their corners
+-- corners, triangles by the numbers of their corners, and the twin of each half-edge
 pub record Side : Type 0 where
   pub corners : List Corner
   pub triples : List Triple
+  pub twins : List ℕ
 
 -- the corner of a point with its marks: each coordinate in fine steps
 abbrev pub corner_of : List ℤ → List Bool → Corner
@@ -21,7 +25,24 @@ corner_of point up =
 abbrev pub corners_of : List (List ℤ) → List (List Bool) → List Corner
 corners_of points ups = map (λ m. corner_of m.0 m.1) (zip points ups)
 
--- what every side keeps: fine corners, and triangles that are a closed mesh on them
-pub record IsSide (corners : List Corner) (ts : List Triple) : Type 0 where
-  pub fine : AllFine corners
-  pub accepted : IsAccepted (length corners) ts
+-- the corners of a triangle
+abbrev pub face_of : List Corner → Triple → List Corner
+face_of corners t = corner_at corners t.0 ∷ corner_at corners t.1 ∷ corner_at corners t.2 ∷ []
+
+-- the corners of the triangle with a number
+abbrev pub face_at : Side → ℕ → List Corner
+face_at side f = face_of side.corners (get_or side.triples f (0, 0, 0))
+
+-- the corners of the edge from a to b
+abbrev pub edge_of : List Corner → ℕ → ℕ → List Corner
+edge_of corners a b = corner_at corners a ∷ corner_at corners b ∷ []
+
+-- the corners of the half-edge with a number, from its start to its end
+abbrev pub edge_at : Side → ℕ → List Corner
+edge_at side h = let es = all_edges side.triples in edge_of side.corners (start es h) (finish es h)
+
+-- what every side keeps: fine corners, triangles that are a closed mesh on them, and their twins
+pub record IsSide (side : Side) : Type 0 where
+  pub fine : AllFine side.corners
+  pub accepted : IsAccepted (length side.corners) side.triples
+  pub twinned : IsTwinned side.triples side.twins

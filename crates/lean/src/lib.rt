@@ -1,10 +1,13 @@
-//! A mesh as the shadow tests take it: its points in fine steps, each with its marks, and its triangles.
+//! A mesh as the shadow tests take it: its points in fine steps, each with its marks, its triangles, and the twins of
+//! their half-edges. `leans` marks the first mesh of an operation; the second has no marks.
 #![tactic(auto)]
 
 mod corner;
+mod marks;
 mod side;
 #[cfg(test)]
 mod tests;
 
 pub use corner::corner_of;
+pub use marks::leans;
 pub use side::Side;

@@ -1,32 +1,35 @@
-// The two lists of a side.
-ghost use Rattle.std.specs.Prelude.{◌≡◌, IfOk, length};
-ghost use Rattle.mesh_terms.specs.Meshes.{IsAccepted, triples_of};
-ghost use Rattle.rounding.specs.Corners.{AllFine};
-ghost use Rattle.lean.specs.Sides.{corners_of};
+// The lists of a side.
+ghost use Rattle.std.specs.Prelude.{◌≡◌, ◌<◌, ◌*◌, IfOk, length, map};
+ghost use Rattle.chain_terms.specs.Chains.{all_edges};
+ghost use Rattle.chain_terms.specs.Sums.{upto};
+ghost use Rattle.chain_laws.specs.Ranks.{start, twin};
+ghost use Rattle.mesh_terms.specs.Meshes.{triples_of};
+ghost use Rattle.rounding.specs.Corners.{corner_at, AllFine, IsFineCorner};
+ghost use Rattle.lean.specs.Sides.{IsSide, corners_of, face_at, edge_at};
 
 use crate::corner::corner_of;
+use halfedge::Twins;
 use mb_base::{Corner, NoMemory, Point};
 use mesh_check::Mesh;
 use std::alloc::Global;
 use std::marker::Model;
 
 /// A closed mesh for the shadow tests: its corners in fine steps, each with the marks of the axes on which it counts as
-/// moved up, and its triangles, each as three corner numbers from 0.
+/// moved up, its triangles, each as three corner numbers from 0, and the twins of their half-edges.
 #[derive(Drop)]
 pub struct Side {
     corners: Vec<Corner>,
-    triples: Vec<[u32; 3]>,
+    twins: Twins,
 }
 
 impl Model for Side {
-    ghost use Rattle.mesh_terms.specs.Meshes.{triples_of};
     ghost use Rattle.lean.specs.Sides.{Side as TheSide, IsSide};
 
     ghost Value = { TheSide };
 
-    ghost view = { λ s. record { corners = s.corners.items; triples = triples_of s.triples.items } };
+    ghost view = { λ s. record { corners = s.corners.items; triples = s.twins.triples; twins = s.twins.twins } };
 
-    ghost invariant = { λ s. IsSide s.corners.items (triples_of s.triples.items) };
+    ghost invariant = { λ s. IsSide (record { corners = s.corners.items; triples = s.twins.triples; twins = s.twins.twins }) };
 }
 
 impl Side {
@@ -36,17 +39,17 @@ impl Side {
         requires { length ups.items ≡ length mesh.now.points }
         ensures corners { IfOk result (λ s. s.corners ≡ corners_of mesh.now.points ups.items) }
         ensures triples { IfOk result (λ s. s.triples ≡ mesh.now.triples) }
+        ensures twins { IfOk result (λ s. s.twins ≡ map (twin (all_edges mesh.now.triples)) (upto (length (all_edges mesh.now.triples)))) }
     {
         let corners = corners_of(alloc, mesh.points(), &ups)?;
-        let triples = mesh.triples().to_vec(alloc)?;
-        Ok(Side { corners, triples })
+        let twins = mesh.twins().clone()?;
+        Ok(Side { corners, twins })
     }
 
     /// The corners.
     pub fn corners(&self) -> &[Corner]
         ensures value { result.now ≡ self.now.corners }
-        ensures fine { AllFine self.now.corners }
-        ensures accepted { IsAccepted (length self.now.corners) self.now.triples }
+        ensures side { IsSide self.now }
     {
         &self.corners
     }
@@ -54,10 +57,58 @@ impl Side {
     /// The triangles, each as three corner numbers from 0.
     pub fn triples(&self) -> &[[u32; 3]]
         ensures value { triples_of result.now ≡ self.now.triples }
-        ensures fine { AllFine self.now.corners }
-        ensures accepted { IsAccepted (length self.now.corners) self.now.triples }
+        ensures side { IsSide self.now }
     {
-        &self.triples
+        self.twins.triples()
+    }
+
+    /// The twins of the half-edges, with the triangles.
+    pub fn twins(&self) -> &Twins
+        ensures triples { result.now.triples ≡ self.now.triples }
+        ensures twins { result.now.twins ≡ self.now.twins }
+        ensures side { IsSide self.now }
+    {
+        &self.twins
+    }
+
+    /// The corners of a triangle.
+    pub fn face(&self, face: u32) -> [Corner; 3]
+        requires { face < length self.now.triples }
+        ensures value { result ≡ face_at self.now face }
+        ensures fine { AllFine result }
+    {
+        let [a, b, c] = self.triples()[face as usize];
+        [self.corner(a), self.corner(b), self.corner(c)]
+    }
+
+    /// The corners at the start and the end of a half-edge.
+    pub fn edge(&self, half: u32) -> [Corner; 2]
+        requires { half < 3 * length self.now.triples }
+        ensures value { result ≡ edge_at self.now half }
+        ensures fine { AllFine result }
+    {
+        let from = self.start(half);
+        let to = self.start(self.twins.next(half));
+        [self.corner(from), self.corner(to)]
+    }
+
+    // The vertex at which a half-edge starts.
+    fn start(&self, half: u32) -> u32
+        requires { half < 3 * length self.now.triples }
+        ensures value { result ≡ start (all_edges self.now.triples) half }
+        ensures below { result < length self.now.corners }
+    {
+        let half = half as usize;
+        self.triples()[half / 3][half % 3]
+    }
+
+    // The corner of a vertex.
+    fn corner(&self, vertex: u32) -> Corner
+        requires { vertex < length self.now.corners }
+        ensures value { result ≡ corner_at self.now.corners vertex }
+        ensures fine { IsFineCorner result }
+    {
+        self.corners[vertex as usize]
     }
 }
 

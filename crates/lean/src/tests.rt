@@ -1,26 +1,109 @@
-// The corners of a small mesh.
-use crate::Side;
-use mb_base::{Point, Soup, UNIT};
+// The marks and corners of small meshes.
+use crate::{Side, leans};
+use mb_base::{Op, Point, Soup, UNIT};
 use mesh_check::Mesh;
+use std::alloc::Global;
 use std::test::Fail;
 
-#[test]
-fn corners_are_points_in_fine_steps(rt: HostRuntime) -> Result<(), Fail> {
-    let mut points = Vec::new(rt.alloc());
-    points.push(Point::of(0, 0, 0).ok_or("outside the grid")?)?;
-    points.push(Point::of(1 << 30, -5, 7).ok_or("outside the grid")?)?;
-    points.push(Point::of(3, -(1 << 30), 2).ok_or("outside the grid")?)?;
-    let triples = vec![in rt.alloc(); [0, 1, 2], [2, 1, 0]]?;
+fn mesh_of(alloc: Global, corners: &[[i32; 3]], triples: &[[u32; 3]]) -> Result<Mesh, Fail> {
+    let mut points = Vec::new(alloc);
+    for [x, y, z] in corners {
+        points.push(Point::of(*x, *y, *z).ok_or("outside the grid")?)?;
+    }
+    let triples = triples.to_vec(alloc)?;
     if !Soup::fits(&points, &triples) {
         return Err("no soup".into());
     }
-    let mesh = Mesh::check(rt.alloc(), Soup::of(points, triples, 0))?;
+    Ok(Mesh::check(alloc, Soup::of(points, triples, 0))?)
+}
+
+const BOX: [[i32; 3]; 8] = [
+    [0, 0, 0],
+    [10, 0, 0],
+    [0, 10, 0],
+    [10, 10, 0],
+    [0, 0, 10],
+    [10, 0, 10],
+    [0, 10, 10],
+    [10, 10, 10],
+];
+
+const BOX_FACES: [[u32; 3]; 12] = [
+    [0, 3, 1],
+    [0, 2, 3],
+    [4, 5, 7],
+    [4, 7, 6],
+    [0, 1, 4],
+    [1, 5, 4],
+    [1, 3, 7],
+    [1, 7, 5],
+    [3, 2, 6],
+    [3, 6, 7],
+    [0, 4, 6],
+    [0, 6, 2],
+];
+
+// The sums at a box's corners point away from it on each axis.
+const OUTWARD: [[bool; 3]; 8] = [
+    [false, false, false],
+    [true, false, false],
+    [false, true, false],
+    [true, true, false],
+    [false, false, true],
+    [true, false, true],
+    [false, true, true],
+    [true, true, true],
+];
+
+const INWARD: [[bool; 3]; 8] = [
+    [true, true, true],
+    [false, true, true],
+    [true, false, true],
+    [false, false, true],
+    [true, true, false],
+    [false, true, false],
+    [true, false, false],
+    [false, false, false],
+];
+
+#[test]
+fn a_box_grows_in_a_union_and_shrinks_in_the_others(rt: HostRuntime) -> Result<(), Fail> {
+    let mesh = mesh_of(rt.alloc(), &BOX, &BOX_FACES)?;
+    let union = leans(rt.alloc(), &mesh, Op::Union)?;
+    assert_eq!(rt; union.as_slice(), OUTWARD.as_slice());
+    let intersection = leans(rt.alloc(), &mesh, Op::Intersect)?;
+    assert_eq!(rt; intersection.as_slice(), INWARD.as_slice());
+    let difference = leans(rt.alloc(), &mesh, Op::Subtract)?;
+    assert_eq!(rt; difference.as_slice(), INWARD.as_slice());
+    Ok(())
+}
+
+#[test]
+fn a_sum_of_nothing_is_no_mark(rt: HostRuntime) -> Result<(), Fail> {
+    // Two triangles back to back, as far apart as the grid allows.
+    let end = 1 << 30;
+    let points = [[-end, -end, end], [end, -end, end], [-end, end, -end]];
+    let mesh = mesh_of(rt.alloc(), &points, &[[0, 1, 2], [2, 1, 0]])?;
+    for op in [Op::Union, Op::Intersect, Op::Subtract] {
+        assert_eq!(rt;
+            leans(rt.alloc(), &mesh, op)?.as_slice(),
+            [[false; 3]; 3].as_slice()
+        );
+    }
+    Ok(())
+}
+
+#[test]
+fn corners_are_points_in_fine_steps(rt: HostRuntime) -> Result<(), Fail> {
+    let points = [[0, 0, 0], [1 << 30, -5, 7], [3, -(1 << 30), 2]];
+    let mesh = mesh_of(rt.alloc(), &points, &[[0, 1, 2], [2, 1, 0]])?;
     let ups = vec![in rt.alloc(); [false; 3], [true, false, true], [false, true, false]]?;
     if ups.len() != mesh.points().len() {
         return Err("three marks for three points".into());
     }
     let side = Side::of(rt.alloc(), &mesh, ups)?;
     assert_eq!(rt; side.triples(), mesh.triples());
+    assert_eq!(rt; side.twins().twins(), [4, 3, 5, 1, 0, 2].as_slice());
     assert_eq!(rt; side.corners().len(), 3);
     assert_eq!(rt;
         side.corners()[1].at,

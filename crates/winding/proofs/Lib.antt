@@ -1,2 +1,3 @@
+pub mod Identity
 pub mod Plain
-pub mod Shadows
+pub mod Steps

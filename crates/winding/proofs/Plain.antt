@@ -8,9 +8,10 @@ use Rattle.mb_base.specs.declared.point.Corner.{Corner}
 use Rattle.rounding.specs.Corners.{corner_at}
 use Rattle.rounding.specs.Nearest.{nearest}
 use Rattle.shadow_kernels.specs.Shadows.{meet02}
-use Rattle.lean.specs.Sides.{Side, corner_of, corners_of}
+use Rattle.edge_face.specs.Crossings.{ShadowTest}
+use Rattle.lean.specs.Sides.{Side, corner_of, corners_of, face_of}
 use Rattle.lean.proofs.Corners.{corners_at}
-use Rattle.winding.specs.Windings.{ShadowTest, face_of, face_shadow, winding, plain_corner, plain_shadow, winding_at}
+use Rattle.winding.specs.Windings.{face_shadow, winding, plain_corner, plain_shadow, winding_at}
 
 abbrev pub no_marks : List Bool
 no_marks = false ∷ false ∷ false ∷ []
@@ -41,6 +42,6 @@ plain_winding point mesh p side ups at corners triples plain below =
     let f : Triple → ℤ = λ t. face_shadow nearest_test (plain_corner point) (face_of cs t) in
     let g : Triple → ℤ = λ t. plain_shadow point (get_or mesh.points t.0 []) (get_or mesh.points t.1 []) (get_or mesh.points t.2 []) in
     let corner = ap (λ c. winding nearest_test c side) at in
-    let marks = ap (λ l. winding nearest_test (plain_corner point) (record { corners = l; triples = side.triples })) (corners ∙ ap (corners_of mesh.points) plain) in
-    let faces = ap (λ ts. winding nearest_test (plain_corner point) (record { corners = cs; triples = ts })) triples in
+    let marks = ap (λ l. winding nearest_test (plain_corner point) (record { corners = l; triples = side.triples; twins = side.twins })) (corners ∙ ap (corners_of mesh.points) plain) in
+    let faces = ap (λ ts. winding nearest_test (plain_corner point) (record { corners = cs; triples = ts; twins = side.twins })) triples in
     corner ∙ marks ∙ faces ∙ ap neg_ℤ (total-same_all f g mesh.triples (λ k d h. plain_face point mesh.points (get_or mesh.triples k d) (below k d h)))

@@ -1,30 +1,29 @@
 -- How often a mesh winds round a point.
-use Rattle.std.specs.Prelude.{ℤ, neg_ℤ, false, Option, List, [], ◌∷◌, get_or}
+use Rattle.std.specs.Prelude.{ℤ, neg_ℤ, false, List, [], ◌∷◌, get_or}
 use Rattle.chain_terms.specs.Sums.{total}
 use Rattle.mesh_terms.specs.Meshes.{Mesh, Triple}
 use Rattle.mb_base.specs.declared.point.Corner.{Corner}
-use Rattle.rounding.specs.Corners.{corner_at}
 use Rattle.rounding.specs.Nearest.{nearest}
-use Rattle.shadow_kernels.specs.declared.Meet.{Meet}
 use Rattle.shadow_kernels.specs.Counts.{shadow_of}
 use Rattle.shadow_kernels.specs.Shadows.{meet02}
-use Rattle.lean.specs.Sides.{Side, corner_of}
+use Rattle.edge_face.specs.Crossings.{ShadowTest}
+use Rattle.lean.specs.Sides.{Side, corner_of, face_of}
 
--- a shadow test: what it answers for the corners of p and of q
-abbrev pub ShadowTest : Type 0
-ShadowTest = List Corner → List Corner → Option Meet
-
--- the corners of a triangle
-abbrev pub face_of : List Corner → Triple → List Corner
-face_of corners t = corner_at corners t.0 ∷ corner_at corners t.1 ∷ corner_at corners t.2 ∷ []
-
--- the shadow of a corner over a face
+-- the shadow of a corner of P on a face of Q
 abbrev pub face_shadow : ShadowTest → Corner → List Corner → ℤ
 face_shadow test p face = shadow_of (test (p ∷ []) face)
 
--- the winding number of a corner in a side: minus the sum of its shadows over all faces
+-- the shadow of a face of P on a corner of Q
+abbrev pub face_shadow_back : ShadowTest → List Corner → Corner → ℤ
+face_shadow_back test face q = shadow_of (test face (q ∷ []))
+
+-- the winding number of a corner of P in Q: minus the sum of its shadows on all faces
 abbrev pub winding : ShadowTest → Corner → Side → ℤ
 winding test p q = neg_ℤ (total (λ t. face_shadow test p (face_of q.corners t)) q.triples)
+
+-- the winding number of a corner of Q in P: minus the sum of the shadows of all faces on it
+abbrev pub winding_back : ShadowTest → Side → Corner → ℤ
+winding_back test p q = neg_ℤ (total (λ t. face_shadow_back test (face_of p.corners t) q) p.triples)
 
 -- the corner of a point that is up on no axis
 abbrev pub plain_corner : List ℤ → Corner

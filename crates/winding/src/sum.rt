@@ -1,35 +1,61 @@
-// The winding number of a corner in a side.
-ghost use Rattle.std.specs.Prelude.{◌≡◌, ◌≤◌, ◌+◌, nat_abs, length};
+// The winding number of a corner of one side in the other.
+ghost use Rattle.std.specs.Prelude.{◌≡◌, ◌≤◌, ◌+◌, neg_ℤ, nat_abs, length};
+ghost use Rattle.chain_terms.specs.Sums.{total};
 ghost use Rattle.rounding.specs.Corners.{IsFineCorner};
-ghost use Rattle.winding.specs.Windings.{winding};
+ghost use Rattle.lean.specs.Sides.{face_of};
+ghost use Rattle.winding.specs.Windings.{winding, winding_back};
 
-use crate::face::{face_at, face_shadow};
+use crate::shadows::{PVertices, QVertices, VertexFace};
+use edge_face::Kernels;
 use lean::Side;
 use mb_base::Corner;
 use shadow_kernels::Meets;
 use std::sync::ledger::Ledger;
 use steps::Steps;
 
-/// The winding number of a corner in a side: minus the sum of its shadows over all faces, each taken with the one test
-/// of a vertex and a face that the kernels have. The corner's coordinates lie within `UNIT * 2^30` fine steps of 0. It
-/// counts one step, asks one test a face and takes no memory.
-pub fn winding_sum<K: Meets<1, 3>, L: Ledger>(
+/// The winding number of a corner of P in Q: minus the sum of its shadows on all faces of Q. The corner's coordinates
+/// lie within `UNIT * 2^30` fine steps of 0. It counts one step, asks one test a face and takes no memory.
+pub fn winding_sum<K: Kernels, L: Ledger>(
     p: &Corner,
     q: &Side,
     kernels: &K,
     steps: &mut Steps<L>,
 ) -> i64
     requires { IsFineCorner p.now }
-    ensures value { result ≡ winding (K.meet_of kernels.now) p.now q.now }
+    ensures value { result ≡ winding (⟦<K as Meets<1, 3>>⟧.meet_of kernels.now) p.now q.now }
     ensures size { nat_abs result ≤ length q.now.triples }
     ensures cost { steps.new ≡ steps.old + 1 }
 {
     steps.tick();
-    let corners = q.corners();
+    minus_shadows(p, q, &PVertices(kernels))
+}
+
+/// The winding number of a corner of Q in P: minus the sum of the shadows of all faces of P on it. The corner's
+/// coordinates lie within `UNIT * 2^30` fine steps of 0. It counts one step, asks one test a face and takes no memory.
+pub fn winding_sum_back<K: Kernels, L: Ledger>(
+    p: &Side,
+    q: &Corner,
+    kernels: &K,
+    steps: &mut Steps<L>,
+) -> i64
+    requires { IsFineCorner q.now }
+    ensures value { result ≡ winding_back (⟦<K as Meets<3, 1>>⟧.meet_of kernels.now) p.now q.now }
+    ensures size { nat_abs result ≤ length p.now.triples }
+    ensures cost { steps.new ≡ steps.old + 1 }
+{
+    steps.tick();
+    minus_shadows(q, p, &QVertices(kernels))
+}
+
+// Minus the sum of the shadows of a vertex and all faces of a side.
+fn minus_shadows<S: VertexFace>(vertex: &Corner, faces: &Side, shadows: &S) -> i64
+    requires { IsFineCorner vertex.now }
+    ensures value { result ≡ neg_ℤ (total (λ t. S.cast_of shadows.now vertex.now (face_of faces.now.corners t)) faces.now.triples) }
+    ensures size { nat_abs result ≤ length faces.now.triples }
+{
     let mut winding: i64 = 0;
-    for triple in q.triples() {
-        let face = face_at(corners, triple);
-        winding -= face_shadow(p, &face, kernels);
+    for face in 0..faces.triples().len() as u32 {
+        winding -= shadows.shadow(vertex, &faces.face(face));
     }
     winding
 }

@@ -1,0 +1,5 @@
+pub mod Numbers
+pub mod Order
+pub mod Rounds
+pub mod Rows
+pub mod Totals

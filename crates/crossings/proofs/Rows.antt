@@ -1,0 +1,57 @@
+-- The lists of hits, step by step.
+use Rattle.std.proofs.Common.{◌≡◌, ℕ, ◌+◌, ◌<◌, ◌≤◌, List, [], ◌∷◌, ◌++◌, Option, Some, None, true, false, nat_lt, filter, length, ap, sym, ◌∙◌, append-nil, append_assoc}
+use Rattle.std.specs.List.{cons_option, filter_map, flat_map}
+use Rattle.std.proofs.lemmas.Bool.{lt-ltb, le-ltb}
+use Rattle.std.proofs.lemmas.List.Elements.{filter_map-append}
+use Rattle.std.proofs.lemmas.List.Concat.{flat_map-append}
+use Rattle.chain_terms.specs.Chains.{all_edges}
+use Rattle.chain_terms.specs.Sums.{upto}
+use Rattle.chain_laws.specs.Ranks.{twin}
+use Rattle.chain_laws.proofs.Ascending.{filter-upto_yes, filter-upto_no}
+use Rattle.chain_laws.proofs.Places.{upto_more}
+use Rattle.mb_base.specs.declared.results.Hit.{Hit}
+use Rattle.edge_face.specs.declared.Cross.{Cross}
+use Rattle.lean.specs.Sides.{Side, edge_at, face_at}
+use Rattle.crossings.specs.Hits.{CrossTest, hit_of, hits_along, hits_of}
+
+-- the hits of one half-edge with the first n faces
+abbrev pub hits_to : CrossTest → Side → Side → ℕ → ℕ → List Hit
+hits_to test edges faces h n = filter_map (λ f. hit_of h f (test (edge_at edges h) (face_at faces f))) (upto n)
+
+-- one face more
+along_more : (test : CrossTest) (edges faces : Side) (h n : ℕ) → hits_to test edges faces h (n + 1) ≡ hits_to test edges faces h n ++ cons_option (hit_of h n (test (edge_at edges h) (face_at faces n))) []
+along_more test edges faces h n =
+    let f : ℕ → Option Hit = λ g. hit_of h g (test (edge_at edges h) (face_at faces g)) in
+    ap (filter_map f) (upto_more n) ∙ filter_map-append f (upto n) (n ∷ [])
+
+-- one without an answer
+pub along_none : (test : CrossTest) (edges faces : Side) (h n : ℕ) → None ≡ test (edge_at edges h) (face_at faces n) → hits_to test edges faces h (n + 1) ≡ hits_to test edges faces h n
+along_none test edges faces h n e =
+    along_more test edges faces h n ∙ ap (λ o. hits_to test edges faces h n ++ cons_option (hit_of h n o) []) (sym e) ∙ append-nil (hits_to test edges faces h n)
+
+-- one with an answer
+pub along_some : (test : CrossTest) (edges faces : Side) (h n : ℕ) (c : Cross) → Some c ≡ test (edge_at edges h) (face_at faces n) →
+    hits_to test edges faces h (n + 1) ≡ hits_to test edges faces h n ++ record { edge = h; face = n; number = c.number; at = c.at } ∷ []
+along_some test edges faces h n c e = along_more test edges faces h n ∙ ap (λ o. hits_to test edges faces h n ++ cons_option (hit_of h n o) []) (sym e)
+
+-- a push after what stands already
+pub pushed : (new old before row row' : List Hit) (h : Hit) → new ≡ old ++ h ∷ [] → old ≡ before ++ row → row' ≡ row ++ h ∷ [] → new ≡ before ++ row'
+pushed new old before row row' h e f g = let a = append_assoc before row (h ∷ []) in cc
+
+-- the hits of the first n half-edges
+abbrev pub hits_before : CrossTest → Side → Side → ℕ → List Hit
+hits_before test edges faces n = flat_map (hits_along test edges faces) (filter (λ h. nat_lt h (twin (all_edges edges.triples) h)) (upto n))
+
+-- one more, which is the lower one of its edge
+pub hits_lower : (test : CrossTest) (edges faces : Side) (n : ℕ) → n < twin (all_edges edges.triples) n → hits_before test edges faces (n + 1) ≡ hits_before test edges faces n ++ hits_along test edges faces n
+hits_lower test edges faces n h =
+    let lower = λ (k : ℕ). nat_lt k (twin (all_edges edges.triples) k) in
+    ap (flat_map (hits_along test edges faces)) (filter-upto_yes lower n (lt-ltb n (twin (all_edges edges.triples) n) h))
+    ∙ flat_map-append (hits_along test edges faces) (filter lower (upto n)) (n ∷ [])
+    ∙ ap (λ r. hits_before test edges faces n ++ r) (append-nil (hits_along test edges faces n))
+
+-- one more, which is the upper one
+pub hits_upper : (test : CrossTest) (edges faces : Side) (n : ℕ) → twin (all_edges edges.triples) n ≤ n → hits_before test edges faces (n + 1) ≡ hits_before test edges faces n
+hits_upper test edges faces n h =
+    let lower = λ (k : ℕ). nat_lt k (twin (all_edges edges.triples) k) in
+    ap (flat_map (hits_along test edges faces)) (filter-upto_no lower n (le-ltb n (twin (all_edges edges.triples) n) h))

@@ -1,0 +1,65 @@
+use Rattle.std.proofs.Common.{◌≡◌, ℕ, ℤ, ◌∷◌, [], List, length, get_or, refl, ap, sym, ◌∙◌, subst}
+use Rattle.chain_terms.specs.Chains.{all_edges}
+use Rattle.chain_laws.specs.Ranks.{start, finish}
+use Rattle.mb_base.specs.declared.results.Hit.{Hit}
+use Rattle.mesh_terms.specs.Meshes.{Triple}
+use Rattle.rounding.specs.Corners.{corner_at}
+use Rattle.shadow_kernels.specs.Counts.{shadow_of}
+use Rattle.lean.specs.Sides.{IsSide, edge_at, edge_of, face_at, face_of}
+use Rattle.lean.proofs.Corners.{corner_fine, edge_fine, face_fine}
+use Rattle.crossings.specs.Hits.{AreHits, CrossTest, hits_of}
+use Rattle.crossings.specs.Identities.{half_number, PairIdentity}
+use Rattle.crossings.proofs.Order.{AllListed, hits_in_order, listed_number}
+use Rattle.crossings.proofs.Rounds.{pairs_agree}
+use Rattle.crossings.proofs.sides.crossings.Goals as goal
+
+pub returns-clause-p_edges : goal.returns-clause-p_edges
+returns-clause-p_edges g c =
+    let k = c.args.kernels.now in
+    let p = c.args.p.now in
+    let q = c.args.q.now in
+    let p_side : IsSide p = c.twins.ensures.side in
+    let q_side : IsSide q = c.twins-2.ensures.side in
+    let test : CrossTest = g.K.Crosses-1.cross_of k in
+    let listed : AllListed test p q =
+    λ h f.
+      let a = edge_fine p.corners p_side.fine (start (all_edges p.triples) h) (finish (all_edges p.triples) h) in
+      let b = face_fine q.corners q_side.fine (get_or q.triples f (0, 0, 0)) in
+      listed_number (test (edge_at p h) (face_at q f)) (g.met.K.Crosses-1.present k (edge_at p h) (face_at q f) refl refl a b) (g.met.K.Crosses-1.size k (edge_at p h) (face_at q f) refl refl a b) in
+    subst (AreHits (all_edges p.triples) (length q.triples)) (sym c.in_ok-x12.ensures) (hits_in_order test p q listed)
+
+pub returns-clause-q_edges : goal.returns-clause-q_edges
+returns-clause-q_edges g c =
+    let k = c.args.kernels.now in
+    let p = c.args.p.now in
+    let q = c.args.q.now in
+    let p_side : IsSide p = c.twins.ensures.side in
+    let q_side : IsSide q = c.twins-2.ensures.side in
+    let test : CrossTest = λ edge face. g.K.Crosses-2.cross_of k face edge in
+    let listed : AllListed test q p =
+    λ h f.
+      let a = edge_fine q.corners q_side.fine (start (all_edges q.triples) h) (finish (all_edges q.triples) h) in
+      let b = face_fine p.corners p_side.fine (get_or p.triples f (0, 0, 0)) in
+      listed_number (test (edge_at q h) (face_at p f)) (g.met.K.Crosses-2.present k (face_at p f) (edge_at q h) refl refl b a) (g.met.K.Crosses-2.size k (face_at p f) (edge_at q h) refl refl b a) in
+    subst (AreHits (all_edges q.triples) (length p.triples)) (sym c.in_ok-x21.ensures) (hits_in_order test q p listed)
+
+pub returns-clause-pairs : goal.returns-clause-pairs
+returns-clause-pairs g c =
+    let k = c.args.kernels.now in
+    let p = c.args.p.now in
+    let q = c.args.q.now in
+    let p_side : IsSide p = c.twins.ensures.side in
+    let q_side : IsSide q = c.twins-2.ensures.side in
+    let test12 : CrossTest = g.K.Crosses-1.cross_of k in
+    let test21 : CrossTest = λ edge face. g.K.Crosses-2.cross_of k face edge in
+    let up : Triple → ℕ → ℤ = λ t v. shadow_of (g.K.Meets-5.meet_of k (corner_at p.corners v ∷ []) (face_of q.corners t)) in
+    let down : Triple → ℕ → ℤ = λ t v. shadow_of (g.K.Meets-6.meet_of k (face_of p.corners t) (corner_at q.corners v ∷ [])) in
+    let sides : (ℕ × ℕ) → (ℕ × ℕ) → ℤ = λ e d. shadow_of (g.K.Meets-4.meet_of k (edge_of p.corners e.0 e.1) (edge_of q.corners d.0 d.1)) in
+    let pc = corner_at p.corners in
+    let qc = corner_at q.corners in
+    let agree = pairs_agree p q test12 test21 up down sides p_side q_side
+    (λ t a b. g.met.K.Crosses-1.turn_p k (edge_of p.corners a b) (face_of q.corners t) refl refl refl (edge_fine p.corners p_side.fine a b) (face_fine q.corners q_side.fine t))
+    (λ t a b. g.met.K.Crosses-2.turn_q k (face_of p.corners t) (edge_of q.corners a b) refl refl refl (face_fine p.corners p_side.fine t) (edge_fine q.corners q_side.fine a b))
+    (λ t a b. g.met.K.Kernels.lift_12 k (pc a) (pc b) (qc t.0) (qc t.1) (qc t.2) (edge_fine p.corners p_side.fine a b) (face_fine q.corners q_side.fine t))
+    (λ t a b. g.met.K.Kernels.lift_21 k (pc t.0) (pc t.1) (pc t.2) (qc a) (qc b) (face_fine p.corners p_side.fine t) (edge_fine q.corners q_side.fine a b)) in
+    subst (λ (l : List Hit × List Hit). PairIdentity (length p.triples) (length q.triples) (half_number (all_edges p.triples) l.0) (half_number (all_edges q.triples) l.1)) (sym (ap (λ (l : List Hit). (l, c.in_ok-x21.x21.items)) c.in_ok-x12.ensures ∙ ap (λ (l : List Hit). (hits_of test12 p q, l)) c.in_ok-x21.ensures)) agree

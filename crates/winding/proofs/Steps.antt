@@ -1,0 +1,32 @@
+-- The size of shadows, and the sum of shadows face by face.
+use Rattle.std.proofs.Common.{arith, ◌≡◌, ◌<◌, ◌≤◌, ◌+◌, ◌++◌, ℕ, ℤ, pos, negsuc, neg_ℤ, ◌-ℤ◌, ◌≤ℤ◌, Bool, true, false, if◌then◌else◌, Option, Some, List, [], ◌∷◌, map, take, length, get_or, sym, ap, ◌∙◌}
+use Rattle.std.proofs.lemmas.Int.{ints}
+use Rattle.std.proofs.lemmas.List.{map_push, take_all, take_more}
+use Rattle.chain_terms.specs.Sums.{total}
+use Rattle.chain_laws.specs.Sums.{total_more}
+use Rattle.mesh_terms.specs.Meshes.{Triple}
+use Rattle.shadow_kernels.specs.declared.Meet.{Meet}
+use Rattle.shadow_kernels.specs.Counts.{count_of, shadow_of}
+
+-- the shadow of an answer is -1, 0 or 1 where the count is
+pub shadow_at : (o : Option Meet) (m : Meet) → Some m ≡ o → (negsuc 0 ≤ℤ count_of o) × (count_of o ≤ℤ pos 1) → (negsuc 0 ≤ℤ shadow_of (Some m)) × (shadow_of (Some m) ≤ℤ pos 1)
+shadow_at o m e h = by m.above m.count (rw (sym e) at h) where
+  by : (b : Bool) (n : ℤ) → (negsuc 0 ≤ℤ n) × (n ≤ℤ pos 1) → (negsuc 0 ≤ℤ (if b then n else pos 0)) × ((if b then n else pos 0) ≤ℤ pos 1)
+  by true n h = h
+  by false n h = (omega (arith, ints), omega (arith, ints))
+
+-- one face more
+pub one_more : (f : Triple → ℤ) (ts : List Triple) (i : ℕ) (sum shadow : ℤ) →
+    i < length ts → sum ≡ neg_ℤ (total f (take i ts)) → shadow ≡ f (get_or ts i (0, 0, 0)) → (sum -ℤ shadow) ≡ neg_ℤ (total f (take (i + 1) ts))
+one_more f ts i sum shadow h e s =
+    let more = total_more f ts i (0, 0, 0) h in omega (arith, ints, more, e, s)
+
+-- one value more
+pub map_more : {X : Type 0} (f : X → ℤ) (xs : List X) (i : ℕ) (d : X) (new old : List ℤ) (z : ℤ) →
+    i < length xs → new ≡ old ++ z ∷ [] → old ≡ map f (take i xs) → z ≡ f (get_or xs i d) → new ≡ map f (take (i + 1) xs)
+map_more f xs i d new old z h pushed before here =
+    pushed ∙ ap (λ l. l ++ z ∷ []) before ∙ ap (λ y. map f (take i xs) ++ y ∷ []) here ∙ sym (map_push f (take i xs) (get_or xs i d)) ∙ sym (ap (map f) (take_more xs i d h))
+
+-- all values
+pub map_all : {X : Type 0} (f : X → ℤ) (xs ys : List X) (i : ℕ) (zs : List ℤ) → length xs ≤ i → zs ≡ map f (take i xs) → xs ≡ ys → zs ≡ map f ys
+map_all f xs ys i zs h e same = e ∙ ap (map f) (take_all i xs h ∙ same)

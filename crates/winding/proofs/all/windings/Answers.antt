@@ -1,0 +1,68 @@
+use Rattle.std.proofs.Common.{◌≡◌, ℕ, ℤ, pos, neg_ℤ, ◌+ℤ◌, ◌∷◌, [], get_or, length, refl, arith, ap, ◌∙◌}
+use Rattle.std.proofs.lemmas.Int.{ints}
+use Rattle.chain_laws.specs.Chains.{IsOdd}
+use Rattle.mb_base.specs.declared.point.Corner.{Corner}
+use Rattle.mesh_terms.specs.Meshes.{Triple}
+use Rattle.rounding.specs.Corners.{corner_at}
+use Rattle.shadow_kernels.specs.Counts.{shadow_of}
+use Rattle.shadow_kernels.specs.Sizes.{turned_shadow}
+use Rattle.lean.specs.Sides.{IsSide, edge_of, face_of}
+use Rattle.lean.proofs.Corners.{edge_fine, face_fine}
+use Rattle.crossings.specs.Hits.{CrossTest}
+use Rattle.winding.specs.Windings.{winding, winding_back}
+use Rattle.winding.proofs.Identity.{edges_conserve, winding_listed}
+use Rattle.winding.proofs.all.windings.Goals as goal
+
+pub returns-clause-p_edges : goal.returns-clause-p_edges
+returns-clause-p_edges g c =
+    let k = c.args.kernels.now in
+    let p = c.args.p.now in
+    let q = c.args.q.now in
+    let p_side : IsSide p = c.twins.ensures.side in
+    let q_side : IsSide q = c.twins-2.ensures.side in
+    let pc = corner_at p.corners in
+    let qc = corner_at q.corners in
+    let test : CrossTest = g.K.Crosses-1.cross_of k in
+    let ends : Triple → ℕ → ℤ = λ t v. shadow_of (g.K.Meets-5.meet_of k (pc v ∷ []) (face_of q.corners t)) in
+    let sides : ℕ → ℕ → (ℕ × ℕ) → ℤ = λ a b e. shadow_of (g.K.Meets-4.meet_of k (edge_of p.corners a b) (edge_of q.corners e.0 e.1)) in
+    let odd : (a b : ℕ) → IsOdd (λ x y. sides a b (x, y)) =
+    λ a b.
+      record {
+        turns = λ x y.
+            let edge = edge_of q.corners x y in
+            let reverse = ap shadow_of (g.met.K.Meets-4.reverse_q k (edge_of p.corners a b) edge 0 1 (omega arith) (omega arith) refl refl (edge_fine p.corners p_side.fine a b) (edge_fine q.corners q_side.fine x y)) in
+            let turn = turned_shadow (g.K.Meets-4.meet_of k (edge_of p.corners a b) edge) in
+            omega (arith, ints, reverse, turn);
+      } in
+    edges_conserve p q test ends sides c.args.hits.now.x12.items (λ v. get_or c.in_ok-w03.w03.items v (pos 0)) p_side q_side
+    (λ t a b. g.met.K.Crosses-1.turn_p k (edge_of p.corners a b) (face_of q.corners t) refl refl refl (edge_fine p.corners p_side.fine a b) (face_fine q.corners q_side.fine t))
+    (λ t a b. g.met.K.Kernels.lift_12 k (pc a) (pc b) (qc t.0) (qc t.1) (qc t.2) (edge_fine p.corners p_side.fine a b) (face_fine q.corners q_side.fine t))
+    odd c.requires.x12
+    (winding_listed (λ v. winding (g.K.Meets-5.meet_of k) v q) p.corners c.in_ok-w03.w03.items c.in_ok-w03.ensures.value)
+
+pub returns-clause-q_edges : goal.returns-clause-q_edges
+returns-clause-q_edges g c =
+    let k = c.args.kernels.now in
+    let p = c.args.p.now in
+    let q = c.args.q.now in
+    let p_side : IsSide p = c.twins.ensures.side in
+    let q_side : IsSide q = c.twins-2.ensures.side in
+    let pc = corner_at p.corners in
+    let qc = corner_at q.corners in
+    let test : CrossTest = λ edge face. g.K.Crosses-2.cross_of k face edge in
+    let ends : Triple → ℕ → ℤ = λ t v. shadow_of (g.K.Meets-6.meet_of k (face_of p.corners t) (qc v ∷ [])) in
+    let sides : ℕ → ℕ → (ℕ × ℕ) → ℤ = λ a b e. shadow_of (g.K.Meets-4.meet_of k (edge_of p.corners e.0 e.1) (edge_of q.corners a b)) in
+    let odd : (a b : ℕ) → IsOdd (λ x y. sides a b (x, y)) =
+    λ a b.
+      record {
+        turns = λ x y.
+            let edge = edge_of p.corners x y in
+            let reverse = ap shadow_of (g.met.K.Meets-4.reverse_p k edge (edge_of q.corners a b) 0 1 (omega arith) (omega arith) refl refl (edge_fine p.corners p_side.fine x y) (edge_fine q.corners q_side.fine a b)) in
+            let turn = turned_shadow (g.K.Meets-4.meet_of k edge (edge_of q.corners a b)) in
+            omega (arith, ints, reverse, turn);
+      } in
+    edges_conserve q p test ends sides c.args.hits.now.x21.items (λ v. get_or c.in_ok-w30.w30.items v (pos 0)) q_side p_side
+    (λ t a b. g.met.K.Crosses-2.turn_q k (face_of p.corners t) (edge_of q.corners a b) refl refl refl (face_fine p.corners p_side.fine t) (edge_fine q.corners q_side.fine a b))
+    (λ t a b. g.met.K.Kernels.lift_21 k (pc t.0) (pc t.1) (pc t.2) (qc a) (qc b) (face_fine p.corners p_side.fine t) (edge_fine q.corners q_side.fine a b))
+    odd c.requires.x21
+    (winding_listed (λ v. winding_back (g.K.Meets-6.meet_of k) p v) q.corners c.in_ok-w30.w30.items c.in_ok-w30.ensures.value)

@@ -1,0 +1,52 @@
+// Vertices of either side against the faces of the other.
+ghost use Rattle.std.specs.Prelude.{◌≡◌, ◌∷◌, [], ℤ, ◌≤ℤ◌, pos, negsuc, List};
+ghost use Rattle.mb_base.specs.declared.point.Corner.{Corner};
+ghost use Rattle.rounding.specs.Corners.{AllFine, IsFineCorner};
+ghost use Rattle.shadow_kernels.specs.Counts.{shadow_of};
+
+use mb_base::Corner;
+use shadow_kernels::Meets;
+
+/// What tells the shadow of a vertex of one side on a face of the other.
+pub trait VertexFace {
+    /// What `shadow` answers.
+    ghost cast_of: { Self → Corner → List Corner → ℤ };
+
+    /// The shadow: -1, 0 or 1.
+    fn shadow(&self, vertex: &Corner, face: &[Corner; 3]) -> i64
+        requires vertex_fine { IsFineCorner vertex.now }
+        requires face_fine { AllFine face.now }
+        ensures value { result ≡ cast_of self.now vertex.now face.now }
+        ensures low { negsuc 0 ≤ℤ result }
+        ensures high { result ≤ℤ pos 1 };
+}
+
+/// The vertices of P and the faces of Q.
+#[derive(Drop)]
+pub struct PVertices<'a, K>(pub &'a K);
+
+impl<K: Meets<1, 3>> VertexFace for PVertices<'_, K> {
+    ghost cast_of = { λ s vertex face. shadow_of (K.meet_of s.0.now (vertex ∷ []) face) };
+
+    fn shadow(&self, vertex: &Corner, face: &[Corner; 3]) -> i64 {
+        match self.0.meet(&[*vertex], face) {
+            None => 0,
+            Some(meet) => meet.shadow() as i64,
+        }
+    }
+}
+
+/// The vertices of Q and the faces of P.
+#[derive(Drop)]
+pub struct QVertices<'a, K>(pub &'a K);
+
+impl<K: Meets<3, 1>> VertexFace for QVertices<'_, K> {
+    ghost cast_of = { λ s vertex face. shadow_of (K.meet_of s.0.now face (vertex ∷ [])) };
+
+    fn shadow(&self, vertex: &Corner, face: &[Corner; 3]) -> i64 {
+        match self.0.meet(face, &[*vertex]) {
+            None => 0,
+            Some(meet) => meet.shadow() as i64,
+        }
+    }
+}
