@@ -13,9 +13,9 @@ use Rattle.chain_laws.specs.Chains.{IsOdd, along, SameChain, dir-append, same_bo
 use Rattle.chain_laws.specs.Sums.{total-append}
 use Rattle.chain_laws.specs.Triples.{edges-turned}
 use Rattle.mesh_terms.specs.Meshes.{Triple}
-use Rattle.mesh_check.specs.Orientations.{least_first, pair_number, edge_of, orientation_edge, orientation_edges, IsNarrow}
+use Rattle.mesh_check.specs.Orientations.{least_first, pair_number, edge_of, orientation_edge, orientation_edges, IsNarrow, IsTriangle}
 use Rattle.mesh_check.specs.Reduced.{same_way, opposite, is_kept, kept_from, kept_triples, NoOpposite}
-use Rattle.mesh_check.proofs.Orientations.{IsTriangle, turn, from_least, least_narrow, same_count, opposite_count, opposite_edge}
+use Rattle.mesh_check.proofs.Orientations.{turn, from_least, least_narrow, same_count, opposite_count, opposite_edge}
 
 -- of an orientation with r members before and m opposite ones, one more is kept where r is not below m
 step : (k e : Bool) (m r d rest : ℕ) → (e ≡ true → k ≡ nat_le m r) → rest + (r + one_if e - m) ≡ r + one_if e + d - m → cond k (one_if e) 0 + rest + (r - m) ≡ r + (one_if e + d) - m
