@@ -1,9 +1,9 @@
 -- Two sorted lists, of edges and of the same edges turned, read side by side: the k-th from a to b goes with the k-th from b to a.
-use Rattle.std.proofs.Common.{◌≡◌, ◌≢◌, ◌<◌, ◌≤◌, ◌+◌, ◌-◌, ◌⊎◌, inl, inr, ℕ, zero, suc, min, Bool, true, false, List, [], ◌∷◌, length, get_or, set, map, replicate, refl, sym, ◌∙◌, ap, subst, arith, below_more, get_or-set_other, get_or-set_same}
+use Rattle.std.proofs.Common.{◌≡◌, ◌≢◌, ◌<◌, ◌≤◌, ◌+◌, ◌-◌, ◌⊎◌, inl, inr, ℕ, suc, min, Bool, true, false, List, [], ◌∷◌, length, get_or, set, replicate, refl, sym, ◌∙◌, ap, subst, arith, below_more, get_or-set_other, get_or-set_same}
 use Rattle.std.specs.Prelude.{nat_le}
 use Rattle.std.proofs.lemmas.Bool.{cases_Bool, cases_lt}
 use Rattle.std.proofs.lemmas.Bool.Decides.{nat_tests}
-use Rattle.std.proofs.lemmas.List.{get_or-map, get_or_default, get_or-replicate, get_or_past, length-map, length-replicate, length-set, same_lists}
+use Rattle.std.proofs.lemmas.List.{get_or-map, get_or_default, get_or-replicate, get_or_past, length-map, length-replicate, same_lists}
 use Rattle.chain_terms.specs.Chains.{dir, is_edge, one_if}
 use Rattle.chain_terms.specs.Sums.{upto}
 use Rattle.chain_laws.specs.Chains.{backward, turned_edge, dir-backward}

@@ -1,9 +1,9 @@
 -- Marks of the triples that are kept, and the members with a mark.
 use Rattle.std.proofs.Common.{◌≡◌, ◌<◌, ◌≤◌, ◌+◌, ℕ, zero, suc, Bool, true, false, cond, List, [], ◌∷◌, ◌++◌, length, get_or, take, map, refl, sym, ◌∙◌, ap, subst, arith}
 use Rattle.std.specs.Prelude.{nat_le, count_by}
-use Rattle.std.specs.List.{All, Contains}
+use Rattle.std.specs.List.{All}
 use Rattle.std.proofs.Math.Seq.{get_or-append_seam}
-use Rattle.std.proofs.lemmas.List.{append_assoc, append-nil, get_or-map, length-append, length-map, map-append, same_lists, take-map}
+use Rattle.std.proofs.lemmas.List.{append_assoc, append-nil, get_or-map, length-append, length-map, same_lists, take-map}
 use Rattle.std.proofs.lemmas.List.Elements.{All-take}
 use Rattle.chain_terms.specs.Chains.{is_edge, dir}
 use Rattle.chain_terms.specs.Sums.{upto, up_from}
@@ -12,7 +12,7 @@ use Rattle.chain_laws.proofs.Places.{get_or-up_from, length-up_from}
 use Rattle.mesh_terms.specs.Meshes.{Triple}
 use Rattle.mesh_check.specs.Cancelling.{is_left, left_marks, kept_marks, picked}
 use Rattle.mesh_check.specs.Orientations.{orientation_edge, orientation_edges, IsTriangle}
-use Rattle.mesh_check.specs.Reduced.{same_way, opposite, is_kept, kept_from, kept_triples, NoOpposite}
+use Rattle.mesh_check.specs.Reduced.{same_way, opposite, is_kept, kept_from, kept_triples}
 use Rattle.mesh_check.proofs.Orientations.{same_count, opposite_count}
 
 -- a rank of edges is a count of the first ones

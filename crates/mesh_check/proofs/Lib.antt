@@ -1,9 +1,9 @@
-pub mod Cancelling
 mod Examples
+pub mod Across
+pub mod Cancelling
 pub mod Kept
 pub mod KeptMarks
 pub mod OpenPair
-pub mod Opposites
 pub mod Orientations
 pub mod ReducedMesh
 pub mod SideSteps

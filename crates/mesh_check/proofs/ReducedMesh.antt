@@ -1,5 +1,5 @@
 -- The reduced mesh: closed, without opposite triples, and the mesh itself where nothing is removed.
-use Rattle.std.proofs.Common.{◌≡◌, ◌≢◌, ◌<◌, ◌≤◌, ◌+◌, ◌⊎◌, inl, inr, ℕ, ℤ, Bool, true, false, List, [], ◌∷◌, length, get_or, map, refl, sym, ◌∙◌, ap, subst, arith}
+use Rattle.std.proofs.Common.{◌≡◌, ◌<◌, inl, inr, ℕ, ℤ, true, List, length, get_or, sym, ◌∙◌, ap, arith}
 use Rattle.std.specs.Prelude.{◌==◌, ◌&&◌, ◌||◌}
 use Rattle.std.specs.List.{All, Contains}
 use Rattle.std.proofs.lemmas.Bool.{cases_eq, eq-eqb, ne_eqb}
@@ -7,13 +7,13 @@ use Rattle.std.proofs.lemmas.List.{get_or-map, get_or_default, length-map}
 use Rattle.std.proofs.lemmas.List.Elements.{All-contains}
 use Rattle.chain_terms.specs.Chains.{all_edges, IsClosed}
 use Rattle.chain_laws.specs.Triples.{closed-renamed_triples}
-use Rattle.mesh_terms.specs.Meshes.{Triple, HasThree, IsMesh, IsBelow, is_used, used_from, new_number, renumbered, soup_of}
+use Rattle.mesh_terms.specs.Meshes.{Triple, HasThree, IsMesh, IsBelow, is_used, new_number, renumbered, soup_of}
 use Rattle.unused_points.specs.Used.{IsSound}
 use Rattle.unused_points.proofs.AllUsed.{soup_of-all}
 use Rattle.unused_points.proofs.KeptMesh.{numbered}
 use Rattle.unused_points.proofs.Numbers.{number_known, AreUsed, all_used}
 use Rattle.mesh_check.specs.Orientations.{IsTriangle}
-use Rattle.mesh_check.specs.Reduced.{same_triple, opposite, kept_triples, reduced, NoOpposite}
+use Rattle.mesh_check.specs.Reduced.{opposite, kept_triples, reduced, NoOpposite}
 use Rattle.mesh_check.proofs.Kept.{kept_all, length-kept, kept_no_opposite, kept_closed}
 
 -- the triples of a mesh are triangles below 2^32

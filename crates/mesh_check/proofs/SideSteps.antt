@@ -1,19 +1,17 @@
 -- Oriented triangles one after the other, and how they compare.
-use Rattle.std.proofs.Common.{◌≡◌, ◌<◌, ◌≤◌, ◌+◌, ℕ, zero, suc, Bool, true, false, List, [], ◌∷◌, ◌++◌, length, get_or, take, map, is_lt, refl, sym, ◌∙◌, ap, subst, arith}
+use Rattle.std.proofs.Common.{◌≡◌, ◌<◌, ◌+◌, ℕ, suc, true, false, List, [], ◌∷◌, ◌++◌, length, get_or, take, map, is_lt, refl, sym, ◌∙◌, ap, subst, arith}
 use Rattle.std.specs.Ordering.{nat_cmp, ordering_then}
 use Rattle.std.specs.declared.cmp.Ordering.{Ordering}
 use Rattle.std.specs.declared.cmp.Ordering.TheVariants.{Less, Equal, Greater}
 use Rattle.std.specs.List.{All}
 use Rattle.std.specs.List.Sorted.{IsPermutation, IsSorted}
 use Rattle.std.proofs.lemmas.Bool.Decides.{nat_tests}
-use Rattle.std.proofs.lemmas.List.{get_or-map, get_or_default, length-map, length-take-le, map-append, take_more}
-use Rattle.std.proofs.lemmas.List.Elements.{All-append, All-cons, All-map, All-nil}
+use Rattle.std.proofs.lemmas.List.{get_or-map, length-map, length-take-le, map-append, take_more}
+use Rattle.std.proofs.lemmas.List.Elements.{All-map}
 use Rattle.std.proofs.lemmas.List.Sorted.{IsPermutation-map, All-permutation, length_permutation}
-use Rattle.chain_terms.specs.Chains.{is_edge}
-use Rattle.chain_laws.specs.Chains.{backward}
 use Rattle.mesh_terms.specs.Meshes.{Triple, triple_of, triples_of}
 use Rattle.mesh_terms.specs.OpenEdges.{is_lesser}
-use Rattle.halfedge.specs.Pairing.{Half, numbered, turned, half_cmp, half_at, ends, AreSorted}
+use Rattle.halfedge.specs.Pairing.{Half, numbered, turned, half_cmp, AreSorted}
 use Rattle.halfedge.proofs.Positions.{length-numbered, numbered_at}
 use Rattle.halfedge.proofs.TwinPlaces.{turned-numbered}
 use Rattle.mesh_check.specs.declared.oriented.Oriented.{Oriented}

@@ -1,11 +1,11 @@
-use Rattle.std.proofs.Common.{◌≡◌, ◌<◌, ◌≤◌, ◌+◌, ◌⊎◌, inl, inr, ℕ, Bool, false, List, length, get_or, set, sym, ◌∙◌, ap, subst, arith, Less, Equal, Greater}
+use Rattle.std.proofs.Common.{◌≡◌, ◌<◌, ◌≤◌, ◌+◌, ◌⊎◌, inl, inr, ℕ, Bool, false, List, length, get_or, set, sym, ◌∙◌, ap, subst, arith}
 use Rattle.std.specs.declared.cmp.Ordering.{Ordering}
 use Rattle.std.proofs.lemmas.List.{get_or-map, length-map, length-set}
 use Rattle.mesh_terms.specs.OpenEdges.{is_lesser}
 use Rattle.halfedge.specs.Pairing.{Half, half_at, ends, AreSorted}
 use Rattle.mesh_check.specs.declared.oriented.Oriented.{Oriented}
 use Rattle.mesh_check.specs.Cancelling.{vertices_of, half_of, halves_of}
-use Rattle.mesh_check.specs.Orientations.{edge_of, IsNarrow}
+use Rattle.mesh_check.specs.Orientations.{edge_of}
 use Rattle.mesh_check.proofs.Cancelling.{IsRead, AreAt, read_less, read_more, read_same, read_to_end}
 use Rattle.mesh_check.proofs.SideSteps.{vertices_cmp, edge_less, edge_more, edge_equal}
 use Rattle.mesh_check.proofs.cancel.marks_left.Goals as goal

@@ -1,4 +1,4 @@
-use Rattle.std.proofs.Common.{◌≡◌, ap, ◌∙◌, map}
+use Rattle.std.proofs.Common.{ap, ◌∙◌, map}
 use Rattle.mesh_terms.specs.Meshes.{triples_of}
 use Rattle.mesh_check.specs.Cancelling.{turned_over}
 use Rattle.mesh_check.specs.Orientations.{orientation_edges}

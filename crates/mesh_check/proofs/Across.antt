@@ -1,26 +1,23 @@
 -- Where no two half-edges run the same way, a triangle's opposite lies across its first edge, with the same third vertex.
-use Rattle.std.proofs.Common.{◌≡◌, ◌≢◌, ◌<◌, ◌≤◌, ◌+◌, ◌*◌, ◌/◌, ◌%◌, ◌⊎◌, inl, inr, ℕ, zero, suc, Bool, true, false, cond, List, [], ◌∷◌, ◌++◌, length, get_or, refl, sym, ◌∙◌, ap, subst, arith}
-use Rattle.std.specs.Prelude.{◌==◌, ◌&&◌, ◌||◌, nat_le, take, count_by}
+use Rattle.std.proofs.Common.{◌≡◌, ◌≢◌, ◌<◌, ◌+◌, ◌*◌, ◌/◌, ◌%◌, inl, inr, ℕ, zero, suc, Bool, true, false, cond, List, [], ◌∷◌, ◌++◌, length, get_or, refl, sym, ◌∙◌, ap, subst, arith}
+use Rattle.std.specs.Prelude.{◌||◌, nat_le, take, count_by}
 use Rattle.std.specs.List.{All, Contains}
 use Rattle.std.proofs.lemmas.Bool.{cases_order, false≢true}
 use Rattle.std.proofs.lemmas.Bool.Decides.{nat_tests}
 use Rattle.std.proofs.lemmas.List.{get_or_default}
 use Rattle.std.proofs.lemmas.List.Elements.{All-contains_itself, All-head, All-tail, All-weaker}
-use Rattle.chain_terms.specs.Chains.{is_edge, dir, all_edges, IsClosed}
+use Rattle.chain_terms.specs.Chains.{is_edge, all_edges, IsClosed}
 use Rattle.chain_laws.specs.Chains.{same_edge, is_self, dir-count_by}
-use Rattle.chain_laws.specs.Firsts.{Passing, passing}
-use Rattle.chain_laws.specs.Ranks.{rank, start, finish, twin, RunsBack}
+use Rattle.chain_laws.specs.Firsts.{passing}
+use Rattle.chain_laws.specs.Ranks.{start, finish, twin}
 use Rattle.chain_laws.proofs.Ranks.{rank_lower, rank_below}
 use Rattle.chain_laws.proofs.Twins.{twin_runs_back}
-use Rattle.mesh_terms.specs.Meshes.{Triple, triple_of, triples_of}
+use Rattle.mesh_terms.specs.Meshes.{Triple, triples_of}
 use Rattle.halfedge.specs.Halves.{next_half}
 use Rattle.halfedge.specs.Laws.{AreSingle}
 use Rattle.halfedge.proofs.Edges.{length-all_edges}
-use Rattle.mesh_check.specs.Reduced.{same_triple, same_way, opposite, is_kept, kept_from, kept_triples, NoOpposite}
-
--- the vertex of its triangle that a half-edge does not touch
-abbrev pub third_vertex : List Triple → ℕ → ℕ
-third_vertex ts h = start (all_edges ts) (next_half (next_half h))
+use Rattle.mesh_check.specs.Opposites.{third_vertex}
+use Rattle.mesh_check.specs.Reduced.{same_triple, same_way, opposite, kept_from, kept_triples, NoOpposite}
 
 -- two half-edges that run the same way, of which the first is earlier
 not_earlier : (es : List (ℕ × ℕ)) → AreSingle es → (g h : ℕ) → g < h → h < length es → start es g ≡ start es h → finish es g ≡ finish es h → ⊥
