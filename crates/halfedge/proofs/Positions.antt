@@ -14,7 +14,7 @@ use Rattle.chain_terms.specs.Chains.{is_edge, one_if}
 use Rattle.chain_laws.specs.Counts.{one_if-true, one_if-false, count_by-cons}
 use Rattle.chain_laws.specs.Ranks.{rank, start, finish, runs_as}
 use Rattle.mesh_terms.specs.OpenEdges.{is_lesser}
-use Rattle.halfedge.specs.Pairing.{Half, numbered, half_at, half_cmp}
+use Rattle.halfedge.specs.Pairing.{Half, numbered, half_at, half_cmp, ends}
 
 -- where no member from place i on passes, at most i do
 pub count_at_most : {X : Type 0} (p : X → Bool) (xs : List X) (i : ℕ) → ((j : ℕ) (d : X) → i ≤ j → j < length xs → p (get_or xs j d) ≡ false) → count_by p xs ≤ i
@@ -173,6 +173,13 @@ holds_at es xs moved i below = of_member (Contains-permutation xs (numbered 0 es
           within = within;
           is = λ d. get_or_default xs i d (0, 0, 0) below ∙ sym e ∙ numbered_at 0 es j (get_or xs i (0, 0, 0)) within ∙ ap (λ n. (start es j, finish es j, n)) first;
         }
+
+-- a place of the sorted list has the ends of its half-edge
+pub ends_placed : (es : List (ℕ × ℕ)) (xs : List Half) → IsPermutation (numbered 0 es) xs → (i : ℕ) → i < length xs → ends (get_or xs i (0, 0, 0)) ≡ (start es (half_at xs i), finish es (half_at xs i))
+ends_placed es xs moved i below =
+    let held = holds_at es xs moved i below in
+    let at : ℕ → ℕ × ℕ = λ h. (start es h, finish es h) in
+    ap ends (held.is (0, 0, 0)) ∙ ap at (sym (ap (λ (c : Half). c.2) (held.is (0, 0, 0))))
 
 -- each half-edge has a place in the sorted list
 pub place_of : (es : List (ℕ × ℕ)) (xs : List Half) → IsPermutation (numbered 0 es) xs → (h : ℕ) → h < length es → (i : ℕ) × (i < length xs) × (half_at xs i ≡ h)

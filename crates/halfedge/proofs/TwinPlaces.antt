@@ -33,19 +33,19 @@ lesser_more : (e x y : ℕ × ℕ) → is_lesser x y ≡ true → one_if (is_les
 lesser_more e x y less = grind (arith, nat_tests, less)
 
 -- so at least as many edges are lesser than y
-lesser_count_more : (es : List (ℕ × ℕ)) (x y : ℕ × ℕ) → is_lesser x y ≡ true → lesser_count es x + dir es x.0 x.1 ≤ lesser_count es y
+pub lesser_count_more : (es : List (ℕ × ℕ)) (x y : ℕ × ℕ) → is_lesser x y ≡ true → lesser_count es x + dir es x.0 x.1 ≤ lesser_count es y
 lesser_count_more [] x y less = omega arith
 lesser_count_more (e ∷ es) x y less =
     omega (arith, count_by-cons (λ d. is_lesser d x) e es, count_by-cons (λ d. is_lesser d y) e es, lesser_more e x y less, lesser_count_more es x y less)
 
 -- some of the first run from a to b, all do not more often
-rank_at_most : (es : List (ℕ × ℕ)) (a b m : ℕ) → rank (λ e. is_edge e a b) es m ≤ dir es a b
+pub rank_at_most : (es : List (ℕ × ℕ)) (a b m : ℕ) → rank (λ e. is_edge e a b) es m ≤ dir es a b
 rank_at_most [] a b m = omega arith
 rank_at_most (e ∷ es) a b zero = omega arith
 rank_at_most (e ∷ es) a b (suc m) = omega (arith, rank_at_most es a b m)
 
 -- one more place has at most one more
-rank_suc : {X : Type 0} (p : X → Bool) (xs : List X) (m : ℕ) → rank p xs (suc m) ≤ rank p xs m + 1
+pub rank_suc : {X : Type 0} (p : X → Bool) (xs : List X) (m : ℕ) → rank p xs (suc m) ≤ rank p xs m + 1
 rank_suc p [] m = omega arith
 rank_suc p (x ∷ []) zero = one_at_most (p x)
   where

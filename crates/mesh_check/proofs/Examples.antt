@@ -1,7 +1,7 @@
 -- Small lists of triples, reduced.
-use Rattle.std.proofs.Common.{◌≡◌, List, [], ◌∷◌, length, refl}
+use Rattle.std.proofs.Common.{◌≡◌, List, [], ◌∷◌, refl}
 use Rattle.mesh_terms.specs.Meshes.{Triple}
-use Rattle.mesh_check.specs.Reduced.{kept_triples, reduced}
+use Rattle.mesh_check.specs.Reduced.{kept_triples}
 
 -- a two-sided triangle goes
 two_sided : kept_triples ((0, 1, 2) ∷ (0, 2, 1) ∷ []) ≡ []

@@ -1,5 +1,5 @@
 -- Which triples stay: how many of each orientation, no opposite ones, and edges that stay closed.
-use Rattle.std.proofs.Common.{◌≡◌, ◌<◌, ◌≤◌, ◌+◌, ◌-◌, ◌*◌, ◌/◌, ◌%◌, ℕ, suc, ℤ, pos, Bool, true, false, cond, List, [], ◌∷◌, ◌++◌, length, take, refl, sym, ◌∙◌, ap, subst, arith}
+use Rattle.std.proofs.Common.{◌≡◌, ◌<◌, ◌≤◌, ◌+◌, ◌-◌, ◌/◌, ◌%◌, ℕ, suc, ℤ, Bool, true, false, cond, List, [], ◌∷◌, ◌++◌, length, take, refl, sym, ◌∙◌, ap, subst, arith}
 use Rattle.std.specs.Prelude.{◌+ℤ◌, nat_le, count_by}
 use Rattle.std.specs.List.{All, Contains}
 use Rattle.std.proofs.lemmas.Bool.{cond_both}
@@ -7,15 +7,14 @@ use Rattle.std.proofs.lemmas.Bool.Decides.{nat_tests}
 use Rattle.std.proofs.lemmas.Int.{ints}
 use Rattle.std.proofs.lemmas.List.{append_assoc, get_or-map, length-append, length-map}
 use Rattle.std.proofs.lemmas.List.Elements.{All-append, All-cons, All-contains, All-head, All-nil, All-tail}
-use Rattle.chain_terms.specs.Chains.{is_edge, dir, one_if, edges, all_edges, IsClosed, boundary}
+use Rattle.chain_terms.specs.Chains.{is_edge, dir, one_if, edges, all_edges, IsClosed}
 use Rattle.chain_terms.specs.Sums.{total}
-use Rattle.chain_laws.specs.Chains.{IsOdd, along, SameChain, dir-append, same_boundary, odd_sum, closed_from_sums, edge_is, dir_some}
-use Rattle.chain_laws.specs.Sums.{total-append}
+use Rattle.chain_laws.specs.Chains.{IsOdd, along, SameChain, same_boundary, odd_sum, closed_from_sums, edge_is, dir_some}
 use Rattle.chain_laws.specs.Triples.{edges-turned}
 use Rattle.mesh_terms.specs.Meshes.{Triple}
-use Rattle.mesh_check.specs.Orientations.{least_first, pair_number, edge_of, orientation_edge, orientation_edges, IsNarrow}
+use Rattle.mesh_check.specs.Orientations.{least_first, pair_number, edge_of, orientation_edge, orientation_edges, IsNarrow, IsTriangle}
 use Rattle.mesh_check.specs.Reduced.{same_way, opposite, is_kept, kept_from, kept_triples, NoOpposite}
-use Rattle.mesh_check.proofs.Orientations.{IsTriangle, turn, from_least, least_narrow, same_count, opposite_count, opposite_edge}
+use Rattle.mesh_check.proofs.Orientations.{turn, from_least, least_narrow, same_count, opposite_count, opposite_edge}
 
 -- of an orientation with r members before and m opposite ones, one more is kept where r is not below m
 step : (k e : Bool) (m r d rest : ℕ) → (e ≡ true → k ≡ nat_le m r) → rest + (r + one_if e - m) ≡ r + one_if e + d - m → cond k (one_if e) 0 + rest + (r - m) ≡ r + (one_if e + d) - m

@@ -1,4 +1,9 @@
 mod Examples
+pub mod Across
+pub mod Cancelling
 pub mod Kept
+pub mod KeptMarks
 pub mod OpenPair
 pub mod Orientations
+pub mod ReducedMesh
+pub mod SideSteps

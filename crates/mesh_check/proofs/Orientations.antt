@@ -1,5 +1,5 @@
 -- Triples have one orientation where they are the same from the least vertex on.
-use Rattle.std.proofs.Common.{◌≡◌, ◌≢◌, ◌<◌, ◌⊎◌, inl, inr, ℕ, Bool, true, false, List, [], ◌∷◌, refl, sym, ◌∙◌, ap, arith}
+use Rattle.std.proofs.Common.{◌≡◌, ◌<◌, Bool, true, false, List, [], ◌∷◌, refl, sym, ◌∙◌, ap, arith}
 use Rattle.std.specs.Prelude.{◌==◌, ◌&&◌, ◌||◌, nat_lt, count_by, if◌then◌else◌}
 use Rattle.std.specs.List.{All}
 use Rattle.std.proofs.lemmas.Bool.Decides.{nat_tests}
@@ -9,13 +9,8 @@ use Rattle.chain_terms.specs.Chains.{is_edge, dir, one_if}
 use Rattle.chain_laws.specs.Chains.{and_turned}
 use Rattle.chain_laws.specs.Counts.{count_by-cons}
 use Rattle.mesh_terms.specs.Meshes.{Triple, HasThree}
-use Rattle.mesh_check.specs.Orientations.{least_first, other_side, edge_of, orientation_edge, orientation_edges, IsNarrow}
+use Rattle.mesh_check.specs.Orientations.{least_first, other_side, edge_of, orientation_edge, orientation_edges, IsNarrow, IsTriangle}
 use Rattle.mesh_check.specs.Reduced.{same_triple, same_way, opposite}
-
--- three different vertices below 2^32
-pub record IsTriangle (t : Triple) : Type 0 where
-  pub three : HasThree t
-  pub narrow : IsNarrow t
 
 -- the first vertex is the least
 record IsLeastFirst (u : Triple) : Type 0 where

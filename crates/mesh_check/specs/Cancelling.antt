@@ -1,5 +1,5 @@
 -- Oriented triangles as half-edges, and which are left when each goes with one of the other orientation.
-use Rattle.std.specs.Prelude.{ℕ, List, Bool, nat_le, length, get_or, map}
+use Rattle.std.specs.Prelude.{ℕ, List, [], ◌∷◌, ◌++◌, Bool, cond, nat_le, length, get_or, map}
 use Rattle.chain_terms.specs.Chains.{dir}
 use Rattle.chain_terms.specs.Sums.{upto}
 use Rattle.chain_laws.specs.Ranks.{rank, start, finish, runs_as}
@@ -34,3 +34,9 @@ left_marks es = map (is_left es) (upto (length es))
 -- for each triple whether it is kept
 abbrev pub kept_marks : List Triple → List Bool
 kept_marks ts = map (λ i. is_kept ts i (get_or ts i (0, 0, 0))) (upto (length ts))
+
+-- the members with a mark
+abbrev pub picked : {X : Type 0} → List Bool → List X → List X
+picked [] xs = []
+picked (m ∷ ms) [] = []
+picked (m ∷ ms) (x ∷ xs) = cond m (x ∷ []) [] ++ picked ms xs

@@ -1,3 +1,4 @@
 pub mod Cancelling
+pub mod Opposites
 pub mod Orientations
 pub mod Reduced

@@ -1,6 +1,6 @@
 -- Triples from their least vertex on, and orientations as directed edges: the other orientation is the reverse edge.
 use Rattle.std.specs.Prelude.{ℕ, ◌+◌, ◌*◌, ◌<◌, List, ◌&&◌, nat_lt, if◌then◌else◌, map}
-use Rattle.mesh_terms.specs.Meshes.{Triple}
+use Rattle.mesh_terms.specs.Meshes.{Triple, HasThree}
 
 -- from the least vertex on
 abbrev pub least_first : Triple → Triple
@@ -31,3 +31,8 @@ pub record IsNarrow (t : Triple) : Type 0 where
   pub a : t.0 < 4294967296
   pub b : t.1 < 4294967296
   pub c : t.2 < 4294967296
+
+-- three different vertices below 2^32
+pub record IsTriangle (t : Triple) : Type 0 where
+  pub three : HasThree t
+  pub narrow : IsNarrow t

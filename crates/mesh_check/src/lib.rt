@@ -4,6 +4,7 @@
 
 mod cancel;
 mod mesh;
+mod opposites;
 mod oriented;
 mod reduction;
 mod sides;

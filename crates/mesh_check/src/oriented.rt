@@ -1,11 +1,7 @@
 // Triangles by their vertices, which say the orientation.
-ghost use Rattle.std.specs.Prelude.{◌≡◌, ◌≤◌, ℕ, List, IfOk, length, map};
-ghost use Rattle.halfedge.specs.Pairing.{numbered};
-ghost use Rattle.mesh_terms.specs.Meshes.{triple_of, triples_of};
-ghost use Rattle.mesh_check.specs.Orientations.{least_first, orientation_edges};
-
-use mb_base::NoMemory;
-use std::alloc::Global;
+ghost use Rattle.std.specs.Prelude.{◌≡◌};
+ghost use Rattle.mesh_terms.specs.Meshes.{triple_of};
+ghost use Rattle.mesh_check.specs.Orientations.{least_first, IsNarrow};
 
 /// A triangle from its least vertex on, and its place among others. Triangles on the same three
 /// vertices have the same numbers here where they have the same orientation.
@@ -24,6 +20,7 @@ impl Oriented {
     pub fn of(triple: &[u32; 3], place: u32) -> Oriented
         ensures vertices { vertices_of result ≡ least_first (triple_of triple.now) }
         ensures place { result.place ≡ place }
+        ensures narrow { IsNarrow (vertices_of result) }
     {
         let [a, b, c] = *triple;
         let (least, second, third) = if b < a && b < c {
@@ -42,15 +39,16 @@ impl Oriented {
     }
 
     /// The vertices.
-    pub fn vertices(&self) -> (u32, u32, u32)
-        ensures { result ≡ vertices_of self.now }
+    pub fn vertices(self) -> (u32, u32, u32)
+        ensures value { result ≡ vertices_of self }
+        ensures narrow { IsNarrow (vertices_of self) }
     {
         (self.least, self.second, self.third)
     }
 
     /// The same vertices the other way round, at the same place.
-    pub fn other_side(&self) -> Oriented
-        ensures { result ≡ turned_over self.now }
+    pub fn other_side(self) -> Oriented
+        ensures { result ≡ turned_over self }
     {
         Oriented {
             least: self.least,
