@@ -1,5 +1,5 @@
 -- Pairs from known counts, and corners of lists of fine ones.
-use Rattle.std.proofs.Common.{arith, ◌≡◌, ◌<◌, ◌≤◌, ℕ, ◌+◌, ℤ, pos, ◌+ℤ◌, ◌-ℤ◌, unsigned_abs, FitsSigned, ap, ◌∙◌, Option, None, Some, IfSome, List, length, inl, inr}
+use Rattle.std.proofs.Common.{arith, ◌≡◌, ◌<◌, ◌≤◌, ℕ, ℤ, pos, ◌+ℤ◌, ◌-ℤ◌, unsigned_abs, FitsSigned, ap, ◌∙◌, Option, None, Some, IfSome, List, length, inl, inr}
 use Rattle.std.proofs.lemmas.Int.{ints}
 use Rattle.std.specs.Int.{Width, w8, cast_signed, cast_unsigned}
 use Rattle.mb_base.specs.declared.point.Corner.{Corner}

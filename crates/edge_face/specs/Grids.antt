@@ -1,5 +1,5 @@
 -- The shadow tests on the grid, and that they are lawful.
-use Rattle.std.specs.Prelude.{◌≡◌, ℕ, ◌+◌, ◌<◌, Option, List, [], ◌∷◌}
+use Rattle.std.specs.Prelude.{ℕ, ◌+◌, ◌<◌, Option, List}
 use Rattle.std.proofs.Common.{arith, refl}
 use Rattle.mb_base.specs.declared.point.Corner.{Corner}
 use Rattle.rounding.specs.Corners.{corner_at}

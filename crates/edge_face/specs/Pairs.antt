@@ -41,6 +41,6 @@ is_on true (Some m) = m.above
 is_on false (Some m) = not m.above
 
 -- the first answer that is above, or is not
-abbrev pub first_on : Bool → List (Option Meet) → Option Meet
+unfoldable pub first_on : Bool → List (Option Meet) → Option Meet
 first_on want [] = None
 first_on want (m ∷ ms) = if is_on want m then m else first_on want ms

@@ -1,4 +1,4 @@
-use Rattle.std.proofs.Common.{arith, ◌≡◌, pos, ℕ, false, ◌∙◌, unsigned_abs, ◌≤◌}
+use Rattle.std.proofs.Common.{arith, ◌≡◌, pos, false, ◌∙◌}
 use Rattle.std.proofs.lemmas.Int.{ints}
 use Rattle.std.specs.Int.{w8}
 use Rattle.shadow_kernels.specs.FaceLaws.{sized20}

@@ -1,7 +1,7 @@
-use Rattle.std.proofs.Common.{arith, ◌≡◌, ◌≤◌, ℤ, ◌-ℤ◌, ◌+ℤ◌, unsigned_abs, ap, ◌∙◌}
+use Rattle.std.proofs.Common.{arith, ◌≡◌, ◌≤◌, ℤ, ◌-ℤ◌, ◌+ℤ◌, unsigned_abs, ◌∙◌}
 use Rattle.std.proofs.lemmas.Int.{ints}
 use Rattle.std.specs.Int.{w8}
-use Rattle.edge_face.specs.Pairs.{pair_shadow, pairs_number}
+use Rattle.edge_face.specs.Pairs.{pair_shadow}
 use Rattle.edge_face.proofs.Kept.{seen, kept_small, kept_difference, kept_sum, fits_difference}
 use Rattle.edge_face.proofs.pair.Pairs.number.Goals as goal
 
