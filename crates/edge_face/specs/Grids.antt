@@ -1,13 +1,16 @@
 -- The shadow tests on the grid, and that they are lawful.
-use Rattle.std.specs.Prelude.{◌≡◌, ℕ, zero, suc, ◌+◌, ◌<◌, List, [], ◌∷◌}
+use Rattle.std.specs.Prelude.{ℕ, ◌+◌, ◌<◌, Option, List}
 use Rattle.std.proofs.Common.{arith, refl}
+use Rattle.mb_base.specs.declared.point.Corner.{Corner}
 use Rattle.rounding.specs.Corners.{corner_at}
+use Rattle.shadow_kernels.specs.declared.Meet.{Meet}
 use Rattle.shadow_kernels.specs.Spots.{Between}
 use Rattle.shadow_kernels.specs.Shadows.{meet01, meet10, meet11, meet02, meet20}
 use Rattle.shadow_kernels.specs.Hulls.{StaysBetween}
 use Rattle.shadow_kernels.specs.Sizes.{sized_bounds, sized_present}
 use Rattle.shadow_kernels.specs.EdgeLaws.{lift11, sized11, reverse11_p_law, reverse11_q_law, hull11_law, apart11_law, side11_law}
 use Rattle.shadow_kernels.specs.FaceLaws.{lift02, lift20, sized02, sized20, hull02_law, hull20_law, apart02_law, apart20_law, side02_law, side20_law}
+use Rattle.edge_face.specs.Points.{pairs12, pairs21}
 use Rattle.edge_face.specs.Tests.{IsLawful, Tests, AreLawful}
 
 -- over lists of corners
@@ -19,6 +22,14 @@ grid_tests w = record {
   vertex_face = λ p q. meet02 w (corner_at p 0) (corner_at q 0) (corner_at q 1) (corner_at q 2);
   face_vertex = λ p q. meet20 w (corner_at p 0) (corner_at p 1) (corner_at p 2) (corner_at q 0);
 }
+
+-- the boundary pairs of the two corners of a list of P with the three of one of Q
+abbrev pub grid_pairs12 : Between → List Corner → List Corner → List (Option Meet)
+grid_pairs12 w p q = pairs12 (grid_tests w).vertex_face (grid_tests w).edge_edge (corner_at p 0) (corner_at p 1) (corner_at q 0) (corner_at q 1) (corner_at q 2)
+
+-- of three with two
+abbrev pub grid_pairs21 : Between → List Corner → List Corner → List (Option Meet)
+grid_pairs21 w p q = pairs21 (grid_tests w).face_vertex (grid_tests w).edge_edge (corner_at p 0) (corner_at p 1) (corner_at p 2) (corner_at q 0) (corner_at q 1)
 
 -- the first two axes are those below the last
 axes : (i : ℕ) → i < 2 → i + 2 < 4

@@ -3,7 +3,6 @@ use Rattle.std.specs.Prelude.{◌≡◌, ◌≢◌, ℕ, ◌<◌, ℤ, pos, negs
 use Rattle.std.proofs.Common.{arith, ap, sym, ◌∙◌}
 use Rattle.mb_base.specs.declared.point.Corner.{Corner}
 use Rattle.rounding.specs.Corners.{corner_at, AllFine}
-use Rattle.shadow_kernels.specs.declared.Meet.{Meet}
 use Rattle.shadow_kernels.specs.Spots.{Between}
 use Rattle.shadow_kernels.specs.Boxes.{AreApart}
 use Rattle.shadow_kernels.specs.Hulls.{StaysBetween}

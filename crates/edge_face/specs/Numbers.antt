@@ -65,7 +65,7 @@ pair_of m n test h p ps q qs sub_p sub_q k l fine_p fine_q =
     }
 
 -- five boundary pairs with sized counts
-five_of : (ps qs : List Corner) (s f x y z : Option Meet) → IsBoundary ps qs s f x y z → AreFive s f x y z
+pub five_of : (ps qs : List Corner) (s f x y z : Option Meet) → IsBoundary ps qs s f x y z → AreFive s f x y z
 five_of ps qs s f x y z h =
     record { start = h.start.sized; end = h.end.sized; first = h.first.sized; second = h.second.sized; third = h.third.sized; whole = h.whole }
 

@@ -1,5 +1,5 @@
 -- Crossings: the point between the two sides of the boundary pairs, and the answers of an edge and a face.
-use Rattle.std.specs.Prelude.{ℤ, pos, Bool, true, false, not, if◌then◌else◌, Option, None, Some, List, [], ◌∷◌, map}
+use Rattle.std.specs.Prelude.{ℤ, pos, true, false, if◌then◌else◌, Option, None, Some, List, [], ◌∷◌, map}
 use Rattle.std.specs.Ordering.{int_eq}
 use Rattle.mb_base.specs.declared.point.Corner.{Corner}
 use Rattle.shadow_kernels.specs.declared.Spot.{Spot}

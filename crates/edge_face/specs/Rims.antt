@@ -1,5 +1,5 @@
 -- The boundary pairs of an edge and a face under lawful tests.
-use Rattle.std.specs.Prelude.{◌≡◌, ◌+ℤ◌, ◌-ℤ◌, neg_ℤ, List, [], ◌∷◌}
+use Rattle.std.specs.Prelude.{◌≡◌, neg_ℤ, [], ◌∷◌}
 use Rattle.std.proofs.Common.{arith, refl, ap}
 use Rattle.std.proofs.lemmas.Int.{ints}
 use Rattle.mb_base.specs.declared.point.Corner.{Corner}

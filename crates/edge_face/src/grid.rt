@@ -4,10 +4,12 @@ ghost use Rattle.std.specs.Prelude.{◌≡◌, ◌≢◌, ◌<◌, ◌∷◌, []
 ghost use Rattle.std.proofs.Common.{arith};
 ghost use Rattle.rounding.specs.Corners.{AllFine};
 ghost use Rattle.shadow_kernels.specs.FaceLaws.{lift02, lift20};
-ghost use Rattle.edge_face.specs.Grids.{grid_tests, grid_lawful};
+ghost use Rattle.edge_face.specs.Grids.{grid_tests, grid_lawful, grid_pairs12, grid_pairs21};
+ghost use Rattle.edge_face.specs.Pairs.{ArePairsOf, first_on};
 ghost use Rattle.edge_face.specs.Laws.{cross23, cross32, lift12, lift21, present23, present32, size23, size32, turn23, turn32, apart23, apart32, inside23, inside32};
 
-use crate::pairs::{Pairs, edge_face_pairs, face_edge_pairs};
+use crate::pair::Pairs;
+use crate::pairs::{edge_face_pairs, face_edge_pairs};
 use crate::points::{p_point, q_point};
 use crate::{Cross, Crosses, Kernels};
 use mb_base::Corner;
@@ -31,7 +33,11 @@ impl<R: Rounding> Crosses<2, 3> for Grid<R> {
 
     ghost inside_q = { λ k p q e l m a b x y. absurd (Prim.omega arith) };
 
-    fn cross(&self, p: &[Corner; 2], q: &[Corner; 3]) -> Option<Cross> {
+    fn cross(&self, p: &[Corner; 2], q: &[Corner; 3]) -> Option<Cross>
+        requires p_fine { AllFine p.now }
+        requires q_fine { AllFine q.now }
+        ensures value { result ≡ cross23 (grid_tests (R.between_of self.now.rounding)) (R.between_of self.now.rounding) (R.settle_of self.now.rounding) p.now q.now }
+    {
         let pairs = edge_face_pairs(&self.rounding, p, q);
         let number = pairs.number();
         if number == 0 {
@@ -61,7 +67,11 @@ impl<R: Rounding> Crosses<3, 2> for Grid<R> {
 
     ghost inside_q = { λ k p q e l m a b x y. inside32 (grid_tests (R.between_of k.rounding)) (grid_lawful (R.between_of k.rounding) (record { within = R.within k.rounding })) (R.between_of k.rounding) (record { within = R.within k.rounding }) (R.settle_of k.rounding) (record { monotone = R.monotone k.rounding; units = R.units k.rounding }) p q l m a b y };
 
-    fn cross(&self, p: &[Corner; 3], q: &[Corner; 2]) -> Option<Cross> {
+    fn cross(&self, p: &[Corner; 3], q: &[Corner; 2]) -> Option<Cross>
+        requires p_fine { AllFine p.now }
+        requires q_fine { AllFine q.now }
+        ensures value { result ≡ cross32 (grid_tests (R.between_of self.now.rounding)) (R.between_of self.now.rounding) (R.settle_of self.now.rounding) p.now q.now }
+    {
         let pairs = face_edge_pairs(&self.rounding, p, q);
         let number = pairs.number();
         if number == 0 {
@@ -81,7 +91,12 @@ fn first_of_edge_face<R: Rounding>(
     q: &[Corner; 3],
     pairs: &Pairs,
     above: bool,
-) -> Option<Meet> {
+) -> Option<Meet>
+    requires p_fine { AllFine p.now }
+    requires q_fine { AllFine q.now }
+    requires pairs { ArePairsOf (grid_pairs12 (R.between_of grid.now.rounding) p.now q.now) pairs.now }
+    ensures { result ≡ first_on above (grid_pairs12 (R.between_of grid.now.rounding) p.now q.now) }
+{
     if pairs.start.is_on(above) {
         grid.meet(&[p[0]], q)
     } else if pairs.end.is_on(above) {
@@ -104,7 +119,12 @@ fn first_of_face_edge<R: Rounding>(
     q: &[Corner; 2],
     pairs: &Pairs,
     above: bool,
-) -> Option<Meet> {
+) -> Option<Meet>
+    requires p_fine { AllFine p.now }
+    requires q_fine { AllFine q.now }
+    requires pairs { ArePairsOf (grid_pairs21 (R.between_of grid.now.rounding) p.now q.now) pairs.now }
+    ensures { result ≡ first_on above (grid_pairs21 (R.between_of grid.now.rounding) p.now q.now) }
+{
     if pairs.start.is_on(above) {
         grid.meet(p, &[q[0]])
     } else if pairs.end.is_on(above) {

@@ -18,6 +18,7 @@ use mb_base::{Corner, Point};
 use shadow_kernels::{Flats, Meets};
 
 mod grid;
+mod pair;
 mod pairs;
 mod points;
 #[cfg(test)]
