@@ -1,2 +1,13 @@
 pub mod Crossings
+pub mod Points
+pub mod Pairs
 pub mod Wholes
+pub mod Tests
+pub mod Parts
+pub mod Fives
+pub mod Numbers
+pub mod Rims
+pub mod Settled
+pub mod Answers
+pub mod Laws
+pub mod Grids

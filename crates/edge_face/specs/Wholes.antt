@@ -1,6 +1,7 @@
 -- Corners on grid points, and points of the grid in the box of corners.
-use Rattle.std.specs.Prelude.{◌≡◌, ℕ, ℤ, pos, ◌*ℤ◌, List, slice_index_or}
+use Rattle.std.specs.Prelude.{◌≡◌, ℕ, ℤ, ◌*ℤ◌, List}
 use Rattle.std.specs.List.{All}
+use Rattle.mesh_terms.specs.Points.{coordinate_of}
 use Rattle.mb_base.specs.declared.TheConstants.{UNIT}
 use Rattle.mb_base.specs.declared.point.Corner.{Corner}
 use Rattle.rounding.specs.Corners.{axis}
@@ -23,7 +24,7 @@ AllWhole cs = All IsWholeCorner cs
 
 -- the fine coordinate of a point on axis i
 abbrev pub fine_axis : ℕ → List ℤ → ℤ
-fine_axis i point = UNIT *ℤ slice_index_or point i (pos 0)
+fine_axis i point = UNIT *ℤ coordinate_of point i
 
 -- the point lies in the box of the corners
 pub record IsPointIn (cs : List Corner) (point : List ℤ) : Type 0 where

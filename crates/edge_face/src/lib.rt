@@ -17,6 +17,15 @@ ghost use Rattle.edge_face.specs.Wholes.{AllWhole, IsPointIn};
 use mb_base::{Corner, Point};
 use shadow_kernels::{Flats, Meets};
 
+mod grid;
+mod pair;
+mod pairs;
+mod points;
+#[cfg(test)]
+mod rows;
+#[cfg(test)]
+mod tests;
+
 /// How often an edge crosses a face, with its sign, and the point of the grid where it does.
 #[derive(Clone, Copy, Debug, PartialEq, Eq, Drop)]
 pub struct Cross {

@@ -134,7 +134,7 @@ shadow_side true (Some m) h = ap (λ (t : Bool). if t then m.count else pos 0) h
 shadow_side false (Some m) h = ap (λ (t : Bool). if t then m.count else pos 0) h
 
 -- where all answers are on one side, their shadows add up to all of the counts or to nothing
-total_side : (b : Bool) (ms : List (Option Meet)) → Each (λ m. IfSome m (λ n. n.above ≡ b)) ms → total shadow_of ms ≡ (if b then total count_of ms else pos 0)
+pub total_side : (b : Bool) (ms : List (Option Meet)) → Each (λ m. IfSome m (λ n. n.above ≡ b)) ms → total shadow_of ms ≡ (if b then total count_of ms else pos 0)
 total_side true [] e = refl
 total_side false [] e = refl
 total_side true (m ∷ ms) e = omega (arith, ints, shadow_side true m e.0, total_side true ms e.1)

@@ -49,7 +49,7 @@ fn marks_between(a: i64, b: i64, first: &[bool; 3], second: &[bool; 3]) -> [bool
 }
 
 /// The difference of two fine values without its sign.
-pub(crate) fn gap_of(p: i64, q: i64) -> i64
+pub fn gap_of(p: i64, q: i64) -> i64
     requires p_fine { IsFine p }
     requires q_fine { IsFine q }
     ensures value { result ≡ gap p q }

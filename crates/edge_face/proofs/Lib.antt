@@ -1,0 +1,5 @@
+pub mod Kept
+pub mod Sums
+pub mod Placed
+pub mod Firsts
+pub mod Found

@@ -1,0 +1,38 @@
+-- Settled values and points of them.
+use Rattle.std.proofs.Common.{arith, ◌≡◌, ℤ, Option, None, Some, IsSome, IfSome, FitsSigned, List, [], ◌∷◌, ap, ◌∙◌}
+use Rattle.std.proofs.lemmas.Int.{ints}
+use Rattle.std.specs.Int.{w32, w64}
+use Rattle.mesh_terms.specs.Points.{IsOnGrid}
+use Rattle.rounding.specs.Fine.{IsFine, IsWeight}
+use Rattle.shadow_kernels.specs.Spots.{Between}
+use Rattle.edge_face.specs.Points.{Settle}
+use Rattle.edge_face.proofs.Kept.{seen}
+
+-- a settled value between values by weights, all kept at their width
+pub kept_settled : (w : Between) (settle : Settle) (r u v a b g h : ℤ) → r ≡ settle (w (seen w64 u) (seen w64 v) (seen w64 a) (seen w64 b)) → IsFine u → IsFine v → IsWeight a → IsWeight b → a ≡ g → b ≡ h → FitsSigned w32 r →
+    seen w32 r ≡ settle (w u v g h)
+kept_settled w settle r u v a b g h e fu fv wa wb x y fits =
+    let kept : seen w32 r ≡ r = omega (arith, ints) in
+    let u_kept : seen w64 u ≡ u = omega (arith, ints, fu.low, fu.high) in
+    let v_kept : seen w64 v ≡ v = omega (arith, ints, fv.low, fv.high) in
+    let a_kept : seen w64 a ≡ a = omega (arith, ints, wa.low, wa.high) in
+    let b_kept : seen w64 b ≡ b = omega (arith, ints, wb.low, wb.high) in
+    kept
+    ∙ e
+    ∙ ap (λ (z : ℤ). settle (w z (seen w64 v) (seen w64 a) (seen w64 b))) u_kept
+    ∙ ap (λ (z : ℤ). settle (w u z (seen w64 a) (seen w64 b))) v_kept
+    ∙ ap (λ (z : ℤ). settle (w u v z (seen w64 b))) (a_kept ∙ x)
+    ∙ ap (λ (z : ℤ). settle (w u v g z)) (b_kept ∙ y)
+
+-- a coordinate of the grid stays one at its width
+pub kept_on : (r : ℤ) → IsOnGrid r → IsOnGrid (seen w32 r)
+kept_on r h = omega (arith, ints, h)
+
+-- a point that is there has its coordinates
+pub made_point : (o : Option (List ℤ)) (x y z a b c : ℤ) → IsSome o → IfSome o (λ p. p ≡ x ∷ y ∷ z ∷ []) → x ≡ a → y ≡ b → z ≡ c → o ≡ Some (a ∷ b ∷ c ∷ [])
+made_point None x y z a b c s h e f g = absurd (cc)
+made_point (Some p) x y z a b c s h e f g =
+    ap (λ (l : List ℤ). Some l) h
+    ∙ ap (λ (n : ℤ). Some (n ∷ y ∷ z ∷ [])) e
+    ∙ ap (λ (n : ℤ). Some (a ∷ n ∷ z ∷ [])) f
+    ∙ ap (λ (n : ℤ). Some (a ∷ b ∷ n ∷ [])) g

@@ -1,0 +1,75 @@
+-- Parts of simplices: the ends of an edge and the edges of a face. What lies in the box of a part lies in that of the whole.
+use Rattle.std.specs.Prelude.{ℕ, ℤ, ◌≤ℤ◌, ◌<ℤ◌, List, [], ◌∷◌}
+use Rattle.std.specs.List.{All}
+use Rattle.std.proofs.Common.{inl, inr}
+use Rattle.std.proofs.lemmas.List.Elements.{All-nil, All-cons, All-head, All-tail, All-weaker}
+use Rattle.mb_base.specs.declared.point.Corner.{Corner}
+use Rattle.rounding.specs.Corners.{axis}
+use Rattle.shadow_kernels.specs.declared.Spot.{Spot}
+use Rattle.shadow_kernels.specs.Boxes.{IsInBox, IsBelow, AreApart, IsInHull}
+
+-- what holds of all corners of the whole holds of those of the part
+abbrev pub IsPart : List Corner → List Corner → Type 1
+IsPart part whole = (P : Corner → Type 0) → All P whole → All P part
+
+-- the whole itself
+pub itself : (cs : List Corner) → IsPart cs cs
+itself cs P h = h
+
+-- the first, the second and the third of three
+first_of : (u v w : Corner) (P : Corner → Type 0) → All P (u ∷ v ∷ w ∷ []) → P u
+first_of u v w P h = All-head P u (v ∷ w ∷ []) h
+
+second_of : (u v w : Corner) (P : Corner → Type 0) → All P (u ∷ v ∷ w ∷ []) → P v
+second_of u v w P h = All-head P v (w ∷ []) (All-tail P u (v ∷ w ∷ []) h)
+
+third_of : (u v w : Corner) (P : Corner → Type 0) → All P (u ∷ v ∷ w ∷ []) → P w
+third_of u v w P h = All-head P w [] (All-tail P v (w ∷ []) (All-tail P u (v ∷ w ∷ []) h))
+
+-- two corners of which something holds
+both_of : (P : Corner → Type 0) (a b : Corner) → P a → P b → All P (a ∷ b ∷ [])
+both_of P a b h k = All-cons P a (b ∷ []) h (All-cons P b [] k (All-nil P))
+
+-- the start and the end of an edge
+pub start_of : (a b : Corner) → IsPart (a ∷ []) (a ∷ b ∷ [])
+start_of a b P h = All-cons P a [] (All-head P a (b ∷ []) h) (All-nil P)
+
+pub end_of : (a b : Corner) → IsPart (b ∷ []) (a ∷ b ∷ [])
+end_of a b P h = All-cons P b [] (All-head P b [] (All-tail P a (b ∷ []) h)) (All-nil P)
+
+-- the three edges of a face
+pub first_edge : (u v w : Corner) → IsPart (u ∷ v ∷ []) (u ∷ v ∷ w ∷ [])
+first_edge u v w P h = both_of P u v (first_of u v w P h) (second_of u v w P h)
+
+pub second_edge : (u v w : Corner) → IsPart (v ∷ w ∷ []) (u ∷ v ∷ w ∷ [])
+second_edge u v w P h = both_of P v w (second_of u v w P h) (third_of u v w P h)
+
+pub third_edge : (u v w : Corner) → IsPart (w ∷ u ∷ []) (u ∷ v ∷ w ∷ [])
+third_edge u v w P h = both_of P w u (third_of u v w P h) (first_of u v w P h)
+
+-- the box of the part lies in the box of the whole
+pub wider_box : (i : ℕ) (part whole : List Corner) (z : ℤ) → IsPart part whole → IsInBox i part z → IsInBox i whole z
+wider_box i part whole z sub h = record { low = λ l all. h.low l (sub (λ c. l ≤ℤ axis i c) all); high = λ u all. h.high u (sub (λ c. axis i c ≤ℤ u) all) }
+
+-- so a spot of parts lies in the boxes of the wholes
+pub wider_hull : (p ps q qs : List Corner) (s : Spot) → IsPart p ps → IsPart q qs → IsInHull p q s → IsInHull ps qs s
+wider_hull p ps q qs s sub_p sub_q h = record {
+  px = wider_box 0 p ps s.x sub_p h.px;
+  py = wider_box 1 p ps s.py sub_p h.py;
+  pz = wider_box 2 p ps s.pz sub_p h.pz;
+  qx = wider_box 0 q qs s.x sub_q h.qx;
+  qy = wider_box 1 q qs s.qy sub_q h.qy;
+  qz = wider_box 2 q qs s.qz sub_q h.qz;
+}
+
+-- parts of a lower simplex are lower than parts of the other
+pub parts_below : (i : ℕ) (p ps q qs : List Corner) → IsPart p ps → IsPart q qs → IsBelow i ps qs → IsBelow i p q
+parts_below i p ps q qs sub_p sub_q h = record {
+  below = sub_p (λ a. All (λ b. axis i a <ℤ axis i b) q)
+      (All-weaker (λ a. All (λ b. axis i a <ℤ axis i b) qs) (λ a. All (λ b. axis i a <ℤ axis i b) q) (λ a. sub_q (λ b. axis i a <ℤ axis i b)) ps h.below);
+}
+
+-- parts of simplices strictly apart are strictly apart
+pub parts_apart : (i : ℕ) (p ps q qs : List Corner) → IsPart p ps → IsPart q qs → AreApart i ps qs → AreApart i p q
+parts_apart i p ps q qs sub_p sub_q (inl h) = inl (parts_below i p ps q qs sub_p sub_q h)
+parts_apart i p ps q qs sub_p sub_q (inr h) = inr (parts_below i q qs p ps sub_q sub_p h)

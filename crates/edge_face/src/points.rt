@@ -1,0 +1,53 @@
+//! The point of a crossing, between the spots of two boundary pairs, on the grid.
+
+ghost use Rattle.std.specs.Prelude.{◌≡◌, Some};
+ghost use Rattle.mesh_terms.specs.Points.{IsOnGrid};
+ghost use Rattle.rounding.specs.Fine.{IsFine, IsWeight};
+ghost use Rattle.shadow_kernels.specs.Bounds.{IsFineSpot};
+ghost use Rattle.edge_face.specs.Points.{p_point, q_point};
+
+use mb_base::Point;
+use rounding::Rounding;
+use shadow_kernels::{Spot, gap_of};
+
+/// The point of an edge of P: P's values between a spot that is not above and one that is, weighted by their gaps in z.
+pub(crate) fn p_point<R: Rounding>(rounding: &R, below: &Spot, above: &Spot) -> Option<Point>
+    requires below_fine { IsFineSpot below.now }
+    requires above_fine { IsFineSpot above.now }
+    ensures { result ≡ Some (p_point (R.between_of rounding.now) (R.settle_of rounding.now) below.now above.now) }
+{
+    let a = gap_of(below.pz, below.qz);
+    let b = gap_of(above.pz, above.qz);
+    Point::of(
+        settled(rounding, below.x, above.x, a, b),
+        settled(rounding, below.py, above.py, a, b),
+        settled(rounding, below.pz, above.pz, a, b),
+    )
+}
+
+/// The point of an edge of Q: Q's values, likewise.
+pub(crate) fn q_point<R: Rounding>(rounding: &R, below: &Spot, above: &Spot) -> Option<Point>
+    requires below_fine { IsFineSpot below.now }
+    requires above_fine { IsFineSpot above.now }
+    ensures { result ≡ Some (q_point (R.between_of rounding.now) (R.settle_of rounding.now) below.now above.now) }
+{
+    let a = gap_of(below.pz, below.qz);
+    let b = gap_of(above.pz, above.qz);
+    Point::of(
+        settled(rounding, below.x, above.x, a, b),
+        settled(rounding, below.qy, above.qy, a, b),
+        settled(rounding, below.qz, above.qz, a, b),
+    )
+}
+
+/// The grid step of a value between two fine values.
+fn settled<R: Rounding>(rounding: &R, u: i64, v: i64, a: i64, b: i64) -> i32
+    requires u_fine { IsFine u }
+    requires v_fine { IsFine v }
+    requires a_weight { IsWeight a }
+    requires b_weight { IsWeight b }
+    ensures value { result ≡ R.settle_of rounding.now (R.between_of rounding.now u v a b) }
+    ensures on_grid { IsOnGrid result }
+{
+    rounding.settle(rounding.between(u, v, a, b))
+}
