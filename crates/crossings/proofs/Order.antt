@@ -42,8 +42,7 @@ along_cons : (h k n : ℕ) (o : Option Cross) (rest : List Hit) → k < n → If
 along_cons h k n None rest below listed all order = (All-weaker (IsAlong h (suc k) n) (IsAlong h k n) (λ x a. record { edge = a.edge; from = omega (arith, a.from); below = a.below; listed = a.listed }) rest all, order)
 along_cons h k n (Some c) rest below listed all order =
     let hit : Hit = record { edge = h; face = k; number = c.number; at = c.at } in
-    let later = All-weaker (IsAlong h (suc k) n) (IsAlong h k n) (λ x a. record { edge = a.edge; from = omega (arith, a.from); below = a.below; listed = a.listed }) rest all in
-    (
+    let later = All-weaker (IsAlong h (suc k) n) (IsAlong h k n) (λ x a. record { edge = a.edge; from = omega (arith, a.from); below = a.below; listed = a.listed }) rest all in (
       All-cons (IsAlong h k n) hit rest (record { edge = refl; from = omega arith; below = below; listed = listed }) later,
       AllPairs-cons IsBefore hit rest (All-weaker (IsAlong h (suc k) n) (IsBefore hit) (λ x a. inr (sym a.edge, omega (arith, a.from))) rest all) order,
     )
@@ -69,13 +68,12 @@ record IsOf (lower : ℕ → Bool) (k m n : ℕ) (x : Hit) : Type 0 where
 -- the hits of a half-edge before those of later ones
 of_append : (lower : ℕ → Bool) (k m n : ℕ) (row rest : List Hit) → k < m → lower k ≡ true → All (IsAlong k 0 n) row → AllPairs IsBefore row → All (IsOf lower (suc k) m n) rest → AllPairs IsBefore rest →
     All (IsOf lower k m n) (row ++ rest) × AllPairs IsBefore (row ++ rest)
-of_append lower k m n row rest below passes along row_order all order =
-    (
-      All-append (IsOf lower k m n) row rest
+of_append lower k m n row rest below passes along row_order all order = (
+  All-append (IsOf lower k m n) row rest
       (All-weaker (IsAlong k 0 n) (IsOf lower k m n) (λ x a. record { from = omega (arith, a.edge); below = omega (arith, a.edge, below); passes = ap lower a.edge ∙ passes; face = a.below; listed = a.listed }) row along)
       (All-weaker (IsOf lower (suc k) m n) (IsOf lower k m n) (λ x a. record { from = omega (arith, a.from); below = a.below; passes = a.passes; face = a.face; listed = a.listed }) rest all),
-      in_order_append (IsAlong k 0 n) (IsOf lower (suc k) m n) (λ x y a b. inl (omega (arith, a.edge, b.from))) row rest along all row_order order,
-    )
+  in_order_append (IsAlong k 0 n) (IsOf lower (suc k) m n) (λ x y a b. inl (omega (arith, a.edge, b.from))) row rest along all row_order order,
+)
 
 -- the hits of the lower half-edges from k on
 of_from : (lower : ℕ → Bool) (n : ℕ) (rows : ℕ → List Hit) → ((h : ℕ) → All (IsAlong h 0 n) (rows h) × AllPairs IsBefore (rows h)) → (k m : ℕ) →
@@ -89,8 +87,7 @@ of_from lower n rows each k (suc m) =
     elim (cases_Bool (lower k)) as (λ _. All (IsOf lower k (k + suc m) n) (flat_map rows (filter lower (up_from k (suc m)))) × AllPairs IsBefore (flat_map rows (filter lower (up_from k (suc m))))) [
       | inl y ↦ rw y (of_append lower k (k + suc m) n (rows k) rest (omega arith) y (each k).0 (each k).1 all later.1)
       | inr y ↦
-          rw y
-          (
+          rw y (
             All-weaker (IsOf lower (suc k) (k + suc m) n) (IsOf lower k (k + suc m) n) (λ x a. record { from = omega (arith, a.from); below = a.below; passes = a.passes; face = a.face; listed = a.listed }) rest all,
             later.1,
           )
@@ -105,8 +102,8 @@ hits_in_order test edges faces listed =
     let hits = hits_of test edges faces in
     let rows : (h : ℕ) → All (IsAlong h 0 n) (hits_along test edges faces h) × AllPairs IsBefore (hits_along test edges faces h) =
     λ h.
-      let row = along_from (λ f. test (edge_at edges h) (face_at faces f)) (listed h) h 0 n in
-      let end : 0 + n ≡ n = omega arith in (subst (λ e. All (IsAlong h 0 e) (hits_along test edges faces h)) end row.0, row.1) in
+    let row = along_from (λ f. test (edge_at edges h) (face_at faces f)) (listed h) h 0 n in
+    let end : 0 + n ≡ n = omega arith in (subst (λ e. All (IsAlong h 0 e) (hits_along test edges faces h)) end row.0, row.1) in
     let all = of_from lower n (hits_along test edges faces) rows 0 (length es) in
     record {
       on_edges = All-weaker (IsOf lower 0 (0 + length es) n) (λ x. (x.edge < length es) × (x.edge < twin es x.edge)) (λ x a. (omega (arith, a.below), ltb-true x.edge (twin es x.edge) a.passes)) hits all.0;

@@ -7,5 +7,7 @@
 mod hits;
 mod pairs;
 mod sides;
+#[cfg(test)]
+mod tests;
 
 pub use sides::crossings;

@@ -9,14 +9,14 @@ use Rattle.chain_laws.proofs.Places.{get_or-up_from, length-up_from}
 use Rattle.mesh_terms.specs.Meshes.{Triple, HasThree, has}
 use Rattle.mesh_terms.specs.Points.{coordinate_of}
 use Rattle.lean.specs.Leans.{face_normal, normal_on, vertex_normal, normals_of}
-use Rattle.lean.specs.Sums.{added, with_one, with_three, AreSmall, AllSmall}
+use Rattle.lean.specs.Vectors.{added, added_at, added_at_corners, AreSmall, AllSmall}
 
 -- at a vertex: it is added there alone
-one_at : (sums : List (List ℤ)) (a v : ℕ) (n : List ℤ) → v < length sums → get_or (with_one sums a n) v [] ≡ cond (a == v) (added (get_or sums v []) n) (get_or sums v [])
-one_at sums a v n h = elim (cases_Bool (a == v)) as (λ _. get_or (with_one sums a n) v [] ≡ cond (a == v) (added (get_or sums v []) n) (get_or sums v [])) [
+one_at : (sums : List (List ℤ)) (a v : ℕ) (n : List ℤ) → v < length sums → get_or (added_at sums a n) v [] ≡ cond (a == v) (added (get_or sums v []) n) (get_or sums v [])
+one_at sums a v n h = elim (cases_Bool (a == v)) as (λ _. get_or (added_at sums a n) v [] ≡ cond (a == v) (added (get_or sums v []) n) (get_or sums v [])) [
   | inl y ↦
       let e : a ≡ v = eqb-true a v y in
-      rw y (ap (λ k. get_or (with_one sums k n) v []) e ∙ get_or-set_same sums v (added (get_or sums v []) n) [] h)
+      rw y (ap (λ k. get_or (added_at sums k n) v []) e ∙ get_or-set_same sums v (added (get_or sums v []) n) [] h)
   | inr y ↦
       let e = eqb-false a v y in
       rw y (get_or-set_other sums a v (added (get_or sums a []) n) [] (λ f. e (sym f)))
@@ -39,10 +39,10 @@ not_both a b v d x y = d (eqb-true a v x ∙ sym (eqb-true b v y))
 
 -- at a vertex: it is added where the triangle has it
 three_at : (sums : List (List ℤ)) (t : Triple) (v : ℕ) (n : List ℤ) → HasThree t → v < length sums →
-    get_or (with_three sums t n) v [] ≡ cond (has t v) (added (get_or sums v []) n) (get_or sums v [])
+    get_or (added_at_corners sums t n) v [] ≡ cond (has t v) (added (get_or sums v []) n) (get_or sums v [])
 three_at sums t v n three h =
-    let first = with_one sums t.0 n in
-    let second = with_one first t.1 n in
+    let first = added_at sums t.0 n in
+    let second = added_at first t.1 n in
     let f : List ℤ → List ℤ = λ s. added s n in
     let h1 : v < length first = omega (arith, h, length-set sums t.0 (added (get_or sums t.0 []) n)) in
     let h2 : v < length second = omega (arith, h1, length-set first t.1 (added (get_or first t.1 []) n)) in
@@ -88,15 +88,15 @@ normals_none points =
 
 -- the sums, one triangle more
 pub normals_more : (points : List (List ℤ)) (ts : List Triple) (t : Triple) → HasThree t →
-    with_three (normals_of points ts) t (face_normal points t) ≡ normals_of points (ts ++ t ∷ [])
+    added_at_corners (normals_of points ts) t (face_normal points t) ≡ normals_of points (ts ++ t ∷ [])
 normals_more points ts t three =
     let n = face_normal points t in
     let sums = normals_of points ts in
-    let first = with_one sums t.0 n in
-    let second = with_one first t.1 n in
-    let long : length (with_three sums t n) ≡ length points =
+    let first = added_at sums t.0 n in
+    let second = added_at first t.1 n in
+    let long : length (added_at_corners sums t n) ≡ length points =
     length-set second t.2 (added (get_or second t.2 []) n) ∙ length-set first t.1 (added (get_or first t.1 []) n) ∙ length-set sums t.0 (added (get_or sums t.0 []) n) ∙ length-normals points ts in
-    ext_get_or [] (with_three sums t n) (normals_of points (ts ++ t ∷ [])) (long ∙ sym (length-normals points (ts ++ t ∷ [])))
+    ext_get_or [] (added_at_corners sums t n) (normals_of points (ts ++ t ∷ [])) (long ∙ sym (length-normals points (ts ++ t ∷ [])))
     (λ v h.
     let k : v < length points = omega (arith, h, long) in
     let l : v < length sums = omega (arith, k, length-normals points ts) in
@@ -115,17 +115,17 @@ pub small_below : (m n : ℕ) (a : List ℤ) → m ≤ n → AreSmall m a → Ar
 small_below m n a l h = record { x = omega (arith, h.x); y = omega (arith, h.y); z = omega (arith, h.z) }
 
 -- a vector added at one vertex
-pub small_one : (m n : ℕ) (sums : List (List ℤ)) (a : ℕ) (b : List ℤ) → AllSmall m sums → AreSmall n b → AllSmall (m + n) (with_one sums a b)
-small_one m n sums a b h k v = elim (cases_lt v (length sums)) as (λ _. AreSmall (m + n) (get_or (with_one sums a b) v [])) [
+pub small_one : (m n : ℕ) (sums : List (List ℤ)) (a : ℕ) (b : List ℤ) → AllSmall m sums → AreSmall n b → AllSmall (m + n) (added_at sums a b)
+small_one m n sums a b h k v = elim (cases_lt v (length sums)) as (λ _. AreSmall (m + n) (get_or (added_at sums a b) v [])) [
   | inl l ↦ rw (one_at sums a v b l) (cond_both (a == v) (added (get_or sums v []) b) (get_or sums v []) (AreSmall (m + n)) (λ _. small_added m n (get_or sums v []) b (h v) k) (λ _. small_below m (m + n) (get_or sums v []) (omega arith) (h v)))
-  | inr l ↦ rw (get_or_past (with_one sums a b) v [] (omega (arith, l, length-set sums a (added (get_or sums a []) b)))) (small_below 0 (m + n) [] (omega arith) (record { x = omega arith; y = omega arith; z = omega arith }))
+  | inr l ↦ rw (get_or_past (added_at sums a b) v [] (omega (arith, l, length-set sums a (added (get_or sums a []) b)))) (small_below 0 (m + n) [] (omega arith) (record { x = omega arith; y = omega arith; z = omega arith }))
 ]
 
 -- and at three
-pub small_three : (m n : ℕ) (sums : List (List ℤ)) (t : Triple) (b : List ℤ) → AllSmall m sums → AreSmall n b → AllSmall (m + n + n + n) (with_three sums t b)
+pub small_three : (m n : ℕ) (sums : List (List ℤ)) (t : Triple) (b : List ℤ) → AllSmall m sums → AreSmall n b → AllSmall (m + n + n + n) (added_at_corners sums t b)
 small_three m n sums t b h k =
-    let first = with_one sums t.0 b in
-    small_one (m + n + n) n (with_one first t.1 b) t.2 b (small_one (m + n) n first t.1 b (small_one m n sums t.0 b h k) k) k
+    let first = added_at sums t.0 b in
+    small_one (m + n + n) n (added_at first t.1 b) t.2 b (small_one (m + n) n first t.1 b (small_one m n sums t.0 b h k) k) k
 
 -- the sums before the first triangle are 0
 pub small_none : (points : List (List ℤ)) → AllSmall 0 (normals_of points [])

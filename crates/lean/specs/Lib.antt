@@ -1,3 +1,3 @@
 pub mod Leans
 pub mod Sides
-pub mod Sums
+pub mod Vectors

@@ -2,7 +2,7 @@
 ghost use Rattle.std.specs.Prelude.{◌≡◌, ◌<◌, ◌^◌, [], IfOk, length, get_or, map};
 ghost use Rattle.mesh_terms.specs.Meshes.{IsBelow, triple_of};
 ghost use Rattle.lean.specs.Leans.{face_normal, is_up, leans_of, normals_of};
-ghost use Rattle.lean.specs.Sums.{AllSmall, AreSmall, added, with_one, with_three};
+ghost use Rattle.lean.specs.Vectors.{AllSmall, AreSmall, added, added_at, added_at_corners};
 
 use mb_base::{NoMemory, Op, Point, cross};
 use mesh_check::Mesh;
@@ -78,7 +78,7 @@ fn add_at_corners(normals: &mut [[i128; 3]], triple: &[u32; 3], normal: &[i128; 
     requires below { IsBelow (length normals.old) (triple_of triple.now) }
     requires sums_small { AllSmall (2 ^ 119) normals.old }
     requires small { AreSmall (2 ^ 63) normal.now }
-    ensures { normals.new ≡ with_three normals.old (triple_of triple.now) normal.now }
+    ensures { normals.new ≡ added_at_corners normals.old (triple_of triple.now) normal.now }
 {
     let [a, b, c] = *triple;
     add_at(normals, a, normal);
@@ -91,7 +91,7 @@ fn add_at(normals: &mut [[i128; 3]], vertex: u32, normal: &[i128; 3])
     requires below { vertex < length normals.old }
     requires sum_small { AreSmall (2 ^ 120) (get_or normals.old vertex []) }
     requires small { AreSmall (2 ^ 63) normal.now }
-    ensures { normals.new ≡ with_one normals.old vertex normal.now }
+    ensures { normals.new ≡ added_at normals.old vertex normal.now }
 {
     let sum = normals[vertex as usize];
     normals[vertex as usize] = added(&sum, normal);

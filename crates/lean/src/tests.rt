@@ -104,16 +104,15 @@ fn corners_are_points_in_fine_steps(rt: HostRuntime) -> Result<(), Fail> {
     let side = Side::of(rt.alloc(), &mesh, ups)?;
     assert_eq!(rt; side.triples(), mesh.triples());
     assert_eq!(rt; side.twins().twins(), [4, 3, 5, 1, 0, 2].as_slice());
-    assert_eq!(rt; side.corners().len(), 3);
-    assert_eq!(rt;
-        side.corners()[1].at,
-        [(1 << 30) * UNIT, -5 * UNIT, 7 * UNIT]
-    );
-    assert_eq!(rt; side.corners()[1].up, [true, false, true]);
-    assert_eq!(rt;
-        side.corners()[2].at,
-        [3 * UNIT, -(1 << 30) * UNIT, 2 * UNIT]
-    );
-    assert_eq!(rt; side.corners()[2].up, [false, true, false]);
+    let corners = side.corners();
+    assert_eq!(rt; corners.len(), 3);
+    assert_eq!(rt; corners[1].at, [(1 << 30) * UNIT, -5 * UNIT, 7 * UNIT]);
+    assert_eq!(rt; corners[1].up, [true, false, true]);
+    assert_eq!(rt; corners[2].at, [3 * UNIT, -(1 << 30) * UNIT, 2 * UNIT]);
+    assert_eq!(rt; corners[2].up, [false, true, false]);
+    assert_eq!(rt; side.triples().len(), 2);
+    assert_eq!(rt; side.face(1), [corners[2], corners[1], corners[0]]);
+    assert_eq!(rt; side.edge(2), [corners[2], corners[0]]);
+    assert_eq!(rt; side.edge(3), [corners[2], corners[1]]);
     Ok(())
 }

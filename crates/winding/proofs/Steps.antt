@@ -1,5 +1,5 @@
 -- The size of shadows, and the sum of shadows face by face.
-use Rattle.std.proofs.Common.{arith, ◌≡◌, ◌<◌, ◌≤◌, ◌+◌, ◌++◌, ℕ, ℤ, pos, negsuc, neg_ℤ, ◌-ℤ◌, ◌≤ℤ◌, Bool, true, false, if◌then◌else◌, Option, Some, List, [], ◌∷◌, map, take, length, get_or, sym, ap, ◌∙◌}
+use Rattle.std.proofs.Common.{arith, ◌≡◌, ◌<◌, ◌≤◌, ◌+◌, ◌++◌, ℕ, ℤ, pos, negsuc, neg_ℤ, ◌-ℤ◌, ◌≤ℤ◌, Bool, true, false, if◌then◌else◌, Option, None, Some, List, [], ◌∷◌, map, take, length, get_or, sym, ap, ◌∙◌}
 use Rattle.std.proofs.lemmas.Int.{ints}
 use Rattle.std.proofs.lemmas.List.{map_push, take_all, take_more}
 use Rattle.chain_terms.specs.Sums.{total}
@@ -9,8 +9,9 @@ use Rattle.shadow_kernels.specs.declared.Meet.{Meet}
 use Rattle.shadow_kernels.specs.Counts.{count_of, shadow_of}
 
 -- the shadow of an answer is -1, 0 or 1 where the count is
-pub shadow_at : (o : Option Meet) (m : Meet) → Some m ≡ o → (negsuc 0 ≤ℤ count_of o) × (count_of o ≤ℤ pos 1) → (negsuc 0 ≤ℤ shadow_of (Some m)) × (shadow_of (Some m) ≤ℤ pos 1)
-shadow_at o m e h = by m.above m.count (rw (sym e) at h) where
+pub shadow_within : (o : Option Meet) → (negsuc 0 ≤ℤ count_of o) × (count_of o ≤ℤ pos 1) → (negsuc 0 ≤ℤ shadow_of o) × (shadow_of o ≤ℤ pos 1)
+shadow_within None h = h
+shadow_within (Some m) h = by m.above m.count h where
   by : (b : Bool) (n : ℤ) → (negsuc 0 ≤ℤ n) × (n ≤ℤ pos 1) → (negsuc 0 ≤ℤ (if b then n else pos 0)) × ((if b then n else pos 0) ≤ℤ pos 1)
   by true n h = h
   by false n h = (omega (arith, ints), omega (arith, ints))

@@ -5,7 +5,7 @@ ghost use Rattle.rounding.specs.Corners.{AllFine, IsFineCorner};
 ghost use Rattle.shadow_kernels.specs.Counts.{shadow_of};
 
 use mb_base::Corner;
-use shadow_kernels::Meets;
+use shadow_kernels::{Meet, Meets};
 
 /// What tells the shadow of a vertex of one side on a face of the other.
 pub trait VertexFace {
@@ -29,10 +29,7 @@ impl<K: Meets<1, 3>> VertexFace for PVertices<'_, K> {
     ghost cast_of = { λ s vertex face. shadow_of (K.meet_of s.0.now (vertex ∷ []) face) };
 
     fn shadow(&self, vertex: &Corner, face: &[Corner; 3]) -> i64 {
-        match self.0.meet(&[*vertex], face) {
-            None => 0,
-            Some(meet) => meet.shadow() as i64,
-        }
+        shadow_of(self.0.meet(&[*vertex], face))
     }
 }
 
@@ -44,9 +41,16 @@ impl<K: Meets<3, 1>> VertexFace for QVertices<'_, K> {
     ghost cast_of = { λ s vertex face. shadow_of (K.meet_of s.0.now face (vertex ∷ [])) };
 
     fn shadow(&self, vertex: &Corner, face: &[Corner; 3]) -> i64 {
-        match self.0.meet(face, &[*vertex]) {
-            None => 0,
-            Some(meet) => meet.shadow() as i64,
-        }
+        shadow_of(self.0.meet(face, &[*vertex]))
+    }
+}
+
+// The shadow of an answer: 0 where there is none.
+fn shadow_of(answer: Option<Meet>) -> i64
+    ensures { result ≡ shadow_of answer }
+{
+    match answer {
+        None => 0,
+        Some(meet) => meet.shadow() as i64,
     }
 }

@@ -26,8 +26,7 @@ pub fn winding_sum<K: Kernels, L: Ledger>(
     ensures size { nat_abs result ≤ length q.now.triples }
     ensures cost { steps.new ≡ steps.old + 1 }
 {
-    steps.tick();
-    minus_shadows(p, q, &PVertices(kernels))
+    minus_shadows(p, q, &PVertices(kernels), steps)
 }
 
 /// The winding number of a corner of Q in P: minus the sum of the shadows of all faces of P on it. The corner's
@@ -43,16 +42,22 @@ pub fn winding_sum_back<K: Kernels, L: Ledger>(
     ensures size { nat_abs result ≤ length p.now.triples }
     ensures cost { steps.new ≡ steps.old + 1 }
 {
-    steps.tick();
-    minus_shadows(q, p, &QVertices(kernels))
+    minus_shadows(q, p, &QVertices(kernels), steps)
 }
 
-// Minus the sum of the shadows of a vertex and all faces of a side.
-fn minus_shadows<S: VertexFace>(vertex: &Corner, faces: &Side, shadows: &S) -> i64
+// Minus the sum of the shadows of a vertex and all faces of a side, counted as one step.
+fn minus_shadows<S: VertexFace, L: Ledger>(
+    vertex: &Corner,
+    faces: &Side,
+    shadows: &S,
+    steps: &mut Steps<L>,
+) -> i64
     requires { IsFineCorner vertex.now }
     ensures value { result ≡ neg_ℤ (total (λ t. S.cast_of shadows.now vertex.now (face_of faces.now.corners t)) faces.now.triples) }
     ensures size { nat_abs result ≤ length faces.now.triples }
+    ensures cost { steps.new ≡ steps.old + 1 }
 {
+    steps.tick();
     let mut winding: i64 = 0;
     for face in 0..faces.triples().len() as u32 {
         winding -= shadows.shadow(vertex, &faces.face(face));

@@ -1,6 +1,9 @@
 // Winding numbers in cubes, worked out by hand.
 ghost use Rattle.std.specs.Prelude.{◌≡◌, ◌<◌};
 
+mod pairs;
+mod table;
+
 use crate::{winding_at, winding_sum};
 use lean::{Side, corner_of};
 use mb_base::{Point, Soup};

@@ -23,9 +23,9 @@ returns-clause-p_edges g c =
     let test : CrossTest = g.K.Crosses-1.cross_of k in
     let listed : AllListed test p q =
     λ h f.
-      let a = edge_fine p.corners p_side.fine (start (all_edges p.triples) h) (finish (all_edges p.triples) h) in
-      let b = face_fine q.corners q_side.fine (get_or q.triples f (0, 0, 0)) in
-      listed_number (test (edge_at p h) (face_at q f)) (g.met.K.Crosses-1.present k (edge_at p h) (face_at q f) refl refl a b) (g.met.K.Crosses-1.size k (edge_at p h) (face_at q f) refl refl a b) in
+    let a = edge_fine p.corners p_side.fine (start (all_edges p.triples) h) (finish (all_edges p.triples) h) in
+    let b = face_fine q.corners q_side.fine (get_or q.triples f (0, 0, 0)) in
+    listed_number (test (edge_at p h) (face_at q f)) (g.met.K.Crosses-1.present k (edge_at p h) (face_at q f) refl refl a b) (g.met.K.Crosses-1.size k (edge_at p h) (face_at q f) refl refl a b) in
     subst (AreHits (all_edges p.triples) (length q.triples)) (sym c.in_ok-x12.ensures) (hits_in_order test p q listed)
 
 pub returns-clause-q_edges : goal.returns-clause-q_edges
@@ -38,9 +38,9 @@ returns-clause-q_edges g c =
     let test : CrossTest = λ edge face. g.K.Crosses-2.cross_of k face edge in
     let listed : AllListed test q p =
     λ h f.
-      let a = edge_fine q.corners q_side.fine (start (all_edges q.triples) h) (finish (all_edges q.triples) h) in
-      let b = face_fine p.corners p_side.fine (get_or p.triples f (0, 0, 0)) in
-      listed_number (test (edge_at q h) (face_at p f)) (g.met.K.Crosses-2.present k (face_at p f) (edge_at q h) refl refl b a) (g.met.K.Crosses-2.size k (face_at p f) (edge_at q h) refl refl b a) in
+    let a = edge_fine q.corners q_side.fine (start (all_edges q.triples) h) (finish (all_edges q.triples) h) in
+    let b = face_fine p.corners p_side.fine (get_or p.triples f (0, 0, 0)) in
+    listed_number (test (edge_at q h) (face_at p f)) (g.met.K.Crosses-2.present k (face_at p f) (edge_at q h) refl refl b a) (g.met.K.Crosses-2.size k (face_at p f) (edge_at q h) refl refl b a) in
     subst (AreHits (all_edges q.triples) (length p.triples)) (sym c.in_ok-x21.ensures) (hits_in_order test q p listed)
 
 pub returns-clause-pairs : goal.returns-clause-pairs

@@ -2,7 +2,7 @@ use Rattle.std.proofs.Common.{ℕ, ◌≡◌, ◌+◌, ◌*◌, ◌^◌, ◌≤�
 use Rattle.std.proofs.lemmas.List.{length-map}
 use Rattle.mesh_terms.specs.Meshes.{HasThree, IsBelow, triple_of, triples_of}
 use Rattle.lean.specs.Leans.{face_normal, normals_of}
-use Rattle.lean.specs.Sums.{AllSmall, with_three}
+use Rattle.lean.specs.Vectors.{AllSmall, added_at_corners}
 use Rattle.lean.proofs.Normals.{length-normals, normals_more, small_below, small_none, small_three}
 use Rattle.lean.proofs.Triangles.{triple_at, triples_more}
 use Rattle.lean.proofs.marks.add_normals.Goals as goal
@@ -47,8 +47,8 @@ loop-triple-preserved c =
     let more = normals_more points (triples_of (take i xs)) t three in
     let sum : i * (3 * 2 ^ 63) + 2 ^ 63 + 2 ^ 63 + 2 ^ 63 ≡ (i + 1) * (3 * 2 ^ 63) = omega arith in
     record {
-      value = c.add_at_corners.ensures ∙ ap (λ ns. with_three ns t n) c.loop-triple.invariant.value ∙ ap (λ m. with_three (normals_of points (triples_of (take i xs))) t m) normal ∙ more ∙ ap (normals_of points) (sym (triples_more xs i c.loop-triple-test.true));
-      small = subst (λ ns. AllSmall ((i + 1) * (3 * 2 ^ 63)) ns) (sym c.add_at_corners.ensures) (subst (λ (m : ℕ). AllSmall m (with_three c.loop-triple.normals t n)) sum (small_three (i * (3 * 2 ^ 63)) (2 ^ 63) c.loop-triple.normals t n c.loop-triple.invariant.small c.face_normal-normal.ensures.small));
+      value = c.add_at_corners.ensures ∙ ap (λ ns. added_at_corners ns t n) c.loop-triple.invariant.value ∙ ap (λ m. added_at_corners (normals_of points (triples_of (take i xs))) t m) normal ∙ more ∙ ap (normals_of points) (sym (triples_more xs i c.loop-triple-test.true));
+      small = subst (λ ns. AllSmall ((i + 1) * (3 * 2 ^ 63)) ns) (sym c.add_at_corners.ensures) (subst (λ (m : ℕ). AllSmall m (added_at_corners c.loop-triple.normals t n)) sum (small_three (i * (3 * 2 ^ 63)) (2 ^ 63) c.loop-triple.normals t n c.loop-triple.invariant.small c.face_normal-normal.ensures.small));
       points = c.loop-triple.invariant.points;
       triples = c.loop-triple.invariant.triples;
     }

@@ -1,7 +1,7 @@
 use Rattle.std.proofs.Common.{◌≡◌, ◌*◌, ◌^◌, take}
 use Rattle.mesh_terms.specs.Meshes.{triples_of}
 use Rattle.lean.specs.Leans.{normals_of}
-use Rattle.lean.specs.Sums.{AllSmall}
+use Rattle.lean.specs.Vectors.{AllSmall}
 use Rattle.lean.proofs.marks.add_normals.Given as goal
 
 abbrev pub invariant-loop-triple : goal.invariant-loop-triple

@@ -1,23 +1,24 @@
-use Rattle.std.proofs.Common.{arith, refl, [], ◌∷◌}
+use Rattle.std.proofs.Common.{◌≡◌, [], ◌∷◌, arith, refl, ap, ◌∙◌}
 use Rattle.std.proofs.lemmas.Int.{ints}
+use Rattle.shadow_kernels.specs.Counts.{shadow_of}
 use Rattle.shadow_kernels.specs.FinePairs.{fine_one}
-use Rattle.winding.proofs.Steps.{shadow_at}
+use Rattle.winding.proofs.Steps.{shadow_within}
 use Rattle.winding.proofs.shadows.PVerticesVertexFace.shadow.Goals as goal
 
-pub returns-in-Some-clause-low : goal.returns-in-Some-clause-low
-returns-in-Some-clause-low g c =
+pub returns-clause-low : goal.returns-clause-low
+returns-clause-low g c =
     let p = c.args.vertex.now ∷ [] in
     let face = c.args.face.now in
     let kernels = c.args.self.now.0.now in
-    let size = g.met.K.Meets.size kernels p face refl c.told-face (fine_one c.args.vertex.now c.requires.vertex_fine) c.requires.face_fine in
-    let s = shadow_at (g.K.Meets.meet_of kernels p face) c.in-Some.meet c.in-Some.ensures size in
-    omega (arith, ints, s)
+    let s = shadow_within (g.K.Meets.meet_of kernels p face) (g.met.K.Meets.size kernels p face refl c.told-face (fine_one c.args.vertex.now c.requires.vertex_fine) c.requires.face_fine) in
+    let is : c.shadow_of.result ≡ shadow_of (g.K.Meets.meet_of kernels p face) = c.shadow_of.ensures ∙ ap shadow_of c.meet.ensures in
+    omega (arith, ints, s, is)
 
-pub returns-in-Some-clause-high : goal.returns-in-Some-clause-high
-returns-in-Some-clause-high g c =
+pub returns-clause-high : goal.returns-clause-high
+returns-clause-high g c =
     let p = c.args.vertex.now ∷ [] in
     let face = c.args.face.now in
     let kernels = c.args.self.now.0.now in
-    let size = g.met.K.Meets.size kernels p face refl c.told-face (fine_one c.args.vertex.now c.requires.vertex_fine) c.requires.face_fine in
-    let s = shadow_at (g.K.Meets.meet_of kernels p face) c.in-Some.meet c.in-Some.ensures size in
-    omega (arith, ints, s)
+    let s = shadow_within (g.K.Meets.meet_of kernels p face) (g.met.K.Meets.size kernels p face refl c.told-face (fine_one c.args.vertex.now c.requires.vertex_fine) c.requires.face_fine) in
+    let is : c.shadow_of.result ≡ shadow_of (g.K.Meets.meet_of kernels p face) = c.shadow_of.ensures ∙ ap shadow_of c.meet.ensures in
+    omega (arith, ints, s, is)

@@ -9,12 +9,12 @@ added a b =
     (coordinate_of a 0 +ℤ coordinate_of b 0) ∷ (coordinate_of a 1 +ℤ coordinate_of b 1) ∷ (coordinate_of a 2 +ℤ coordinate_of b 2) ∷ []
 
 -- a list of vectors with one more added at a place
-abbrev pub with_one : List (List ℤ) → ℕ → List ℤ → List (List ℤ)
-with_one sums v n = set sums v (added (get_or sums v []) n)
+abbrev pub added_at : List (List ℤ) → ℕ → List ℤ → List (List ℤ)
+added_at sums v n = set sums v (added (get_or sums v []) n)
 
 -- and at the three places of a triangle, one after the other
-abbrev pub with_three : List (List ℤ) → Triple → List ℤ → List (List ℤ)
-with_three sums t n = with_one (with_one (with_one sums t.0 n) t.1 n) t.2 n
+abbrev pub added_at_corners : List (List ℤ) → Triple → List ℤ → List (List ℤ)
+added_at_corners sums t n = added_at (added_at (added_at sums t.0 n) t.1 n) t.2 n
 
 -- each coordinate is at most n in size
 pub record AreSmall (n : ℕ) (a : List ℤ) : Type 0 where
