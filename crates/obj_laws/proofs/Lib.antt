@@ -9,3 +9,4 @@ pub mod Kept
 pub mod Lengths
 pub mod Saved
 pub mod Example
+pub mod Files

@@ -1,3 +1,4 @@
 pub mod Laws
 pub mod Narrow
 pub mod Example
+pub mod Files

@@ -7,6 +7,7 @@
 #![tactic(auto)]
 
 ghost use Rattle.obj_laws.specs.Example.{TetrahedronReadsBack};
+ghost use Rattle.obj_laws.specs.Files.{FilesRead};
 ghost use Rattle.obj_laws.specs.Laws.{NarrowSoupsReadBack, FilesGiveNarrowSoups, FilesReadBack};
 
 /// Under lawful limits the text of a narrow soup reads as the soup, and its length is within the limit of a file.
@@ -24,4 +25,9 @@ pub fn files_read_back()
 /// A tetrahedron's text, byte for byte, is what is saved of it, and reads as it.
 pub fn a_tetrahedron_reads_back()
     ensures { TetrahedronReadsBack }
+{}
+
+/// What files of the profile give, and each kind of fault, spelled out.
+pub fn files_read()
+    ensures { FilesRead }
 {}
