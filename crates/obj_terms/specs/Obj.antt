@@ -40,21 +40,27 @@ on_grid (Some z) = if is_on_grid z then Ok z else Err 4
 abbrev pub coordinate : ℕ → List ℕ → Result ℤ ℕ
 coordinate k word = on_grid (grid_number k word)
 
--- the words after v: three to seven, of which the first three are x, y, z; else 2
-abbrev pub obj_point : ℕ → Limits → ℕ → Gathered → List (List ℕ) → Result Gathered Fault
-obj_point k limits n s words =
+-- the coordinates of the words after v: three to seven, of which the first three are x, y, z; else 2
+abbrev pub point_coordinates : ℕ → ℕ → List (List ℕ) → Result (List ℤ) Fault
+point_coordinates k n words =
     if nat_lt (length words) 3 || nat_lt 7 (length words) then Err (Bad n 2)
-    else then_read (on_line n (each_read (coordinate k) (take 3 words))) (with_point limits s)
+    else on_line n (each_read (coordinate k) (take 3 words))
+
+abbrev pub obj_point : ℕ → Limits → ℕ → Gathered → List (List ℕ) → Result Gathered Fault
+obj_point k limits n s words = then_read (point_coordinates k n words) (with_point limits s)
+
+-- the vertices of the words after f, of so many points: three or more items; else 5
+abbrev pub face_vertices : ℕ → ℕ → List (List ℕ) → Result (List ℕ) Fault
+face_vertices count n words =
+    if nat_lt (length words) 3 then Err (Bad n 5)
+    else on_line n (each_read (item_vertex count) words)
 
 -- 7 where two items name one vertex
 abbrev pub obj_triples : Limits → ℕ → Gathered → List ℕ → Result Gathered Fault
 obj_triples limits n s vs = if has_repeat vs then Err (Bad n 7) else with_triples limits s (face_fan vs)
 
--- the words after f: three or more items; else 5
 abbrev pub obj_face : Limits → ℕ → Gathered → List (List ℕ) → Result Gathered Fault
-obj_face limits n s words =
-    if nat_lt (length words) 3 then Err (Bad n 5)
-    else then_read (on_line n (each_read (item_vertex (length s.points)) words)) (obj_triples limits n s)
+obj_face limits n s words = then_read (face_vertices (length s.points) n words) (obj_triples limits n s)
 
 -- the first words of the lines that are passed over
 abbrev pub passed_over : List (List ℕ)
@@ -73,8 +79,12 @@ obj_line k limits n (w ∷ ws) s =
 abbrev pub word_lines : List (ℕ × List ℕ) → List (ℕ × List (List ℕ))
 word_lines ls = map (λ l. (l.0, before_comment (words_of l.1))) ls
 
--- line after line; then the points that no triangle uses are dropped and counted
+-- line after line
+abbrev pub obj_lines : ℕ → Limits → List (ℕ × List (List ℕ)) → Gathered → Result Gathered Fault
+obj_lines k limits ls s = read_each (λ l t. obj_line k limits l.0 l.1 t) ls s
+
+-- after the last line the points that no triangle uses are dropped and counted
 abbrev pub obj : ℕ → Limits → List ℕ → Result Soup Fault
 obj k limits bytes =
-    then_read (read_each (λ l s. obj_line k limits l.0 l.1 s) (word_lines (joined_lines (without_mark bytes))) nothing_gathered)
+    then_read (obj_lines k limits (word_lines (joined_lines (without_mark bytes))) nothing_gathered)
     (λ s. Ok (soup_of s.points s.triples))
