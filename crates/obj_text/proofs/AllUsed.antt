@@ -3,20 +3,10 @@ use Rattle.std.proofs.Common.{◌≡◌, ℕ, zero, suc, ◌+◌, ◌-◌, ◌<�
 use Rattle.std.specs.List.{All}
 use Rattle.chain_terms.specs.Sums.{up_from}
 use Rattle.mesh_terms.specs.Meshes.{Triple, IsBelow, is_used, used_from, new_number, renumbered, soup_of}
-use Rattle.obj_terms.specs.Reading.{unused_line}
 
 -- one place on
 next : (v k : ℕ) → suc v + k ≡ v + suc k
 next v k = omega arith
-
--- without a line of an unused point each point is used
-pub is_used-all : (ts : List Triple) (v : ℕ) (ns : List ℕ) → unused_line ts v ns ≡ None → (k : ℕ) → k < length ns → is_used ts (v + k) ≡ true
-is_used-all ts v [] e k h = absurd (omega arith)
-is_used-all ts v (n ∷ ns) e k h = at (is_used ts v) refl k h (is_used-all ts (suc v) ns) where
-  at : (b : Bool) → is_used ts v ≡ b → (k : ℕ) → k < suc (length ns) → (unused_line ts (suc v) ns ≡ None → (j : ℕ) → j < length ns → is_used ts (suc v + j) ≡ true) → is_used ts (v + k) ≡ true
-  at false f k h i = let g = rw f at e in cc
-  at true f zero h i = rw add-zero f
-  at true f (suc k) h i = rw (← next v k) (i (rw f at e) k (omega arith))
 
 -- where each point is used none is dropped
 pub used_from-all : {X : Type 0} (ts : List Triple) (v : ℕ) (ps : List X) → ((k : ℕ) → k < length ps → is_used ts (v + k) ≡ true) → used_from ts v ps ≡ ps

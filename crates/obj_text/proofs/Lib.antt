@@ -1,6 +1,8 @@
 mod AllUsed
-mod DigitSteps
 mod LineSteps
 mod Positions
 mod UsedSteps
 mod WordSteps
+mod GoesOn
+mod CutSteps
+mod DigitSteps

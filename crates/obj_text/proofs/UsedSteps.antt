@@ -7,7 +7,6 @@ use Rattle.std.proofs.lemmas.List.Folds.{list_any-append}
 use Rattle.std.proofs.Math.Seq.{drop-cons}
 use borrow.Author.Tests.{eq-eqb, ne_eqb}
 use Rattle.mesh_terms.specs.Meshes.{Triple, IsBelow, has, is_used}
-use Rattle.obj_terms.specs.Reading.{unused_line}
 use Rattle.obj_text.specs.Reading.{MarksUsed}
 
 -- the marks after one is set
@@ -42,7 +41,3 @@ MarksUsed-more n ts t marks m below = record {
       ∙ or_shuffled (t.0 == v) (t.1 == v) (t.2 == v) (is_used ts v)
       ∙ sym (list_any-append (λ u. has u v) ts (t ∷ []));
 }
-
--- a used point is not the first unused one
-pub unused_line-past : (ts : List Triple) (v : ℕ) (lines : List ℕ) → v < length lines → is_used ts v ≡ true → unused_line ts v (drop v lines) ≡ unused_line ts (v + 1) (drop (v + 1) lines)
-unused_line-past ts v lines h e = rw (add-one, drop-cons lines v 0 h, e) refl

@@ -1,5 +1,5 @@
 // The coordinates of a point, and the vertices that the items of a face name.
-ghost use Rattle.std.specs.Prelude.{◌≡◌, ◌<◌, ◌≤◌, ◌∷◌, [], Ok, Err, Some, IfOk, IfErr, OnOk, All, option_map, length};
+ghost use Rattle.std.specs.Prelude.{◌≡◌, ◌<◌, ◌≤◌, ◌∷◌, [], Ok, Err, Some, IfOk, IfErr, OnOk, All, option_copied, length, position};
 ghost use Rattle.text_terms.specs.Numbers.{cut_at};
 ghost use Rattle.mesh_terms.specs.Points.{IsOnGrid};
 ghost use Rattle.mb_base.specs.Faults.{kind_number};
@@ -134,7 +134,7 @@ fn named(negative: bool, size: u64, count: u32) -> Result<u32, TextKind>
 
 // Whether nothing follows the number of an item, or `/j`, `//k` or `/j/k`.
 fn is_tail(tail: Option<&[u8]>) -> bool
-    ensures { result ≡ item_tail (option_map (λ t. t.now) tail) }
+    ensures { result ≡ item_tail (option_copied tail.entry) }
 {
     let Some(tail) = tail else {
         return true;
@@ -148,9 +148,9 @@ fn is_tail(tail: Option<&[u8]>) -> bool
 // The text before the first slash, and the text after it, where there is one.
 fn cut_at_slash(text: &[u8]) -> (&[u8], Option<&[u8]>)
     ensures before { result.0.now ≡ (cut_at is_slash text.now).0 }
-    ensures after { option_map (λ t. t.now) result.1 ≡ (cut_at is_slash text.now).1 }
+    ensures after { option_copied result.1 ≡ (cut_at is_slash text.now).1 }
 {
-    match text.iter().position(|byte| *byte == b'/') {
+    match first_slash(text) {
         None => (text, None),
         Some(place) => {
             let (before, _) = text.split_at(place);
@@ -158,6 +158,13 @@ fn cut_at_slash(text: &[u8]) -> (&[u8], Option<&[u8]>)
             (before, Some(after))
         }
     }
+}
+
+// The place of the first slash, where there is one.
+fn first_slash(text: &[u8]) -> Option<usize>
+    ensures { result ≡ position is_slash text.now }
+{
+    text.iter().position(|byte| *byte == b'/')
 }
 
 // Whether a word is an optional `-` and digits.

@@ -1,6 +1,6 @@
 // The lines of a text, joined where they go on.
-ghost use Rattle.std.specs.Prelude.{◌≡◌, ◌<◌, ◌≤◌, ◌+◌, ◌∷◌, ◌^◌, ℕ, length};
-ghost use Rattle.text_terms.specs.Lines.{lines_of, joined_from, joined_lines, raw_lines, without_cr, is_continued};
+ghost use Rattle.std.specs.Prelude.{◌≡◌, ◌<◌, ◌≤◌, ◌+◌, ◌∷◌, ◌^◌, length};
+ghost use Rattle.text_terms.specs.Lines.{lines_of, joined_lines, raw_lines, without_cr};
 ghost use Rattle.obj_terms.specs.Obj.{word_lines};
 ghost use Rattle.obj_text.specs.Lines.{lines_past};
 
@@ -79,12 +79,12 @@ fn past_line<'t>(line: &'t [u8], after: &'t [u8], number: u64) -> (u64, &'t [u8]
 {
     let mut line = line;
     let mut after = after;
-    let mut next = number + 1;
+    let mut number = number;
     while is_continued(line) && !after.is_empty() {
         (line, after) = first_line(after);
-        next += 1;
+        number += 1;
     }
-    (next, after)
+    (number + 1, after)
 }
 
 // The first line of a text without its LF, and the text after it.

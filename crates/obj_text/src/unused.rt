@@ -1,8 +1,8 @@
 // The points that triangles use.
-ghost use Rattle.std.specs.Prelude.{◌≡◌, ◌<◌, ◌≤◌, ℕ, List, Bool, false, map, length, get_or, IfOk};
+ghost use Rattle.std.specs.Prelude.{◌≡◌, ◌≤◌, List, length, IfOk};
 ghost use Rattle.std.specs.List.{All};
-ghost use Rattle.mesh_terms.specs.Meshes.{IsBelow, Triple, triples_of, soup_of, used_from, new_number, renumbered, is_used};
-ghost use Rattle.obj_text.specs.Reading.{IsSound, MarksUsed, NumbersUsed};
+ghost use Rattle.mesh_terms.specs.Meshes.{IsBelow, Triple, triples_of, soup_of, used_from};
+ghost use Rattle.obj_text.specs.Reading.{IsSound, MarksUsed, NumbersUsed, renamed};
 
 use mb_base::{Point, Soup};
 use std::alloc::{AllocError, Global};

@@ -1,7 +1,7 @@
 // The words of a line.
-ghost use Rattle.std.specs.Prelude.{◌≡◌, ◌==◌, ◌<◌, ◌≤◌, ◌||◌, [], ◌∷◌, not, true, false, nat_lt, length, take, IsTrue, IsFalse, IfSome, IfNone};
+ghost use Rattle.std.specs.Prelude.{◌≡◌, ◌<◌, ◌≤◌, ◌⊎◌, [], ◌∷◌, not, length, take, IsTrue, IfSome, IfNone};
 ghost use Rattle.std.specs.List.{position_or_len};
-ghost use Rattle.text_terms.specs.Lines.{is_blank, is_continued, begins_word, before_comment, words_of, lines_of, last_is, begins_comment};
+ghost use Rattle.text_terms.specs.Lines.{is_blank, is_continued, begins_word, before_comment, words_of, lines_of, begins_comment};
 ghost use Rattle.obj_text.specs.Lines.{first_words, words_left};
 
 use crate::lines::first_line;
@@ -84,10 +84,10 @@ impl<'t> Iterator for Words<'t> {
 pub fn is_continued(line: &[u8]) -> bool
     ensures { result ≡ is_continued line.now }
 {
-    match line.split_last() {
-        Some((b'\\', _)) => !begins_comment(line),
-        _ => false,
-    }
+    let Some((last, _)) = line.split_last() else {
+        return false;
+    };
+    *last == b'\\' && !begins_comment(line)
 }
 
 // Whether the first word of a line begins with `#`.
@@ -112,18 +112,18 @@ fn part_of<'t>(line: &'t [u8], after: &'t [u8]) -> (&'t [u8], &'t [u8])
     }
 }
 
-// The line from its next word on, over the ends of its parts; nothing where no word is left.
-fn next_word<'t>(part: &'t [u8], later: &'t [u8]) -> (&'t [u8], &'t [u8])
-    ensures words { words_left result.0.now result.1.now ≡ words_left part.entry.now later.entry.now }
+// What is left of a line from its next word on, over the ends of its parts; nothing where no word is left.
+fn next_word<'t>(part: &'t [u8], more: &'t [u8]) -> (&'t [u8], &'t [u8])
+    ensures words { words_left result.0.now result.1.now ≡ words_left part.entry.now more.entry.now }
     ensures word { 0 < length result.0.now → IsTrue (begins_word result.0.now) }
-    ensures none { length result.0.now ≡ 0 → words_left part.entry.now later.entry.now ≡ [] }
+    ensures none { length result.0.now ≡ 0 → words_left part.entry.now more.entry.now ≡ [] }
 {
     let mut text = after_blanks(part);
-    let mut later = later;
+    let mut later = more;
     while text.is_empty() && !later.is_empty() {
         let (line, after) = first_line(later);
-        let (part, rest) = part_of(line, after);
-        text = after_blanks(part);
+        let (next, rest) = part_of(line, after);
+        text = after_blanks(next);
         later = rest;
     }
     (text, later)
