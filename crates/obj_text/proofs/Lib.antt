@@ -6,3 +6,5 @@ mod WordSteps
 mod GoesOn
 mod CutSteps
 mod DigitSteps
+mod ItemSteps
+mod NamedTwice

@@ -1,5 +1,5 @@
 -- Numbers that count no further than some greatest one, and words read one after the other.
-use Rattle.std.specs.Prelude.{◌≡◌, ℕ, ◌^◌, Bool, List, [], ◌∷◌, ◌++◌, Option, Some, None, Result, Ok, if◌then◌else◌, min}
+use Rattle.std.specs.Prelude.{◌≡◌, ℕ, ◌^◌, Bool, List, [], ◌∷◌, ◌++◌, Option, Some, None, Result, Ok, Err, if◌then◌else◌, min}
 use Rattle.text_terms.specs.Numbers.{is_digits, digits_value}
 use Rattle.obj_terms.specs.Faces.{minus_first}
 
@@ -22,3 +22,8 @@ pub record IsRead (f : List ℕ → Result ℕ ℕ) (word old new : List ℕ) : 
   pub value : ℕ
   pub reads : f word ≡ Ok value
   pub added : new ≡ old ++ value ∷ []
+
+-- what the words so far read as, before what the others do
+abbrev pub read_after : List ℕ → Result (List ℕ) ℕ → Result (List ℕ) ℕ
+read_after old (Err kind) = Err kind
+read_after old (Ok values) = Ok (old ++ values)

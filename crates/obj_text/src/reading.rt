@@ -102,12 +102,14 @@ impl Gathered {
 // Adds the triangles of a face of these vertices: the first with each two that follow one another. Where
 // there is no memory nothing is added.
 fn push_fan(triples: &mut Vec<[u32; 3]>, vertices: &[u32]) -> Result<(), AllocError>
+    requires { 3 ≤ length vertices.now }
     ensures added { OnOk result (triples_of triples.new.items ≡ triples_of triples.old.items ++ face_fan vertices.now) }
     ensures same { OnErr result (triples.new.items ≡ triples.old.items) }
 {
-    triples.reserve(vertices.len())?;
-    for place in 2..vertices.len() {
-        let triple = [vertices[0], vertices[place - 1], vertices[place]];
+    let last = vertices.len() - 1;
+    triples.reserve(last)?;
+    for place in 1..last {
+        let triple = [vertices[0], vertices[place], vertices[place + 1]];
         match triples.push(triple) {
             Ok(()) => {}
             Err(_) => unreachable!(),
@@ -215,8 +217,14 @@ impl Reading {
 fn is_passed_over(word: &[u8]) -> bool
     ensures { result ≡ list_any (bytes_eq word.now) passed_over }
 {
-    matches!(
-        word,
-        b"vt" | b"vn" | b"o" | b"g" | b"s" | b"usemtl" | b"mtllib" | b"l" | b"p"
-    )
+    let short = word == b"o".as_slice()
+        || word == b"g".as_slice()
+        || word == b"s".as_slice()
+        || word == b"l".as_slice()
+        || word == b"p".as_slice();
+    short
+        || word == b"vt".as_slice()
+        || word == b"vn".as_slice()
+        || word == b"usemtl".as_slice()
+        || word == b"mtllib".as_slice()
 }

@@ -1,5 +1,7 @@
 // Whether a face names a vertex twice.
-ghost use Rattle.std.specs.Prelude.{◌≡◌, IfOk, IsSorted};
+ghost use Rattle.std.specs.Prelude.{◌≡◌, ◌==◌, IfOk};
+ghost use Rattle.std.specs.List.{list_any};
+ghost use Rattle.std.specs.List.Sorted.{IsNonDecreasing};
 ghost use Rattle.obj_terms.specs.Faces.{has_repeat};
 
 use std::alloc::AllocError;
@@ -18,7 +20,7 @@ pub fn has_repeat(vertices: &[u32], sorted: &mut Vec<u32>) -> Result<bool, Alloc
     sorted.clear();
     sorted.extend_from_slice(vertices)?;
     sorted.sort_unstable();
-    Ok(has_repeat_of_sorted(sorted))
+    Ok(has_repeat_of_ascending(sorted))
 }
 
 // The same by comparing each with each.
@@ -27,7 +29,7 @@ fn has_repeat_of_few(vertices: &[u32]) -> bool
 {
     let mut rest = vertices;
     while let Some((vertex, later)) = rest.split_first() {
-        if later.iter().any(|other| *other == *vertex) {
+        if is_among(*vertex, later) {
             return true;
         }
         rest = later;
@@ -35,9 +37,16 @@ fn has_repeat_of_few(vertices: &[u32]) -> bool
     false
 }
 
-// The same where equal ones stand next to each other.
-fn has_repeat_of_sorted(vertices: &[u32]) -> bool
-    requires { IsSorted ⟦<u32 as Ord>⟧.cmp vertices.now }
+// Whether a vertex is one of others.
+fn is_among(vertex: u32, others: &[u32]) -> bool
+    ensures { result ≡ list_any (λ other. other == vertex) others.now }
+{
+    others.iter().any(|other| *other == vertex)
+}
+
+// The same where the vertices ascend, so that equal ones stand next to each other.
+fn has_repeat_of_ascending(vertices: &[u32]) -> bool
+    requires { IsNonDecreasing vertices.now }
     ensures { result ≡ has_repeat vertices.now }
 {
     for place in 1..vertices.len() {
