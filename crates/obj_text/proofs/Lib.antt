@@ -8,3 +8,4 @@ mod CutSteps
 mod DigitSteps
 mod ItemSteps
 mod NamedTwice
+mod Fans
