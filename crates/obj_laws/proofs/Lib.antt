@@ -10,3 +10,8 @@ pub mod Lengths
 pub mod Saved
 pub mod Example
 pub mod Files
+pub mod Plain
+pub mod Alone
+pub mod WrittenWords
+pub mod SavedLines
+pub mod SavedMeshes

@@ -51,23 +51,23 @@ pub IsSpelled-decimal : (n : ℕ) → n < 2 ^ 64 → IsSpelled n (decimal n)
 IsSpelled-decimal = decimal_by_steps IsSpelled IsSpelled-digit (λ n ds large s. IsSpelled-more n ds s)
 
 -- such a word is digits
-is_digits-spelled : (n : ℕ) (ds : List ℕ) → IsSpelled n ds → is_digits ds ≡ true
+pub is_digits-spelled : (n : ℕ) (ds : List ℕ) → IsSpelled n ds → is_digits ds ≡ true
 is_digits-spelled n [] s = absurd (omega (arith, s.word.some))
 is_digits-spelled n (d ∷ ds) s = s.digits
 
 -- and begins with no sign
-minus_first-spelled : (n : ℕ) (ds : List ℕ) → IsSpelled n ds → minus_first ds ≡ (false, ds)
+pub minus_first-spelled : (n : ℕ) (ds : List ℕ) → IsSpelled n ds → minus_first ds ≡ (false, ds)
 minus_first-spelled n [] s = absurd (omega (arith, s.word.some))
 minus_first-spelled n (d ∷ ds) s =
     let sign : (d == 45) ≡ false = grind (arith, nat_tests, s.digits) in
     ap (λ (b : Bool). if b then (true, ds) else (false, d ∷ ds)) sign
 
 -- a sign and what stands after it, as a sign and a size
-abbrev sized : Bool × List ℕ → Option (Bool × ℕ)
+abbrev pub sized : Bool × List ℕ → Option (Bool × ℕ)
 sized s = if is_digits s.1 then Some (s.0, digits_value s.1) else None
 
 -- digits have a size, with a sign before them or without
-sized-spelled : (negative : Bool) (n : ℕ) (ds : List ℕ) → IsSpelled n ds → sized (negative, ds) ≡ Some (negative, n)
+pub sized-spelled : (negative : Bool) (n : ℕ) (ds : List ℕ) → IsSpelled n ds → sized (negative, ds) ≡ Some (negative, n)
 sized-spelled negative n ds s =
     ap (λ (b : Bool). if b then Some (negative, digits_value ds) else None) (is_digits-spelled n ds s)
     ∙ ap (λ (v : ℕ). Some (negative, v)) s.value

@@ -8,6 +8,7 @@
 
 ghost use Rattle.obj_laws.specs.Example.{TetrahedronReadsBack};
 ghost use Rattle.obj_laws.specs.Files.{FilesRead};
+ghost use Rattle.obj_laws.specs.ReadingBack.{MeshesReadBack};
 ghost use Rattle.obj_laws.specs.Laws.{NarrowSoupsReadBack, FilesGiveNarrowSoups, FilesReadBack};
 
 /// Under lawful limits the text of a narrow soup reads as the soup, and its length is within the limit of a file.
@@ -30,4 +31,10 @@ pub fn a_tetrahedron_reads_back()
 /// What files of the profile give, and each kind of fault, spelled out.
 pub fn files_read()
     ensures { FilesRead }
+{}
+
+/// Under lawful limits the text of a mesh within them, whatever the digits, reads as the mesh, and its length is within the
+/// limit of a file.
+pub fn meshes_read_back()
+    ensures { MeshesReadBack }
 {}

@@ -1,0 +1,9 @@
+use Rattle.std.proofs.Common.{◌≡◌}
+use Rattle.text_terms.specs.Lines.{joined_lines}
+use Rattle.obj_terms.specs.Obj.{nothing_gathered, obj_lines, word_lines}
+use Rattle.obj_text.proofs.reading.Reading.of.Given as goal
+
+-- the lines that are left decide
+abbrev pub invariant-loop-number : goal.invariant-loop-number
+invariant-loop-number l =
+    obj_lines l.digits l.limits (word_lines (joined_lines l.text)) nothing_gathered ≡ obj_lines l.digits l.limits l.number-iterator l.reading.gathered
