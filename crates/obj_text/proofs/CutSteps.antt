@@ -2,10 +2,9 @@
 use Rattle.std.proofs.Common.{◌≡◌, ℕ, zero, suc, ◌<◌, ◌≤◌, Bool, true, false, cond, List, [], ◌∷◌, length, take, drop, Option, Some, None, refl, ap, ◌∙◌, arith}
 use Rattle.std.specs.Prelude.{nat_lt, position}
 use Rattle.std.specs.List.{position_or_len}
-use Rattle.std.proofs.Math.Seq.{take-length}
 use Rattle.std.proofs.lemmas.Bool.Decides.{nat_tests}
 use Rattle.text_terms.specs.Numbers.{cut_at}
-use Rattle.obj_text.proofs.Positions.{position_or_len-here, position_or_len-past, position_or_len-le}
+use Rattle.obj_text.proofs.Positions.{position_or_len-here, position_or_len-past}
 
 -- a byte that passes cuts
 cut_at-here : (p : ℕ → Bool) (c : ℕ) (cs : List ℕ) → p c ≡ true → cut_at p (c ∷ cs) ≡ ([], Some cs)

@@ -1,5 +1,5 @@
 -- The triangles of a face.
-use Rattle.std.proofs.Common.{◌≡◌, ℕ, suc, ◌+◌, ◌-◌, ◌<◌, ◌≤◌, Bool, true, false, List, [], ◌∷◌, ◌++◌, length, Result, Ok, Err, ℤ, refl, ap, ◌∙◌, arith, length-append}
+use Rattle.std.proofs.Common.{◌≡◌, ℕ, ◌+◌, ◌-◌, ◌<◌, ◌≤◌, Bool, true, false, List, [], ◌∷◌, ◌++◌, length, Ok, Err, refl, ap, ◌∙◌, arith, length-append}
 use Rattle.std.specs.Prelude.{◌==◌, ◌||◌, nat_lt, if◌then◌else◌}
 use Rattle.std.specs.List.{All, list_any}
 use Rattle.std.proofs.lemmas.Bool.Decides.{nat_tests}
@@ -9,7 +9,7 @@ use Rattle.mesh_terms.specs.Limits.{Limits}
 use Rattle.mesh_terms.specs.Meshes.{Triple, HasThree, IsBelow}
 use Rattle.obj_terms.specs.Faces.{fan_from, face_fan, has_repeat}
 use Rattle.obj_terms.specs.Obj.{Gathered, with_triples}
-use Rattle.obj_text.specs.Reading.{IsSound}
+use Rattle.unused_points.specs.Used.{IsSound}
 
 -- one triangle for each vertex but the last, after the first
 length-fan_from : (a : ℕ) (vs : List ℕ) → length (fan_from a vs) ≡ length vs - 1

@@ -1,7 +1,5 @@
-mod AllUsed
 mod LineSteps
 mod Positions
-mod UsedSteps
 mod WordSteps
 mod GoesOn
 mod CutSteps

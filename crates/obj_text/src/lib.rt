@@ -24,7 +24,6 @@ mod items;
 mod lines;
 mod reading;
 mod repeats;
-mod unused;
 mod words;
 
 use mb_base::{Limits, Soup, TextFault};

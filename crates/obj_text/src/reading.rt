@@ -10,11 +10,11 @@ ghost use Rattle.obj_text.specs.Faults.{IsFaultOf};
 use crate::items::{bad, point_of, read_vertices};
 use crate::lines::Lines;
 use crate::repeats::has_repeat;
-use crate::unused::soup_of;
 use crate::words::Words;
-use mb_base::{Counted, Limits, Point, Soup, TextFault, TextKind};
+use mb_base::{Counted, Limits, NoMemory, Point, Soup, TextFault, TextKind};
 use std::alloc::{AllocError, Global};
 use std::marker::Model;
+use unused_points::without_unused;
 
 /// The points and the triangles that the lines so far gave.
 #[derive(Drop)]
@@ -27,7 +27,7 @@ impl Model for Gathered {
     ghost use Rattle.std.specs.Prelude.{length};
     ghost use Rattle.mesh_terms.specs.Meshes.{triples_of};
     ghost use Rattle.obj_terms.specs.Obj.{Gathered as TheGathered};
-    ghost use Rattle.obj_text.specs.Reading.{IsSound};
+    ghost use Rattle.unused_points.specs.Used.{IsSound};
 
     ghost Value = { TheGathered };
 
@@ -60,7 +60,10 @@ impl Gathered {
         ensures fault { IfErr result (λ e. e ≡ TextFault.NoMemory) }
     {
         let Gathered { points, triples } = self;
-        Ok(soup_of(alloc, points, triples)?)
+        match without_unused(alloc, points, triples) {
+            Ok(soup) => Ok(soup),
+            Err(NoMemory) => Err(TextFault::NoMemory),
+        }
     }
 
     // Adds a point, where the limit allows it.

@@ -1,4 +1,4 @@
-use Rattle.std.proofs.Common.{◌≡◌, ℕ, ◌≤◌, suc, List, [], ◌∷◌, ◌++◌, length, drop, get_or, refl, arith, sym, ap, ◌∙◌, append-nil, length-drop}
+use Rattle.std.proofs.Common.{◌≡◌, ℕ, ◌≤◌, List, [], ◌∷◌, ◌++◌, length, drop, get_or, refl, arith, sym, ap, ◌∙◌, append-nil, length-drop}
 use Rattle.mesh_terms.specs.Meshes.{Triple, triples_of}
 use Rattle.obj_terms.specs.Faces.{fan_from, face_fan}
 use Rattle.obj_text.proofs.reading.push_fan.Goals as goal

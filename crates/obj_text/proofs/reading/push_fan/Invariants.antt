@@ -1,4 +1,4 @@
-use Rattle.std.proofs.Common.{◌≡◌, ◌≤◌, ◌+◌, ◌-◌, ◌++◌, get_or, drop, length, vec_len, vec_capacity}
+use Rattle.std.proofs.Common.{◌≡◌, ◌≤◌, ◌+◌, ◌-◌, ◌++◌, get_or, drop, vec_len, vec_capacity}
 use Rattle.mesh_terms.specs.Meshes.{triples_of}
 use Rattle.obj_terms.specs.Faces.{fan_from, face_fan}
 use Rattle.obj_text.proofs.reading.push_fan.Given as goal

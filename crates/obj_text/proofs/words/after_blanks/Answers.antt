@@ -1,4 +1,3 @@
-use Rattle.std.proofs.Common.{ap, drop}
 use Rattle.obj_text.proofs.Positions.{position_or_len-le}
 use Rattle.obj_text.proofs.WordSteps.{is_mark, words_of-past_blanks, begins_word-past_blanks}
 use Rattle.obj_text.proofs.words.after_blanks.Goals as goal

@@ -1,4 +1,4 @@
-use Rattle.std.proofs.Common.{◌≡◌, ℕ, Bool, true, false, not, List, [], ◌∷◌, ◌++◌, sym, ap, ◌∙◌, ne_eqb}
+use Rattle.std.proofs.Common.{◌≡◌, ℕ, Bool, not, List, [], ◌∷◌, ◌++◌, sym, ap, ◌∙◌, ne_eqb}
 use Rattle.std.specs.Prelude.{◌==◌, ◌&&◌}
 use Rattle.text_terms.specs.Lines.{is_continued, begins_comment, words_of}
 use Rattle.obj_text.proofs.GoesOn.{is_continued-end}

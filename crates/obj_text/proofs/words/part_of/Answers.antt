@@ -1,5 +1,5 @@
 use Rattle.std.proofs.Common.{◌∙◌, sym}
-use Rattle.obj_text.proofs.GoesOn.{words_left-continued, words_left-alone}
+use Rattle.obj_text.proofs.GoesOn.{words_left-continued}
 use Rattle.obj_text.proofs.words.part_of.Goals as goal
 
 pub returns-then-is_continued-clause-words : goal.returns-then-is_continued-clause-words

@@ -1,4 +1,4 @@
-use Rattle.std.proofs.Common.{◌≡◌, ℕ, rules, List, [], ◌∷◌, sym, ◌∙◌, ap}
+use Rattle.std.proofs.Common.{◌≡◌, ℕ, rules, List, ◌∷◌, sym, ◌∙◌, ap}
 use Rattle.text_terms.specs.Lines.{lines_of, joined_from, before_comment}
 use Rattle.obj_terms.specs.Obj.{word_lines}
 use Rattle.obj_text.specs.Lines.{first_words, lines_past}

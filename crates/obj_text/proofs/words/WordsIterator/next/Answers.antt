@@ -1,4 +1,4 @@
-use Rattle.std.proofs.Common.{◌≡◌, ◌<◌, ℕ, rules, length, drop, take, get_or, sym, ◌∙◌, List, [], ◌∷◌, ap, true, false, refl, arith, suc}
+use Rattle.std.proofs.Common.{◌≡◌, ◌<◌, ℕ, rules, length, drop, take, get_or, sym, ◌∙◌, List, [], ◌∷◌, ap, true, false, refl, arith}
 use Rattle.std.specs.Prelude.{◌==◌}
 use Rattle.std.specs.List.{position_or_len}
 use Rattle.text_terms.specs.Lines.{is_blank, begins_word, before_comment}
