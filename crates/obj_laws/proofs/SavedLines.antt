@@ -1,21 +1,21 @@
 -- What each line of the text of a mesh gives its reader.
-use Rattle.std.proofs.Common.{◌≡◌, ℕ, ◌+◌, ◌<◌, ◌≤◌, if◌then◌else◌, Bool, List, [], ◌∷◌, ◌++◌, false, length, decimal, codes, refl, sym, ap, ◌∙◌, arith, Result, Ok, Err, append_assoc, subst, ℤ, nat_lt}
+use Rattle.std.proofs.Common.{◌≡◌, ℕ, ◌+◌, ◌<◌, ◌≤◌, if◌then◌else◌, Bool, List, [], ◌∷◌, ◌++◌, false, length, decimal, codes, refl, ap, ◌∙◌, arith, Result, Ok, Err, append_assoc, ℤ, nat_lt}
 use Rattle.std.proofs.lemmas.Bool.Decides.{nat_tests}
-use Rattle.text_terms.specs.Lines.{is_comment, words_of, before_comment}
+use Rattle.text_terms.specs.Lines.{words_of, before_comment}
 use Rattle.text_terms.specs.Written.{written}
-use Rattle.mesh_terms.specs.Faults.{Points, Triangles, Fault, Bad, Over}
+use Rattle.mesh_terms.specs.Faults.{Points, Triangles, Bad, Over}
 use Rattle.mesh_terms.specs.Limits.{Limits}
 use Rattle.mesh_terms.specs.Meshes.{Triple, HasThree, IsBelow}
 use Rattle.mesh_terms.specs.Points.{coordinate_of, IsPoint}
 use Rattle.obj_terms.specs.FirstFault.{then_read, put_read, each_read, on_line}
 use Rattle.obj_terms.specs.Faces.{item_vertex, face_fan, has_repeat}
-use Rattle.obj_terms.specs.Obj.{Gathered, with_point, with_triples, coordinate, point_coordinates, face_vertices, obj_triples, obj_line}
+use Rattle.obj_terms.specs.Obj.{Gathered, with_point, with_triples, coordinate, obj_triples, obj_line}
 use Rattle.obj_terms.specs.Written.{three_numbers}
 use Rattle.obj_laws.proofs.Bytes.{Above, Above-lower}
 use Rattle.obj_laws.proofs.Words.{spaced, words_of-spaced, Above-spaced}
-use Rattle.obj_laws.proofs.Plain.{IsPlain, IsPlain-letter, last_is-word, before_comment-plain}
+use Rattle.obj_laws.proofs.Plain.{IsPlain, IsPlain-letter, last_is-word}
 use Rattle.obj_laws.proofs.Alone.{IsAlone}
-use Rattle.obj_laws.proofs.WrittenWords.{IsTextOf, IsTextOf-written, IsItemOf, IsItemOf-decimal}
+use Rattle.obj_laws.proofs.WrittenWords.{IsTextOf, IsTextOf-written, IsItemOf-decimal}
 
 -- a line of four words with spaces between them: no byte below a space, it does not go on, and these are its words
 pub record HasWords (line : List ℕ) (words : List (List ℕ)) : Type 0 where

@@ -1,13 +1,12 @@
 -- The text of a mesh, read line after line, gives the mesh.
-use Rattle.std.proofs.Common.{◌≡◌, ℕ, suc, ◌+◌, ◌*◌, ◌<◌, ◌≤◌, Bool, false, true, List, [], ◌∷◌, ◌++◌, length, map, codes, decimal, refl, sym, ap, ◌∙◌, arith, append_assoc, append-nil, length-append, zero-add, Result, Ok, ℤ}
-use Rattle.std.specs.Prelude.{◌==◌}
+use Rattle.std.proofs.Common.{◌≡◌, ℕ, suc, ◌+◌, ◌*◌, ◌≤◌, List, [], ◌∷◌, ◌++◌, length, map, codes, decimal, refl, sym, ap, ◌∙◌, arith, append_assoc, append-nil, length-append, zero-add, Result, Ok, ℤ}
 use Rattle.std.specs.List.{All, flat_map}
 use Rattle.std.proofs.lemmas.List.Elements.{All-append, All-nil, All-cons, All-head, All-tail}
 use Rattle.text_terms.specs.Lines.{lines_of, words_of, before_comment, numbered, joined_from, joined_lines, without_mark}
 use Rattle.text_terms.specs.Written.{written}
 use Rattle.mesh_terms.specs.Faults.{Fault}
 use Rattle.mesh_terms.specs.Limits.{Limits, IsLawful}
-use Rattle.mesh_terms.specs.Meshes.{Triple, Soup, HasThree, IsBelow, soup_of, is_used}
+use Rattle.mesh_terms.specs.Meshes.{Triple, Soup, HasThree, IsBelow, soup_of}
 use Rattle.mesh_terms.specs.Points.{coordinate_of, IsPoint}
 use Rattle.obj_terms.specs.FirstFault.{then_read}
 use Rattle.obj_terms.specs.Obj.{Gathered, nothing_gathered, obj_line, obj_lines, word_lines, obj}
@@ -18,7 +17,7 @@ use Rattle.obj_laws.proofs.Lines.{lines_of-each}
 use Rattle.obj_laws.proofs.Words.{spaced}
 use Rattle.obj_laws.proofs.Alone.{IsAlone, joined_from-alone, without_mark-none}
 use Rattle.obj_laws.proofs.WrittenWords.{IsItemOf-decimal}
-use Rattle.obj_laws.proofs.SavedLines.{HasWords, HasWords-point, HasWords-face, point_line_text, face_line_text, point_words, face_words, coordinate_text, read_point, read_face, point_spaced, face_spaced}
+use Rattle.obj_laws.proofs.SavedLines.{HasWords-point, HasWords-face, point_line_text, face_line_text, coordinate_text, read_point, read_face, point_spaced, face_spaced}
 use Rattle.obj_laws.proofs.Used.{AreUsed, soup_of-all}
 
 -- the text is cut into the lines of the points and of the triples

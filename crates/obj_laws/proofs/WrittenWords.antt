@@ -1,15 +1,14 @@
 -- Written coordinates and vertex numbers read back.
-use Rattle.std.proofs.Common.{◌≡◌, ℕ, ◌+◌, ◌-◌, ◌<◌, ◌≤◌, ◌^◌, ◌&&◌, ◌==◌, if◌then◌else◌, Bool, true, false, List, length, decimal, ap, ◌∙◌, arith, Option, Some, None, Result, Ok, Err, ℤ, nat_abs, nat_lt, nat_le}
-use Rattle.std.specs.Prelude.{unsigned_abs}
+use Rattle.std.proofs.Common.{◌≡◌, ℕ, ◌+◌, ◌-◌, ◌<◌, ◌≤◌, ◌^◌, ◌&&◌, if◌then◌else◌, Bool, true, false, List, length, decimal, ap, ◌∙◌, arith, Option, Some, Ok, Err, ℤ, nat_abs, nat_lt, nat_le}
 use Rattle.std.proofs.lemmas.Int.{ints}
 use Rattle.std.proofs.lemmas.Bool.Decides.{nat_tests}
 use Rattle.std.proofs.lemmas.Fmt.{length-decimal-le}
-use Rattle.text_terms.specs.Numbers.{is_digit, all_digits, is_on_grid, cut_at}
+use Rattle.text_terms.specs.Numbers.{is_digit, all_digits, is_on_grid}
 use Rattle.text_terms.specs.Written.{written}
 use Rattle.mesh_terms.specs.Points.{IsOnGrid}
 use Rattle.obj_terms.specs.Faces.{is_slash, whole_number, item_tail, named_vertex, item_vertex}
 use Rattle.obj_terms.specs.Obj.{on_grid, coordinate}
-use Rattle.grid_number.proofs.Bytes.{AreNumberBytes-written, length-written, all_digits-decimal}
+use Rattle.grid_number.proofs.Bytes.{AreNumberBytes-written, length-written}
 use Rattle.grid_number.proofs.Cuts.{cut_at-only_digits}
 use Rattle.grid_number.proofs.ReadBack.{grid_number-written}
 use Rattle.obj_laws.proofs.Plain.{IsPlain, IsPlain-number, IsPlain-digits}

@@ -1,6 +1,6 @@
 -- Files of the OBJ profile, spelled out, and what they give.
-use Rattle.std.specs.Prelude.{◌≡◌, ℕ, pos, neg_ℤ, List, [], ◌∷◌, Result, Ok, Err, codes}
-use Rattle.mesh_terms.specs.Faults.{Fault, Points, Triangles, Bad, Over}
+use Rattle.std.specs.Prelude.{◌≡◌, ℕ, pos, neg_ℤ, List, [], ◌∷◌, Ok, Err, codes}
+use Rattle.mesh_terms.specs.Faults.{Points, Triangles, Bad, Over}
 use Rattle.mesh_terms.specs.Limits.{Limits}
 use Rattle.mesh_terms.specs.Meshes.{Soup}
 use Rattle.obj_terms.specs.Obj.{obj}

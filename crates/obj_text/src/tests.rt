@@ -14,12 +14,7 @@ const SPACED: &[u8] =
 const DRESSED: &[u8] =
     b"mtllib a \\\nv\nv 0 0\\\n 0\ng \nv 1 0 0 1 1 1 1\nv 0 1 0\nvn 0 0 1\nv 9 9 9\nv 0 \\\n\\\n0 1\nf 1/1 3//-3 2/2/2\nf -5 -4 -1\\\n\nusemtl f\nf -4//1 -3//1 -1//1 \\\n#\nf 3 1 5\n";
 
-fn refusal(
-    rt: &HostRuntime,
-    bytes: &[u8],
-    digits: u8,
-    limits: &Limits,
-) -> Result<TextFault, Fail>
+fn refusal(rt: &HostRuntime, bytes: &[u8], digits: u8, limits: &Limits) -> Result<TextFault, Fail>
     requires { digits ≤ 6 }
 {
     match read_obj(rt.alloc(), bytes, digits, limits) {
@@ -69,7 +64,11 @@ fn refuses_the_first_faulty_line(rt: HostRuntime) -> Result<(), Fail> {
         (b"v 107375 0 x\n", 1, TextKind::OutOfGrid),
         (b"v 0 x 107375\n", 1, TextKind::BadNumber),
         (b"v 0 0 0#\n", 1, TextKind::BadNumber),
-        (b"v 0 0 99999999999999999999999999\n", 1, TextKind::OutOfGrid),
+        (
+            b"v 0 0 99999999999999999999999999\n",
+            1,
+            TextKind::OutOfGrid,
+        ),
         (b"f 0 0\n", 1, TextKind::BadFace),
         (b"f 1/ 0 0\n", 1, TextKind::BadFace),
         (b"f 1//1/ 0 0\n", 1, TextKind::BadFace),
@@ -79,8 +78,16 @@ fn refuses_the_first_faulty_line(rt: HostRuntime) -> Result<(), Fail> {
         (b"v 0 0 0\nf 1 -2 x\n", 2, TextKind::BadIndex),
         (b"v 0 0 0\nf 4294967297 1 1\n", 2, TextKind::BadIndex),
         (b"v 0 0 0\nf 1 1 1 4/1/1\nv 1 0 0\n", 2, TextKind::BadIndex),
-        (b"v 0 0 0\nv 1 0 0\nf 1 2 -2\n", 3, TextKind::FaceRepeatsVertex),
-        (b"v 0 0 0\nv 1 0 0\nv 1 1 0\nv 0 1 0\nf 1 2 3 4 3\n", 5, TextKind::FaceRepeatsVertex),
+        (
+            b"v 0 0 0\nv 1 0 0\nf 1 2 -2\n",
+            3,
+            TextKind::FaceRepeatsVertex,
+        ),
+        (
+            b"v 0 0 0\nv 1 0 0\nv 1 1 0\nv 0 1 0\nf 1 2 3 4 3\n",
+            5,
+            TextKind::FaceRepeatsVertex,
+        ),
     ];
     for (bytes, line, kind) in refused {
         assert_eq!(rt;
@@ -93,7 +100,8 @@ fn refuses_the_first_faulty_line(rt: HostRuntime) -> Result<(), Fail> {
 
 #[test]
 fn finds_a_repeat_among_many_vertices(rt: HostRuntime) -> Result<(), Fail> {
-    let points = b"v 0 0 0\nv 1 0 0\nv 2 0 0\nv 3 0 0\nv 4 0 0\nv 5 0 0\nv 6 0 0\nv 7 0 0\nv 8 0 0\nv 9 0 0\nv 10 0 0\nv 11 0 0\nv 12 0 0\nv 13 0 0\n";
+    let points =
+        b"v 0 0 0\nv 1 0 0\nv 2 0 0\nv 3 0 0\nv 4 0 0\nv 5 0 0\nv 6 0 0\nv 7 0 0\nv 8 0 0\nv 9 0 0\nv 10 0 0\nv 11 0 0\nv 12 0 0\nv 13 0 0\n";
     let mut bytes = points.to_vec(rt.alloc())?;
     bytes.extend_from_slice(b"f 7 1 14 2 13 3 12 4 11 5 10 6 9 8\n")?;
     let soup = read_obj(rt.alloc(), &bytes, 0, &Limits::program())?;

@@ -3,7 +3,6 @@ use Rattle.obj_terms.specs.Faces.{is_slash}
 use Rattle.obj_text.proofs.CutSteps.{cut_at-no_position, cut_at-position}
 use Rattle.obj_text.proofs.items.cut_at_slash.Goals as goal
 
-
 pub returns-in-None-clause-before : goal.returns-in-None-clause-before
 returns-in-None-clause-before c = ap (λ (r : List ℕ × Option (List ℕ)). r.0) (sym (cut_at-no_position is_slash c.args.text.now (sym c.in-None.ensures)))
 

@@ -16,6 +16,6 @@ all_there ts a vs few = sym (ap (λ (us : List Triple). ts ++ us) (fan_from-one 
 pub returns-clause-added : goal.returns-clause-added
 returns-clause-added c =
     let vertices = c.args.vertices.now in
-    all_there (triples_of c.loop-place.triples.items) (get_or vertices 0 0) (drop c.loop-place.place vertices) (omega (arith, length-drop c.loop-place.place vertices)) 
+    all_there (triples_of c.loop-place.triples.items) (get_or vertices 0 0) (drop c.loop-place.place vertices) (omega (arith, length-drop c.loop-place.place vertices))
     ∙ c.loop-place.invariant.added
     ∙ ap (λ (ts : List (List ℕ)). triples_of ts ++ face_fan vertices) c.in_ok-reserve.ensures.items
