@@ -4,6 +4,7 @@
 #![tactic(auto)]
 
 mod arg_list;
+mod cross_product;
 mod fault;
 mod limits;
 mod op;
@@ -14,6 +15,7 @@ mod soup;
 mod tests;
 
 pub use arg_list::ArgList;
+pub use cross_product::cross;
 pub use fault::{Counted, TextFault, TextKind};
 pub use limits::Limits;
 pub use op::Op;

@@ -1,5 +1,5 @@
 // Rules at their edges, and each public call once with ample memory.
-use crate::{ArgList, Limits, Op, Point, Soup};
+use crate::{ArgList, Limits, Op, Point, Soup, cross};
 use std::alloc::Global;
 use std::test::Fail;
 
@@ -99,4 +99,22 @@ fn operations_have_their_constants(rt: HostRuntime) {
     assert_eq!(rt; Op::Union.constants(), [1, 1, -1]);
     assert_eq!(rt; Op::Intersect.constants(), [0, 0, 1]);
     assert_eq!(rt; Op::Subtract.constants(), [1, 0, -1]);
+}
+
+#[test]
+fn a_cross_product_is_normal_to_its_triangle(rt: HostRuntime) -> Result<(), Fail> {
+    let origin = Point::of(0, 0, 0).ok_or("the origin")?;
+    let x = Point::of(2, 0, 0).ok_or("on the x axis")?;
+    let y = Point::of(0, 3, 0).ok_or("on the y axis")?;
+    let z = Point::of(0, 0, 5).ok_or("on the z axis")?;
+    assert_eq!(rt; cross(origin, x, y), [0, 0, 6]);
+    assert_eq!(rt; cross(origin, y, z), [15, 0, 0]);
+    assert_eq!(rt; cross(origin, z, x), [0, 10, 0]);
+    assert_eq!(rt; cross(x, y, z), [15, 10, 6]);
+    // The greatest that can come: two sides of the whole grid.
+    let low = Point::of(-GRID_END, -GRID_END, 0).ok_or("a corner of the grid")?;
+    let right = Point::of(GRID_END, -GRID_END, 0).ok_or("a corner of the grid")?;
+    let back = Point::of(-GRID_END, GRID_END, 0).ok_or("a corner of the grid")?;
+    assert_eq!(rt; cross(low, right, back), [0, 0, 1 << 62]);
+    Ok(())
 }
