@@ -1,9 +1,10 @@
 -- What the files that are spelled out give is computed.
-use Rattle.std.proofs.Common.{refl}
+use Rattle.std.proofs.Common.{refl, arith}
 use Rattle.obj_laws.specs.Files.{FilesRead}
 
 pub files_read : FilesRead
 files_read = record {
+  lawful = record { few_triangles = omega arith; few_points = omega arith; triangles_enough = omega arith; points_enough = omega arith; bytes_enough = omega arith; bytes_bounded = omega arith };
   modelled = refl;
   marked = refl;
   joined = refl;

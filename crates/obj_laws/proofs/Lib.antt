@@ -15,3 +15,5 @@ pub mod Alone
 pub mod WrittenWords
 pub mod SavedLines
 pub mod SavedMeshes
+pub mod ReadMeshes
+pub mod Decimals

@@ -1,5 +1,5 @@
 -- The text of a mesh, read line after line, gives the mesh.
-use Rattle.std.proofs.Common.{◌≡◌, ℕ, suc, ◌+◌, ◌*◌, ◌≤◌, List, [], ◌∷◌, ◌++◌, length, map, codes, decimal, refl, sym, ap, ◌∙◌, arith, append_assoc, append-nil, length-append, zero-add, Result, Ok, ℤ}
+use Rattle.std.proofs.Common.{◌≡◌, ℕ, suc, ◌+◌, ◌*◌, ◌≤◌, List, [], ◌∷◌, ◌++◌, length, map, codes, decimal, refl, sym, ap, ◌∙◌, arith, append_assoc, append-nil, length-append, Result, Ok, ℤ}
 use Rattle.std.specs.List.{All, flat_map}
 use Rattle.std.proofs.lemmas.List.Elements.{All-append, All-nil, All-cons, All-head, All-tail}
 use Rattle.text_terms.specs.Lines.{lines_of, words_of, before_comment, numbered, joined_from, joined_lines, without_mark}
@@ -18,7 +18,7 @@ use Rattle.obj_laws.proofs.Words.{spaced}
 use Rattle.obj_laws.proofs.Alone.{IsAlone, joined_from-alone, without_mark-none}
 use Rattle.obj_laws.proofs.WrittenWords.{IsItemOf-decimal}
 use Rattle.obj_laws.proofs.SavedLines.{HasWords-point, HasWords-face, point_line_text, face_line_text, coordinate_text, read_point, read_face, point_spaced, face_spaced}
-use Rattle.obj_laws.proofs.Used.{AreUsed, soup_of-all}
+use Rattle.unused_points.proofs.AllUsed.{soup_of-all}
 
 -- the text is cut into the lines of the points and of the triples
 lines_of-saved : (k : ℕ) (points : List (List ℤ)) (ts : List Triple) → k ≤ 6 → All IsPoint points → length points ≤ 150000000 → All (IsBelow (length points)) ts →
@@ -106,9 +106,8 @@ gathered-saved k limits points ts few lawful within =
 reads-saved : (k : ℕ) (limits : Limits) (points : List (List ℤ)) (ts : List Triple) → k ≤ 6 → IsLawful limits → IsWithin limits points ts →
     obj k limits (obj_text k points ts) ≡ Ok (record { points = points; triples = ts; unused = 0 })
 reads-saved k limits points ts few lawful within =
-    let used : AreUsed ts 0 (length points) = λ v below. rw zero-add (within.mesh.used v below) in
     ap (λ (r : Result Gathered Fault). then_read r (λ s. Ok (soup_of s.points s.triples))) (gathered-saved k limits points ts few lawful within)
-    ∙ ap (λ (s : Soup). Ok s) (soup_of-all points ts within.mesh.below used)
+    ∙ ap (λ (s : Soup). Ok s) (soup_of-all points ts within.mesh.below within.mesh.used)
 
 -- four words, three spaces and the end of the line
 length-spaced : (w a b c : List ℕ) → length (line_of (spaced w a b c)) ≡ length w + length a + length b + length c + 4

@@ -12,7 +12,7 @@ use Rattle.grid_number.proofs.Bytes.{AreNumberBytes-written, length-written}
 use Rattle.grid_number.proofs.Cuts.{cut_at-only_digits}
 use Rattle.grid_number.proofs.ReadBack.{grid_number-written}
 use Rattle.obj_laws.proofs.Plain.{IsPlain, IsPlain-number, IsPlain-digits}
-use Rattle.obj_laws.proofs.Numbers.{IsSpelled-decimal, minus_first-spelled, sized, sized-spelled}
+use Rattle.obj_laws.proofs.Decimals.{IsSpelled-decimal, minus_first-spelled, sized, sized-spelled}
 
 -- a plain word of at most 12 bytes that reads as the coordinate
 pub record IsTextOf (k : ℕ) (z : ℤ) (text : List ℕ) : Type 0 where

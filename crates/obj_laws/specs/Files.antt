@@ -1,10 +1,13 @@
 -- Files of the OBJ profile, spelled out, and what they give.
-use Rattle.std.specs.Prelude.{◌≡◌, ℕ, pos, neg_ℤ, List, [], ◌∷◌, Ok, Err, codes}
+use Rattle.std.specs.Prelude.{◌≡◌, ℕ, ◌^◌, pos, neg_ℤ, List, [], ◌∷◌, Ok, Err, codes}
 use Rattle.mesh_terms.specs.Faults.{Points, Triangles, Bad, Over}
-use Rattle.mesh_terms.specs.Limits.{Limits}
+use Rattle.mesh_terms.specs.Limits.{Limits, IsLawful}
 use Rattle.mesh_terms.specs.Meshes.{Soup}
 use Rattle.obj_terms.specs.Obj.{obj}
-use Rattle.obj_laws.specs.Example.{wide_limits}
+
+-- limits of an ordinary run
+abbrev pub wide_limits : Limits
+wide_limits = record { file_bytes = 2 ^ 40; points = 150000000; triangles = 100000000; halfedges = 60000000 }
 
 -- a cube as a modelling program writes it
 abbrev pub modelled_text : List ℕ
@@ -22,6 +25,8 @@ abbrev pub narrow_limits : ℕ → ℕ → Limits
 narrow_limits points triangles = record { file_bytes = 1000; points = points; triangles = triangles; halfedges = 1 }
 
 pub record FilesRead : Type 0 where
+  -- under lawful limits
+  pub lawful : IsLawful wide_limits
   -- normals, names and comments are passed over, items have several numbers, a polygon goes on in the next line
   pub modelled : obj 4 wide_limits modelled_text ≡ Ok modelled_cube
   -- a mark at the start, CR LF, a comment in a line, no end of the last line

@@ -6,4 +6,4 @@ mod CutSteps
 mod DigitSteps
 mod ItemSteps
 mod NamedTwice
-mod Fans
+mod FaceSteps

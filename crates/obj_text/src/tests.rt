@@ -1,3 +1,5 @@
+ghost use Rattle.std.specs.Prelude.{◌≤◌};
+
 use super::*;
 use mb_base::{Counted, TextKind};
 use std::test::Fail;

@@ -3,7 +3,8 @@ use Rattle.std.proofs.lemmas.List.{length-map}
 use Rattle.mesh_terms.specs.Meshes.{Triple, triple_of, triples_of}
 use Rattle.obj_terms.specs.Faces.{face_fan}
 use Rattle.obj_terms.specs.Obj.{Gathered}
-use Rattle.obj_text.proofs.Fans.{length-face_fan, IsSound-face, with_triples-over, with_triples-within}
+use Rattle.obj_terms.proofs.Fans.{length-face_fan}
+use Rattle.obj_text.proofs.FaceSteps.{IsSound-face, with_triples-over, with_triples-within}
 use Rattle.obj_text.proofs.reading.Gathered.add_face.Goals as goal
 
 -- as many triangles as are stored

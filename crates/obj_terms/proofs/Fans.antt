@@ -1,15 +1,11 @@
--- The triangles of a face.
-use Rattle.std.proofs.Common.{◌≡◌, ℕ, ◌+◌, ◌-◌, ◌<◌, ◌≤◌, Bool, true, false, List, [], ◌∷◌, ◌++◌, length, Ok, Err, refl, ap, ◌∙◌, arith, length-append}
-use Rattle.std.specs.Prelude.{◌==◌, ◌||◌, nat_lt, if◌then◌else◌}
+-- The triangles of a face: how many there are, and which vertices they name.
+use Rattle.std.proofs.Common.{◌≡◌, ℕ, ◌-◌, ◌<◌, Bool, true, false, List, [], ◌∷◌, length, refl, arith}
+use Rattle.std.specs.Prelude.{◌==◌, ◌||◌}
 use Rattle.std.specs.List.{All, list_any}
 use Rattle.std.proofs.lemmas.Bool.Decides.{nat_tests}
-use Rattle.std.proofs.lemmas.List.Elements.{All-append, All-nil, All-cons, All-head, All-tail}
-use Rattle.mesh_terms.specs.Faults.{Triangles, Over}
-use Rattle.mesh_terms.specs.Limits.{Limits}
-use Rattle.mesh_terms.specs.Meshes.{Triple, HasThree, IsBelow}
+use Rattle.std.proofs.lemmas.List.Elements.{All-nil, All-cons, All-head, All-tail}
+use Rattle.mesh_terms.specs.Meshes.{HasThree, IsBelow}
 use Rattle.obj_terms.specs.Faces.{fan_from, face_fan, has_repeat}
-use Rattle.obj_terms.specs.Obj.{Gathered, with_triples}
-use Rattle.unused_points.specs.Used.{IsSound}
 
 -- one triangle for each vertex but the last, after the first
 length-fan_from : (a : ℕ) (vs : List ℕ) → length (fan_from a vs) ≡ length vs - 1
@@ -40,7 +36,7 @@ three_from a (b ∷ c ∷ vs) first rest =
     (record { ab = λ p. grind (arith, nat_tests, at_b.0); bc = λ p. grind (arith, nat_tests, of_c.0); ca = λ p. grind (arith, nat_tests, at_c.0) })
     (three_from a (c ∷ vs) at_b.1 of_b.1)
 
-face_three : (vs : List ℕ) → has_repeat vs ≡ false → All HasThree (face_fan vs)
+pub face_three : (vs : List ℕ) → has_repeat vs ≡ false → All HasThree (face_fan vs)
 face_three [] apart = All-nil HasThree
 face_three (a ∷ vs) apart = let p = or_failed (list_any (λ w. w == a) vs) (has_repeat vs) apart in three_from a vs p.0 p.1
 
@@ -54,28 +50,6 @@ below_from n a (b ∷ c ∷ vs) first rest =
     (record { a = first; b = All-head (λ v. v < n) b (c ∷ vs) rest; c = All-head (λ v. v < n) c vs later })
     (below_from n a (c ∷ vs) first later)
 
-face_below : (n : ℕ) (vs : List ℕ) → All (λ v. v < n) vs → All (IsBelow n) (face_fan vs)
+pub face_below : (n : ℕ) (vs : List ℕ) → All (λ v. v < n) vs → All (IsBelow n) (face_fan vs)
 face_below n [] below = All-nil (IsBelow n)
 face_below n (a ∷ vs) below = below_from n a vs (All-head (λ v. v < n) a vs below) (All-tail (λ v. v < n) a vs below)
-
--- a reading stays sound with the triangles of a face
-pub IsSound-face : (n : ℕ) (ts us : List Triple) (vs : List ℕ) → IsSound n ts → us ≡ ts ++ face_fan vs → has_repeat vs ≡ false → All (λ v. v < n) vs → length ts + (length vs - 2) ≤ 100000000 → IsSound n us
-IsSound-face n ts us vs sound is apart below few = rw is (record {
-  three = All-append HasThree ts (face_fan vs) sound.three (face_three vs apart);
-  below = All-append (IsBelow n) ts (face_fan vs) sound.below (face_below n vs below);
-  few_points = sound.few_points;
-  few_triples = omega (arith, few, length-append ts (face_fan vs), length-face_fan vs);
-})
-
--- too many triangles
-pub with_triples-over : (limits : Limits) (s : Gathered) (ts : List Triple) (n : ℕ) → length s.triples + length ts ≡ n → limits.triangles < n → with_triples limits s ts ≡ Err (Over Triangles n)
-with_triples-over limits s ts n e over =
-    let test : nat_lt limits.triangles (length s.triples + length ts) ≡ true = grind (arith, nat_tests) in
-    ap (λ (b : Bool). if b then Err (Over Triangles (length s.triples + length ts)) else Ok (record { points = s.points; triples = s.triples ++ ts })) test
-    ∙ ap (λ (m : ℕ). Err (Over Triangles m)) e
-
--- no more than the limit
-pub with_triples-within : (limits : Limits) (s : Gathered) (ts : List Triple) → length s.triples + length ts ≤ limits.triangles → with_triples limits s ts ≡ Ok (record { points = s.points; triples = s.triples ++ ts })
-with_triples-within limits s ts within =
-    let test : nat_lt limits.triangles (length s.triples + length ts) ≡ false = grind (arith, nat_tests) in
-    ap (λ (b : Bool). if b then Err (Over Triangles (length s.triples + length ts)) else Ok (record { points = s.points; triples = s.triples ++ ts })) test
