@@ -9,3 +9,11 @@ pub mod Kept
 pub mod Lengths
 pub mod Saved
 pub mod Example
+pub mod Files
+pub mod Plain
+pub mod Alone
+pub mod WrittenWords
+pub mod SavedLines
+pub mod SavedMeshes
+pub mod ReadMeshes
+pub mod Decimals

@@ -1,76 +1,13 @@
 -- The texts of whole coordinates and of vertex numbers read back.
-use Rattle.std.proofs.Common.{◌≡◌, ℕ, suc, ◌+◌, ◌*◌, ◌/◌, ◌%◌, ◌^◌, ◌-◌, ◌<◌, ◌≤◌, ◌&&◌, ◌==◌, if◌then◌else◌, Bool, List, [], ◌∷◌, ◌++◌, true, false, length, decimal, refl, ap, ◌∙◌, arith, length-append, append-nil, Option, Some, None, ℤ, pos, negsuc, neg_ℤ, int_lt, nat_le, nat_lt, codes, subst, sym}
+use Rattle.std.proofs.Common.{◌≡◌, ℕ, suc, ◌+◌, ◌*◌, ◌/◌, ◌%◌, ◌-◌, ◌<◌, ◌≤◌, ◌&&◌, if◌then◌else◌, Bool, List, ◌∷◌, ◌++◌, true, false, length, decimal, ap, ◌∙◌, arith, append-nil, Option, Some, None, ℤ, pos, negsuc, neg_ℤ, int_lt, nat_le, nat_lt, codes, subst, sym}
 use Rattle.std.proofs.lemmas.Bool.Decides.{nat_tests}
-use Rattle.std.proofs.lemmas.Fmt.{decimal_by_steps, length-decimal-le}
-use Rattle.text_terms.specs.Numbers.{is_digit, all_digits, is_digits, value_from, digits_value}
+use Rattle.std.proofs.lemmas.Fmt.{length-decimal-le}
+use Rattle.text_terms.specs.Numbers.{digits_value}
 use Rattle.text_terms.specs.Written.{written_rest, written_size, written}
-use Rattle.obj_terms.specs.Reading.{minus_first, signed_value, narrow_size, or_none, narrow_coordinate, narrow_vertex}
+use Rattle.obj_terms.specs.Reading.{signed_value, narrow_size, or_none, narrow_coordinate, narrow_vertex}
 use Rattle.obj_laws.specs.Narrow.{IsNarrowCoordinate}
-use Rattle.obj_laws.proofs.Bytes.{Above-append, IsWord}
-
--- a word of digits that spell n
-pub record IsSpelled (n : ℕ) (ds : List ℕ) : Type 0 where
-  pub word : IsWord ds
-  pub digits : all_digits ds ≡ true
-  pub value : digits_value ds ≡ n
-
--- both tests hold
-both : (a b : Bool) → a ≡ true → b ≡ true → (a && b) ≡ true
-both a b p q = grind arith
-
--- digits after digits
-all_digits-append : (xs ys : List ℕ) → all_digits xs ≡ true → all_digits ys ≡ true → all_digits (xs ++ ys) ≡ true
-all_digits-append [] ys p q = q
-all_digits-append (x ∷ xs) ys p q = both (is_digit x) (all_digits (xs ++ ys)) (grind arith) (all_digits-append xs ys (grind arith) q)
-
--- the value goes on where it stood
-value_from-append : (v : ℕ) (xs ys : List ℕ) → value_from v (xs ++ ys) ≡ value_from (value_from v xs) ys
-value_from-append v [] ys = refl
-value_from-append v (x ∷ xs) ys = value_from-append (v * 10 + (x - 48)) xs ys
-
--- one digit
-IsSpelled-digit : (d : ℕ) → d < 10 → IsSpelled d ((48 + d) ∷ [])
-IsSpelled-digit d small = record {
-  word = record { some = omega arith; marks = (omega arith, tt) };
-  digits = grind (arith, nat_tests);
-  value = omega arith;
-}
-
--- one digit more
-IsSpelled-more : (n : ℕ) (ds : List ℕ) → IsSpelled (n / 10) ds → IsSpelled n (ds ++ (48 + n % 10) ∷ [])
-IsSpelled-more n ds s =
-    let last = IsSpelled-digit (n % 10) (omega arith) in
-    record {
-      word = record { some = omega (arith, length-append ds ((48 + n % 10) ∷ [])); marks = Above-append 32 ds ((48 + n % 10) ∷ []) s.word.marks last.word.marks };
-      digits = all_digits-append ds ((48 + n % 10) ∷ []) s.digits last.digits;
-      value = value_from-append 0 ds ((48 + n % 10) ∷ []) ∙ ap (λ (v : ℕ). v * 10 + (48 + n % 10 - 48)) s.value ∙ omega arith;
-    }
-
--- a number is spelled by what is written of it
-pub IsSpelled-decimal : (n : ℕ) → n < 2 ^ 64 → IsSpelled n (decimal n)
-IsSpelled-decimal = decimal_by_steps IsSpelled IsSpelled-digit (λ n ds large s. IsSpelled-more n ds s)
-
--- such a word is digits
-is_digits-spelled : (n : ℕ) (ds : List ℕ) → IsSpelled n ds → is_digits ds ≡ true
-is_digits-spelled n [] s = absurd (omega (arith, s.word.some))
-is_digits-spelled n (d ∷ ds) s = s.digits
-
--- and begins with no sign
-minus_first-spelled : (n : ℕ) (ds : List ℕ) → IsSpelled n ds → minus_first ds ≡ (false, ds)
-minus_first-spelled n [] s = absurd (omega (arith, s.word.some))
-minus_first-spelled n (d ∷ ds) s =
-    let sign : (d == 45) ≡ false = grind (arith, nat_tests, s.digits) in
-    ap (λ (b : Bool). if b then (true, ds) else (false, d ∷ ds)) sign
-
--- a sign and what stands after it, as a sign and a size
-abbrev sized : Bool × List ℕ → Option (Bool × ℕ)
-sized s = if is_digits s.1 then Some (s.0, digits_value s.1) else None
-
--- digits have a size, with a sign before them or without
-sized-spelled : (negative : Bool) (n : ℕ) (ds : List ℕ) → IsSpelled n ds → sized (negative, ds) ≡ Some (negative, n)
-sized-spelled negative n ds s =
-    ap (λ (b : Bool). if b then Some (negative, digits_value ds) else None) (is_digits-spelled n ds s)
-    ∙ ap (λ (v : ℕ). Some (negative, v)) s.value
+use Rattle.obj_laws.proofs.Bytes.{IsWord}
+use Rattle.obj_laws.proofs.Decimals.{IsSpelled, IsSpelled-decimal, is_digits-spelled, minus_first-spelled, sized, sized-spelled}
 
 -- a small size has a value
 narrow_size-small : (negative : Bool) (n : ℕ) → n ≤ 107374 → narrow_size (negative, n) ≡ Some (signed_value (negative, n * 10000))

@@ -1,3 +1,6 @@
 pub mod Laws
 pub mod Narrow
 pub mod Example
+pub mod Files
+pub mod Within
+pub mod ReadingBack

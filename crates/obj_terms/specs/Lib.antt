@@ -1,2 +1,5 @@
+pub mod FirstFault
+pub mod Faces
+pub mod Obj
 pub mod Reading
 pub mod Written

@@ -1,25 +1,12 @@
 -- Reading OBJ: one line after the other until the first fault, then the points and triangles.
-use Rattle.std.specs.Prelude.{ℕ, suc, ◌+◌, ◌-◌, ◌*◌, ℤ, pos, neg_ℤ, List, [], ◌∷◌, ◌++◌, true, false, Bool, ◌&&◌, ◌||◌, ◌==◌, if◌then◌else◌, nat_lt, nat_le, length, codes, bytes_eq, Option, Some, None, Result, Ok, Err}
-use Rattle.std.specs.List.{list_any}
+use Rattle.std.specs.Prelude.{ℕ, suc, ◌+◌, ◌-◌, ◌*◌, ℤ, pos, neg_ℤ, List, [], ◌∷◌, ◌++◌, Bool, ◌&&◌, ◌==◌, if◌then◌else◌, nat_lt, nat_le, length, codes, bytes_eq, Option, Some, None, Result, Ok, Err}
 use Rattle.text_terms.specs.Lines.{lines_of, numbered, words_of}
 use Rattle.text_terms.specs.Numbers.{is_digits, digits_value}
 use Rattle.mesh_terms.specs.Faults.{Points, Triangles, Fault, Bad, Over}
 use Rattle.mesh_terms.specs.Limits.{Limits}
 use Rattle.mesh_terms.specs.Meshes.{Triple, Soup, soup_of, is_used}
-
--- go on where nothing is wrong
-abbrev pub then_read : {A B : Type 0} → Result A Fault → (A → Result B Fault) → Result B Fault
-then_read (Err e) go = Err e
-then_read (Ok a) go = go a
-
-abbrev pub or_fault : {A : Type 0} → Fault → Option A → Result A Fault
-or_fault e None = Err e
-or_fault e (Some a) = Ok a
-
--- line after line, until the first fault
-abbrev pub read_each : {L S : Type 0} → (L → S → Result S Fault) → List L → S → Result S Fault
-read_each line [] s = Ok s
-read_each line (l ∷ ls) s = then_read (line l s) (λ t. read_each line ls t)
+pub use Rattle.obj_terms.specs.FirstFault.{then_read, or_fault, read_each}
+pub use Rattle.obj_terms.specs.Faces.{fan_from, face_fan, has_repeat, minus_first, whole_number}
 
 -- what the lines so far gave, and the line of each point
 pub record Reading : Type 0 where
@@ -43,31 +30,6 @@ add_triples limits s ts =
     let seen = length s.triples + length ts in
     if nat_lt limits.triangles seen then Err (Over Triangles seen)
     else Ok (record { points = s.points; triples = s.triples ++ ts; lines = s.lines })
-
--- first item, item m, item m + 1
-abbrev pub fan_from : ℕ → List ℕ → List Triple
-fan_from a [] = []
-fan_from a (b ∷ []) = []
-fan_from a (b ∷ c ∷ r) = (a, b, c) ∷ fan_from a (c ∷ r)
-
-abbrev pub face_fan : List ℕ → List Triple
-face_fan [] = []
-face_fan (a ∷ r) = fan_from a r
-
-abbrev pub has_repeat : List ℕ → Bool
-has_repeat [] = false
-has_repeat (v ∷ vs) = list_any (λ w. w == v) vs || has_repeat vs
-
--- an optional - before the rest
-abbrev pub minus_first : List ℕ → Bool × List ℕ
-minus_first [] = (false, [])
-minus_first (c ∷ cs) = if c == 45 then (true, cs) else (false, c ∷ cs)
-
--- an optional - and digits: whether it is there, and the size
-abbrev pub whole_number : List ℕ → Option (Bool × ℕ)
-whole_number word =
-    let s = minus_first word in
-    if is_digits s.1 then Some (s.0, digits_value s.1) else None
 
 abbrev pub signed_value : (Bool × ℕ) → ℤ
 signed_value s = if s.0 then neg_ℤ (pos s.1) else pos s.1

@@ -1,24 +1,33 @@
--- The number that digits spell, digit after digit.
-use Rattle.std.proofs.Common.{◌≡◌, ℕ, suc, ◌+◌, ◌*◌, ◌-◌, ◌<◌, ◌≤◌, Bool, true, false, List, [], ◌∷◌, length, drop, get_or, Some, None, refl, ap, arith}
-use Rattle.std.specs.Prelude.{nat_le, ◌&&◌, if◌then◌else◌}
+-- The number that digits spell, digit after digit, as far as it counts.
+use Rattle.std.proofs.Common.{◌≡◌, ℕ, suc, ◌+◌, ◌*◌, ◌-◌, ◌<◌, ◌≤◌, min, List, [], ◌∷◌, arith, length, drop, get_or, ap, ◌∙◌, sym, ⊎_elim}
+use Rattle.std.proofs.lemmas.Bool.{cases_lt}
 use Rattle.std.proofs.Math.Seq.{drop-cons}
-use borrow.Author.Tests.{lt-leb}
-use Rattle.text_terms.specs.Numbers.{value_from, digits_value, is_digits}
-use Rattle.obj_text.specs.Numbers.{number_up_to}
+use Rattle.std.specs.Prelude.{Bool, true, ◌&&◌}
+use Rattle.text_terms.specs.Numbers.{is_digit, all_digits, value_from}
 
 -- more digits never make the number smaller
 value_from-le : (v : ℕ) (cs : List ℕ) → v ≤ value_from v cs
 value_from-le v [] = omega arith
-value_from-le v (c ∷ cs) = let more = value_from-le (v * 10 + (c - 48)) cs in omega arith
+value_from-le v (c ∷ cs) = omega (arith, value_from-le (v * 10 + (c - 48)) cs)
 
--- a test that fails leaves nothing
-nothing : (b c : Bool) (n : ℕ) → c ≡ false → None ≡ (if b && c then Some n else None)
-nothing true c n e = rw e refl
-nothing false c n e = refl
+-- past n both numbers are n
+both_full : (n v w : ℕ) (cs : List ℕ) → n ≤ v → n ≤ w → min (value_from v cs) n ≡ min (value_from w cs) n
+both_full n v w cs p q = omega (arith, value_from-le v cs, value_from-le w cs)
 
--- once the number is too great no digit after it makes it fit
-pub number_up_to-too_great : (word : List ℕ) (i v most : ℕ) → i < length word → value_from 0 word ≡ value_from v (drop i word) → most < v * 10 + (get_or word i 0 - 48) → None ≡ number_up_to word most
-number_up_to-too_great word i v most h e great =
-    let here : value_from v (drop i word) ≡ value_from (v * 10 + (get_or word i 0 - 48)) (drop (suc i) word) = ap (value_from v) (drop-cons word i 0 h) in
-    let more = value_from-le (v * 10 + (get_or word i 0 - 48)) (drop (suc i) word) in
-    nothing (is_digits word) (nat_le (digits_value word) most) (digits_value word) (lt-leb (digits_value word) most (omega arith))
+-- what goes past n does not count
+value_from-full : (n v : ℕ) (cs : List ℕ) → min (value_from (min v n) cs) n ≡ min (value_from v cs) n
+value_from-full n v cs = ⊎_elim
+    (λ less. let same : min v n ≡ v = omega arith in ap (λ (w : ℕ). min (value_from w cs) n) same)
+    (λ more. both_full n (min v n) v cs (omega arith) (omega arith))
+    (cases_lt v n)
+
+-- one more digit
+pub value_from-step : (n v i : ℕ) (word : List ℕ) → i < length word → min (value_from v (drop i word)) n ≡ min (value_from (min (v * 10 + (get_or word i 0 - 48)) n) (drop (suc i) word)) n
+value_from-step n v i word inside =
+    ap (λ (cs : List ℕ). min (value_from v cs) n) (drop-cons word i 0 inside)
+    ∙ sym (value_from-full n (v * 10 + (get_or word i 0 - 48)) (drop (suc i) word))
+
+-- the bytes from a digit on are digits where those after it are
+pub all_digits-step : (i : ℕ) (word : List ℕ) → i < length word → is_digit (get_or word i 0) ≡ true → all_digits (drop i word) ≡ all_digits (drop (suc i) word)
+all_digits-step i word inside digit =
+    ap all_digits (drop-cons word i 0 inside) ∙ ap (λ (b : Bool). b && all_digits (drop (suc i) word)) digit

@@ -1,6 +1,9 @@
-mod AllUsed
-mod DigitSteps
 mod LineSteps
 mod Positions
-mod UsedSteps
 mod WordSteps
+mod GoesOn
+mod CutSteps
+mod DigitSteps
+mod ItemSteps
+mod NamedTwice
+mod FaceSteps

@@ -10,7 +10,7 @@ abbrev pub is_mark : ℕ → Bool
 is_mark c = not (is_blank c)
 
 -- a blank gives no word
-words_of-blank : (c : ℕ) (cs : List ℕ) → is_blank c ≡ true → words_of (c ∷ cs) ≡ words_of cs
+pub words_of-blank : (c : ℕ) (cs : List ℕ) → is_blank c ≡ true → words_of (c ∷ cs) ≡ words_of cs
 words_of-blank c cs e = rw e refl
 
 -- blanks at the front give no word
@@ -30,11 +30,11 @@ begins_word-past_blanks (c ∷ cs) h = by_blank (is_blank c) refl (begins_word-p
   by_blank false e i h = rw (position_or_len-here is_mark c cs (ap not e)) (ap not e)
 
 -- the byte of a word before a blank or the end is the last of its word
-words_of-last : (c : ℕ) (cs : List ℕ) → is_blank c ≡ false → begins_word cs ≡ false → words_of (c ∷ cs) ≡ (c ∷ []) ∷ words_of cs
+pub words_of-last : (c : ℕ) (cs : List ℕ) → is_blank c ≡ false → begins_word cs ≡ false → words_of (c ∷ cs) ≡ (c ∷ []) ∷ words_of cs
 words_of-last c cs e f = rw (e, f) refl
 
 -- the byte of a word before another of its bytes stands first in the word
-words_of-more : (c : ℕ) (cs : List ℕ) → is_blank c ≡ false → begins_word cs ≡ true → words_of (c ∷ cs) ≡ add_first c (words_of cs)
+pub words_of-more : (c : ℕ) (cs : List ℕ) → is_blank c ≡ false → begins_word cs ≡ true → words_of (c ∷ cs) ≡ add_first c (words_of cs)
 words_of-more c cs e f = rw (e, f) refl
 
 -- before no word stands a blank or the end

@@ -1,3 +1,3 @@
 pub mod Faults
-pub mod Numbers
-pub mod Reading
+pub mod Items
+pub mod Lines

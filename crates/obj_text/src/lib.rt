@@ -1,39 +1,68 @@
 //! Reads the text of a Wavefront OBJ file into points and triangles.
 //!
-//! The narrow form of the file is read: a line has no words, or is `v` and three whole numbers, or is
-//! `f` and three different vertex numbers. Words are longest runs without spaces and tabs. A whole
-//! number is an optional `-` and digits, at most 107374 in size, and stands for 10,000 grid steps a
-//! unit. A vertex number is digits alone, from 1 to the number of points so far.
+//! A line ends at LF or at the end of the text, and one CR at its end is dropped. EF BB BF at the start is
+//! passed over. A line whose last byte is `\` goes on in the next, where its first word does not begin with
+//! `#`; the `\` counts as a blank. The words of a line are longest runs without spaces and tabs, up to one
+//! that begins with `#`. The first word says what the line is:
+//!
+//! | First word | Words after it |
+//! |---|---|
+//! | `v` | three to seven: x, y and z as decimal numbers, and up to four that are not looked at |
+//! | `f` | three or more items `i`, `i/j`, `i//k` or `i/j/k`, each number an optional `-` and digits |
+//! | `vt` `vn` `o` `g` `s` `usemtl` `mtllib` `l` `p` | the line is passed over |
+//!
+//! The number i of an item names the i-th point so far, counted from 1, or counts back from the last, which
+//! is -1. A face of n items is n - 2 triangles: its first item with each two that follow one another.
 #![tactic(auto)]
 
-ghost use Rattle.std.specs.Prelude.{◌≡◌, Ok, IfOk, IfErr};
-ghost use Rattle.obj_terms.specs.Reading.{narrow_obj};
+ghost use Rattle.std.specs.Prelude.{◌≡◌, ◌≤◌, Ok, IfOk, IfErr};
+ghost use Rattle.text_terms.specs.Lines.{without_mark};
+ghost use Rattle.obj_terms.specs.Obj.{obj};
 ghost use Rattle.obj_text.specs.Faults.{IsFaultOf};
 
+mod items;
 mod lines;
-mod numbers;
 mod reading;
-mod used;
+mod repeats;
 mod words;
 
 use mb_base::{Limits, Soup, TextFault};
 use reading::Reading;
 use std::alloc::Global;
 
-/// The points and triangles of a Wavefront OBJ file of the narrow form, in the order of the file:
-/// points in grid steps, 10,000 a unit (`digits` is 4), and vertices from 0.
+/// The points and triangles of a Wavefront OBJ file in the order of the file: points in grid steps, 10 to
+/// the power of `digits` a unit, rounded to the nearest, and vertices from 0. Points that no triangle uses
+/// are dropped and counted.
 ///
-/// The first fault of the file refuses it, line after line, lines counted from 1. A line that is not
-/// of the form is `Bad` with `UnknownLine`. A line that brings the points or the triangles past their
-/// limit is `Over` with that count. Where no line is at fault and some points are in no triangle, it
-/// is `Bad` with `UnknownLine` on the line of the first of them. Besides these only memory may lack.
-/// The time is in proportion to the bytes.
+/// The first fault of the file refuses it, line after line. It is `Bad` with the number of the line, from
+/// 1, or of its first part where it goes on, and
+///
+/// - `UnknownLine` where the first word is none of those above,
+/// - `BadVertex` where a `v` has fewer than three or more than seven words after it, and then for x, y and
+///   z in their order `BadNumber` where it is not a number, or `OutOfGrid` where it is off the grid,
+/// - `BadFace` where an `f` has fewer than three items, and then for its items in their order `BadFace`
+///   where it is no item, or `BadIndex` where it names no point so far,
+/// - `FaceRepeatsVertex` where two items then name one point.
+///
+/// A line without these that brings the points or the triangles past their limit is `Over` with that
+/// count. Besides these only memory may lack. The time is in proportion to the bytes, but for faces of many
+/// items, which are sorted.
 pub fn read_obj(alloc: Global, bytes: &[u8], digits: u8, limits: &Limits) -> Result<Soup, TextFault>
-    requires { digits ≡ 4 }
-    ensures soup { IfOk result (λ soup. narrow_obj limits.now bytes.now ≡ Ok soup) }
-    ensures fault { IfErr result (IsFaultOf (narrow_obj limits.now bytes.now)) }
+    requires { digits ≤ 6 }
+    ensures soup { IfOk result (λ soup. obj digits limits.now bytes.now ≡ Ok soup) }
+    ensures fault { IfErr result (IsFaultOf (obj digits limits.now bytes.now)) }
 {
-    Reading::of(alloc, bytes, limits)?.into_soup(alloc)
+    Reading::of(alloc, without_mark(bytes), digits, limits)?.into_soup(alloc)
+}
+
+// A text without the mark at its start, if there is one.
+fn without_mark(bytes: &[u8]) -> &[u8]
+    ensures { result.now ≡ without_mark bytes.now }
+{
+    match bytes {
+        [0xef, 0xbb, 0xbf, rest @ ..] => rest,
+        _ => bytes,
+    }
 }
 
 #[cfg(test)]

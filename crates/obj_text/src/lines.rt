@@ -1,58 +1,97 @@
-// The lines of a text.
-ghost use Rattle.std.specs.Prelude.{◌≡◌, ◌<◌, ◌∷◌, length};
-ghost use Rattle.text_terms.specs.Lines.{lines_of, raw_lines, without_cr};
+// The lines of a text, joined where they go on.
+ghost use Rattle.std.specs.Prelude.{◌≡◌, ◌<◌, ◌≤◌, ◌+◌, ◌∷◌, ◌^◌, length};
+ghost use Rattle.text_terms.specs.Lines.{lines_of, joined_lines, raw_lines, without_cr};
+ghost use Rattle.obj_terms.specs.Obj.{word_lines};
+ghost use Rattle.obj_text.specs.Lines.{lines_past};
 
+use crate::words::{Words, is_continued};
 use memchr::memchr;
 use std::marker::Model;
 
-/// The lines of a text from the first to the last. A line ends at its LF or at the end of the text,
-/// and one CR at its end is dropped.
+/// The lines of a text from the first to the last, each with its number, from 1, and its words. A line
+/// ends at its LF or at the end of the text, and one CR at its end is dropped. Where it goes on in the
+/// next line, both are one, with the number of its first part.
 #[derive(Drop)]
 pub struct Lines<'t> {
-    rest: &'t [u8],
+    text: &'t [u8],
+    number: u64,
 }
 
 impl<'t> Model for Lines<'t> {
-    ghost use Rattle.std.specs.Prelude.{ℕ, List};
-    ghost use Rattle.text_terms.specs.Lines.{lines_of};
+    ghost use Rattle.std.specs.Prelude.{◌+◌, ◌≤◌, ◌^◌, ℕ, List, length};
+    ghost use Rattle.text_terms.specs.Lines.{lines_of, joined_from};
+    ghost use Rattle.obj_terms.specs.Obj.{word_lines};
 
-    ghost Value = { List (List ℕ) };
+    ghost Value = { List (ℕ × List (List ℕ)) };
 
-    ghost view = { λ l. lines_of l.rest.now };
+    ghost view = { λ l. word_lines (joined_from l.number (lines_of l.text.now)) };
+
+    ghost invariant = { λ l. l.number + length l.text.now ≤ 2 ^ 63 };
 }
 
 impl<'t> Lines<'t> {
     /// The lines of this text.
     pub fn of(text: &'t [u8]) -> Lines<'t>
-        ensures { result ≡ lines_of text.now }
+        ensures { result ≡ word_lines (joined_lines text.now) }
     {
-        Lines { rest: text }
+        Lines { text, number: 1 }
     }
 }
 
 impl<'t> Iterator for Lines<'t> {
-    type Item = &'t [u8];
+    type Item = (u64, Words<'t>);
 
-    ghost use Rattle.std.specs.Iterator.{YieldsFirstRef, item_count};
+    ghost use Rattle.std.specs.Iterator.{YieldsFirst, item_count};
 
-    ghost next_gives = { YieldsFirstRef (λ lines. lines) };
+    ghost next_gives = { YieldsFirst (λ lines. lines) };
 
     ghost remaining = { item_count (λ lines. lines) };
 
-    fn next(&mut self) -> Option<&'t [u8]> {
-        if self.rest.is_empty() {
+    fn next(&mut self) -> Option<(u64, Words<'t>)> {
+        if self.text.is_empty() {
             return None;
         }
-        let (line, rest) = cut_line(self.rest);
-        self.rest = rest;
-        Some(without_cr(line))
+        let number = self.number;
+        let (line, after) = first_line(self.text);
+        let (next, text) = past_line(line, after, number);
+        self.text = text;
+        self.number = next;
+        Some((number, Words::of(line, after)))
     }
+}
+
+/// The first line of a text, without its end, and the text after it.
+pub fn first_line(text: &[u8]) -> (&[u8], &[u8])
+    requires { 0 < length text.now }
+    ensures lines { lines_of text.now ≡ result.0.now ∷ lines_of result.1.now }
+    ensures less { length result.1.now < length text.now }
+{
+    let (line, after) = cut_line(text);
+    (without_cr(line), after)
+}
+
+// What comes after a line with this number, as far as it goes on in the text after it: the number of
+// the next line, and the text from there.
+fn past_line<'t>(line: &'t [u8], after: &'t [u8], number: u64) -> (u64, &'t [u8])
+    requires { number + length after.now < 2 ^ 63 }
+    ensures past { lines_past number (line.entry.now ∷ lines_of after.entry.now) ≡ (result.0, lines_of result.1.now) }
+    ensures few { result.0 + length result.1.now ≤ number + 1 + length after.entry.now }
+{
+    let mut line = line;
+    let mut after = after;
+    let mut number = number;
+    while is_continued(line) && !after.is_empty() {
+        (line, after) = first_line(after);
+        number += 1;
+    }
+    (number + 1, after)
 }
 
 // The first line of a text without its LF, and the text after it.
 fn cut_line(text: &[u8]) -> (&[u8], &[u8])
     requires { 0 < length text.now }
-    ensures { raw_lines text.now ≡ result.0.now ∷ raw_lines result.1.now }
+    ensures lines { raw_lines text.now ≡ result.0.now ∷ raw_lines result.1.now }
+    ensures less { length result.1.now < length text.now }
 {
     match memchr(b'\n', text) {
         None => text.split_at(text.len()),

@@ -1,136 +1,75 @@
 // What the lines of an OBJ file give, one after the other.
-ghost use Rattle.std.specs.Prelude.{◌≡◌, Ok, OnOk, IfOk, IfErr, IfSome, length};
-ghost use Rattle.mesh_terms.specs.Meshes.{HasThree, IsBelow, triple_of};
-ghost use Rattle.obj_terms.specs.Reading.{no_reading, add_point, add_triples, narrow_line, narrow_point, narrow_face, face_fan, all_used, unused_line};
-ghost use Rattle.text_terms.specs.Lines.{lines_of};
+ghost use Rattle.std.specs.Prelude.{◌≡◌, ◌<◌, ◌≤◌, ◌++◌, false, Ok, OnOk, OnErr, IfOk, IfErr, All, length, bytes_eq};
+ghost use Rattle.std.specs.List.{list_any};
+ghost use Rattle.text_terms.specs.Lines.{joined_lines};
+ghost use Rattle.mesh_terms.specs.Meshes.{triples_of, soup_of};
+ghost use Rattle.obj_terms.specs.Faces.{face_fan, has_repeat};
+ghost use Rattle.obj_terms.specs.Obj.{nothing_gathered, with_point, with_triples, obj_point, obj_face, obj_line, obj_lines, passed_over, word_lines};
 ghost use Rattle.obj_text.specs.Faults.{IsFaultOf};
-ghost use Rattle.obj_text.specs.Reading.{coordinates_of, corners_of, read_from};
 
+use crate::items::{bad, point_of, read_vertices};
 use crate::lines::Lines;
-use crate::numbers::{coordinate, vertex};
-use crate::used::unused_line;
+use crate::repeats::has_repeat;
 use crate::words::Words;
-use mb_base::{Counted, Limits, Point, Soup, TextFault, TextKind};
-use std::alloc::Global;
+use mb_base::{Counted, Limits, NoMemory, Point, Soup, TextFault, TextKind};
+use std::alloc::{AllocError, Global};
 use std::marker::Model;
+use unused_points::without_unused;
 
-/// The points and the triangles that the lines so far gave, and the line of each point.
+/// The points and the triangles that the lines so far gave.
 #[derive(Drop)]
-pub struct Reading {
+pub struct Gathered {
     points: Vec<Point>,
     triples: Vec<[u32; 3]>,
-    lines: Vec<u64>,
 }
 
-impl Model for Reading {
+impl Model for Gathered {
     ghost use Rattle.std.specs.Prelude.{length};
     ghost use Rattle.mesh_terms.specs.Meshes.{triples_of};
-    ghost use Rattle.obj_terms.specs.Reading.{Reading as TheReading};
-    ghost use Rattle.obj_text.specs.Reading.{IsSound};
+    ghost use Rattle.obj_terms.specs.Obj.{Gathered as TheGathered};
+    ghost use Rattle.unused_points.specs.Used.{IsSound};
 
-    ghost Value = { TheReading };
+    ghost Value = { TheGathered };
 
-    ghost view = { λ r. record { points = r.points.items; triples = triples_of r.triples.items; lines = r.lines.items } };
+    ghost view = { λ g. record { points = g.points.items; triples = triples_of g.triples.items } };
 
-    ghost invariant = { λ r. IsSound (length r.points.items) (triples_of r.triples.items) (length r.lines.items) };
+    ghost invariant = { λ g. IsSound (length g.points.items) (triples_of g.triples.items) };
 }
 
-impl Reading {
+impl Gathered {
     // Nothing so far.
-    fn new(alloc: Global) -> Reading
-        ensures { result ≡ no_reading }
+    fn new(alloc: Global) -> Gathered
+        ensures { result ≡ nothing_gathered }
     {
-        Reading {
+        Gathered {
             points: Vec::new(alloc),
             triples: Vec::new(alloc),
-            lines: Vec::new(alloc),
         }
     }
 
-    /// Reads the lines of a text until the first fault.
-    pub fn of(alloc: Global, bytes: &[u8], limits: &Limits) -> Result<Reading, TextFault>
-        ensures read { IfOk result (λ r. read_from limits.now 1 (lines_of bytes.now) no_reading ≡ Ok r) }
-        ensures fault { IfErr result (IsFaultOf (read_from limits.now 1 (lines_of bytes.now) no_reading)) }
+    // How many points there are.
+    fn count(&self) -> u32
+        ensures { result ≡ length self.now.points }
     {
-        let mut reading = Reading::new(alloc);
-        let mut number: u64 = 0;
-        for line in Lines::of(bytes) {
-            number += 1;
-            reading.read_line(Words::of(line), number, limits)?;
-        }
-        Ok(reading)
+        self.points.len() as u32
     }
 
-    /// The soup of the points and the triangles, where each point is in a triangle.
-    pub fn into_soup(self, alloc: Global) -> Result<Soup, TextFault>
-        ensures soup { IfOk result (λ soup. all_used self (unused_line self.triples 0 self.lines) ≡ Ok soup) }
-        ensures fault { IfErr result (IsFaultOf (all_used self (unused_line self.triples 0 self.lines))) }
+    // The soup of the points and the triangles.
+    fn into_soup(self, alloc: Global) -> Result<Soup, TextFault>
+        ensures soup { IfOk result (λ soup. soup ≡ soup_of self.points self.triples) }
+        ensures fault { IfErr result (λ e. e ≡ TextFault.NoMemory) }
     {
-        if let Some(number) = unused_line(alloc, &self.triples, &self.lines)? {
-            return Err(unknown(number));
-        }
-        let Reading {
-            points,
-            triples,
-            lines: _,
-        } = self;
-        Ok(Soup::of(points, triples, 0))
-    }
-
-    // Reads the words of the line with this number, from 1: no words, `v` and three whole numbers, or
-    // `f` and three different vertex numbers.
-    fn read_line(
-        &mut self,
-        mut words: Words<'_>,
-        number: u64,
-        limits: &Limits,
-    ) -> Result<(), TextFault>
-        ensures read { OnOk result (narrow_line limits.now number words.entry self.old ≡ Ok self.new) }
-        ensures fault { IfErr result (IsFaultOf (narrow_line limits.now number words.entry self.old)) }
-    {
-        let Some(word) = words.next() else {
-            return Ok(());
-        };
-        if word == b"v".as_slice() {
-            self.read_point(words, number, limits)
-        } else if word == b"f".as_slice() {
-            self.read_face(words, number, limits)
-        } else {
-            Err(unknown(number))
+        let Gathered { points, triples } = self;
+        match without_unused(alloc, points, triples) {
+            Ok(soup) => Ok(soup),
+            Err(NoMemory) => Err(TextFault::NoMemory),
         }
     }
 
-    // Reads the words after `v`.
-    fn read_point(
-        &mut self,
-        words: Words<'_>,
-        number: u64,
-        limits: &Limits,
-    ) -> Result<(), TextFault>
-        ensures read { OnOk result (narrow_point limits.now number self.old words.entry ≡ Ok self.new) }
-        ensures fault { IfErr result (IsFaultOf (narrow_point limits.now number self.old words.entry)) }
-    {
-        match point_of(words) {
-            Some(point) => self.add_point(point, number, limits),
-            None => Err(unknown(number)),
-        }
-    }
-
-    // Reads the words after `f`.
-    fn read_face(&mut self, words: Words<'_>, number: u64, limits: &Limits) -> Result<(), TextFault>
-        ensures read { OnOk result (narrow_face limits.now number self.old words.entry ≡ Ok self.new) }
-        ensures fault { IfErr result (IsFaultOf (narrow_face limits.now number self.old words.entry)) }
-    {
-        match triangle_of(words, self.points.len() as u32) {
-            Some(triangle) => self.add_triangle(triangle, limits),
-            None => Err(unknown(number)),
-        }
-    }
-
-    // Adds the point of a line, where the limit allows it.
-    fn add_point(&mut self, point: Point, number: u64, limits: &Limits) -> Result<(), TextFault>
-        ensures added { OnOk result (add_point limits.now number self.old point ≡ Ok self.new) }
-        ensures fault { IfErr result (IsFaultOf (add_point limits.now number self.old point)) }
+    // Adds a point, where the limit allows it.
+    fn add_point(&mut self, point: Point, limits: &Limits) -> Result<(), TextFault>
+        ensures added { OnOk result (with_point limits.now self.old point ≡ Ok self.new) }
+        ensures fault { IfErr result (IsFaultOf (with_point limits.now self.old point)) }
     {
         let seen = self.points.len() as u64 + 1;
         if seen > u64::from(limits.points()) {
@@ -139,62 +78,156 @@ impl Reading {
                 seen,
             });
         }
-        self.lines.reserve(1)?;
         self.points.push(point)?;
-        match self.lines.push(number) {
-            Ok(()) => Ok(()),
-            Err(_) => unreachable!(),
-        }
+        Ok(())
     }
 
-    // Adds a triangle of points that are there, where the limit allows it.
-    fn add_triangle(&mut self, triangle: [u32; 3], limits: &Limits) -> Result<(), TextFault>
-        requires three { HasThree (triple_of triangle) }
-        requires below { IsBelow (length self.old.points) (triple_of triangle) }
-        ensures added { OnOk result (add_triples limits.now self.old (face_fan triangle) ≡ Ok self.new) }
-        ensures fault { IfErr result (IsFaultOf (add_triples limits.now self.old (face_fan triangle))) }
+    // Adds the triangles of a face of these vertices, where the limit allows it.
+    fn add_face(&mut self, vertices: &[u32], limits: &Limits) -> Result<(), TextFault>
+        requires three { 3 ≤ length vertices.now }
+        requires below { All (λ v. v < length self.old.points) vertices.now }
+        requires apart { has_repeat vertices.now ≡ false }
+        ensures added { OnOk result (with_triples limits.now self.old (face_fan vertices.now) ≡ Ok self.new) }
+        ensures fault { IfErr result (IsFaultOf (with_triples limits.now self.old (face_fan vertices.now))) }
     {
-        let seen = self.triples.len() as u64 + 1;
+        let seen = self.triples.len() as u64 + (vertices.len() as u64 - 2);
         if seen > u64::from(limits.triangles()) {
             return Err(TextFault::Over {
                 what: Counted::Triangles,
                 seen,
             });
         }
-        self.triples.push(triangle)?;
+        push_fan(&mut self.triples, vertices)?;
         Ok(())
     }
 }
 
-// The fault of a line that is not of the narrow form.
-fn unknown(number: u64) -> TextFault
-    ensures { result ≡ TextFault.Bad number TextKind.UnknownLine }
+// Adds the triangles of a face of these vertices: the first with each two that follow one another. Where
+// there is no memory nothing is added.
+fn push_fan(triples: &mut Vec<[u32; 3]>, vertices: &[u32]) -> Result<(), AllocError>
+    requires { 3 ≤ length vertices.now }
+    ensures added { OnOk result (triples_of triples.new.items ≡ triples_of triples.old.items ++ face_fan vertices.now) }
+    ensures same { OnErr result (triples.new.items ≡ triples.old.items) }
 {
-    TextFault::Bad {
-        line: number,
-        kind: TextKind::UnknownLine,
+    let last = vertices.len() - 1;
+    triples.reserve(last)?;
+    for place in 1..last {
+        let triple = [vertices[0], vertices[place], vertices[place + 1]];
+        match triples.push(triple) {
+            Ok(()) => {}
+            Err(_) => unreachable!(),
+        }
+    }
+    Ok(())
+}
+
+/// What the lines so far gave, and room for the vertices of a face.
+#[derive(Drop)]
+pub struct Reading {
+    pub gathered: Gathered,
+    vertices: Vec<u32>,
+    sorted: Vec<u32>,
+}
+
+impl Reading {
+    /// Reads the lines of a text until the first fault.
+    pub fn of(alloc: Global, text: &[u8], digits: u8, limits: &Limits) -> Result<Reading, TextFault>
+        requires { digits ≤ 6 }
+        ensures read { IfOk result (λ r. obj_lines digits limits.now (word_lines (joined_lines text.now)) nothing_gathered ≡ Ok r.gathered) }
+        ensures fault { IfErr result (IsFaultOf (obj_lines digits limits.now (word_lines (joined_lines text.now)) nothing_gathered)) }
+    {
+        let mut reading = Reading {
+            gathered: Gathered::new(alloc),
+            vertices: Vec::new(alloc),
+            sorted: Vec::new(alloc),
+        };
+        for (number, words) in Lines::of(text) {
+            reading.read_line(words, number, digits, limits)?;
+        }
+        Ok(reading)
+    }
+
+    /// The points and triangles, without the points that no triangle uses.
+    pub fn into_soup(self, alloc: Global) -> Result<Soup, TextFault>
+        ensures soup { IfOk result (λ soup. soup ≡ soup_of self.gathered.points self.gathered.triples) }
+        ensures fault { IfErr result (λ e. e ≡ TextFault.NoMemory) }
+    {
+        let Reading {
+            gathered,
+            vertices: _,
+            sorted: _,
+        } = self;
+        gathered.into_soup(alloc)
+    }
+
+    // Reads the words of the line with this number.
+    fn read_line(
+        &mut self,
+        mut words: Words<'_>,
+        number: u64,
+        digits: u8,
+        limits: &Limits,
+    ) -> Result<(), TextFault>
+        requires { digits ≤ 6 }
+        ensures read { OnOk result (obj_line digits limits.now number words.entry self.old.gathered ≡ Ok self.new.gathered) }
+        ensures fault { IfErr result (IsFaultOf (obj_line digits limits.now number words.entry self.old.gathered)) }
+    {
+        let Some(word) = words.next() else {
+            return Ok(());
+        };
+        if word == b"v".as_slice() {
+            self.read_point(words, number, digits, limits)
+        } else if word == b"f".as_slice() {
+            self.read_face(words, number, limits)
+        } else if is_passed_over(word) {
+            Ok(())
+        } else {
+            Err(bad(number, TextKind::UnknownLine))
+        }
+    }
+
+    // Reads the words after `v`.
+    fn read_point(
+        &mut self,
+        words: Words<'_>,
+        number: u64,
+        digits: u8,
+        limits: &Limits,
+    ) -> Result<(), TextFault>
+        requires { digits ≤ 6 }
+        ensures read { OnOk result (obj_point digits limits.now number self.old.gathered words.entry ≡ Ok self.new.gathered) }
+        ensures fault { IfErr result (IsFaultOf (obj_point digits limits.now number self.old.gathered words.entry)) }
+    {
+        let point = point_of(words, number, digits)?;
+        self.gathered.add_point(point, limits)
+    }
+
+    // Reads the words after `f`.
+    fn read_face(&mut self, words: Words<'_>, number: u64, limits: &Limits) -> Result<(), TextFault>
+        ensures read { OnOk result (obj_face limits.now number self.old.gathered words.entry ≡ Ok self.new.gathered) }
+        ensures fault { IfErr result (IsFaultOf (obj_face limits.now number self.old.gathered words.entry)) }
+    {
+        let count = self.gathered.count();
+        read_vertices(words, number, count, &mut self.vertices)?;
+        if has_repeat(&self.vertices, &mut self.sorted)? {
+            return Err(bad(number, TextKind::FaceRepeatsVertex));
+        }
+        self.gathered.add_face(&self.vertices, limits)
     }
 }
 
-// The point of three whole numbers.
-fn point_of(words: Words<'_>) -> Option<Point>
-    ensures { result ≡ coordinates_of words.entry }
+// Whether a line with this first word is passed over.
+fn is_passed_over(word: &[u8]) -> bool
+    ensures { result ≡ list_any (bytes_eq word.now) passed_over }
 {
-    let (x, y, z) = words.three()?;
-    Point::of(coordinate(x)?, coordinate(y)?, coordinate(z)?)
-}
-
-// The triangle of three different vertex numbers, of so many points.
-fn triangle_of(words: Words<'_>, count: u32) -> Option<[u32; 3]>
-    ensures value { result ≡ corners_of count words.entry }
-    ensures three { IfSome result (λ t. HasThree (triple_of t)) }
-    ensures below { IfSome result (λ t. IsBelow count (triple_of t)) }
-{
-    let (a, b, c) = words.three()?;
-    let (a, b, c) = (vertex(a, count)?, vertex(b, count)?, vertex(c, count)?);
-    if a == b || b == c || c == a {
-        None
-    } else {
-        Some([a, b, c])
-    }
+    let short = word == b"o".as_slice()
+        || word == b"g".as_slice()
+        || word == b"s".as_slice()
+        || word == b"l".as_slice()
+        || word == b"p".as_slice();
+    short
+        || word == b"vt".as_slice()
+        || word == b"vn".as_slice()
+        || word == b"usemtl".as_slice()
+        || word == b"mtllib".as_slice()
 }

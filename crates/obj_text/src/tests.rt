@@ -1,3 +1,5 @@
+ghost use Rattle.std.specs.Prelude.{◌≤◌};
+
 use super::*;
 use mb_base::{Counted, TextKind};
 use std::test::Fail;
@@ -5,13 +7,19 @@ use std::test::Fail;
 const TETRAHEDRON: &[u8] =
     b"v 0 0 0\nv 1 0 0\nv 0 1 0\nv 0 0 1\nf 1 3 2\nf 1 2 4\nf 2 3 4\nf 3 1 4\n";
 
-// The file as an editor on another system may save it: CRLF, tabs, spare blanks, empty lines, and no
-// end of the last line.
+// The file as an editor on another system may save it: a mark at the start, CRLF, tabs, spare blanks, empty
+// lines, comments, and no end of the last line.
 const SPACED: &[u8] =
-    b"\r\n \t v\t0 0  0\r\nv 01 -0 0 \r\n\r\nv 0 1 0\r\nv 0 0 1\r\n\tf 1 3 2\r\nf 1 2 004\r\nf 2 3 4\r\n \r\nf 3 1 4";
+    b"\xef\xbb\xbf\r\n \t v\t0 0  0\r\nv 01 -0 +.0e9 1 \r\n# f 1 2\\\r\nv 0 1 0\r\nv 0 0 1\r\n\tf 1 3 2\r\nf 1 2 004 # f\r\nf 2 3 4\r\n \r\nf 3 1 4";
 
-fn refusal(rt: &HostRuntime, bytes: &[u8], limits: &Limits) -> Result<TextFault, Fail> {
-    match read_obj(rt.alloc(), bytes, 4, limits) {
+// The file with lines that go on, other numbers of the same points, and what is passed over.
+const DRESSED: &[u8] =
+    b"mtllib a \\\nv\nv 0 0\\\n 0\ng \nv 1 0 0 1 1 1 1\nv 0 1 0\nvn 0 0 1\nv 9 9 9\nv 0 \\\n\\\n0 1\nf 1/1 3//-3 2/2/2\nf -5 -4 -1\\\n\nusemtl f\nf -4//1 -3//1 -1//1 \\\n#\nf 3 1 5\n";
+
+fn refusal(rt: &HostRuntime, bytes: &[u8], digits: u8, limits: &Limits) -> Result<TextFault, Fail>
+    requires { digits ≤ 6 }
+{
+    match read_obj(rt.alloc(), bytes, digits, limits) {
         Ok(_) => Err(Fail::from("read")),
         Err(fault) => Ok(fault),
     }
@@ -19,43 +27,94 @@ fn refusal(rt: &HostRuntime, bytes: &[u8], limits: &Limits) -> Result<TextFault,
 
 #[test]
 fn reads_a_tetrahedron(rt: HostRuntime) -> Result<(), Fail> {
-    for bytes in [TETRAHEDRON, SPACED] {
+    for (bytes, unused) in [(TETRAHEDRON, 0), (SPACED, 0), (DRESSED, 1)] {
         let soup = read_obj(rt.alloc(), bytes, 4, &Limits::program())?;
         let triples = [[0, 2, 1], [0, 1, 3], [1, 2, 3], [2, 0, 3]];
         assert_eq!(rt; soup.points().len(), 4);
         assert_eq!(rt; soup.points()[1].at(), [10_000, 0, 0]);
         assert_eq!(rt; soup.points()[3].at(), [0, 0, 10_000]);
         assert_eq!(rt; soup.triples(), triples.as_slice());
-        assert_eq!(rt; soup.unused(), 0);
+        assert_eq!(rt; soup.unused(), unused);
     }
-    let empty = read_obj(rt.alloc(), b"", 4, &Limits::program())?;
+    let empty = read_obj(rt.alloc(), b"", 0, &Limits::program())?;
     assert_eq!(rt; empty.points().len(), 0);
     Ok(())
 }
 
 #[test]
+fn makes_a_fan_of_a_polygon(rt: HostRuntime) -> Result<(), Fail> {
+    let bytes = b"v 5 5 5\nv 0 0 0\nv 2.5 0 0\nv 2 2 0\nv 1 3 0\nv 0 2 0\nf -5 -4 -3 -2 6\n";
+    let soup = read_obj(rt.alloc(), bytes, 0, &Limits::program())?;
+    let triples = [[0, 1, 2], [0, 2, 3], [0, 3, 4]];
+    assert_eq!(rt; soup.points().len(), 5);
+    assert_eq!(rt; soup.points()[1].at(), [3, 0, 0]);
+    assert_eq!(rt; soup.triples(), triples.as_slice());
+    assert_eq!(rt; soup.unused(), 1);
+    Ok(())
+}
+
+#[test]
 fn refuses_the_first_faulty_line(rt: HostRuntime) -> Result<(), Fail> {
-    let refused: [(&[u8], u64); 12] = [
-        (b"v 0 0 0\nvn 0 0 1\nx\n", 2),
-        (b"\r\nv 0 0 0 1\r\n", 2),
-        (b"v 0 0\n", 1),
-        (b"v 0 0 0\n\nv 0 107375 0\n", 3),
-        (b"v 107374 -107374 99999999999999999999999999\n", 1),
-        (b"v 0 +1 0\n", 1),
-        (b"v 0 0 0\nv 1 0 0\nv 0 1 0\nf 1 2 3 1\n", 4),
-        (b"v 0 0 0\nv 1 0 0\nv 0 1 0\nf 1 2 2\n", 4),
-        (b"v 0 0 0\nv 1 0 0\nv 0 1 0\nf 0 1 2\n", 4),
-        (b"v 0 0 0\nv 1 0 0\nf 1 2 3\nv 0 1 0\n", 3),
-        (b"v 0 0 0\nv 1 0 0\nv 0 1 0\nf -1 2 3\n", 4),
-        (b"v 0 0 0\nv 9 9 9\nv 1 0 0\nv 0 1 0\nf 1 3 4\nv 8 8 8\n", 2),
+    let refused: [(&[u8], u64, TextKind); 22] = [
+        (b"v 0 0 0\nvn 0 0 1\nx\nv 0", 3, TextKind::UnknownLine),
+        (b"vp 1\n", 1, TextKind::UnknownLine),
+        (b"o \\\n \\\nv\nV 1 2 3\n", 4, TextKind::UnknownLine),
+        (b"v 1 2 3 \\\n# c \\\nv 4 5 6\nq", 4, TextKind::UnknownLine),
+        (b"\r\nv 0 \\\r\n0\r\nq", 2, TextKind::BadVertex),
+        (b"v 0 0 # 0\n", 1, TextKind::BadVertex),
+        (b"v 0 0 x 0 0 0 0 0\n", 1, TextKind::BadVertex),
+        (b"v 107375 0 x\n", 1, TextKind::OutOfGrid),
+        (b"v 0 x 107375\n", 1, TextKind::BadNumber),
+        (b"v 0 0 0#\n", 1, TextKind::BadNumber),
+        (
+            b"v 0 0 99999999999999999999999999\n",
+            1,
+            TextKind::OutOfGrid,
+        ),
+        (b"f 0 0\n", 1, TextKind::BadFace),
+        (b"f 1/ 0 0\n", 1, TextKind::BadFace),
+        (b"f 1//1/ 0 0\n", 1, TextKind::BadFace),
+        (b"f +1 0 0\n", 1, TextKind::BadFace),
+        (b"v 0 0 0\nf 1 1 2 x\n", 2, TextKind::BadIndex),
+        (b"v 0 0 0\nf -0 x x\n", 2, TextKind::BadIndex),
+        (b"v 0 0 0\nf 1 -2 x\n", 2, TextKind::BadIndex),
+        (b"v 0 0 0\nf 4294967297 1 1\n", 2, TextKind::BadIndex),
+        (b"v 0 0 0\nf 1 1 1 4/1/1\nv 1 0 0\n", 2, TextKind::BadIndex),
+        (
+            b"v 0 0 0\nv 1 0 0\nf 1 2 -2\n",
+            3,
+            TextKind::FaceRepeatsVertex,
+        ),
+        (
+            b"v 0 0 0\nv 1 0 0\nv 1 1 0\nv 0 1 0\nf 1 2 3 4 3\n",
+            5,
+            TextKind::FaceRepeatsVertex,
+        ),
     ];
-    for (bytes, line) in refused {
-        let kind = TextKind::UnknownLine;
+    for (bytes, line, kind) in refused {
         assert_eq!(rt;
-            refusal(&rt, bytes, &Limits::program())?,
+            refusal(&rt, bytes, 4, &Limits::program())?,
             TextFault::Bad { line, kind }
         );
     }
+    Ok(())
+}
+
+#[test]
+fn finds_a_repeat_among_many_vertices(rt: HostRuntime) -> Result<(), Fail> {
+    let points =
+        b"v 0 0 0\nv 1 0 0\nv 2 0 0\nv 3 0 0\nv 4 0 0\nv 5 0 0\nv 6 0 0\nv 7 0 0\nv 8 0 0\nv 9 0 0\nv 10 0 0\nv 11 0 0\nv 12 0 0\nv 13 0 0\n";
+    let mut bytes = points.to_vec(rt.alloc())?;
+    bytes.extend_from_slice(b"f 7 1 14 2 13 3 12 4 11 5 10 6 9 8\n")?;
+    let soup = read_obj(rt.alloc(), &bytes, 0, &Limits::program())?;
+    assert_eq!(rt; soup.triples().len(), 12);
+    assert_eq!(rt; soup.triples()[11], [6, 8, 7]);
+    bytes.extend_from_slice(b"f 7 1 14 2 13 3 12 4 11 5 10 6 9 8 4\n")?;
+    let kind = TextKind::FaceRepeatsVertex;
+    assert_eq!(rt;
+        refusal(&rt, &bytes, 0, &Limits::program())?,
+        TextFault::Bad { line: 16, kind }
+    );
     Ok(())
 }
 
@@ -66,13 +125,18 @@ fn counts_to_the_limits(rt: HostRuntime) -> Result<(), Fail> {
     let seen = 4;
     let what = Counted::Points;
     assert_eq!(rt;
-        refusal(&rt, TETRAHEDRON, &three_points)?,
+        refusal(&rt, TETRAHEDRON, 4, &three_points)?,
         TextFault::Over { what, seen }
     );
     let seen = 3;
     let what = Counted::Triangles;
     assert_eq!(rt;
-        refusal(&rt, TETRAHEDRON, &four_points)?,
+        refusal(&rt, TETRAHEDRON, 4, &four_points)?,
+        TextFault::Over { what, seen }
+    );
+    let square = b"v 0 0 0\nv 1 0 0\nv 1 1 0\nf 1 2 3\nv 0 1 0\nf 1 2 3 4\n";
+    assert_eq!(rt;
+        refusal(&rt, square, 4, &four_points)?,
         TextFault::Over { what, seen }
     );
     Ok(())

@@ -15,10 +15,10 @@ one_line : (text : List ℕ) → 0 < length text → ((k : ℕ) → 0 ≤ k → 
 one_line [] some none = absurd (omega arith)
 one_line (c ∷ cs) some none = rw (take-length (c ∷ cs), drop-length (c ∷ cs)) (raw_lines-last c cs (λ k h. fails _ (none k (omega arith) h)))
 
-pub returns-in-None : goal.returns-in-None
-returns-in-None c = rw (c.split_at.ensures.front, c.split_at.ensures.back) (one_line c.args.text.now c.requires c.in-None.ensures)
+pub returns-in-None-clause-lines : goal.returns-in-None-clause-lines
+returns-in-None-clause-lines c = rw (c.split_at.ensures.front, c.split_at.ensures.back) (one_line c.args.text.now c.requires c.in-None.ensures)
 
-pub returns-in-Some : goal.returns-in-Some
-returns-in-Some c =
+pub returns-in-Some-clause-lines : goal.returns-in-Some-clause-lines
+returns-in-Some-clause-lines c =
     let found = c.in-Some.ensures in
     rw (c.split_at-in-Some.ensures.front, c.split_at-in-Some-2.ensures.back, add-one) (raw_lines-cut c.in-Some.end c.args.text.now found.0.high (λ k h. fails _ (found.0.before k (omega arith) h)) found.1)

@@ -1,0 +1,9 @@
+use Rattle.obj_laws.proofs.ReadMeshes.{files_give_meshes}
+use Rattle.obj_laws.proofs.SavedMeshes as saved
+use Rattle.obj_laws.proofs.read_meshes_read_back.Goals as goal
+
+pub returns-clause-meshes : goal.returns-clause-meshes
+returns-clause-meshes c = files_give_meshes
+
+pub returns-clause-again : goal.returns-clause-again
+returns-clause-again c k few limits lawful bytes soup read = saved.meshes_read_back k few limits lawful soup.points soup.triples (files_give_meshes k limits lawful bytes soup read)

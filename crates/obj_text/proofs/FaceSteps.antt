@@ -1,0 +1,35 @@
+-- A reading with the triangles of one more face.
+use Rattle.std.proofs.Common.{◌≡◌, ℕ, ◌+◌, ◌-◌, ◌<◌, ◌≤◌, Bool, true, false, List, ◌++◌, length, Ok, Err, ap, ◌∙◌, arith, length-append}
+use Rattle.std.specs.Prelude.{nat_lt, if◌then◌else◌}
+use Rattle.std.specs.List.{All}
+use Rattle.std.proofs.lemmas.Bool.Decides.{nat_tests}
+use Rattle.std.proofs.lemmas.List.Elements.{All-append}
+use Rattle.mesh_terms.specs.Faults.{Triangles, Over}
+use Rattle.mesh_terms.specs.Limits.{Limits}
+use Rattle.mesh_terms.specs.Meshes.{Triple, HasThree, IsBelow}
+use Rattle.unused_points.specs.Used.{IsSound}
+use Rattle.obj_terms.specs.Faces.{face_fan, has_repeat}
+use Rattle.obj_terms.specs.Obj.{Gathered, with_triples}
+use Rattle.obj_terms.proofs.Fans.{length-face_fan, face_three, face_below}
+
+-- a reading stays sound with the triangles of a face
+pub IsSound-face : (n : ℕ) (ts us : List Triple) (vs : List ℕ) → IsSound n ts → us ≡ ts ++ face_fan vs → has_repeat vs ≡ false → All (λ v. v < n) vs → length ts + (length vs - 2) ≤ 100000000 → IsSound n us
+IsSound-face n ts us vs sound is apart below few = rw is (record {
+  three = All-append HasThree ts (face_fan vs) sound.three (face_three vs apart);
+  below = All-append (IsBelow n) ts (face_fan vs) sound.below (face_below n vs below);
+  few_points = sound.few_points;
+  few_triples = omega (arith, few, length-append ts (face_fan vs), length-face_fan vs);
+})
+
+-- too many triangles
+pub with_triples-over : (limits : Limits) (s : Gathered) (ts : List Triple) (n : ℕ) → length s.triples + length ts ≡ n → limits.triangles < n → with_triples limits s ts ≡ Err (Over Triangles n)
+with_triples-over limits s ts n e over =
+    let test : nat_lt limits.triangles (length s.triples + length ts) ≡ true = grind (arith, nat_tests) in
+    ap (λ (b : Bool). if b then Err (Over Triangles (length s.triples + length ts)) else Ok (record { points = s.points; triples = s.triples ++ ts })) test
+    ∙ ap (λ (m : ℕ). Err (Over Triangles m)) e
+
+-- no more than the limit
+pub with_triples-within : (limits : Limits) (s : Gathered) (ts : List Triple) → length s.triples + length ts ≤ limits.triangles → with_triples limits s ts ≡ Ok (record { points = s.points; triples = s.triples ++ ts })
+with_triples-within limits s ts within =
+    let test : nat_lt limits.triangles (length s.triples + length ts) ≡ false = grind (arith, nat_tests) in
+    ap (λ (b : Bool). if b then Err (Over Triangles (length s.triples + length ts)) else Ok (record { points = s.points; triples = s.triples ++ ts })) test
