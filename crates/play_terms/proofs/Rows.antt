@@ -6,7 +6,7 @@ use Rattle.mesh_terms.specs.Limits.{Limits}
 use Rattle.obj_terms.specs.Written.{line_of}
 use Rattle.run_terms.specs.Files.{Bytes, Files}
 use Rattle.run_terms.specs.Runs.{Ask, Write, Say, Done, Refused, Refusal, Play}
-use Rattle.play_terms.specs.Commands.{Winding, narrow_play}
+use Rattle.play_terms.specs.Commands.{Winding, play}
 
 abbrev program : Limits
 program = record { file_bytes = 1073741824; points = 15000000; triangles = 10000000; halfedges = 6000000 }
@@ -28,16 +28,38 @@ three_faces = line_of (codes "f 1 3 2") ++ line_of (codes "f 1 2 4") ++ line_of 
 abbrev tetrahedron : Bytes
 tetrahedron = corners ++ three_faces ++ line_of (codes "f 3 1 4")
 
+-- a cube as a modelling program writes it
+abbrev modelled_cube : Bytes
+modelled_cube = codes "# made by a modeller\nmtllib cube.mtl\no Cube\nv 0.000000 0.000000 0.000000\nv 10.000000 0.000000 0.000000\nv 0.000000 10.000000 0.000000\nv 10.000000 10.000000 0.000000\nv 0.000000 0.000000 10.000000\nv 10.000000 0.000000 10.000000\nv 0.000000 10.000000 10.000000\nv 10.000000 10.000000 10.000000\nvn 0.0000 0.0000 -1.0000\nvt 0.000000 0.000000\nusemtl Material\ns off\nf 1/1/1 3/1/1 4/1/1 2/1/1\nf 5//1 6//1 8//1 7//1\nf 1 2 6 5\nf 2/1 4/1 8/1 6/1\nf -5 -6 -2 \\\n-1\nf 1 5 7 3\n"
+
+-- its copy
+abbrev plain_cube : Bytes
+plain_cube = codes "v 0 0 0\nv 10 0 0\nv 0 10 0\nv 10 10 0\nv 0 0 10\nv 10 0 10\nv 0 10 10\nv 10 10 10\nf 1 3 4\nf 1 4 2\nf 5 6 8\nf 5 8 7\nf 1 2 6\nf 1 6 5\nf 2 4 8\nf 2 8 6\nf 4 3 7\nf 4 7 8\nf 1 5 7\nf 1 7 3\n"
+
 -- a winding number that is told by the first coordinate alone
 abbrev told : Winding
 told p m = get_or p 0 (pos 0)
 
 abbrev play_on : Bytes → Play
-play_on bytes = narrow_play told copying (only (codes "t.obj") bytes) program
+play_on bytes = play told copying (only (codes "t.obj") bytes) program
 
 -- it ends so after the file was asked for
 abbrev stopped : Refusal → Play
 stopped why = record { actions = Ask (codes "t.obj") ∷ []; end = Refused why }
+
+-- a file that is refused with this line
+abbrev faulty : Bytes → Play
+faulty text = stopped (record { status = 4; line = line_of text })
+
+-- a line of each kind of fault after the tetrahedron, whose file has eight lines
+record FaultsAreTold : Type 0 where
+  unknown : play_on (tetrahedron ++ line_of (codes "curv 0 1")) ≡ faulty (codes "t.obj:9: 1 UnknownLine")
+  vertex : play_on (tetrahedron ++ line_of (codes "v 1 2")) ≡ faulty (codes "t.obj:9: 2 BadVertex")
+  number : play_on (tetrahedron ++ line_of (codes "v 1 2 3,5")) ≡ faulty (codes "t.obj:9: 3 BadNumber")
+  off_grid : play_on (tetrahedron ++ line_of (codes "v 1 2 -107374.18245")) ≡ faulty (codes "t.obj:9: 4 OutOfGrid")
+  face : play_on (tetrahedron ++ line_of (codes "f 1 2")) ≡ faulty (codes "t.obj:9: 5 BadFace")
+  index : play_on (tetrahedron ++ line_of (codes "f 1 2 5")) ≡ faulty (codes "t.obj:9: 6 BadIndex")
+  repeated : play_on (tetrahedron ++ line_of (codes "f 1 2 -4")) ≡ faulty (codes "t.obj:9: 7 FaceRepeatsVertex")
 
 copies_the_tetrahedron : play_on tetrahedron ≡ record { actions = Ask (codes "t.obj") ∷ Write (codes "u.obj") tetrahedron ∷ Say (line_of (codes "copied u.obj: points 4, triangles 4, unused 0")) ∷ []; end = Done }
 unfolding digits
@@ -51,23 +73,31 @@ refuses_an_open_mesh : play_on (corners ++ three_faces) ≡ stopped (record { st
 unfolding digits
 refuses_an_open_mesh = refl
 
-refuses_an_unknown_line : play_on (tetrahedron ++ line_of (codes "vn 0 0 1")) ≡ stopped (record { status = 4; line = line_of (codes "t.obj:9: 1 UnknownLine") })
+drops_an_unused_point : play_on (corners ++ line_of (codes "v 5 5 5") ++ three_faces ++ line_of (codes "f 3 1 4")) ≡ record { actions = Ask (codes "t.obj") ∷ Write (codes "u.obj") tetrahedron ∷ Say (line_of (codes "copied u.obj: points 4, triangles 4, unused 1")) ∷ []; end = Done }
 unfolding digits
-refuses_an_unknown_line = refl
+drops_an_unused_point = refl
 
-refuses_an_unused_point : play_on (line_of (codes "v 5 5 5") ++ tetrahedron) ≡ stopped (record { status = 4; line = line_of (codes "t.obj:5: 1 UnknownLine") })
+copies_a_modelled_cube : play_on modelled_cube ≡ record { actions = Ask (codes "t.obj") ∷ Write (codes "u.obj") plain_cube ∷ Say (line_of (codes "copied u.obj: points 8, triangles 12, unused 0")) ∷ []; end = Done }
 unfolding digits
-refuses_an_unused_point = refl
+copies_a_modelled_cube = refl
 
-refuses_a_missing_file : narrow_play told copying (λ n. None) program ≡ stopped (record { status = 3; line = line_of (codes "t.obj: missing") })
+refuses_each_kind_of_line : FaultsAreTold
+unfolding digits
+refuses_each_kind_of_line = record { unknown = refl; vertex = refl; number = refl; off_grid = refl; face = refl; index = refl; repeated = refl }
+
+refuses_a_cut_file : play_on (corners ++ three_faces ++ codes "f 3 1") ≡ faulty (codes "t.obj:8: 5 BadFace")
+unfolding digits
+refuses_a_cut_file = refl
+
+refuses_a_missing_file : play told copying (λ n. None) program ≡ stopped (record { status = 3; line = line_of (codes "t.obj: missing") })
 refuses_a_missing_file = refl
 
-refuses_other_words : narrow_play told (codes "copy" ∷ codes "t.obj" ∷ []) (λ n. None) program ≡ record { actions = []; end = Refused (record { status = 1; line = line_of (codes "usage: manifold_tool copy IN OUT, inside FILE X Y Z or run SCRIPT, each with --digits K") }) }
+refuses_other_words : play told (codes "copy" ∷ codes "t.obj" ∷ []) (λ n. None) program ≡ record { actions = []; end = Refused (record { status = 1; line = line_of (codes "usage: manifold_tool copy IN OUT, inside FILE X Y Z or run SCRIPT, each with --digits K") }) }
 refuses_other_words = refl
 
-says_a_winding_number : narrow_play told (codes "inside" ∷ codes "t.obj" ∷ codes "2" ∷ codes "07" ∷ codes "0" ∷ []) (only (codes "t.obj") tetrahedron) program ≡ record { actions = Ask (codes "t.obj") ∷ Say (line_of (codes "winding 20000")) ∷ []; end = Done }
+says_a_winding_number : play told (codes "inside" ∷ codes "t.obj" ∷ codes "2" ∷ codes "07" ∷ codes "0" ∷ []) (only (codes "t.obj") tetrahedron) program ≡ record { actions = Ask (codes "t.obj") ∷ Say (line_of (codes "winding 20000")) ∷ []; end = Done }
 unfolding digits
 says_a_winding_number = refl
 
-refuses_a_negative_operand : narrow_play told (codes "inside" ∷ codes "t.obj" ∷ codes "-5" ∷ codes "4" ∷ codes "3" ∷ []) (λ n. None) program ≡ record { actions = []; end = Refused (record { status = 1; line = line_of (codes "usage: manifold_tool copy IN OUT, inside FILE X Y Z or run SCRIPT, each with --digits K") }) }
+refuses_a_negative_operand : play told (codes "inside" ∷ codes "t.obj" ∷ codes "-5" ∷ codes "4" ∷ codes "3" ∷ []) (λ n. None) program ≡ record { actions = []; end = Refused (record { status = 1; line = line_of (codes "usage: manifold_tool copy IN OUT, inside FILE X Y Z or run SCRIPT, each with --digits K") }) }
 refuses_a_negative_operand = refl

@@ -5,7 +5,7 @@ use Rattle.mesh_terms.specs.Faults.{FileBytes, Fault}
 use Rattle.mesh_terms.specs.Limits.{Limits}
 use Rattle.mesh_terms.specs.Meshes.{Soup}
 use Rattle.mesh_terms.specs.OpenEdges.{open_pair}
-use Rattle.obj_terms.specs.Reading.{narrow_obj}
+use Rattle.obj_terms.specs.Obj.{obj}
 use Rattle.obj_terms.specs.Written.{obj_text}
 use Rattle.run_terms.specs.Files.{Bytes, Files}
 use Rattle.run_terms.specs.Runs.{Action, Ask, Write, Say, Refusal, Done, Refused, Play}
@@ -30,22 +30,18 @@ abbrev pub checked : Bytes → Result Soup Fault → Result Soup Refusal
 checked name (Err fault) = Err (fault_refusal name fault)
 checked name (Ok soup) = if_closed name soup (open_pair (all_edges soup.triples))
 
--- what the bytes of a file give, within the limits
-abbrev pub Reader : Type 0
-Reader = Limits → Bytes → Result Soup Fault
-
--- the mesh of a file: refused where the file is not there or too long, by its text, or by its edges
-abbrev pub mesh_of : Reader → Limits → Bytes → Option Bytes → Result Soup Refusal
-mesh_of reader limits name None = Err (missing name)
-mesh_of reader limits name (Some bytes) =
+-- the mesh of a file under k digits: refused where the file is not there or too long, by its text, or by its edges
+abbrev pub mesh_of : ℕ → Limits → Bytes → Option Bytes → Result Soup Refusal
+mesh_of k limits name None = Err (missing name)
+mesh_of k limits name (Some bytes) =
     if nat_lt limits.file_bytes (length bytes) then Err (over FileBytes (length bytes))
-    else checked name (reader limits bytes)
+    else checked name (obj k limits bytes)
 
 abbrev pub copy_actions : ℕ → Bytes → Soup → List Action
 copy_actions k to m = Write to (obj_text k m.points m.triples) ∷ Say (copied_line to m) ∷ []
 
-abbrev pub copy_play : Reader → ℕ → Limits → Files → Bytes → Bytes → Play
-copy_play reader k limits files from to = played (Ask from ∷ []) (mesh_of reader limits from (files from)) (copy_actions k to)
+abbrev pub copy_play : ℕ → Limits → Files → Bytes → Bytes → Play
+copy_play k limits files from to = played (Ask from ∷ []) (mesh_of k limits from (files from)) (copy_actions k to)
 
 -- the winding number of a point in a mesh
 abbrev pub Winding : Type 0
@@ -54,14 +50,15 @@ Winding = List ℤ → Soup → ℤ
 abbrev pub inside_actions : Winding → List ℤ → Soup → List Action
 inside_actions winding p m = Say (winding_line (winding p m)) ∷ []
 
-abbrev pub inside_play : Reader → Winding → Limits → Files → Bytes → List ℤ → Play
-inside_play reader winding limits files name p = played (Ask name ∷ []) (mesh_of reader limits name (files name)) (inside_actions winding p)
+abbrev pub inside_play : ℕ → Winding → Limits → Files → Bytes → List ℤ → Play
+inside_play k winding limits files name p = played (Ask name ∷ []) (mesh_of k limits name (files name)) (inside_actions winding p)
 
--- the play of the words over the files, in the narrow OBJ form
-abbrev pub narrow_play_of : Winding → Limits → Files → Option Command → Play
-narrow_play_of winding limits files None = refused usage
-narrow_play_of winding limits files (Some (CopyFile k from to)) = copy_play narrow_obj k limits files from to
-narrow_play_of winding limits files (Some (InsideFile k file p)) = inside_play narrow_obj winding limits files file p
+-- the play of a command over the files
+abbrev pub play_of : Winding → Limits → Files → Option Command → Play
+play_of winding limits files None = refused usage
+play_of winding limits files (Some (CopyFile k from to)) = copy_play k limits files from to
+play_of winding limits files (Some (InsideFile k file p)) = inside_play k winding limits files file p
 
-abbrev pub narrow_play : Winding → List Bytes → Files → Limits → Play
-narrow_play winding words files limits = narrow_play_of winding limits files (narrow_command words)
+-- the play of the words
+abbrev pub play : Winding → List Bytes → Files → Limits → Play
+play winding words files limits = play_of winding limits files (narrow_command words)
