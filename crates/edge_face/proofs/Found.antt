@@ -1,6 +1,8 @@
 -- What the pairs and the first answers on both sides say of the crossing.
 use Rattle.std.proofs.Common.{arith, ◌≡◌, ◌≢◌, ◌+◌, ℤ, pos, Bool, true, false, not, if◌then◌else◌, Option, None, Some, List, [], ◌∷◌, refl, sym, ap, subst, ◌∙◌}
+use Rattle.std.specs.Ordering.{int_eq}
 use Rattle.std.proofs.lemmas.Int.{ints}
+use Rattle.std.proofs.lemmas.Bool.Decides.{Decides-int_eq}
 use Rattle.chain_terms.specs.Chains.{one_if}
 use Rattle.mb_base.specs.declared.point.Corner.{Corner}
 use Rattle.rounding.specs.Corners.{AllFine}
@@ -8,6 +10,7 @@ use Rattle.shadow_kernels.specs.declared.Spot.{Spot}
 use Rattle.shadow_kernels.specs.declared.Meet.{Meet}
 use Rattle.shadow_kernels.specs.Bounds.{IsFineSpot, hull_fine}
 use Rattle.shadow_kernels.specs.Counts.{shadow_of, first_spot}
+use Rattle.shadow_kernels.specs.Sizes.{by_zero}
 use Rattle.shadow_kernels.specs.Tally.{hits}
 use Rattle.edge_face.specs.declared.Cross.{Cross}
 use Rattle.edge_face.specs.declared.pair.Pair.{Pair}
@@ -15,7 +18,28 @@ use Rattle.edge_face.specs.declared.pair.Pairs.{Pairs}
 use Rattle.edge_face.specs.Answers.{crossed_none, crossed_some, answer}
 use Rattle.edge_face.specs.Fives.{five, five_number, five_sides}
 use Rattle.edge_face.specs.Numbers.{IsBoundary, five_of, number_spot}
-use Rattle.edge_face.specs.Pairs.{IsPairOf, ArePairsOf, pair_shadow, pairs_number, first_on}
+use Rattle.edge_face.specs.Pairs.{IsPairOf, ArePairsOf, pair_shadow, pairs_number, number_if_any, first_on}
+
+-- a number that is 0 or is not, as an option
+pub any_none : (n : ℤ) → n ≡ pos 0 → None ≡ number_if_any n
+unfolding number_if_any
+any_none n e = sym (ap (λ (t : Bool). if t then None else Some n) ((Decides-int_eq n (pos 0)).1 e))
+
+pub any_some : (n : ℤ) → n ≢ pos 0 → Some n ≡ number_if_any n
+unfolding number_if_any
+any_some n h = sym (ap (λ (t : Bool). if t then None else Some n) (no (int_eq n (pos 0)) refl)) where
+  no : (t : Bool) → int_eq n (pos 0) ≡ t → t ≡ false
+  no true e = absurd (h ((Decides-int_eq n (pos 0)).0 e))
+  no false e = refl
+
+-- and what an option says of the number
+pub any_zero : (n : ℤ) → number_if_any n ≡ None → n ≡ pos 0
+any_zero n e = by_zero n (λ z. z) (λ h. let s = any_some n h in absurd (cc))
+
+pub any_number : (n k : ℤ) → number_if_any n ≡ Some k → (k ≡ n) × (n ≢ pos 0)
+any_number n k e = by_zero n
+    (λ z. let s = any_none n z in absurd (cc))
+    (λ h. let s = any_some n h in (cc, h))
 
 -- the shadow of a pair is that of its answer
 shadow_pair : (m : Option Meet) (s : Pair) → IsPairOf m s → pair_shadow s ≡ shadow_of m

@@ -1,5 +1,6 @@
 -- What the code keeps of the five boundary pairs of an edge and a face.
 use Rattle.std.specs.Prelude.{◌≡◌, ℕ, ◌≤◌, ℤ, pos, ◌+ℤ◌, ◌-ℤ◌, unsigned_abs, slice_index_or, Bool, true, false, not, if◌then◌else◌, Option, None, Some, IfSome, List, [], ◌∷◌}
+use Rattle.std.specs.Ordering.{int_eq}
 use Rattle.shadow_kernels.specs.declared.Meet.{Meet}
 use Rattle.shadow_kernels.specs.Counts.{count_of}
 use Rattle.edge_face.specs.declared.pair.Pair.{Pair}
@@ -23,6 +24,10 @@ pair_shadow s = if s.above then s.count else pos 0
 -- the shadow of the end less that of the start, less those of the three edges
 abbrev pub pairs_number : Pairs → ℤ
 pairs_number s = pair_shadow s.end -ℤ pair_shadow s.start -ℤ (pair_shadow s.first +ℤ (pair_shadow s.second +ℤ pair_shadow s.third))
+
+-- a number, where it is not 0
+unfoldable pub number_if_any : ℤ → Option ℤ
+number_if_any n = if int_eq n (pos 0) then None else Some n
 
 -- the number at a place of a list
 abbrev pub number_at : List ℤ → ℕ → ℤ

@@ -39,10 +39,7 @@ impl<R: Rounding> Crosses<2, 3> for Grid<R> {
         ensures value { result ≡ cross23 (grid_tests (R.between_of self.now.rounding)) (R.between_of self.now.rounding) (R.settle_of self.now.rounding) p.now q.now }
     {
         let pairs = edge_face_pairs(&self.rounding, p, q);
-        let number = pairs.number();
-        if number == 0 {
-            return None;
-        }
+        let number = pairs.number()?;
         let below = first_of_edge_face(self, p, q, &pairs, false)?;
         let above = first_of_edge_face(self, p, q, &pairs, true)?;
         let at = p_point(&self.rounding, &below.spot, &above.spot)?;
@@ -73,10 +70,7 @@ impl<R: Rounding> Crosses<3, 2> for Grid<R> {
         ensures value { result ≡ cross32 (grid_tests (R.between_of self.now.rounding)) (R.between_of self.now.rounding) (R.settle_of self.now.rounding) p.now q.now }
     {
         let pairs = face_edge_pairs(&self.rounding, p, q);
-        let number = pairs.number();
-        if number == 0 {
-            return None;
-        }
+        let number = pairs.number()?;
         let below = first_of_face_edge(self, p, q, &pairs, false)?;
         let above = first_of_face_edge(self, p, q, &pairs, true)?;
         let at = q_point(&self.rounding, &below.spot, &above.spot)?;

@@ -6,7 +6,7 @@ ghost use Rattle.rounding.specs.Corners.{corner_at, IsFineCorner, AllFine};
 ghost use Rattle.shadow_kernels.specs.Counts.{count_of, shadow_of};
 ghost use Rattle.shadow_kernels.specs.Shadows.{meet01, meet10, meet11, meet02, meet20};
 ghost use Rattle.edge_face.specs.Grids.{grid_pairs12, grid_pairs21};
-ghost use Rattle.edge_face.specs.Pairs.{IsPairOf, ArePairsOf, pair_shadow, pairs_number, number_at, AreSmall};
+ghost use Rattle.edge_face.specs.Pairs.{IsPairOf, ArePairsOf, pair_shadow, pairs_number, number_if_any, number_at, AreSmall};
 
 use crate::pair::{Pair, Pairs};
 use mb_base::Corner;
@@ -34,8 +34,16 @@ impl Pair {
 }
 
 impl Pairs {
-    /// The number of crossings: the shadow of the end less that of the start, less those of the three edges.
-    pub(crate) fn number(&self) -> i8
+    /// The number of crossings, where it is not 0.
+    pub(crate) fn number(&self) -> Option<i8>
+        ensures { result ≡ number_if_any (pairs_number self.now) }
+    {
+        let number = self.sum();
+        if number == 0 { None } else { Some(number) }
+    }
+
+    /// The shadow of the end less that of the start, less those of the three edges.
+    fn sum(&self) -> i8
         ensures { result ≡ pairs_number self.now }
     {
         let sides = self.first.shadow() + (self.second.shadow() + self.third.shadow());

@@ -3,6 +3,7 @@
 ghost use Rattle.std.specs.Prelude.{◌≡◌, Some};
 ghost use Rattle.mesh_terms.specs.Points.{IsOnGrid};
 ghost use Rattle.rounding.specs.Fine.{IsFine, IsWeight};
+ghost use Rattle.shadow_kernels.specs.Spots.{gap};
 ghost use Rattle.shadow_kernels.specs.Bounds.{IsFineSpot};
 ghost use Rattle.edge_face.specs.Points.{p_point, q_point};
 
@@ -16,8 +17,8 @@ pub(crate) fn p_point<R: Rounding>(rounding: &R, below: &Spot, above: &Spot) -> 
     requires above_fine { IsFineSpot above.now }
     ensures { result ≡ Some (p_point (R.between_of rounding.now) (R.settle_of rounding.now) below.now above.now) }
 {
-    let a = gap_of(below.pz, below.qz);
-    let b = gap_of(above.pz, above.qz);
+    let a = gap_in_z(below);
+    let b = gap_in_z(above);
     Point::of(
         settled(rounding, below.x, above.x, a, b),
         settled(rounding, below.py, above.py, a, b),
@@ -31,13 +32,22 @@ pub(crate) fn q_point<R: Rounding>(rounding: &R, below: &Spot, above: &Spot) -> 
     requires above_fine { IsFineSpot above.now }
     ensures { result ≡ Some (q_point (R.between_of rounding.now) (R.settle_of rounding.now) below.now above.now) }
 {
-    let a = gap_of(below.pz, below.qz);
-    let b = gap_of(above.pz, above.qz);
+    let a = gap_in_z(below);
+    let b = gap_in_z(above);
     Point::of(
         settled(rounding, below.x, above.x, a, b),
         settled(rounding, below.qy, above.qy, a, b),
         settled(rounding, below.qz, above.qz, a, b),
     )
+}
+
+/// The difference of P's z and Q's z at a spot, without its sign.
+fn gap_in_z(spot: &Spot) -> i64
+    requires { IsFineSpot spot.now }
+    ensures value { result ≡ gap spot.now.pz spot.now.qz }
+    ensures weight { IsWeight result }
+{
+    gap_of(spot.pz, spot.qz)
 }
 
 /// The grid step of a value between two fine values.

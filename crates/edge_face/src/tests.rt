@@ -1,4 +1,6 @@
+ghost use Rattle.std.specs.Prelude.{◌≡◌, ◌∷◌, []};
 ghost use Rattle.rounding.specs.Corners.{IsFineCorner, AllFine};
+ghost use Rattle.edge_face.specs.Crossings.{number_of};
 
 use super::*;
 use crate::rows::{ROWS_0, ROWS_1, ROWS_2, ROWS_3};
@@ -57,6 +59,43 @@ fn crosses(p: &[Corner; 3], q: &[Corner; 3]) -> (Option<Cross>, Option<Cross>)
 {
     let grid = Grid { rounding: Nearest };
     (grid.cross(&[p[0], p[1]], q), grid.cross(p, &[q[0], q[1]]))
+}
+
+/// The number of the edge from a to b and a face, asked of the edge from b to a: right under any kernels, by the laws
+/// alone.
+fn number_back<K: Kernels>(kernels: &K, a: &Corner, b: &Corner, q: &[Corner; 3]) -> i64
+    requires a_fine { IsFineCorner a.now }
+    requires b_fine { IsFineCorner b.now }
+    requires q_fine { AllFine q.now }
+    ensures { result ≡ number_of (⟦<K as Crosses<2, 3>>⟧.cross_of kernels.now (a.now ∷ b.now ∷ []) q.now) }
+{
+    match kernels.cross(&[*b, *a], q) {
+        None => 0,
+        Some(c) => -(c.number as i64),
+    }
+}
+
+/// Whether an edge asked the other way round has the number of the row.
+fn turns(row: &(u64, u32)) -> bool {
+    let corners = row.0;
+    let a = corner(corners, corners >> 54);
+    let b = corner(corners >> 9, corners >> 57);
+    let q = [
+        corner(corners >> 27, 0),
+        corner(corners >> 36, 0),
+        corner(corners >> 45, 0),
+    ];
+    let number = match answer(row.1) {
+        None => 0,
+        Some(c) => c.number as i64,
+    };
+    number_back(&Grid { rounding: Nearest }, &a, &b, &q) == number
+}
+
+#[test]
+fn turned_edges_have_turned_numbers(rt: HostRuntime) {
+    assert!(rt; ROWS_0.iter().all(turns));
+    assert!(rt; ROWS_3.iter().all(turns));
 }
 
 #[test]

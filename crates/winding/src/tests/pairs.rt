@@ -31,14 +31,7 @@ pub struct Case {
 
 /// A hit: the place of its case, whether the edge is the first mesh's, the edge, the face, the number and the point.
 #[derive(Clone, Copy, Debug, PartialEq, Eq, Drop)]
-pub struct Row(
-    pub usize,
-    pub bool,
-    pub u32,
-    pub u32,
-    pub i8,
-    pub [i32; 3],
-);
+pub struct Row(pub usize, pub bool, pub u32, pub u32, pub i8, pub [i32; 3]);
 
 const OCTAHEDRON: [[u32; 3]; 8] = [
     [0, 1, 2],
@@ -73,9 +66,9 @@ impl Rounding for Low {
     ghost starts = { λ r u v b p q t. elim (int_eq b (pos 0)) as (λ x. (if x then u else u) ≡ u) [ true ↦ refl | false ↦ refl ] };
 
     ghost ends = { λ r u v a p q s h. elim a as (λ x. pos 0 <ℤ x → (if int_eq x (pos 0) then u else v) ≡ v) [
-        | pos n ↦ elim n as (λ m. pos 0 <ℤ pos m → (if int_eq (pos m) (pos 0) then u else v) ≡ v) [ zero ↦ λ l. absurd (Prim.omega (arith, ints)) | suc m ↦ λ l. refl ]
-        | negsuc n ↦ λ l. absurd (Prim.omega (arith, ints))
-      ] h };
+      | pos n ↦ elim n as (λ m. pos 0 <ℤ pos m → (if int_eq (pos m) (pos 0) then u else v) ≡ v) [ zero ↦ λ l. absurd (Prim.omega (arith, ints)) | suc m ↦ λ l. refl ]
+      | negsuc n ↦ λ l. absurd (Prim.omega (arith, ints))
+    ] h };
 
     ghost monotone = { λ r f g p q h. settle_monotone f g h };
 
@@ -136,14 +129,7 @@ fn numbers_of<R: Rounding, L: Ledger>(
 
 fn push_rows(rows: &mut Vec<Row>, place: usize, of_first: bool, hits: &[Hit]) -> Result<(), Fail> {
     for hit in hits {
-        rows.push(Row(
-            place,
-            of_first,
-            hit.edge,
-            hit.face,
-            hit.number,
-            hit.at.at(),
-        ))?;
+        rows.push(Row(place, of_first, hit.edge, hit.face, hit.number, hit.at.at()))?;
     }
     Ok(())
 }
@@ -227,11 +213,19 @@ fn a_post_begins_in_a_cube(rt: HostRuntime) -> Result<(), Fail> {
     let p = first_side(rt.alloc(), &cube, Op::Union)?;
     let q = second_side(rt.alloc(), &post)?;
     let kernels = Grid { rounding: Nearest };
-    let (hits, windings) =
-        numbers_of::<Nearest, Brand>(rt.alloc(), &p, &q, &kernels, Blank::new(1))?;
+    let (hits, windings) = numbers_of::<Nearest, Brand>(
+        rt.alloc(),
+        &p,
+        &q,
+        &kernels,
+        Blank::new(1),
+    )?;
     assert_eq!(rt; hits.x12.len(), 2);
     assert_eq!(rt; hits.x21.len(), 8);
     assert_eq!(rt; windings.w03.as_slice(), [0; 8].as_slice());
-    assert_eq!(rt; windings.w30.as_slice(), [1, 1, 1, 1, 0, 0, 0, 0].as_slice());
+    assert_eq!(rt;
+        windings.w30.as_slice(),
+        [1, 1, 1, 1, 0, 0, 0, 0].as_slice()
+    );
     Ok(())
 }

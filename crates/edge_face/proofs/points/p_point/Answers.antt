@@ -1,7 +1,6 @@
 use Rattle.std.proofs.Common.{rules}
 use Rattle.std.specs.Int.{w32}
 use Rattle.shadow_kernels.specs.Spots.{Between, gap}
-use Rattle.shadow_kernels.proofs.Values.{kept_gap}
 use Rattle.edge_face.specs.Points.{Settle, p_point}
 use Rattle.edge_face.proofs.Kept.{seen}
 use Rattle.edge_face.proofs.Placed.{made_point, kept_settled, kept_on}
@@ -16,14 +15,14 @@ returns g c =
     let u = c.args.above.now in
     let fd = c.requires.below_fine in
     let fu = c.requires.above_fine in
-    let a = c.gap_of-a.result in
-    let b = c.gap_of-b.result in
+    let a = c.gap_in_z-a.result in
+    let b = c.gap_in_z-b.result in
     let ga = gap d.pz d.qz in
     let gb = gap u.pz u.qz in
-    let wa = c.gap_of-a.ensures.weight in
-    let wb = c.gap_of-b.ensures.weight in
-    let ea = kept_gap a d.pz d.qz c.gap_of-a.ensures.value fd.pz fd.qz in
-    let eb = kept_gap b u.pz u.qz c.gap_of-b.ensures.value fu.pz fu.qz in
+    let wa = c.gap_in_z-a.ensures.weight in
+    let wb = c.gap_in_z-b.ensures.weight in
+    let ea = c.gap_in_z-a.ensures.value in
+    let eb = c.gap_in_z-b.ensures.value in
     let x = kept_settled w settle c.settled.result d.x u.x a b ga gb c.settled.ensures.value fd.x fu.x wa wb ea eb (search rules) in
     let y = kept_settled w settle c.settled-2.result d.py u.py a b ga gb c.settled-2.ensures.value fd.py fu.py wa wb ea eb (search rules) in
     let z = kept_settled w settle c.settled-3.result d.pz u.pz a b ga gb c.settled-3.ensures.value fd.pz fu.pz wa wb ea eb (search rules) in

@@ -1,5 +1,4 @@
-use Rattle.std.proofs.Common.{rules, arith, ◌≡◌, ◌≢◌, pos, true, false, FitsSigned, [], ◌∷◌, sym, ◌∙◌}
-use Rattle.std.proofs.lemmas.Int.{ints}
+use Rattle.std.proofs.Common.{rules, arith, true, false, FitsSigned, [], ◌∷◌, sym, ◌∙◌}
 use Rattle.std.specs.Int.{w8}
 use Rattle.rounding.specs.Corners.{corner_at}
 use Rattle.shadow_kernels.specs.FinePairs.{fine_two, fine_three}
@@ -7,15 +6,16 @@ use Rattle.shadow_kernels.specs.Hulls.{StaysBetween}
 use Rattle.shadow_kernels.specs.Shadows.{meet11, meet20}
 use Rattle.shadow_kernels.specs.Spots.{Between}
 use Rattle.edge_face.specs.Grids.{grid_tests, grid_lawful}
+use Rattle.edge_face.specs.Pairs.{pairs_number}
 use Rattle.edge_face.specs.Points.{Settle, q_point, cross21}
 use Rattle.edge_face.specs.Rims.{boundary21}
 use Rattle.edge_face.proofs.Kept.{seen, kept_fit, fine_in}
-use Rattle.edge_face.proofs.Found.{number_pairs, always_found, found_fine, crossed_not, crossed_at}
+use Rattle.edge_face.proofs.Found.{any_zero, any_number, number_pairs, always_found, found_fine, crossed_not, crossed_at}
 use Rattle.edge_face.proofs.grid.GridCrosses32.cross.Goals as goal
 
-pub returns-then-number-eq0 : goal.returns-then-number-eq0
+pub returns-in_err-number : goal.returns-in_err-number
 unfolding cross21
-returns-then-number-eq0 g c =
+returns-in_err-number g c =
     let w : Between = g.R.Rounding.between_of c.args.self.now.rounding in
     let p0 = corner_at c.args.p.now 0 in
     let p1 = corner_at c.args.p.now 1 in
@@ -27,11 +27,11 @@ returns-then-number-eq0 g c =
     let x = meet11 w p0 p1 q0 q1 in
     let y = meet11 w p1 p2 q0 q1 in
     let z = meet11 w p2 p0 q0 q1 in
+    let n = pairs_number c.face_edge_pairs-pairs.result in
+    let e = number_pairs s f x y z c.face_edge_pairs-pairs.result c.face_edge_pairs-pairs.ensures in
     let settle : Settle = g.R.Rounding.settle_of c.args.self.now.rounding in
-    let e = c.number-number.ensures ∙ number_pairs s f x y z c.face_edge_pairs-pairs.result c.face_edge_pairs-pairs.ensures in
-    let fits : FitsSigned w8 c.number-number.result = search rules in
-    let zero : c.number-number.result ≡ pos 0 = omega (arith, ints) in
-    record { value = crossed_not (q_point w settle) s f x y z c.number-number.result e zero }
+    let zero = any_zero n (sym c.number.ensures ∙ c.in_err-number.was) in
+    record { value = c.from_residual.ensures ∙ crossed_not (q_point w settle) s f x y z n e zero }
 
 pub returns-in_err-below : goal.returns-in_err-below
 returns-in_err-below g c =
@@ -46,14 +46,14 @@ returns-in_err-below g c =
     let x = meet11 w p0 p1 q0 q1 in
     let y = meet11 w p1 p2 q0 q1 in
     let z = meet11 w p2 p0 q0 q1 in
-    let e = c.number-number.ensures ∙ number_pairs s f x y z c.face_edge_pairs-pairs.result c.face_edge_pairs-pairs.ensures in
-    let fits : FitsSigned w8 c.number-number.result = search rules in
-    let k : c.number-number.result ≢ pos 0 = λ z. c.if-number-eq0.false (omega (arith, ints, z)) in
+    let n = pairs_number c.face_edge_pairs-pairs.result in
+    let e = number_pairs s f x y z c.face_edge_pairs-pairs.result c.face_edge_pairs-pairs.ensures in
+    let any = any_number n c.in_ok-number.number (sym c.number.ensures ∙ c.in_ok-number.was) in
     let stays : StaysBetween w = record { within = g.met.R.Rounding.within c.args.self.now.rounding } in
     let fp = fine_three p0 p1 p2 (fine_in c.args.p.now 0 c.requires.p_fine (omega arith)) (fine_in c.args.p.now 1 c.requires.p_fine (omega arith)) (fine_in c.args.p.now 2 c.requires.p_fine (omega arith)) in
     let fq = fine_two q0 q1 (fine_in c.args.q.now 0 c.requires.q_fine (omega arith)) (fine_in c.args.q.now 1 c.requires.q_fine (omega arith)) in
     let h = boundary21 (grid_tests w) (grid_lawful w stays) p0 p1 p2 q0 q1 fp fq in
-    absurd (always_found (p0 ∷ p1 ∷ p2 ∷ []) (q0 ∷ q1 ∷ []) s f x y z h c.number-number.result e k false (sym c.first_of_face_edge.ensures ∙ c.in_err-below.was))
+    absurd (always_found (p0 ∷ p1 ∷ p2 ∷ []) (q0 ∷ q1 ∷ []) s f x y z h n e any.1 false (sym c.first_of_face_edge.ensures ∙ c.in_err-below.was))
 
 pub returns-in_err-above : goal.returns-in_err-above
 returns-in_err-above g c =
@@ -68,14 +68,14 @@ returns-in_err-above g c =
     let x = meet11 w p0 p1 q0 q1 in
     let y = meet11 w p1 p2 q0 q1 in
     let z = meet11 w p2 p0 q0 q1 in
-    let e = c.number-number.ensures ∙ number_pairs s f x y z c.face_edge_pairs-pairs.result c.face_edge_pairs-pairs.ensures in
-    let fits : FitsSigned w8 c.number-number.result = search rules in
-    let k : c.number-number.result ≢ pos 0 = λ z. c.if-number-eq0.false (omega (arith, ints, z)) in
+    let n = pairs_number c.face_edge_pairs-pairs.result in
+    let e = number_pairs s f x y z c.face_edge_pairs-pairs.result c.face_edge_pairs-pairs.ensures in
+    let any = any_number n c.in_ok-number.number (sym c.number.ensures ∙ c.in_ok-number.was) in
     let stays : StaysBetween w = record { within = g.met.R.Rounding.within c.args.self.now.rounding } in
     let fp = fine_three p0 p1 p2 (fine_in c.args.p.now 0 c.requires.p_fine (omega arith)) (fine_in c.args.p.now 1 c.requires.p_fine (omega arith)) (fine_in c.args.p.now 2 c.requires.p_fine (omega arith)) in
     let fq = fine_two q0 q1 (fine_in c.args.q.now 0 c.requires.q_fine (omega arith)) (fine_in c.args.q.now 1 c.requires.q_fine (omega arith)) in
     let h = boundary21 (grid_tests w) (grid_lawful w stays) p0 p1 p2 q0 q1 fp fq in
-    absurd (always_found (p0 ∷ p1 ∷ p2 ∷ []) (q0 ∷ q1 ∷ []) s f x y z h c.number-number.result e k true (sym c.first_of_face_edge-2.ensures ∙ c.in_err-above.was))
+    absurd (always_found (p0 ∷ p1 ∷ p2 ∷ []) (q0 ∷ q1 ∷ []) s f x y z h n e any.1 true (sym c.first_of_face_edge-2.ensures ∙ c.in_err-above.was))
 
 pub q_point-requires-clause-below_fine : goal.q_point-requires-clause-below_fine
 q_point-requires-clause-below_fine g c =
@@ -90,14 +90,14 @@ q_point-requires-clause-below_fine g c =
     let x = meet11 w p0 p1 q0 q1 in
     let y = meet11 w p1 p2 q0 q1 in
     let z = meet11 w p2 p0 q0 q1 in
-    let e = c.number-number.ensures ∙ number_pairs s f x y z c.face_edge_pairs-pairs.result c.face_edge_pairs-pairs.ensures in
-    let fits : FitsSigned w8 c.number-number.result = search rules in
-    let k : c.number-number.result ≢ pos 0 = λ z. c.if-number-eq0.false (omega (arith, ints, z)) in
+    let n = pairs_number c.face_edge_pairs-pairs.result in
+    let e = number_pairs s f x y z c.face_edge_pairs-pairs.result c.face_edge_pairs-pairs.ensures in
+    let any = any_number n c.in_ok-number.number (sym c.number.ensures ∙ c.in_ok-number.was) in
     let stays : StaysBetween w = record { within = g.met.R.Rounding.within c.args.self.now.rounding } in
     let fp = fine_three p0 p1 p2 (fine_in c.args.p.now 0 c.requires.p_fine (omega arith)) (fine_in c.args.p.now 1 c.requires.p_fine (omega arith)) (fine_in c.args.p.now 2 c.requires.p_fine (omega arith)) in
     let fq = fine_two q0 q1 (fine_in c.args.q.now 0 c.requires.q_fine (omega arith)) (fine_in c.args.q.now 1 c.requires.q_fine (omega arith)) in
     let h = boundary21 (grid_tests w) (grid_lawful w stays) p0 p1 p2 q0 q1 fp fq in
-    found_fine (p0 ∷ p1 ∷ p2 ∷ []) (q0 ∷ q1 ∷ []) s f x y z h fp fq c.number-number.result e k false c.in_ok-below.below (sym c.first_of_face_edge.ensures ∙ c.in_ok-below.was)
+    found_fine (p0 ∷ p1 ∷ p2 ∷ []) (q0 ∷ q1 ∷ []) s f x y z h fp fq n e any.1 false c.in_ok-below.below (sym c.first_of_face_edge.ensures ∙ c.in_ok-below.was)
 
 pub q_point-requires-clause-above_fine : goal.q_point-requires-clause-above_fine
 q_point-requires-clause-above_fine g c =
@@ -112,14 +112,14 @@ q_point-requires-clause-above_fine g c =
     let x = meet11 w p0 p1 q0 q1 in
     let y = meet11 w p1 p2 q0 q1 in
     let z = meet11 w p2 p0 q0 q1 in
-    let e = c.number-number.ensures ∙ number_pairs s f x y z c.face_edge_pairs-pairs.result c.face_edge_pairs-pairs.ensures in
-    let fits : FitsSigned w8 c.number-number.result = search rules in
-    let k : c.number-number.result ≢ pos 0 = λ z. c.if-number-eq0.false (omega (arith, ints, z)) in
+    let n = pairs_number c.face_edge_pairs-pairs.result in
+    let e = number_pairs s f x y z c.face_edge_pairs-pairs.result c.face_edge_pairs-pairs.ensures in
+    let any = any_number n c.in_ok-number.number (sym c.number.ensures ∙ c.in_ok-number.was) in
     let stays : StaysBetween w = record { within = g.met.R.Rounding.within c.args.self.now.rounding } in
     let fp = fine_three p0 p1 p2 (fine_in c.args.p.now 0 c.requires.p_fine (omega arith)) (fine_in c.args.p.now 1 c.requires.p_fine (omega arith)) (fine_in c.args.p.now 2 c.requires.p_fine (omega arith)) in
     let fq = fine_two q0 q1 (fine_in c.args.q.now 0 c.requires.q_fine (omega arith)) (fine_in c.args.q.now 1 c.requires.q_fine (omega arith)) in
     let h = boundary21 (grid_tests w) (grid_lawful w stays) p0 p1 p2 q0 q1 fp fq in
-    found_fine (p0 ∷ p1 ∷ p2 ∷ []) (q0 ∷ q1 ∷ []) s f x y z h fp fq c.number-number.result e k true c.in_ok-above.above (sym c.first_of_face_edge-2.ensures ∙ c.in_ok-above.was)
+    found_fine (p0 ∷ p1 ∷ p2 ∷ []) (q0 ∷ q1 ∷ []) s f x y z h fp fq n e any.1 true c.in_ok-above.above (sym c.first_of_face_edge-2.ensures ∙ c.in_ok-above.was)
 
 pub returns : goal.returns
 unfolding cross21
@@ -135,11 +135,12 @@ returns g c =
     let x = meet11 w p0 p1 q0 q1 in
     let y = meet11 w p1 p2 q0 q1 in
     let z = meet11 w p2 p0 q0 q1 in
+    let n = pairs_number c.face_edge_pairs-pairs.result in
+    let e = number_pairs s f x y z c.face_edge_pairs-pairs.result c.face_edge_pairs-pairs.ensures in
     let settle : Settle = g.R.Rounding.settle_of c.args.self.now.rounding in
-    let e = c.number-number.ensures ∙ number_pairs s f x y z c.face_edge_pairs-pairs.result c.face_edge_pairs-pairs.ensures in
-    let fits : FitsSigned w8 c.number-number.result = search rules in
-    let k : c.number-number.result ≢ pos 0 = λ z. c.if-number-eq0.false (omega (arith, ints, z)) in
+    let any = any_number n c.in_ok-number.number (sym c.number.ensures ∙ c.in_ok-number.was) in
+    let fits : FitsSigned w8 c.in_ok-number.number = search rules in
     record {
-      value = crossed_at (q_point w settle) s f x y z c.number-number.result (seen w8 c.number-number.result) c.in_ok-below.below c.in_ok-above.above c.in_ok-at.at e k (kept_fit c.number-number.result fits)
+      value = crossed_at (q_point w settle) s f x y z n (seen w8 c.in_ok-number.number) c.in_ok-below.below c.in_ok-above.above c.in_ok-at.at e any.1 (kept_fit c.in_ok-number.number fits ∙ any.0)
           (sym c.first_of_face_edge.ensures ∙ c.in_ok-below.was) (sym c.first_of_face_edge-2.ensures ∙ c.in_ok-above.was) (sym c.in_ok-at.was ∙ c.q_point.ensures);
     }
