@@ -1,5 +1,5 @@
 -- What is saved reads back.
-use Rattle.std.proofs.Common.{◌≡◌, ℕ, Option, Some, None, Result, Ok, Err, cond, length, ap, sym, ◌∙◌, refl, subst, inl, inr}
+use Rattle.std.proofs.Common.{◌≡◌, ◌≤◌, ℕ, Option, Some, None, Result, Ok, Err, cond, length, ap, sym, ◌∙◌, refl, subst, inl, inr}
 use Rattle.std.proofs.lemmas.Bool.{cases_Bool, le-ltb}
 use Rattle.std.proofs.lemmas.Slice.Eq.{bytes_eq-Decides}
 use Rattle.std.proofs.Math.Dec.{ltb}
@@ -8,14 +8,16 @@ use Rattle.mesh_terms.specs.Faults.{Fault, FileBytes}
 use Rattle.mesh_terms.specs.Limits.{Limits, IsLawful}
 use Rattle.mesh_terms.specs.Meshes.{Soup}
 use Rattle.mesh_terms.specs.OpenEdges.{open_pair}
-use Rattle.obj_terms.specs.Reading.{narrow_obj}
+use Rattle.obj_terms.specs.Obj.{obj}
 use Rattle.obj_terms.specs.Written.{obj_text}
-use Rattle.obj_laws.proofs.Saved.{file_reads_back}
+use Rattle.obj_laws.specs.ReadingBack.{ReadsBack}
+use Rattle.obj_laws.proofs.ReadMeshes.{files_give_meshes}
+use Rattle.obj_laws.proofs.SavedMeshes.{meshes_read_back}
 use Rattle.run_terms.specs.Files.{Bytes, Files, put}
 use Rattle.run_terms.specs.Runs.{Refusal}
 use Rattle.play_terms.specs.Commands.{checked, if_closed, mesh_of}
 use Rattle.play_terms.specs.Lines.{over}
-use Rattle.play_terms.specs.Words.{Command, CopyFile}
+use Rattle.manifold_tool.specs.Saves.{as_saved}
 
 -- a mesh that was taken had no open pair
 pub taken_closed : (name : Bytes) (s soup : Soup) (pair : Option (ℕ × ℕ)) → if_closed name s pair ≡ Ok soup → (s ≡ soup) × (pair ≡ None)
@@ -35,42 +37,36 @@ pub apart : (why : Refusal) (r : Result Soup Refusal) (soup : Soup) → r ≡ Er
 apart why r soup first second = cc
 
 -- a file that was taken is there, and its text gives the mesh
-pub taken_file : (limits : Limits) (name : Bytes) (file : Option Bytes) (soup : Soup) → mesh_of narrow_obj limits name file ≡ Ok soup
-    → (bytes : Bytes) × (narrow_obj limits bytes ≡ Ok soup) × (open_pair (all_edges soup.triples) ≡ None)
-taken_file limits name None soup is = cc
-taken_file limits name (Some bytes) soup is =
+pub taken_file : (k : ℕ) (limits : Limits) (name : Bytes) (file : Option Bytes) (soup : Soup) → mesh_of k limits name file ≡ Ok soup
+    → (bytes : Bytes) × (obj k limits bytes ≡ Ok soup) × (open_pair (all_edges soup.triples) ≡ None)
+taken_file k limits name None soup is = cc
+taken_file k limits name (Some bytes) soup is =
     elim (cases_Bool (ltb limits.file_bytes (length bytes))) [
       | inl big ↦
-          let long : cond (ltb limits.file_bytes (length bytes)) (Err (over FileBytes (length bytes))) (checked name (narrow_obj limits bytes)) ≡ Err (over FileBytes (length bytes)) = rw big refl in
+          let long : cond (ltb limits.file_bytes (length bytes)) (Err (over FileBytes (length bytes))) (checked name (obj k limits bytes)) ≡ Err (over FileBytes (length bytes)) = rw big refl in
           absurd (apart (over FileBytes (length bytes)) _ soup long is)
       | inr small ↦
-          let short : cond (ltb limits.file_bytes (length bytes)) (Err (over FileBytes (length bytes))) (checked name (narrow_obj limits bytes)) ≡ checked name (narrow_obj limits bytes) = rw small refl in
-          let taken = taken_checked name (narrow_obj limits bytes) soup (sym short ∙ is) in
+          let short : cond (ltb limits.file_bytes (length bytes)) (Err (over FileBytes (length bytes))) (checked name (obj k limits bytes)) ≡ checked name (obj k limits bytes) = rw small refl in
+          let taken = taken_checked name (obj k limits bytes) soup (sym short ∙ is) in
           (bytes, taken.0, taken.1)
     ]
 
--- a mesh that was taken from one file and saved to another is taken from that one
-pub saved_is_taken : (limits : Limits) (from to : Bytes) (file : Option Bytes) (old new : Files) (soup : Soup) → IsLawful limits
-    → mesh_of narrow_obj limits from file ≡ Ok soup → new ≡ put to (obj_text 4 soup.points soup.triples) old
-    → mesh_of narrow_obj limits to (new to) ≡ Ok soup
-saved_is_taken limits from to file old new soup lawful is saved =
-    let taken = taken_file limits from file soup is in
-    let back = file_reads_back limits lawful taken.0 soup taken.1 in
-    let text = obj_text 4 soup.points soup.triples in
-    let here : new to ≡ Some text = ap (λ f. f to) saved ∙ ap (λ b. cond b (Some text) (old to)) ((bytes_eq-Decides to to).1 refl) in
+-- the text of a mesh within the limits is taken as the mesh
+pub text_is_taken : (k : ℕ) (limits : Limits) (name : Bytes) (soup : Soup) → ReadsBack k limits soup.points soup.triples → open_pair (all_edges soup.triples) ≡ None
+    → mesh_of k limits name (Some (obj_text k soup.points soup.triples)) ≡ Ok (as_saved soup)
+text_is_taken k limits name soup back closed =
+    let text = obj_text k soup.points soup.triples in
     let short = le-ltb limits.file_bytes (length text) back.fits in
-    let read : mesh_of narrow_obj limits to (Some text) ≡ checked to (narrow_obj limits text) = ap (λ b. cond b (Err (over FileBytes (length text))) (checked to (narrow_obj limits text))) short in
-    ap (mesh_of narrow_obj limits to) here ∙ read ∙ ap (checked to) back.reads ∙ ap (if_closed to soup) taken.2
+    ap (λ b. cond b (Err (over FileBytes (length text))) (checked name (obj k limits text))) short ∙ ap (checked name) back.reads ∙ ap (if_closed name (as_saved soup)) closed
 
--- one command has one pair of names
-pub same_names : (command : Option Command) (a b c d : Bytes) → command ≡ Some (CopyFile 4 a b) → command ≡ Some (CopyFile 4 c d) → (a ≡ c) × (b ≡ d)
-same_names command a b c d first second = (cc, cc)
-
--- reading back under other names for the same files
-pub back_for : (limits : Limits) (old new : Files) (from to from' to' : Bytes) (soup : Soup) → from ≡ from' → to ≡ to'
-    → (mesh_of narrow_obj limits from (old from) ≡ Ok soup → mesh_of narrow_obj limits to (new to) ≡ Ok soup)
-    → mesh_of narrow_obj limits from' (old from') ≡ Ok soup → mesh_of narrow_obj limits to' (new to') ≡ Ok soup
-back_for limits old new from to from' to' soup same_from same_to back taken =
-    let P : Bytes → Type 0 = λ name. mesh_of narrow_obj limits name (new name) ≡ Ok soup in
-    let Q : Bytes → Type 0 = λ name. mesh_of narrow_obj limits name (old name) ≡ Ok soup in
-    subst P same_to (back (subst Q (sym same_from) taken))
+-- a mesh that was taken from one file and saved to another is taken from that one, with the same digits and limits
+pub saved_is_taken : (k : ℕ) (limits : Limits) (from to : Bytes) (file : Option Bytes) (old new : Files) (soup : Soup) → k ≤ 6 → IsLawful limits
+    → mesh_of k limits from file ≡ Ok soup → new ≡ put to (obj_text k soup.points soup.triples) old
+    → mesh_of k limits to (new to) ≡ Ok (as_saved soup)
+saved_is_taken k limits from to file old new soup few lawful is saved =
+    let taken = taken_file k limits from file soup is in
+    let within = files_give_meshes k limits lawful taken.0 soup taken.1 in
+    let back = meshes_read_back k few limits lawful soup.points soup.triples within in
+    let text = obj_text k soup.points soup.triples in
+    let here : new to ≡ Some text = ap (λ f. f to) saved ∙ ap (λ b. cond b (Some text) (old to)) ((bytes_eq-Decides to to).1 refl) in
+    ap (mesh_of k limits to) here ∙ text_is_taken k limits to soup back taken.2

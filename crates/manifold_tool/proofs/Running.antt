@@ -3,7 +3,7 @@ use Rattle.std.proofs.Common.{◌≡◌, ℕ, ℤ, codes, false, bytes_eq, Resul
 use Rattle.mesh_terms.specs.Limits.{Limits}
 use Rattle.run_terms.specs.Files.{Bytes, Files}
 use Rattle.run_terms.specs.Runs.{World, Faults, Play, Done, status_of}
-use Rattle.play_terms.specs.Commands.{narrow_play, narrow_play_of}
+use Rattle.play_terms.specs.Commands.{play, play_of}
 use Rattle.play_terms.specs.Meets.{RunMeets}
 use Rattle.play_terms.specs.Words.{Command, CopyFile, InsideFile, narrow_command}
 use Rattle.manifold_tool.specs.Halts.{halt_status, halt_line, ended_status, ended_line}
@@ -17,11 +17,11 @@ use Rattle.manifold_tool.specs.declared.stop.Stop.TheVariants.{Usage, Missing, B
 -- a command is what the words ask for
 pub as_asked : (limits : Limits) (files : Files) (words : List Bytes) (command : Command) (w v : World) (status status' : ℕ) (before now : Faults) (line : Bytes)
     → narrow_command words ≡ Some command → status' ≡ status
-    → RunMeets (narrow_play_of winding_in limits files (Some command)) w v status before now line
-    → RunMeets (narrow_play winding_in words files limits) w v status' before now line
+    → RunMeets (play_of winding_in limits files (Some command)) w v status before now line
+    → RunMeets (play winding_in words files limits) w v status' before now line
 as_asked limits files words command w v status status' before now line asked same meets =
-    let P : Option Command → Type 0 = λ o. RunMeets (narrow_play_of winding_in limits files o) w v status' before now line in
-    let Q : ℕ → Type 0 = λ s. RunMeets (narrow_play_of winding_in limits files (Some command)) w v s before now line in
+    let P : Option Command → Type 0 = λ o. RunMeets (play_of winding_in limits files o) w v status' before now line in
+    let Q : ℕ → Type 0 = λ s. RunMeets (play_of winding_in limits files (Some command)) w v s before now line in
     subst P (sym asked) (subst Q (sym same) meets)
 
 -- names of a copy by the words that hold them

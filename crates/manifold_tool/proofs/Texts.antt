@@ -8,8 +8,9 @@ use Rattle.mesh_terms.specs.Faults.{Fault}
 use Rattle.mesh_terms.specs.Limits.{Limits}
 use Rattle.mesh_terms.specs.Meshes.{Soup, Triple}
 use Rattle.mesh_check.proofs.OpenPair.{open_pair_closed}
+use Rattle.obj_terms.specs.Obj.{obj}
 use Rattle.run_terms.specs.Files.{Bytes, text_of, length_of}
-use Rattle.play_terms.specs.Commands.{Reader, checked, if_closed, mesh_of}
+use Rattle.play_terms.specs.Commands.{checked, if_closed, mesh_of}
 use Rattle.manifold_tool.specs.Pieces.{ReadsOn}
 
 -- a whole text was read
@@ -36,11 +37,11 @@ checked_closed name given soup points triples unused is closed same_points same_
       same points triples unused soup p t u = rw (p, t, u) refl
 
 -- the mesh of a file that is there and within the limit is that of its bytes
-pub mesh_of_whole : (reader : Reader) (limits : Limits) (name bytes : Bytes) (file : Option Bytes) (size : ℕ)
+pub mesh_of_whole : (k : ℕ) (limits : Limits) (name bytes : Bytes) (file : Option Bytes) (size : ℕ)
     → length_of file ≡ Some size → size ≤ limits.file_bytes → text_of file ≡ bytes
-    → mesh_of reader limits name file ≡ checked name (reader limits bytes)
-mesh_of_whole reader limits name bytes None size is within same = cc
-mesh_of_whole reader limits name bytes (Some text) size is within same =
+    → mesh_of k limits name file ≡ checked name (obj k limits bytes)
+mesh_of_whole k limits name bytes None size is within same = cc
+mesh_of_whole k limits name bytes (Some text) size is within same =
     let long : length text ≡ size = cc in
     let fits : length text ≤ limits.file_bytes = omega (arith, long, within) in
     rw (le-ltb limits.file_bytes (length text) fits, same) refl

@@ -2,7 +2,6 @@
 use Rattle.std.specs.Prelude.{◌≡◌, ℕ, ◌+◌, ◌≤◌, ◌++◌, take, drop, Option, Some, Result, Ok, Err}
 use Rattle.mesh_terms.specs.Limits.{Limits}
 use Rattle.mesh_terms.specs.Meshes.{Soup}
-use Rattle.obj_terms.specs.Reading.{narrow_obj}
 use Rattle.run_terms.specs.Files.{Bytes, length_of}
 use Rattle.run_terms.specs.Runs.{Refusal}
 use Rattle.play_terms.specs.Commands.{mesh_of}
@@ -23,7 +22,7 @@ abbrev pub TextMeets : Bytes → Result Soup Refusal → Result Read Stop → Ty
 TextMeets name expected (Ok read) = expected ≡ Ok (soup_with read)
 TextMeets name expected (Err stop) = (why : Refusal) → refusal_of name stop ≡ Some why → expected ≡ Err why
 
--- the size of a file within the limits, or its refusal
+-- the size of a file within the limits, or its refusal whatever the digits
 abbrev pub SizeMeets : Limits → Bytes → Option Bytes → Result ℕ Stop → Type 0
 SizeMeets limits name file (Ok size) = (length_of file ≡ Some size) × (size ≤ limits.file_bytes)
-SizeMeets limits name file (Err stop) = (why : Refusal) → refusal_of name stop ≡ Some why → mesh_of narrow_obj limits name file ≡ Err why
+SizeMeets limits name file (Err stop) = (k : ℕ) (why : Refusal) → refusal_of name stop ≡ Some why → mesh_of k limits name file ≡ Err why

@@ -1,11 +1,11 @@
 // The command copy.
-ghost use Rattle.std.specs.Prelude.{◌≡◌, ◌<◌, ◌^◌, ◌-◌, [], IsTrue, OnOk, IfErr, Ok, Err};
+ghost use Rattle.std.specs.Prelude.{◌≡◌, ◌<◌, ◌≤◌, ◌^◌, ◌-◌, [], IsTrue, OnOk, IfErr, Ok, Err};
 ghost use Rattle.mesh_terms.specs.Meshes.{Soup};
-ghost use Rattle.obj_terms.specs.Reading.{narrow_obj};
 ghost use Rattle.play_terms.specs.Commands.{copy_play, mesh_of};
 ghost use Rattle.play_terms.specs.Meets.{RunMeets};
 ghost use Rattle.manifold_tool.specs.Halts.{halt_status, halt_line};
 ghost use Rattle.manifold_tool.specs.Reports.{world};
+ghost use Rattle.manifold_tool.specs.Saves.{as_saved};
 ghost use Rattle.manifold_tool.specs.Stops.{is_reading_stop};
 ghost use Rattle.manifold_tool.specs.declared.stop.Stop.{Stop};
 
@@ -18,28 +18,27 @@ use mb_base::Limits;
 use mb_outside::{Shelf, Sink};
 use std::alloc::Global;
 
-/// The digits after the point of a file's numbers.
-const DIGITS: u8 = 4;
-
 /// Reads a mesh from one file, saves it to another, and reports that on the output. It stops at the first thing that goes wrong.
 pub fn copy<S: Shelf, O: Sink>(
     alloc: Global,
     from: &str,
     to: &str,
+    digits: u8,
     limits: &Limits,
     shelf: &mut S,
     out: &mut O,
 ) -> Result<(), Halt>
+    requires digits { digits ≤ 6 }
     requires reads { S.read_faults shelf.old < 2 ^ 64 - 1 }
     requires writes { S.write_faults shelf.old < 2 ^ 64 - 1 }
     requires outs { O.faults out.old < 2 ^ 64 - 1 }
     ensures done { OnOk result (IsTrue (S.tells shelf.old) →
-        RunMeets (copy_play narrow_obj 4 limits.now (S.files shelf.old) from.now to.now)
+        RunMeets (copy_play digits limits.now (S.files shelf.old) from.now to.now)
         (world (S.files shelf.old) (O.told out.old)) (world (S.files shelf.new) (O.told out.new)) 0
         (record { read = S.read_faults shelf.old; write = S.write_faults shelf.old; out = O.faults out.old })
         (record { read = S.read_faults shelf.new; write = S.write_faults shelf.new; out = O.faults out.new }) []) }
     ensures halted { IfErr result (λ halt. IsTrue (S.tells shelf.old) →
-        RunMeets (copy_play narrow_obj 4 limits.now (S.files shelf.old) from.now to.now)
+        RunMeets (copy_play digits limits.now (S.files shelf.old) from.now to.now)
         (world (S.files shelf.old) (O.told out.old)) (world (S.files shelf.new) (O.told out.new)) (halt_status halt)
         (record { read = S.read_faults shelf.old; write = S.write_faults shelf.old; out = O.faults out.old })
         (record { read = S.read_faults shelf.new; write = S.write_faults shelf.new; out = O.faults out.new }) (halt_line from.now to.now halt)) }
@@ -51,14 +50,14 @@ pub fn copy<S: Shelf, O: Sink>(
     ensures writes_kept { (result ≡ Err Halt.Saving → ⊥) → S.write_faults shelf.new ≡ S.write_faults shelf.old }
     ensures outs_kept { (result ≡ Err Halt.Reporting → ⊥) → O.faults out.new ≡ O.faults out.old }
     ensures back { OnOk result (IsTrue (S.tells shelf.old) → (soup : Soup) →
-        mesh_of narrow_obj limits.now from.now (S.files shelf.old from.now) ≡ Ok soup →
-        mesh_of narrow_obj limits.now to.now (S.files shelf.new to.now) ≡ Ok soup) }
+        mesh_of digits limits.now from.now (S.files shelf.old from.now) ≡ Ok soup →
+        mesh_of digits limits.now to.now (S.files shelf.new to.now) ≡ Ok (as_saved soup)) }
 {
-    let read = match read_mesh(alloc, from, DIGITS, limits, shelf) {
+    let read = match read_mesh(alloc, from, digits, limits, shelf) {
         Ok(read) => read,
         Err(stop) => return Err(Halt::Reading(stop)),
     };
-    let Ok(()) = save_mesh(&read.mesh, to, DIGITS, shelf) else {
+    let Ok(()) = save_mesh(&read.mesh, to, digits, shelf) else {
         return Err(Halt::Saving);
     };
     let Ok(()) = say_copied(to, &read.mesh, read.unused, out) else {

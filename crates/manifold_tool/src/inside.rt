@@ -1,6 +1,5 @@
 // The command inside.
 ghost use Rattle.std.specs.Prelude.{◌≡◌, ◌<◌, ◌^◌, ◌-◌, ◌+◌, ◌≤◌, [], IsTrue, OnOk, IfErr, Err};
-ghost use Rattle.obj_terms.specs.Reading.{narrow_obj};
 ghost use Rattle.play_terms.specs.Commands.{inside_play};
 ghost use Rattle.play_terms.specs.Meets.{RunMeets};
 ghost use Rattle.manifold_tool.specs.Halts.{halt_status, halt_line};
@@ -20,29 +19,28 @@ use std::sync::ledger::Ledger;
 use steps::Steps;
 use winding::winding_at;
 
-/// The digits after the point of a file's numbers.
-const DIGITS: u8 = 4;
-
 /// Reads a mesh from a file and reports the winding number of a point in it. It stops at the first thing that goes wrong. It counts one
 /// step where it ends well, at most one, and none where it stops before the number is found.
 pub fn inside<S: Shelf, O: Sink, L: Ledger>(
     alloc: Global,
     file: &str,
     point: Point,
+    digits: u8,
     limits: &Limits,
     shelf: &mut S,
     out: &mut O,
     steps: &mut Steps<L>,
 ) -> Result<(), Halt>
+    requires digits { digits ≤ 6 }
     requires reads { S.read_faults shelf.old < 2 ^ 64 - 1 }
     requires outs { O.faults out.old < 2 ^ 64 - 1 }
     ensures done { OnOk result (IsTrue (S.tells shelf.old) →
-        RunMeets (inside_play narrow_obj winding_in limits.now (S.files shelf.old) file.now point)
+        RunMeets (inside_play digits winding_in limits.now (S.files shelf.old) file.now point)
         (world (S.files shelf.old) (O.told out.old)) (world (S.files shelf.new) (O.told out.new)) 0
         (record { read = S.read_faults shelf.old; write = S.write_faults shelf.old; out = O.faults out.old })
         (record { read = S.read_faults shelf.new; write = S.write_faults shelf.new; out = O.faults out.new }) []) }
     ensures halted { IfErr result (λ halt. IsTrue (S.tells shelf.old) →
-        RunMeets (inside_play narrow_obj winding_in limits.now (S.files shelf.old) file.now point)
+        RunMeets (inside_play digits winding_in limits.now (S.files shelf.old) file.now point)
         (world (S.files shelf.old) (O.told out.old)) (world (S.files shelf.new) (O.told out.new)) (halt_status halt)
         (record { read = S.read_faults shelf.old; write = S.write_faults shelf.old; out = O.faults out.old })
         (record { read = S.read_faults shelf.new; write = S.write_faults shelf.new; out = O.faults out.new }) (halt_line file.now file.now halt)) }
@@ -57,7 +55,7 @@ pub fn inside<S: Shelf, O: Sink, L: Ledger>(
     ensures most { steps.new ≤ steps.old + 1 }
     ensures unread { (stop : Stop) → result ≡ Err (Halt.Reading stop) → steps.new ≡ steps.old }
 {
-    let read = match read_mesh(alloc, file, DIGITS, limits, shelf) {
+    let read = match read_mesh(alloc, file, digits, limits, shelf) {
         Ok(read) => read,
         Err(stop) => return Err(Halt::Reading(stop)),
     };

@@ -2,7 +2,7 @@
 ghost use Rattle.std.specs.Prelude.{◌≡◌, ◌≤◌, ◌<◌, ◌+◌, ◌⊎◌, ℕ, Some, None, Ok, Err, length, take, IsTrue, IfOk, OnErr, OnOk, IfErr, IsErrOf, vec_len};
 ghost use Rattle.mesh_terms.specs.Limits.{IsLawful};
 ghost use Rattle.run_terms.specs.Files.{Bytes, text_of, Counts, Rose};
-ghost use Rattle.obj_terms.specs.Reading.{narrow_obj};
+ghost use Rattle.obj_terms.specs.Obj.{obj};
 ghost use Rattle.play_terms.specs.Commands.{checked, mesh_of};
 ghost use Rattle.manifold_tool.specs.Pieces.{ReadsOn, SizeMeets, TextMeets};
 ghost use Rattle.manifold_tool.specs.Stops.{is_reading_stop, is_mesh_stop};
@@ -102,8 +102,8 @@ fn read_to<S: Shelf>(alloc: Global, name: &str, size: usize, shelf: &mut S) -> R
 
 // The mesh of a text.
 fn mesh_of_text(alloc: Global, bytes: &[u8], digits: u8, limits: &Limits) -> Result<Read, Stop>
-    requires { digits ≡ 4 }
-    ensures mesh { (name : Bytes) → TextMeets name (checked name (narrow_obj limits.now bytes.now)) result }
+    requires { digits ≤ 6 }
+    ensures mesh { (name : Bytes) → TextMeets name (checked name (obj digits limits.now bytes.now)) result }
     ensures stop { IfErr result (λ stop. IsTrue (is_mesh_stop stop)) }
 {
     let soup = read_obj(alloc, bytes, digits, limits)?;
@@ -126,8 +126,8 @@ pub fn read_mesh<S: Shelf>(
     limits: &Limits,
     shelf: &mut S,
 ) -> Result<Read, Stop>
-    requires { digits ≡ 4 }
-    ensures mesh { IsTrue (S.tells shelf.old) → TextMeets name.now (mesh_of narrow_obj limits.now name.now (S.files shelf.old name.now)) result }
+    requires { digits ≤ 6 }
+    ensures mesh { IsTrue (S.tells shelf.old) → TextMeets name.now (mesh_of digits limits.now name.now (S.files shelf.old name.now)) result }
     ensures fault { IsErrOf result Stop.ReadFault → IsTrue (S.tells shelf.old) → Rose (S.read_faults shelf.old) (S.read_faults shelf.new) }
     ensures calm { (IsErrOf result Stop.ReadFault → ⊥) → S.read_faults shelf.new ≡ S.read_faults shelf.old }
     ensures stop { IfErr result (λ stop. IsTrue (is_reading_stop stop)) }

@@ -1,14 +1,14 @@
 // The top call.
-ghost use Rattle.std.specs.Prelude.{◌≡◌, ◌≤◌, ◌<◌, ◌+◌, ℤ, List, ◌^◌, ◌-◌, ◌↔◌, ◌⊎◌, IsTrue, Some, None, Ok};
+ghost use Rattle.std.specs.Prelude.{◌≡◌, ◌≤◌, ◌<◌, ◌+◌, ℕ, ℤ, List, ◌^◌, ◌-◌, ◌↔◌, ◌⊎◌, IsTrue, Some, None, Ok};
 ghost use Rattle.mesh_terms.specs.Meshes.{Soup};
-ghost use Rattle.obj_terms.specs.Reading.{narrow_obj};
-ghost use Rattle.play_terms.specs.Commands.{mesh_of, narrow_play};
+ghost use Rattle.play_terms.specs.Commands.{mesh_of, play};
 ghost use Rattle.play_terms.specs.Meets.{RunMeets};
 ghost use Rattle.play_terms.specs.Words.{CopyFile, InsideFile, narrow_command};
 ghost use Rattle.run_terms.specs.Files.{Bytes};
 ghost use Rattle.run_terms.specs.Runs.{Done};
 ghost use Rattle.manifold_tool.specs.Halts.{ended_line, ended_status};
 ghost use Rattle.manifold_tool.specs.Reports.{IsReported, world};
+ghost use Rattle.manifold_tool.specs.Saves.{as_saved};
 ghost use Rattle.manifold_tool.specs.Statuses.{status_number};
 ghost use Rattle.manifold_tool.specs.Winding.{winding_in};
 
@@ -23,6 +23,9 @@ use mb_outside::{Shelf, Sink};
 use std::alloc::Global;
 use std::sync::ledger::Ledger;
 use steps::Steps;
+
+/// The decimal digits that a unit has on the grid.
+const DIGITS: u8 = 4;
 
 // The status of a command that ended well or stopped, with the line on `err` that tells a stop.
 fn concluded<E: Sink>(from: &str, to: &str, ended: Result<(), Halt>, err: &mut E) -> Status
@@ -50,7 +53,7 @@ fn concluded<E: Sink>(from: &str, to: &str, ended: Result<(), Halt>, err: &mut E
 /// it says the bytes where `out` tells them. With status 0 to 5 every action of the play was done whole, and the status and the
 /// line are those of the play's end; with 6 a file could not be read, with 7 a file or a line was written in part or not at
 /// all, and with 8 memory ran out between two actions. So a run whose play ends well, and in which no fault came, ends with 0, or for want
-/// of memory; and what a copy saved is read as the mesh that was copied.
+/// of memory; and what a copy saved is read, under the same digits and limits, as the points and triangles that were copied, with none unused.
 ///
 /// The read faults of the shelf rise with status 6 alone, its write faults and the faults of `out` with 7 alone, and one of the two does. With
 /// 6 the read faults rose, or the shelf tells no files.
@@ -69,7 +72,7 @@ pub fn run<S: Shelf, O: Sink, E: Sink, L: Ledger>(
     requires errs { E.faults err.old < 2 ^ 64 - 1 }
     ensures usage { (result ≡ Status.Usage) ↔ (narrow_command words.now ≡ None) }
     ensures play { IsTrue (S.tells shelf.old) →
-        (line : Bytes) × RunMeets (narrow_play winding_in words.now (S.files shelf.old) limits.now)
+        (line : Bytes) × RunMeets (play winding_in words.now (S.files shelf.old) limits.now)
         (world (S.files shelf.old) (O.told out.old)) (world (S.files shelf.new) (O.told out.new)) (status_number result)
         (record { read = S.read_faults shelf.old; write = S.write_faults shelf.old; out = O.faults out.old })
         (record { read = S.read_faults shelf.new; write = S.write_faults shelf.new; out = O.faults out.new }) line
@@ -81,20 +84,20 @@ pub fn run<S: Shelf, O: Sink, E: Sink, L: Ledger>(
     ensures reads_kept { (result ≡ Status.ReadFault → ⊥) → S.read_faults shelf.new ≡ S.read_faults shelf.old }
     ensures writes_kept { (result ≡ Status.WriteFault → ⊥) → S.write_faults shelf.new ≡ S.write_faults shelf.old }
     ensures outs_kept { (result ≡ Status.WriteFault → ⊥) → O.faults out.new ≡ O.faults out.old }
-    ensures complete { (narrow_play winding_in words.now (S.files shelf.old) limits.now).end ≡ Done → IsTrue (S.tells shelf.old) →
+    ensures complete { (play winding_in words.now (S.files shelf.old) limits.now).end ≡ Done → IsTrue (S.tells shelf.old) →
         S.read_faults shelf.new ≡ S.read_faults shelf.old → S.write_faults shelf.new ≡ S.write_faults shelf.old → O.faults out.new ≡ O.faults out.old →
         (result ≡ Status.Done) ⊎ (result ≡ Status.NoMemory) }
-    ensures back { result ≡ Status.Done → IsTrue (S.tells shelf.old) → (from to : Bytes) (soup : Soup) →
-        narrow_command words.now ≡ Some (CopyFile 4 from to) → mesh_of narrow_obj limits.now from (S.files shelf.old from) ≡ Ok soup →
-        mesh_of narrow_obj limits.now to (S.files shelf.new to) ≡ Ok soup }
-    ensures copies_uncounted { (from to : Bytes) → narrow_command words.now ≡ Some (CopyFile 4 from to) → steps.new ≡ steps.old }
-    ensures counted { (file : Bytes) (point : List ℤ) → narrow_command words.now ≡ Some (InsideFile 4 file point) → result ≡ Status.Done → steps.new ≡ steps.old + 1 }
+    ensures back { result ≡ Status.Done → IsTrue (S.tells shelf.old) → (k : ℕ) (from to : Bytes) (soup : Soup) →
+        narrow_command words.now ≡ Some (CopyFile k from to) → mesh_of k limits.now from (S.files shelf.old from) ≡ Ok soup →
+        mesh_of k limits.now to (S.files shelf.new to) ≡ Ok (as_saved soup) }
+    ensures copies_uncounted { (k : ℕ) (from to : Bytes) → narrow_command words.now ≡ Some (CopyFile k from to) → steps.new ≡ steps.old }
+    ensures counted { (k : ℕ) (file : Bytes) (point : List ℤ) → narrow_command words.now ≡ Some (InsideFile k file point) → result ≡ Status.Done → steps.new ≡ steps.old + 1 }
     ensures most { steps.new ≤ steps.old + 1 }
     ensures uncounted { (result ≡ Status.Done → ⊥) → (result ≡ Status.WriteFault → ⊥) → steps.new ≡ steps.old }
 {
     if is_copy(words) {
         let (from, to) = (words.get(1), words.get(2));
-        let ended = copy(alloc, from, to, limits, shelf, out);
+        let ended = copy(alloc, from, to, DIGITS, limits, shelf, out);
         return concluded(from, to, ended, err);
     }
     let Some(point) = inside_point(words) else {
@@ -102,6 +105,6 @@ pub fn run<S: Shelf, O: Sink, E: Sink, L: Ledger>(
         return Status::Usage;
     };
     let file = words.get(1);
-    let ended = inside(alloc, file, point, limits, shelf, out, steps);
+    let ended = inside(alloc, file, point, DIGITS, limits, shelf, out, steps);
     concluded(file, file, ended, err)
 }

@@ -1,6 +1,5 @@
 use Rattle.std.proofs.Common.{◌≡◌, ◌<◌, ◌^◌, ◌-◌, ℕ, Bool, IsTrue, Result, Ok, Err, ap, sym, ◌∙◌, refl, subst}
 use Rattle.mesh_terms.specs.Meshes.{Soup}
-use Rattle.obj_terms.specs.Reading.{narrow_obj}
 use Rattle.obj_terms.specs.Written.{obj_text}
 use Rattle.run_terms.specs.Files.{Files, put}
 use Rattle.run_terms.specs.Runs.{Refusal}
@@ -21,8 +20,8 @@ pub returns-in-Err-clause-halted : goal.returns-in-Err-clause-halted
 returns-in-Err-clause-halted g c told =
     let e = c.in-Err.ensures in
     let from = c.args.from.now in
-    let r = mesh_of narrow_obj c.args.limits.now from (g.S.Shelf.files c.args.shelf.now from) in
-    reading_stopped from (copy_actions 4 c.args.to.now) r _ _ _ _ c.in-Err.stop (e.mesh told) e.stop
+    let r = mesh_of c.args.digits c.args.limits.now from (g.S.Shelf.files c.args.shelf.now from) in
+    reading_stopped from (copy_actions c.args.digits c.args.to.now) r _ _ _ _ c.in-Err.stop (e.mesh told) e.stop
     (ap (λ (files : Files). world files (g.O.Sink.told c.args.out.now)) e.files)
     (λ not. same_faults _ _ _ _ _ _ (e.calm (λ is. let same : c.in-Err.stop ≡ ReadFault = cc in not same)) e.writes refl)
     (λ is. greater _ _ (e.fault (ap Err is) told) c.requires.reads) e.writes refl
@@ -35,13 +34,13 @@ returns-in_default-clause-halted g c told =
     let from = c.args.from.now in
     let to = c.args.to.now in
     let soup = soup_with c.in-Ok.read in
-    let r = mesh_of narrow_obj c.args.limits.now from (g.S.Shelf.files c.args.shelf.now from) in
-    let Q : Files → Type 0 = λ files. IsSavedInPart to (obj_text 4 soup.points soup.triples) files (g.S.Shelf.files c.save_mesh.new.shelf) in
+    let r = mesh_of c.args.digits c.args.limits.now from (g.S.Shelf.files c.args.shelf.now from) in
+    let Q : Files → Type 0 = λ files. IsSavedInPart to (obj_text c.args.digits soup.points soup.triples) files (g.S.Shelf.files c.save_mesh.new.shelf) in
     let part = subst Q read.files (e.part (subst P (sym read.told) told)) in
     let R : ℕ → Type 0 = λ before. before < g.S.Shelf.write_faults c.save_mesh.new.shelf in
     let small : g.S.Shelf.write_faults c.read_mesh.new.shelf < 2 ^ 64 - 1 = rw read.writes c.requires.writes in
     let rose = subst R read.writes (greater _ _ (e.writes.failed refl) small) in
-    saving_stopped from 4 to r soup _ _ _ _ _ _ (read.mesh told) part refl rose (e.reads ∙ read.calm (λ is. cc)) refl
+    saving_stopped from c.args.digits to r soup _ _ _ _ _ _ (read.mesh told) part refl rose (e.reads ∙ read.calm (λ is. cc)) refl
 
 pub returns-in_default-say_copied-clause-halted : goal.returns-in_default-say_copied-clause-halted
 returns-in_default-say_copied-clause-halted g c told =
@@ -52,9 +51,9 @@ returns-in_default-say_copied-clause-halted g c told =
     let from = c.args.from.now in
     let to = c.args.to.now in
     let soup = soup_with c.in-Ok.read in
-    let r = mesh_of narrow_obj c.args.limits.now from (g.S.Shelf.files c.args.shelf.now from) in
-    let saved = save.saved (subst P (sym read.told) told) ∙ ap (put to (obj_text 4 soup.points soup.triples)) read.files in
-    reporting_stopped from 4 to r soup _ _ _ _ _ _ (read.mesh told) saved e.part (greater _ _ (e.count.failed refl) c.requires.outs) (save.reads ∙ read.calm (λ is. cc)) (save.writes.ok refl ∙ read.writes)
+    let r = mesh_of c.args.digits c.args.limits.now from (g.S.Shelf.files c.args.shelf.now from) in
+    let saved = save.saved (subst P (sym read.told) told) ∙ ap (put to (obj_text c.args.digits soup.points soup.triples)) read.files in
+    reporting_stopped from c.args.digits to r soup _ _ _ _ _ _ (read.mesh told) saved e.part (greater _ _ (e.count.failed refl) c.requires.outs) (save.reads ∙ read.calm (λ is. cc)) (save.writes.ok refl ∙ read.writes)
 
 pub returns-clause-done : goal.returns-clause-done
 returns-clause-done g c told =
@@ -65,11 +64,11 @@ returns-clause-done g c told =
     let from = c.args.from.now in
     let to = c.args.to.now in
     let soup = soup_with c.in-Ok.read in
-    let r = mesh_of narrow_obj c.args.limits.now from (g.S.Shelf.files c.args.shelf.now from) in
-    let saved = save.saved (subst P (sym read.told) told) ∙ ap (put to (obj_text 4 soup.points soup.triples)) read.files in
+    let r = mesh_of c.args.digits c.args.limits.now from (g.S.Shelf.files c.args.shelf.now from) in
+    let saved = save.saved (subst P (sym read.told) told) ∙ ap (put to (obj_text c.args.digits soup.points soup.triples)) read.files in
     let reads = save.reads ∙ read.calm (λ is. cc) in
     let writes = save.writes.ok refl ∙ read.writes in
-    copy_done from 4 to r soup _ _ _ _ _ _ (read.mesh told) saved e.added (same_faults _ _ _ _ _ _ reads writes (e.count.ok refl))
+    copy_done from c.args.digits to r soup _ _ _ _ _ _ (read.mesh told) saved e.added (same_faults _ _ _ _ _ _ reads writes (e.count.ok refl))
 
 pub returns-clause-back : goal.returns-clause-back
 returns-clause-back g c told soup is =
@@ -80,6 +79,6 @@ returns-clause-back g c told soup is =
     let to = c.args.to.now in
     let here = soup_with c.in-Ok.read in
     let same : here ≡ soup = same_soup _ here soup (read.mesh told) is in
-    let saved = save.saved (subst P (sym read.told) told) ∙ ap (put to (obj_text 4 here.points here.triples)) read.files in
-    let Q : Soup → Type 0 = λ s. g.S.Shelf.files c.save_mesh.new.shelf ≡ put to (obj_text 4 s.points s.triples) (g.S.Shelf.files c.args.shelf.now) in
-    saved_is_taken c.args.limits.now from to _ _ _ soup read.lawful is (subst Q same saved)
+    let saved = save.saved (subst P (sym read.told) told) ∙ ap (put to (obj_text c.args.digits here.points here.triples)) read.files in
+    let Q : Soup → Type 0 = λ s. g.S.Shelf.files c.save_mesh.new.shelf ≡ put to (obj_text c.args.digits s.points s.triples) (g.S.Shelf.files c.args.shelf.now) in
+    saved_is_taken c.args.digits c.args.limits.now from to _ _ _ soup c.requires.digits read.lawful is (subst Q same saved)

@@ -2,7 +2,6 @@ use Rattle.std.proofs.Common.{◌≡◌, ◌++◌, ◌≤◌, ℕ, ℤ, nat_abs,
 use Rattle.std.specs.Option.{option_map}
 use Rattle.std.proofs.lemmas.Int.{ints, to_z-of_z, fits_signed_from_abs}
 use Rattle.mesh_terms.specs.Meshes.{Mesh}
-use Rattle.obj_terms.specs.Reading.{narrow_obj}
 use Rattle.mb_outside.specs.Sinks.{AddsPart}
 use Rattle.run_terms.specs.Files.{Files}
 use Rattle.play_terms.specs.Commands.{inside_actions, mesh_of}
@@ -22,7 +21,7 @@ pub returns-in-Err-clause-halted : goal.returns-in-Err-clause-halted
 returns-in-Err-clause-halted g c told =
     let e = c.in-Err.ensures in
     let file = c.args.file.now in
-    let r = mesh_of narrow_obj c.args.limits.now file (g.S.Shelf.files c.args.shelf.now file) in
+    let r = mesh_of c.args.digits c.args.limits.now file (g.S.Shelf.files c.args.shelf.now file) in
     reading_stopped file (inside_actions winding_in c.args.point) r _ _ _ _ c.in-Err.stop (e.mesh told) e.stop
     (ap (λ (files : Files). world files (g.O.Sink.told c.args.out.now)) e.files)
     (λ not. same_faults _ _ _ _ _ _ (e.calm (λ is. let same : c.in-Err.stop ≡ ReadFault = cc in not same)) e.writes refl)
@@ -31,7 +30,7 @@ returns-in-Err-clause-halted g c told =
 pub returns-in_default-clause-halted : goal.returns-in_default-clause-halted
 returns-in_default-clause-halted g c told =
     let file = c.args.file.now in
-    let r = mesh_of narrow_obj c.args.limits.now file (g.S.Shelf.files c.args.shelf.now file) in
+    let r = mesh_of c.args.digits c.args.limits.now file (g.S.Shelf.files c.args.shelf.now file) in
     starved_run file (inside_actions winding_in c.args.point) r _ _ _ _
     (ap (λ (files : Files). world files (g.O.Sink.told c.args.out.now)) c.in-Ok.ensures.files)
     (same_faults _ _ _ _ _ _ (c.in-Ok.ensures.calm (λ is. cc)) c.in-Ok.ensures.writes refl)
@@ -42,7 +41,7 @@ returns-in_default-say_winding-clause-halted g c told =
     let e = c.in_default-say_winding.ensures in
     let file = c.args.file.now in
     let soup = soup_with c.in-Ok.read in
-    let r = mesh_of narrow_obj c.args.limits.now file (g.S.Shelf.files c.args.shelf.now file) in
+    let r = mesh_of c.args.digits c.args.limits.now file (g.S.Shelf.files c.args.shelf.now file) in
     let F : Mesh → Type 0 = λ m. length m.triples ≤ 100000000 in
     let few = subst F c.drop-in_default-say_winding.view_is c.drop-in_default-say_winding.invariant.mesh.few_triples in
     let P : ℤ → Type 0 = λ number. AddsPart (winding_line number) (g.O.Sink.told c.args.out.now) (g.O.Sink.told c.say_winding.new.sink) in
@@ -55,7 +54,7 @@ returns-clause-done g c told =
     let e = c.in-Ok-say_winding.ensures in
     let file = c.args.file.now in
     let soup = soup_with c.in-Ok.read in
-    let r = mesh_of narrow_obj c.args.limits.now file (g.S.Shelf.files c.args.shelf.now file) in
+    let r = mesh_of c.args.digits c.args.limits.now file (g.S.Shelf.files c.args.shelf.now file) in
     let F : Mesh → Type 0 = λ m. length m.triples ≤ 100000000 in
     let few = subst F c.drop-2.view_is c.drop-2.invariant.mesh.few_triples in
     let number = as_found c.in-Ok-winding_at.number _ c.in-Ok-winding_at.ensures.size few ∙ c.in-Ok-winding_at.ensures.value in
