@@ -59,8 +59,8 @@ fn a_sure_shelf_takes_what_its_spare_has_room_for(rt: HostRuntime) -> Result<(),
     assert_eq!(rt; shelf.get("new"), Some(b"abcdef".as_slice()));
     assert_eq!(rt; shelf.begin("new"), Ok(()));
     assert_eq!(rt; shelf.append("new", b"g"), Err(Failed));
-    assert_eq!(rt; shelf.get("new"), Some(b"".as_slice()));
-    assert_eq!(rt; shelf.get("old"), Some(b"12345678".as_slice()));
+    assert_eq!(rt; shelf.size("new"), Ok(Some(0)));
+    assert_eq!(rt; shelf.size("old"), Ok(Some(8)));
     Ok(())
 }
 
