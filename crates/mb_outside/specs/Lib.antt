@@ -3,3 +3,4 @@ pub mod SinkState
 pub mod Sinks
 pub mod Store
 pub mod ShelfState
+pub mod SureState

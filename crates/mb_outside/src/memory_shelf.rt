@@ -8,6 +8,7 @@ ghost use Rattle.mb_outside.specs.Store.{files_of, given, written};
 ghost use Rattle.mb_outside.specs.ShelfState.{ShelfState, empty_shelf, holding, is_append_refused, is_begin_refused, read_of, with_read_fault, with_write_fault};
 
 use crate::calls::FailingCalls;
+use crate::copying::copy_from;
 use crate::places::Places;
 use crate::shelf::{Failed, Shelf};
 use mb_base::NoMemory;
@@ -177,20 +178,4 @@ impl Shelf for MemoryShelf {
         }
         Ok(count)
     }
-}
-
-/// Copies bytes of a text to the front of `into`, and answers how many.
-fn copy_from(text: &[u8], at: u64, most: usize, into: &mut [u8]) -> usize
-    requires { 0 < most }
-    ensures count { result ≡ min most (min (length into.old) (length text.now - at)) }
-    ensures bytes { ReadsAt text.now at into.old into.new result }
-{
-    if at >= text.len() as u64 {
-        return 0;
-    }
-    let (_, rest) = text.split_at(at as usize);
-    let count = most.min(into.len()).min(rest.len());
-    let (front, _) = rest.split_at(count);
-    into[..count].copy_from_slice(front);
-    count
 }

@@ -1,4 +1,4 @@
-use crate::{Failed, FolderShelf, MemoryShelf, MemorySink, Shelf, Sink, StdSink};
+use crate::{Failed, FolderShelf, MemoryShelf, MemorySink, Shelf, Sink, StdSink, SureShelf};
 use std::fs;
 use std::test::Fail;
 
@@ -38,6 +38,29 @@ fn a_file_in_memory_is_written_in_pieces(rt: HostRuntime) -> Result<(), Fail> {
     assert_eq!(rt; shelf.append("old", b"9"), Err(Failed));
     shelf.put("old", b"now")?;
     assert_eq!(rt; shelf.get("old"), Some(b"now".as_slice()));
+    Ok(())
+}
+
+#[test]
+fn a_sure_shelf_takes_what_its_spare_has_room_for(rt: HostRuntime) -> Result<(), Fail> {
+    let mut shelf = SureShelf::of(rt.alloc(), "old", b"12345678", "new", 6)?;
+    assert_eq!(rt; shelf.size("old"), Ok(Some(8)));
+    assert_eq!(rt; shelf.size("new"), Ok(Some(0)));
+    assert_eq!(rt; shelf.size("third"), Ok(None));
+    let mut into = *b"....";
+    assert_eq!(rt; shelf.read_at("old", 6, &mut into), Ok(2));
+    assert_eq!(rt; into.as_slice(), b"78..".as_slice());
+    assert_eq!(rt; shelf.begin("old"), Err(Failed));
+    assert_eq!(rt; shelf.begin("new"), Ok(()));
+    assert_eq!(rt; shelf.append("new", b"abcd"), Ok(4));
+    assert_eq!(rt; shelf.append("new", b"efg"), Err(Failed));
+    assert_eq!(rt; shelf.append("old", b"e"), Err(Failed));
+    assert_eq!(rt; shelf.append("new", b"ef"), Ok(2));
+    assert_eq!(rt; shelf.get("new"), Some(b"abcdef".as_slice()));
+    assert_eq!(rt; shelf.begin("new"), Ok(()));
+    assert_eq!(rt; shelf.append("new", b"g"), Err(Failed));
+    assert_eq!(rt; shelf.size("new"), Ok(Some(0)));
+    assert_eq!(rt; shelf.size("old"), Ok(Some(8)));
     Ok(())
 }
 
