@@ -32,6 +32,21 @@ const NESTED_CUBES: &[u8] =
 const OPEN_CUBE: &[u8] =
     b"v 0 0 0\nv 10 0 0\nv 0 10 0\nv 10 10 0\nv 0 0 10\nv 10 0 10\nv 0 10 10\nv 10 10 10\nf 1 4 2\nf 1 3 4\nf 5 6 8\nf 1 2 5\nf 2 6 5\nf 2 4 8\nf 2 8 6\nf 4 3 7\nf 4 7 8\nf 1 5 7\nf 1 7 3\n";
 
+// A cube, and two triangles back to back beside it.
+const CUBE_AND_FLAT: &[u8] =
+    b"v 0 0 0\nv 10 0 0\nv 0 10 0\nv 10 10 0\nv 0 0 10\nv 10 0 10\nv 0 10 10\nv 10 10 10\nv 50 0 0\nv 51 0 0\nv 50 1 0\nf 1 4 2\nf 1 3 4\nf 5 6 8\nf 5 8 7\nf 1 2 5\nf 2 6 5\nf 2 4 8\nf 2 8 6\nf 4 3 7\nf 4 7 8\nf 1 5 7\nf 1 7 3\nf 9 10 11\nf 9 11 10\n";
+
+// Two cubes that share one point.
+const CUBES_AT_A_CORNER: &[u8] =
+    b"v 0 0 0\nv 10 0 0\nv 0 10 0\nv 10 10 0\nv 0 0 10\nv 10 0 10\nv 0 10 10\nv 10 10 10\nv 20 10 10\nv 10 20 10\nv 20 20 10\nv 10 10 20\nv 20 10 20\nv 10 20 20\nv 20 20 20\nf 1 4 2\nf 1 3 4\nf 5 6 8\nf 5 8 7\nf 1 2 5\nf 2 6 5\nf 2 4 8\nf 2 8 6\nf 4 3 7\nf 4 7 8\nf 1 5 7\nf 1 7 3\nf 8 11 9\nf 8 10 11\nf 12 13 15\nf 12 15 14\nf 8 9 12\nf 9 13 12\nf 9 11 15\nf 9 15 13\nf 11 10 14\nf 11 14 15\nf 8 12 14\nf 8 14 10\n";
+
+// A cube as a modelling program writes it, and its copy.
+const MODELLED_CUBE: &[u8] =
+    b"# made by a modeller\nmtllib cube.mtl\no Cube\nv 0.000000 0.000000 0.000000\nv 10.000000 0.000000 0.000000\nv 0.000000 10.000000 0.000000\nv 10.000000 10.000000 0.000000\nv 0.000000 0.000000 10.000000\nv 10.000000 0.000000 10.000000\nv 0.000000 10.000000 10.000000\nv 10.000000 10.000000 10.000000\nvn 0.0000 0.0000 -1.0000\nvt 0.000000 0.000000\nusemtl Material\ns off\nf 1/1/1 3/1/1 4/1/1 2/1/1\nf 5//1 6//1 8//1 7//1\nf 1 2 6 5\nf 2/1 4/1 8/1 6/1\nf -5 -6 -2 \\\n-1\nf 1 5 7 3\n";
+
+const MODELLED_CUBE_COPIED: &[u8] =
+    b"v 0 0 0\nv 10 0 0\nv 0 10 0\nv 10 10 0\nv 0 0 10\nv 10 0 10\nv 0 10 10\nv 10 10 10\nf 1 3 4\nf 1 4 2\nf 5 6 8\nf 5 8 7\nf 1 2 6\nf 1 6 5\nf 2 4 8\nf 2 8 6\nf 4 3 7\nf 4 7 8\nf 1 5 7\nf 1 7 3\n";
+
 const USAGE: &[u8] =
     b"usage: manifold_tool copy IN OUT, inside FILE X Y Z or run SCRIPT, each with --digits K\n";
 
@@ -41,6 +56,8 @@ struct Case<'a> {
     words: &'a [&'a str],
     name: &'a str,
     bytes: &'a [u8],
+    // The name of the copy.
+    to: &'a str,
     // The most bytes of one call of the shelf, and the number of a call of the shelf and of the output that fails.
     most: usize,
     shelf_fails: u64,
@@ -108,7 +125,7 @@ fn judge<R: Abort + AllocGlobal>(rt: &R, case: &Case<'_>) -> Result<(), NoMemory
     assert_eq!(rt; outcome.status, case.status);
     assert_eq!(rt; outcome.out.bytes(), case.out);
     assert_eq!(rt; outcome.err.bytes(), case.err);
-    match outcome.shelf.get("u.obj") {
+    match outcome.shelf.get(case.to) {
         Some(bytes) => {
             assert!(rt; case.is_saved);
             assert_eq!(rt; bytes, case.saved);
@@ -130,6 +147,7 @@ fn plain<'a>(
         words,
         name,
         bytes,
+        to: "u.obj",
         most: ROOM,
         shelf_fails: 0,
         out_fails: 0,
@@ -148,6 +166,7 @@ fn copied<'a>(words: &'a [&'a str], name: &'a str, bytes: &'a [u8], out: &'a [u8
         words,
         name,
         bytes,
+        to: "u.obj",
         most: ROOM,
         shelf_fails: 0,
         out_fails: 0,
@@ -174,6 +193,48 @@ fn what_is_copied_is_saved_and_reported(rt: HostRuntime) -> Result<(), Fail> {
 }
 
 #[test]
+fn meshes_that_touch_or_are_flat_are_copied(rt: HostRuntime) -> Result<(), Fail> {
+    let words = ["copy", "t.obj", "u.obj"];
+    let flat = copied(
+        &words,
+        "t.obj",
+        CUBE_AND_FLAT,
+        b"copied u.obj: points 11, triangles 14, unused 0\n",
+    );
+    judge(&rt, &flat)?;
+    let pinched = copied(
+        &words,
+        "t.obj",
+        CUBES_AT_A_CORNER,
+        b"copied u.obj: points 15, triangles 24, unused 0\n",
+    );
+    judge(&rt, &pinched)?;
+    Ok(())
+}
+
+#[test]
+fn a_modelled_file_is_copied_as_plain(rt: HostRuntime) -> Result<(), Fail> {
+    let words = ["copy", "part.obj", "q.obj"];
+    let case = Case {
+        words: &words,
+        name: "part.obj",
+        bytes: MODELLED_CUBE,
+        to: "q.obj",
+        most: ROOM,
+        shelf_fails: 0,
+        out_fails: 0,
+        limits: Limits::program(),
+        status: 0,
+        out: b"copied q.obj: points 8, triangles 12, unused 0\n",
+        err: b"",
+        is_saved: true,
+        saved: MODELLED_CUBE_COPIED,
+    };
+    judge(&rt, &case)?;
+    Ok(())
+}
+
+#[test]
 fn an_empty_file_is_copied_by_two_calls(rt: HostRuntime) -> Result<(), Fail> {
     let words = ["copy", "e.obj", "u.obj"];
     // The size is asked and the copy is begun: a third call would fail.
@@ -181,6 +242,7 @@ fn an_empty_file_is_copied_by_two_calls(rt: HostRuntime) -> Result<(), Fail> {
         words: &words,
         name: "e.obj",
         bytes: b"",
+        to: "u.obj",
         most: ROOM,
         shelf_fails: 3,
         out_fails: 0,
@@ -200,14 +262,23 @@ fn a_faulty_mesh_has_its_line(rt: HostRuntime) -> Result<(), Fail> {
     let words = ["copy", "c.obj", "u.obj"];
     let open = plain(&words, "c.obj", OPEN_CUBE, 4, b"c.obj: 11 OpenEdge 5 7\n");
     judge(&rt, &open)?;
-    let bad = plain(
-        &words,
-        "c.obj",
-        b"v 0 0 0\nvn 1 0 0\n",
-        4,
-        b"c.obj:2: 1 UnknownLine\n",
-    );
-    judge(&rt, &bad)?;
+    let cut: &[u8] = b"v 0 0 0\nv 1 0 0\nv 0 1 0\nv 0 0 1\nf 1 3 2\nf 1 2 4\nf 2 3 4\nf 3 1";
+    let faulty: [(&[u8], &[u8]); 7] = [
+        (cut, b"c.obj:8: 5 BadFace\n"),
+        (b"v 0 0 0\ncurv 0 1\n", b"c.obj:2: 1 UnknownLine\n"),
+        (b"v 0 0\n", b"c.obj:1: 2 BadVertex\n"),
+        (b"v 0 0 0,5\n", b"c.obj:1: 3 BadNumber\n"),
+        (b"v 0 0 107374.18245\n", b"c.obj:1: 4 OutOfGrid\n"),
+        (b"v 0 0 0\nf 1 1 2\n", b"c.obj:2: 6 BadIndex\n"),
+        (
+            b"v 0 0 0\nv 1 0 0\nf 1 2 -1\n",
+            b"c.obj:3: 7 FaceRepeatsVertex\n",
+        ),
+    ];
+    for (bytes, err) in faulty {
+        let case = plain(&words, "c.obj", bytes, 4, err);
+        judge(&rt, &case)?;
+    }
     Ok(())
 }
 
@@ -244,6 +315,7 @@ fn limited<'a>(words: &'a [&'a str], bytes: &'a [u8], limits: Limits, err: &'a [
         words,
         name: "t.obj",
         bytes,
+        to: "u.obj",
         most: ROOM,
         shelf_fails: 0,
         out_fails: 0,
@@ -276,6 +348,7 @@ fn a_read_fault_ends_the_run(rt: HostRuntime) -> Result<(), Fail> {
         words: &words,
         name: "t.obj",
         bytes: TETRAHEDRON,
+        to: "u.obj",
         most: ROOM,
         shelf_fails: 2,
         out_fails: 0,
@@ -297,6 +370,7 @@ fn a_write_fault_leaves_a_part(rt: HostRuntime) -> Result<(), Fail> {
         words: &words,
         name: "t.obj",
         bytes: TETRAHEDRON,
+        to: "u.obj",
         most: 10,
         shelf_fails: 12,
         out_fails: 0,
@@ -318,6 +392,7 @@ fn a_fault_of_the_report_comes_after_the_file(rt: HostRuntime) -> Result<(), Fai
         words: &words,
         name: "t.obj",
         bytes: TETRAHEDRON,
+        to: "u.obj",
         most: ROOM,
         shelf_fails: 0,
         out_fails: 2,
@@ -346,6 +421,7 @@ fn judge_winding<R: Abort + AllocGlobal>(
         words: &words,
         name: "c.obj",
         bytes,
+        to: "u.obj",
         most: ROOM,
         shelf_fails: 0,
         out_fails: 0,
