@@ -1,7 +1,7 @@
 // The hits and winding numbers of pairs of meshes, against those of a separate program.
-ghost use Rattle.std.specs.Prelude.{◌≡◌, ◌<◌, ℤ, pos, true, false, if◌then◌else◌, refl, inl, inr};
+ghost use Rattle.std.specs.Prelude.{◌≡◌, ◌<◌, ℤ, pos, negsuc, zero, suc, ◌<ℤ◌, true, false, if◌then◌else◌, refl};
 ghost use Rattle.std.specs.Ordering.{int_eq};
-ghost use Rattle.std.proofs.Common.{arith};
+ghost use Rattle.std.proofs.Common.{arith, inl, inr};
 ghost use Rattle.std.proofs.lemmas.Int.{ints, by_lt_z};
 ghost use Rattle.rounding.specs.Fine.{IsFine, IsWeight, LiesBetween};
 ghost use Rattle.rounding.specs.Nearest.{settle_nearest};
