@@ -1,7 +1,7 @@
 // Two boxes, worked out by a separate program in Python that was written from the definitions alone.
 use crate::crossings;
 use lean::{Side, leans};
-use mb_base::{Hit, Hits, NoMemory, Op, Point, Soup};
+use mb_base::{Hit, Op, Point, Soup};
 use mesh_check::Mesh;
 use rounding::Nearest;
 use shadow_kernels::Grid;
@@ -52,11 +52,6 @@ fn second_side(alloc: Global, mesh: &Mesh) -> Result<Side, Fail> {
     Ok(Side::of(alloc, mesh, ups)?)
 }
 
-// The hits of two sides, with spots and points to the nearest step.
-fn nearest_hits(alloc: Global, p: &Side, q: &Side) -> Result<Hits, NoMemory> {
-    crossings(alloc, p, q, &Grid { rounding: Nearest })
-}
-
 // A hit: edge, face, number and point.
 #[derive(Clone, Copy, Debug, PartialEq, Eq, Drop)]
 struct Row(u32, u32, i8, [i32; 3]);
@@ -77,7 +72,7 @@ fn a_post_crosses_the_top_of_a_cube(rt: HostRuntime) -> Result<(), Fail> {
     let post = box_of(rt.alloc(), [3, 4, 5], [6, 7, 20])?;
     let p = first_side(rt.alloc(), &cube)?;
     let q = second_side(rt.alloc(), &post)?;
-    let hits = nearest_hits(rt.alloc(), &p, &q)?;
+    let hits = crossings(rt.alloc(), &p, &q, &Grid { rounding: Nearest })?;
     assert_eq!(rt;
         rows_of(rt.alloc(), &hits.x12)?.as_slice(),
         [Row(8, 4, 1, [4, 4, 10]), Row(8, 6, -1, [6, 6, 10])].as_slice()
@@ -105,7 +100,7 @@ fn a_cube_does_not_cross_itself(rt: HostRuntime) -> Result<(), Fail> {
     let cube = box_of(rt.alloc(), [0, 0, 0], [10, 10, 10])?;
     let p = first_side(rt.alloc(), &cube)?;
     let q = second_side(rt.alloc(), &cube)?;
-    let hits = nearest_hits(rt.alloc(), &p, &q)?;
+    let hits = crossings(rt.alloc(), &p, &q, &Grid { rounding: Nearest })?;
     assert!(rt; hits.x12.is_empty());
     assert!(rt; hits.x21.is_empty());
     Ok(())

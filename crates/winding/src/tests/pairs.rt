@@ -1,7 +1,9 @@
 // The hits and winding numbers of pairs of meshes, against those of a separate program.
-ghost use Rattle.std.specs.Prelude.{◌≡◌, ◌<◌, ℤ, pos, negsuc, zero, suc, ◌<ℤ◌, true, false, if◌then◌else◌, refl};
+ghost use Rattle.std.specs.Prelude.{◌≡◌, ◌<◌, pos, true, false, if◌then◌else◌, refl};
 ghost use Rattle.std.specs.Ordering.{int_eq};
 ghost use Rattle.std.proofs.Common.{arith, inl, inr};
+ghost use Rattle.std.proofs.lemmas.Bool.{cond_both};
+ghost use Rattle.std.proofs.lemmas.Bool.Decides.{Decides-int_eq};
 ghost use Rattle.std.proofs.lemmas.Int.{ints, by_lt_z};
 ghost use Rattle.rounding.specs.Fine.{IsFine, IsWeight, LiesBetween};
 ghost use Rattle.rounding.specs.Nearest.{settle_nearest};
@@ -31,14 +33,7 @@ pub struct Case {
 
 /// A hit: the place of its case, whether the edge is the first mesh's, the edge, the face, the number and the point.
 #[derive(Clone, Copy, Debug, PartialEq, Eq, Drop)]
-pub struct Row(
-    pub usize,
-    pub bool,
-    pub u32,
-    pub u32,
-    pub i8,
-    pub [i32; 3],
-);
+pub struct Row(pub usize, pub bool, pub u32, pub u32, pub i8, pub [i32; 3]);
 
 const OCTAHEDRON: [[u32; 3]; 8] = [
     [0, 1, 2],
@@ -72,10 +67,9 @@ impl Rounding for Low {
 
     ghost starts = { λ r u v b p q t. elim (int_eq b (pos 0)) as (λ x. (if x then u else u) ≡ u) [ true ↦ refl | false ↦ refl ] };
 
-    ghost ends = { λ r u v a p q s h. elim a as (λ x. pos 0 <ℤ x → (if int_eq x (pos 0) then u else v) ≡ v) [
-        | pos n ↦ elim n as (λ m. pos 0 <ℤ pos m → (if int_eq (pos m) (pos 0) then u else v) ≡ v) [ zero ↦ λ l. absurd (Prim.omega (arith, ints)) | suc m ↦ λ l. refl ]
-        | negsuc n ↦ λ l. absurd (Prim.omega (arith, ints))
-      ] h };
+    ghost ends = { λ r u v a p q s h. cond_both (int_eq a (pos 0)) u v (λ z. z ≡ v)
+        (λ t. let e = (Decides-int_eq a (pos 0)).0 t in absurd (Prim.omega (arith, ints, e)))
+        (λ t. refl) };
 
     ghost monotone = { λ r f g p q h. settle_monotone f g h };
 
@@ -136,14 +130,7 @@ fn numbers_of<R: Rounding, L: Ledger>(
 
 fn push_rows(rows: &mut Vec<Row>, place: usize, of_first: bool, hits: &[Hit]) -> Result<(), Fail> {
     for hit in hits {
-        rows.push(Row(
-            place,
-            of_first,
-            hit.edge,
-            hit.face,
-            hit.number,
-            hit.at.at(),
-        ))?;
+        rows.push(Row(place, of_first, hit.edge, hit.face, hit.number, hit.at.at()))?;
     }
     Ok(())
 }
@@ -227,11 +214,19 @@ fn a_post_begins_in_a_cube(rt: HostRuntime) -> Result<(), Fail> {
     let p = first_side(rt.alloc(), &cube, Op::Union)?;
     let q = second_side(rt.alloc(), &post)?;
     let kernels = Grid { rounding: Nearest };
-    let (hits, windings) =
-        numbers_of::<Nearest, Brand>(rt.alloc(), &p, &q, &kernels, Blank::new(1))?;
+    let (hits, windings) = numbers_of::<Nearest, Brand>(
+        rt.alloc(),
+        &p,
+        &q,
+        &kernels,
+        Blank::new(1),
+    )?;
     assert_eq!(rt; hits.x12.len(), 2);
     assert_eq!(rt; hits.x21.len(), 8);
     assert_eq!(rt; windings.w03.as_slice(), [0; 8].as_slice());
-    assert_eq!(rt; windings.w30.as_slice(), [1, 1, 1, 1, 0, 0, 0, 0].as_slice());
+    assert_eq!(rt;
+        windings.w30.as_slice(),
+        [1, 1, 1, 1, 0, 0, 0, 0].as_slice()
+    );
     Ok(())
 }
