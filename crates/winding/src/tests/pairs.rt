@@ -1,7 +1,9 @@
 // The hits and winding numbers of pairs of meshes, against those of a separate program.
-ghost use Rattle.std.specs.Prelude.{◌≡◌, ◌<◌, ℤ, pos, true, false, if◌then◌else◌, refl, inl, inr};
+ghost use Rattle.std.specs.Prelude.{◌≡◌, ◌<◌, pos, true, false, if◌then◌else◌, refl};
 ghost use Rattle.std.specs.Ordering.{int_eq};
-ghost use Rattle.std.proofs.Common.{arith};
+ghost use Rattle.std.proofs.Common.{arith, inl, inr};
+ghost use Rattle.std.proofs.lemmas.Bool.{cond_both};
+ghost use Rattle.std.proofs.lemmas.Bool.Decides.{Decides-int_eq};
 ghost use Rattle.std.proofs.lemmas.Int.{ints, by_lt_z};
 ghost use Rattle.rounding.specs.Fine.{IsFine, IsWeight, LiesBetween};
 ghost use Rattle.rounding.specs.Nearest.{settle_nearest};
@@ -65,10 +67,16 @@ impl Rounding for Low {
 
     ghost starts = { λ r u v b p q t. elim (int_eq b (pos 0)) as (λ x. (if x then u else u) ≡ u) [ true ↦ refl | false ↦ refl ] };
 
+<<<<<<< HEAD
     ghost ends = { λ r u v a p q s h. elim a as (λ x. pos 0 <ℤ x → (if int_eq x (pos 0) then u else v) ≡ v) [
       | pos n ↦ elim n as (λ m. pos 0 <ℤ pos m → (if int_eq (pos m) (pos 0) then u else v) ≡ v) [ zero ↦ λ l. absurd (Prim.omega (arith, ints)) | suc m ↦ λ l. refl ]
       | negsuc n ↦ λ l. absurd (Prim.omega (arith, ints))
     ] h };
+=======
+    ghost ends = { λ r u v a p q s h. cond_both (int_eq a (pos 0)) u v (λ z. z ≡ v)
+        (λ t. let e = (Decides-int_eq a (pos 0)).0 t in absurd (Prim.omega (arith, ints, e)))
+        (λ t. refl) };
+>>>>>>> ea6c59a1db4c32c0ff669572cdb4240b2c1d8fbe
 
     ghost monotone = { λ r f g p q h. settle_monotone f g h };
 
