@@ -67,16 +67,9 @@ impl Rounding for Low {
 
     ghost starts = { λ r u v b p q t. elim (int_eq b (pos 0)) as (λ x. (if x then u else u) ≡ u) [ true ↦ refl | false ↦ refl ] };
 
-<<<<<<< HEAD
-    ghost ends = { λ r u v a p q s h. elim a as (λ x. pos 0 <ℤ x → (if int_eq x (pos 0) then u else v) ≡ v) [
-      | pos n ↦ elim n as (λ m. pos 0 <ℤ pos m → (if int_eq (pos m) (pos 0) then u else v) ≡ v) [ zero ↦ λ l. absurd (Prim.omega (arith, ints)) | suc m ↦ λ l. refl ]
-      | negsuc n ↦ λ l. absurd (Prim.omega (arith, ints))
-    ] h };
-=======
     ghost ends = { λ r u v a p q s h. cond_both (int_eq a (pos 0)) u v (λ z. z ≡ v)
         (λ t. let e = (Decides-int_eq a (pos 0)).0 t in absurd (Prim.omega (arith, ints, e)))
         (λ t. refl) };
->>>>>>> ea6c59a1db4c32c0ff669572cdb4240b2c1d8fbe
 
     ghost monotone = { λ r f g p q h. settle_monotone f g h };
 
