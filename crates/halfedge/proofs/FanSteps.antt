@@ -9,7 +9,8 @@ use Rattle.chain_laws.proofs.Walks.{times_below, returns}
 use Rattle.mesh_terms.specs.Meshes.{Triple}
 use Rattle.halfedge.specs.Halves.{prev_half, around, around_times, SameFan}
 use Rattle.halfedge.specs.Fans.{AreFans}
-use Rattle.halfedge.specs.Numbering.{no_fan, AreInOrder, ordered_at, AreKeptAround, IsFanNumbered, AreFansSoFar}
+use Rattle.halfedge.specs.Numbering.{no_fan, AreInOrder, ordered_at, AreKeptAround, IsFanNumbered}
+use Rattle.halfedge.proofs.FanProgress.{AreFansSoFar}
 use Rattle.halfedge.proofs.Around.{around_inverse, times_start}
 use Rattle.halfedge.proofs.Edges.{length-all_edges}
 use Rattle.halfedge.proofs.FanOrder.{order_length, ordered_below, order_place, starts_ascend, halves_ascend}

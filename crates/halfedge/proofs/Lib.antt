@@ -1,6 +1,7 @@
 pub mod Around
 pub mod Edges
 pub mod FanOrder
+pub mod FanProgress
 pub mod FanSteps
 pub mod FanWalk
 pub mod FansOnce

@@ -101,8 +101,9 @@ impl Twins {
         &self.triples
     }
 
-    /// The twin of each half-edge, with what twins keep, and what the half-edges round a vertex keep,
-    /// of which the next is the half-edge after the twin.
+    /// The twin of each half-edge, by the numbers of the half-edges. Beside the values the clauses say
+    /// what twins keep, and what the step from a half-edge to the one after its twin keeps, which goes
+    /// round the start vertex.
     pub fn twins(&self) -> &[u32]
         ensures value { result.now ≡ self.now.twins }
         ensures twinned { IsTwinned self.now.triples self.now.twins }

@@ -10,7 +10,7 @@ use crate::sink::Sink;
 /// Writes a text to a sink, piece after piece, until all of it is taken.
 ///
 /// After `Failed`, which comes only where the sink's count rose, a first part of the text was taken. A text that fits the
-/// room that the sink tells is taken whole. An empty text makes no call, and the sink is as it was.
+/// room that the sink tells is taken whole. An empty text leaves the sink as it was.
 pub fn write_all<K: Sink>(sink: &mut K, text: &[u8]) -> Result<(), Failed>
     ensures added { OnOk result (K.told sink.new ≡ option_map (λ held. held ++ text.now) (K.told sink.old)) }
     ensures part { OnErr result (AddsPart text.now (K.told sink.old) (K.told sink.new)) }

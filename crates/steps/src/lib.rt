@@ -1,4 +1,4 @@
-//! A counter of steps that takes no bytes and no time, for contracts that say how often a costly call is made.
+//! A counter of steps, for contracts that say how often a costly call is made; the program carries no number for it.
 #![tactic(auto)]
 
 ghost use Rattle.std.specs.Prelude.{◌≡◌, ℕ, ◌+◌, ◌<◌};

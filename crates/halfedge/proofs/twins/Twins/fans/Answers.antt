@@ -1,7 +1,8 @@
 use Rattle.std.proofs.Common.{◌≡◌, ◌≢◌, ◌<◌, ◌*◌, List, ℕ, length, get_or, replicate, sym, subst, ap, ◌∙◌, arith, ◌+◌, Vec, Global}
 use Rattle.std.proofs.lemmas.List.{get_or_default, length-map, with_items_is}
 use Rattle.chain_terms.specs.Chains.{all_edges}
-use Rattle.halfedge.specs.Numbering.{no_fan, AreInOrder, ordered_at, IsFanNumbered, AreFansSoFar}
+use Rattle.halfedge.specs.Numbering.{no_fan, AreInOrder, ordered_at, IsFanNumbered}
+use Rattle.halfedge.proofs.FanProgress.{AreFansSoFar}
 use Rattle.mesh_terms.specs.Meshes.{triple_of}
 use Rattle.halfedge.proofs.Edges.{length-all_edges}
 use Rattle.halfedge.proofs.FanOrder.{ordered_below, order_length}

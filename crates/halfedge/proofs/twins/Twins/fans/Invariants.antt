@@ -1,5 +1,6 @@
 use Rattle.chain_terms.specs.Chains.{all_edges}
-use Rattle.halfedge.specs.Numbering.{AreInOrder, AreFansSoFar}
+use Rattle.halfedge.specs.Numbering.{AreInOrder}
+use Rattle.halfedge.proofs.FanProgress.{AreFansSoFar}
 use Rattle.halfedge.proofs.twins.Twins.fans.Given as goal
 
 abbrev pub invariant-loop-half : goal.invariant-loop-half
