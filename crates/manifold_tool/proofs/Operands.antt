@@ -12,8 +12,7 @@ use Rattle.grid_number.specs.declared.read.NumberFault.{NumberFault}
 use Rattle.grid_number.specs.declared.read.NumberFault.TheVariants.{NotANumber, OutOfGrid}
 use Rattle.std.specs.Str.{bytes_eq}
 use Rattle.std.proofs.lemmas.Slice.Eq.{bytes_eq-Decides}
-use Rattle.obj_terms.specs.Reading.{put_value}
-use Rattle.play_terms.specs.Words.{narrow_operand, narrow_name, narrow_command, narrow_inside, inside_at, InsideFile}
+use Rattle.play_terms.specs.Words.{put_value, narrow_operand, narrow_name, narrow_command, narrow_inside, inside_at, InsideFile}
 
 -- digits alone, by a test of each
 pub all_digits_are : (cs : List ℕ) → list_all is_digit cs ≡ all_digits cs

@@ -1,9 +1,19 @@
 -- The words of a command line.
 use Rattle.std.specs.Prelude.{ℕ, ◌*◌, ℤ, pos, nat_le, List, [], ◌∷◌, Bool, not, ◌&&◌, if◌then◌else◌, take, codes, bytes_eq, Option, Some, None}
 use Rattle.text_terms.specs.Numbers.{is_digits, digits_value}
-use Rattle.obj_terms.specs.Reading.{each_value}
 use Rattle.obj_terms.specs.Written.{is_obj}
 use Rattle.run_terms.specs.Files.{Bytes}
+
+-- the value before the others, or none where one has no value
+abbrev pub put_value : {Y : Type 0} → Option Y → Option (List Y) → Option (List Y)
+put_value None o = None
+put_value (Some y) None = None
+put_value (Some y) (Some ys) = Some (y ∷ ys)
+
+-- the value of each by f, or none where one has no value
+abbrev pub each_value : {X Y : Type 0} → (X → Option Y) → List X → Option (List Y)
+each_value f [] = Some []
+each_value f (x ∷ xs) = put_value (f x) (each_value f xs)
 
 -- a command with its operands
 pub data Command : Type 0 where
