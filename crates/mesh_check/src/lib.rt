@@ -6,8 +6,8 @@
 mod cancel;
 mod mesh;
 mod opposites;
-mod orientations;
 mod oriented;
+mod oriented_lists;
 mod reduction;
 #[cfg(test)]
 mod tests;
