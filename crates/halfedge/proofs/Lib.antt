@@ -11,5 +11,6 @@ pub mod OpenPair
 pub mod Order
 pub mod Positions
 pub mod Single
+pub mod Sorting
 pub mod TwinPlaces
 pub mod Walk

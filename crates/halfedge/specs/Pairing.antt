@@ -22,6 +22,19 @@ turned e = (e.1, e.0, e.2)
 abbrev pub half_cmp : Half → Half → Ordering
 half_cmp e f = ordering_then (ordering_then (nat_cmp e.0 f.0) (nat_cmp e.1 f.1)) (nat_cmp e.2 f.2)
 
+-- by the number alone
+abbrev pub by_number : Half → Half → Ordering
+by_number e f = nat_cmp e.2 f.2
+
+-- the half-edges of a list, sorted
+pub record IsSortOf (edges sorted : List Half) : Type 0 where
+  pub moved : IsPermutation edges sorted
+  pub up : IsSorted half_cmp sorted
+
+-- starts and ends below n
+abbrev pub IsWithin : ℕ → Half → Type 0
+IsWithin n e = (e.0 < n) × (e.1 < n)
+
 -- the half-edges of a chain, and those of the turned chain, each sorted
 pub record AreSorted (es : List (ℕ × ℕ)) (edges back : List Half) : Type 0 where
   pub moved : IsPermutation (numbered 0 es) edges

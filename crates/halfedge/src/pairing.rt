@@ -1,15 +1,18 @@
 // Half-edges with their numbers, sorted by where they run, and paired with those that run back.
 ghost use Rattle.std.specs.Prelude.{◌≡◌, ◌<◌, ◌≤◌, ◌↔◌, ℕ, List, IfOk, IsSorted, IsTrue, length, get_or, map};
+ghost use Rattle.std.specs.List.{All};
 ghost use Rattle.chain_terms.specs.Chains.{all_edges};
 ghost use Rattle.mesh_terms.specs.Meshes.{triples_of};
 ghost use Rattle.halfedge.specs.Laws.{AreSingle};
-ghost use Rattle.halfedge.specs.Pairing.{numbered, turned, half_at, ends_of, AreSorted, ArePartners};
+ghost use Rattle.halfedge.specs.Pairing.{numbered, turned, half_at, by_number, ends_of, IsSortOf, IsWithin, AreSorted, ArePartners};
 
+use counting_sort::by_first;
 use mb_base::NoMemory;
 use std::alloc::Global;
 
 /// The half-edges of the triangles, each as its start, its end and its number, sorted; and the same
-/// with start and end exchanged, sorted.
+/// with start and end exchanged, sorted. The time is linear in the half-edges, unless some vertex
+/// number is above about twice their count: then they are sorted by comparing them.
 pub fn sorted_edges(
     alloc: Global,
     triples: &[[u32; 3]],
@@ -17,11 +20,58 @@ pub fn sorted_edges(
     requires { length triples.now ≤ 100000000 }
     ensures { IfOk result (λ r. AreSorted (all_edges (triples_of triples.now)) r.0.items r.1.items) }
 {
-    let mut edges = numbered_edges(alloc, triples)?;
-    let mut back = turned_edges(alloc, &edges)?;
+    let edges = numbered_edges(alloc, triples)?;
+    let back = turned_edges(alloc, &edges)?;
+    let bound = bound_of(&edges);
+    if bound > 2 * edges.len() + 1000 {
+        return Ok(compared(edges, back));
+    }
+    counted(alloc, edges, back, bound)
+}
+
+// Both lists sorted by comparing the half-edges.
+fn compared(
+    mut edges: Vec<(u32, u32, u32)>,
+    mut back: Vec<(u32, u32, u32)>,
+) -> (Vec<(u32, u32, u32)>, Vec<(u32, u32, u32)>)
+    ensures edges { IsSortOf edges.items result.0.items }
+    ensures back { IsSortOf back.items result.1.items }
+{
     edges.sort_unstable();
     back.sort_unstable();
-    Ok((edges, back))
+    (edges, back)
+}
+
+// The same by counting them: a list that is in the order of its numbers is sorted by its second
+// entries and then, which keeps that order where it can, by its first ones.
+fn counted(
+    alloc: Global,
+    edges: Vec<(u32, u32, u32)>,
+    back: Vec<(u32, u32, u32)>,
+    bound: usize,
+) -> Result<(Vec<(u32, u32, u32)>, Vec<(u32, u32, u32)>), NoMemory>
+    requires turned { back.items ≡ map turned edges.items }
+    requires in_order { IsSorted by_number edges.items }
+    requires below { All (IsWithin bound) edges.items }
+    requires few { length edges.items ≤ 300000000 }
+    ensures { IfOk result (λ r. IsSortOf edges.items r.0.items × IsSortOf back.items r.1.items) }
+{
+    let (by_end, spare) = by_first(alloc, back, edges, bound)?;
+    let (sorted, spare) = by_first(alloc, turned_in_place(by_end), spare, bound)?;
+    let turned = turned_edges(alloc, &sorted)?;
+    let (sorted_back, _) = by_first(alloc, turned, spare, bound)?;
+    Ok((sorted, sorted_back))
+}
+
+// A number above each start and each end.
+fn bound_of(edges: &[(u32, u32, u32)]) -> usize
+    ensures { All (IsWithin result) edges.now }
+{
+    let mut bound = 0usize;
+    for (from, to, _) in edges {
+        bound = bound.max(*from as usize + 1).max(*to as usize + 1);
+    }
+    bound
 }
 
 // The half-edges of the triangles in order.
@@ -49,6 +99,17 @@ fn turned_edges(alloc: Global, edges: &[(u32, u32, u32)]) -> Result<Vec<(u32, u3
         back.push((*to, *from, *half))?;
     }
     Ok(back)
+}
+
+// The same, written over the list.
+fn turned_in_place(mut edges: Vec<(u32, u32, u32)>) -> Vec<(u32, u32, u32)>
+    ensures { result.items ≡ map turned edges.items }
+{
+    for edge in edges.iter_mut() {
+        let (from, to, half) = *edge;
+        *edge = (to, from, half);
+    }
+    edges
 }
 
 /// Whether no two half-edges of the sorted list run the same way.
