@@ -1,4 +1,5 @@
 pub mod Back
+pub mod CommandWords
 pub mod Copying
 pub mod Numbers
 pub mod Operands

@@ -1,9 +1,10 @@
 // Whole runs over memory, with what users and scripts see of them: status, output, error line, files.
 ghost use Rattle.std.specs.Prelude.{◌≡◌, ◌<◌};
 
+use crate::commands::{Command, read_command};
 use crate::run::run;
 use mb_base::{ArgList, Limits, NoMemory};
-use mb_outside::{MemoryShelf, MemorySink};
+use mb_outside::{MemoryShelf, MemorySink, SureShelf};
 use std::alloc::Global;
 use std::marker::Brand;
 use std::process::Abort;
@@ -443,5 +444,65 @@ fn a_mesh_winds_round_a_point(rt: HostRuntime) -> Result<(), Fail> {
     judge_winding(&rt, CUBE, "0", "0", "0", b"winding 0\n")?;
     judge_winding(&rt, TURNED_CUBE, "5", "4", "3", b"winding -1\n")?;
     judge_winding(&rt, NESTED_CUBES, "5", "4", "3", b"winding 2\n")?;
+    Ok(())
+}
+
+// Whether the words are a copy of `a.obj` to `b.obj` with so many digits.
+fn is_copy_with(alloc: Global, words: &[&str], wanted: u8) -> Result<bool, NoMemory> {
+    let mut list = ArgList::start(alloc);
+    for word in words {
+        list.push(word)?;
+    }
+    match read_command(&list) {
+        Some(Command::CopyFile { digits, from, to }) => {
+            Ok(digits == wanted && from == "a.obj" && to == "b.obj")
+        }
+        _ => Ok(false),
+    }
+}
+
+#[test]
+fn digits_stand_anywhere_among_the_operands(rt: HostRuntime) -> Result<(), Fail> {
+    let alloc = rt.alloc();
+    let last = ["copy", "a.obj", "b.obj", "--digits", "0"];
+    assert!(rt; is_copy_with(alloc, &last, 0)?);
+    let one = ["copy", "--digits=6", "a.obj", "--", "b.obj"];
+    assert!(rt; is_copy_with(alloc, &one, 6)?);
+    let none = ["copy", "--", "a.obj", "b.obj"];
+    assert!(rt; is_copy_with(alloc, &none, 4)?);
+    let first = ["--digits", "3", "copy", "a.obj", "b.obj"];
+    assert!(rt; !is_copy_with(alloc, &first, 3)?);
+    let seven = ["copy", "--digits=7", "a.obj", "b.obj"];
+    assert!(rt; !is_copy_with(alloc, &seven, 7)?);
+    let more = ["copy", "a.obj", "b.obj", "--", "--digits=4"];
+    assert!(rt; !is_copy_with(alloc, &more, 4)?);
+    Ok(())
+}
+
+fn ran_surely<L: Ledger>(alloc: Global, shelf: &mut SureShelf, blank: Blank) -> Result<u8, NoMemory>
+    requires name { blank.name ≡ L.name }
+    requires parts { blank.parts ≡ L.parts }
+    requires some { 0 < blank.parts }
+{
+    let mut words = ArgList::start(alloc);
+    words.push("copy")?;
+    words.push("t.obj")?;
+    words.push("u.obj")?;
+    let mut out = MemorySink::of(alloc, ROOM, ROOM, Vec::new(alloc))?;
+    let mut err = MemorySink::of(alloc, ROOM, ROOM, Vec::new(alloc))?;
+    let mut steps = Steps::<L>::over(blank);
+    let limits = Limits::program();
+    let status = run(
+        alloc, &words, &limits, shelf, &mut out, &mut err, &mut steps,
+    );
+    Ok(status.number())
+}
+
+#[test]
+fn a_copy_fits_the_room_that_its_text_needs(rt: HostRuntime) -> Result<(), Fail> {
+    let mut shelf = SureShelf::of(rt.alloc(), "t.obj", TETRAHEDRON, "u.obj", 64)?;
+    let status = ran_surely::<Brand>(rt.alloc(), &mut shelf, Blank::new(1))?;
+    assert_eq!(rt; status, 0);
+    assert_eq!(rt; shelf.get("u.obj"), Some(TETRAHEDRON));
     Ok(())
 }
