@@ -1,5 +1,5 @@
 -- Words of a command line, one after the other.
-use Rattle.std.proofs.Common.{◌≡◌, ℕ, ℤ, of_z, to_z, w32, nat_abs, ◌^◌, ◌+◌, ◌-◌, ◌≤◌, List, [], ◌∷◌, ◌++◌, Bool, true, false, cond, ◌&&◌, ◌||◌, not, nat_le, Option, Some, None, IsSome, map, length, take, drop, drop-cons, add-one, get_or, ◌<◌, unwrap_or, codes, ap, sym, ◌∙◌, refl, subst, append_assoc, append-nil, arith, length-append, ◌⊎◌, inl, inr}
+use Rattle.std.proofs.Common.{◌≡◌, ℕ, ℤ, of_z, to_z, w32, nat_abs, ◌^◌, ◌+◌, ◌-◌, ◌≤◌, List, [], ◌∷◌, ◌++◌, Bool, true, false, cond, ◌&&◌, ◌||◌, not, nat_le, Option, Some, None, IsSome, IfSome, map, length, take, drop, drop-cons, add-one, get_or, ◌<◌, unwrap_or, codes, ap, sym, ◌∙◌, refl, subst, append_assoc, append-nil, arith, length-append, ◌⊎◌, inl, inr}
 use Rattle.std.specs.Str.{bytes_eq}
 use Rattle.std.specs.Borrow.{Bor}
 use Rattle.std.proofs.lemmas.Int.{to_z-of_z, fits_signed_from_abs}
@@ -8,16 +8,21 @@ use Rattle.std.proofs.lemmas.Slice.Eq.{bytes_eq-Decides}
 use Rattle.std.proofs.lemmas.Bool.{cases_Bool, and_parts, leb-true, le-leb}
 use Rattle.text_terms.specs.Numbers.{grid_number, is_on_grid}
 use Rattle.mesh_terms.specs.Points.{IsOnGrid}
-use Rattle.obj_terms.specs.Reading.{or_none}
+use Rattle.std.specs.Option.{option_and_then}
 use Rattle.run_terms.specs.Files.{Bytes}
-use Rattle.play_terms.specs.Words.{Command, Given, is_option_end, before_end, after_end, with_operand, with_digits, begins_with, with_word, given, digits_of, grid_operand, copy_of, inside_of, command_with, command}
-use Rattle.manifold_tool.specs.Commands.{Takes, Refuses, HasFewDigits, digits_text, held, with_more, given_by, given_in_all, joined, command_by, IsNoCommand}
+use Rattle.play_terms.specs.Words.{Command, Given, is_option_end, before_end, after_end, with_operand, with_digits, begins_with, with_word, with_more, given, digits_of, grid_operand, copy_of, inside_of, command_with, command_by, command}
+use Rattle.manifold_tool.specs.Commands.{Takes, Refuses, HasFewDigits, digits_text, held, given_by, given_in_all, joined, IsNoCommand}
 use Rattle.manifold_tool.specs.declared.commands.Given.{Given as Held}
 
 -- where each value gives nothing, there is nothing
-nothing : {X Y : Type 0} (o : Option X) (f : X → Option Y) → ((x : X) → f x ≡ None) → or_none o f ≡ None
-nothing None f none = refl
-nothing (Some x) f none = none x
+nothing : {X Y : Type 0} (f : X → Option Y) (o : Option X) → ((x : X) → f x ≡ None) → option_and_then f o ≡ None
+nothing f None none = refl
+nothing f (Some x) none = none x
+
+-- what holds of a value, weakened
+pub if_some : {X : Type 0} (o : Option X) (P Q : X → Type 0) → ((x : X) → P x → Q x) → IfSome o P → IfSome o Q
+if_some None P Q weaker holds = holds
+if_some (Some x) P Q weaker holds = weaker x holds
 
 -- a choice of two equal values
 same_choice : {X : Type 0} (b : Bool) (x : X) → cond b x x ≡ x
@@ -43,7 +48,7 @@ joined-operand operands digits w (Some g) = ap (λ ws. Some (record { operands =
 pub fifth_operand : (first : Given) (w : Bytes) (rest : Option Given) → length first.operands ≡ 4 → IsNoCommand (joined first (with_operand w rest))
 fifth_operand first w None four name = refl
 fifth_operand first w (Some g) four name =
-    nothing (digits_of (first.digits ++ g.digits)) (command_with name (first.operands ++ (w ∷ g.operands)))
+    nothing (command_with name (first.operands ++ (w ∷ g.operands))) (digits_of (first.digits ++ g.digits))
     (λ k. too_many name (first.operands ++ (w ∷ g.operands)) k (omega (arith, four, length-append first.operands (w ∷ g.operands))))
 
 -- the first digits come first in the rest
@@ -88,9 +93,9 @@ no_digit v (w ∷ more) none = two_values v w more
 pub refused_digits : (operands : List Bytes) (before : Option ℕ) (v : Bytes) (rest : Option Given) → IsSome before ⊎ (digits_of (v ∷ []) ≡ None)
     → IsNoCommand (joined (record { operands = operands; digits = digits_text before }) (with_digits v rest))
 refused_digits operands before v None why name = refl
-refused_digits operands (Some d) v (Some g) why name = ap (λ o. or_none o (command_with name (operands ++ g.operands))) (two_values ((48 + d) ∷ []) v g.digits)
+refused_digits operands (Some d) v (Some g) why name = ap (option_and_then (command_with name (operands ++ g.operands))) (two_values ((48 + d) ∷ []) v g.digits)
 refused_digits operands None v (Some g) (inl some) name = cc
-refused_digits operands None v (Some g) (inr none) name = ap (λ o. or_none o (command_with name (operands ++ g.operands))) (no_digit v g.digits none)
+refused_digits operands None v (Some g) (inr none) name = ap (option_and_then (command_with name (operands ++ g.operands))) (no_digit v g.digits none)
 
 -- operands after the end of options stay behind a word
 
@@ -143,11 +148,7 @@ given_by-value w v ws is unended more = rw (unended, more, is) (more-digits (aft
 
 -- the command of the words is that of what they give
 pub command_given : (w : Bytes) (ws : List Bytes) → command (w ∷ ws) ≡ command_by w (given_by false ws)
-command_given w ws = by (given (before_end ws))
-  where
-    by : (o : Option Given) → or_none o (λ g. or_none (digits_of g.digits) (command_with w (g.operands ++ after_end ws))) ≡ command_by w (with_more (after_end ws) o)
-    by None = refl
-    by (Some g) = refl
+command_given w ws = refl
 
 -- a word that gives the digits by itself
 pub word_digits : (w v : Bytes) (rest : Option Given) → begins_with (codes "--digits=") w ≡ true → v ≡ drop 9 w → with_word w rest ≡ with_digits v rest
@@ -229,7 +230,7 @@ pub command_taken : (ws : List Bytes) (g : Held) → (ws ≡ [] → ⊥) → giv
     → command ws ≡ command_with (get_or ws 0 []) (held g).operands (unwrap_or g.digits 4)
 command_taken ws g some is few =
     command_read ws some ∙ ap (command_by (get_or ws 0 [])) is
-    ∙ ap (λ o. or_none o (command_with (get_or ws 0 []) (held g).operands)) (digits_taken g.digits few).0
+    ∙ ap (option_and_then (command_with (get_or ws 0 []) (held g).operands)) (digits_taken g.digits few).0
 
 -- fewer or more operands than four
 pub not_four : (k : ℕ) (operands : List Bytes) → (length operands ≡ 4 → ⊥) → inside_of k operands ≡ None

@@ -2,7 +2,6 @@ pub mod Back
 pub mod CommandWords
 pub mod Copying
 pub mod Numbers
-pub mod Operands
 pub mod Running
 pub mod Saved
 pub mod Texts

@@ -5,7 +5,7 @@ use Rattle.run_terms.specs.Files.{Bytes, Files}
 use Rattle.run_terms.specs.Runs.{World, Faults, Play, Done, status_of}
 use Rattle.play_terms.specs.Commands.{play, play_of}
 use Rattle.play_terms.specs.Meets.{RunMeets}
-use Rattle.play_terms.specs.Words.{Command, CopyFile, InsideFile, narrow_command}
+use Rattle.play_terms.specs.Words.{Command, CopyFile, InsideFile, command}
 use Rattle.manifold_tool.specs.Halts.{halt_status, halt_line, ended_status, ended_line}
 use Rattle.manifold_tool.specs.Winding.{winding_in}
 use Rattle.manifold_tool.specs.Stops.{stop_status, is_reading_stop}
@@ -16,7 +16,7 @@ use Rattle.manifold_tool.specs.declared.stop.Stop.TheVariants.{Usage, Missing, B
 
 -- a command is what the words ask for
 pub as_asked : (limits : Limits) (files : Files) (words : List Bytes) (command : Command) (w v : World) (status status' : ℕ) (before now : Faults) (line : Bytes)
-    → narrow_command words ≡ Some command → status' ≡ status
+    → command words ≡ Some command → status' ≡ status
     → RunMeets (play_of winding_in limits files (Some command)) w v status before now line
     → RunMeets (play winding_in words files limits) w v status' before now line
 as_asked limits files words command w v status status' before now line asked same meets =
@@ -40,8 +40,8 @@ ended_meets p from to w v before now (Ok x) done halted = done
 ended_meets p from to w v before now (Err halt) done halted = halted
 
 -- words that ask for one thing do not ask for another
-pub not_both : (words : List Bytes) → (narrow_command words ≡ None) ⊎ (bytes_eq (get_or words 0 []) (codes "copy") ≡ false)
-    → (narrow_command words ≡ None) ⊎ (bytes_eq (get_or words 0 []) (codes "inside") ≡ false) → narrow_command words ≡ None
+pub not_both : (words : List Bytes) → (command words ≡ None) ⊎ (bytes_eq (get_or words 0 []) (codes "copy") ≡ false)
+    → (command words ≡ None) ⊎ (bytes_eq (get_or words 0 []) (codes "inside") ≡ false) → command words ≡ None
 not_both [] copy inside = refl
 not_both words (inl none) inside = none
 not_both words copy (inl none) = none

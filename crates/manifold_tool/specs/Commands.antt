@@ -1,10 +1,9 @@
 -- What the words of a command line give, as they are read one by one.
 use Rattle.std.specs.Prelude.{◌≡◌, ℕ, ◌+◌, ◌≤◌, ◌∷◌, ◌++◌, List, [], Bool, true, false, Option, Some, None, drop, map}
 use Rattle.std.specs.Borrow.{Bor}
-use Rattle.obj_terms.specs.Reading.{or_none}
 use Rattle.run_terms.specs.Files.{Bytes}
 use Rattle.play_terms.specs.Words as words
-use Rattle.play_terms.specs.Words.{Given, before_end, after_end, given, digits_of, command_with}
+use Rattle.play_terms.specs.Words.{Given, before_end, after_end, given, with_more, command_by}
 use Rattle.manifold_tool.specs.declared.commands.Given.{Given as Held}
 use Rattle.manifold_tool.specs.declared.commands.Command.{Command}
 use Rattle.manifold_tool.specs.declared.commands.Command.TheVariants.{CopyFile, InsideFile}
@@ -23,11 +22,6 @@ digits_text (Some d) = ((48 + d) ∷ []) ∷ []
 abbrev pub held : Held → Given
 held g = record { operands = map (λ w. w.now) g.operands.items; digits = digits_text g.digits }
 
--- more operands at the end
-abbrev pub with_more : List Bytes → Option Given → Option Given
-with_more ws None = None
-with_more ws (Some g) = Some (record { operands = g.operands ++ ws; digits = g.digits })
-
 -- what words give after the first --, or before it
 abbrev pub given_by : Bool → List Bytes → Option Given
 given_by true ws = Some (record { operands = ws; digits = [] })
@@ -42,13 +36,14 @@ joined first (Some g) = Some (record { operands = first.operands ++ g.operands; 
 abbrev pub given_in_all : List Bytes → Held → ℕ → Option Given
 given_in_all ws g place = joined (held g) (given_by g.ended (drop place ws))
 
--- the command of this name with what was given
-abbrev pub command_by : Bytes → Option Given → Option words.Command
-command_by w o = or_none o (λ g. or_none (digits_of g.digits) (command_with w g.operands))
-
 -- no command has been given so
 abbrev pub IsNoCommand : Option Given → Type 0
 IsNoCommand o = (w : Bytes) → command_by w o ≡ None
+
+-- the digits of a command
+abbrev pub digits_in : Command → ℕ
+digits_in (CopyFile digits from to) = digits
+digits_in (InsideFile digits file point) = digits
 
 -- the digits that were given are at most 6
 abbrev pub HasFewDigits : Held → Type 0

@@ -4,7 +4,7 @@ ghost use Rattle.std.specs.Option.{option_map};
 ghost use Rattle.mesh_terms.specs.Points.{IsOnGrid};
 ghost use Rattle.obj_terms.specs.Written.{is_obj};
 ghost use Rattle.play_terms.specs.Words.{command, copy_of, inside_of, digits_of, grid_operand, with_operand, with_digits, with_word};
-ghost use Rattle.manifold_tool.specs.Commands.{HasFewDigits, IsNoCommand, Takes, Refuses, command_of, given_by, given_in_all, held, joined};
+ghost use Rattle.manifold_tool.specs.Commands.{HasFewDigits, IsNoCommand, Takes, Refuses, command_of, digits_in, given_by, given_in_all, held, joined};
 
 use arrayvec::ArrayVec;
 use grid_number::read_grid;
@@ -210,7 +210,8 @@ fn inside_with<'a>(digits: u8, operands: &[&'a str]) -> Option<Command<'a>>
 /// none is given. After the first `--` every word is an operand; before it an operand is `-` alone or does not begin with `-`. `copy` has two operands and
 /// `inside` four, where names end with `.obj`, ASCII case ignored, and the others are numbers whose values under the digits are on the grid.
 pub fn read_command<'a>(words: &'a ArgList) -> Option<Command<'a>>
-    ensures { option_map command_of result ≡ command words.now }
+    ensures command { option_map command_of result ≡ command words.now }
+    ensures few { IfSome result (λ command. digits_in command ≤ 6) }
 {
     if words.is_empty() {
         return None;

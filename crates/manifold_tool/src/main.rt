@@ -20,7 +20,6 @@ mod stop;
 mod tail;
 #[cfg(test)]
 mod tests;
-mod words;
 
 use mb_base::{ArgList, Limits};
 use mb_outside::{FolderShelf, Sink, StdSink};

@@ -1,7 +1,7 @@
 use Rattle.std.proofs.Common.{◌≡◌, ◌∙◌, ◌||◌, not, drop, codes, true, false, rules, sym, ap}
 use Rattle.std.specs.Str.{bytes_eq}
-use Rattle.play_terms.specs.Words.{begins_with}
-use Rattle.manifold_tool.specs.Commands.{command_by, held, joined}
+use Rattle.play_terms.specs.Words.{begins_with, command_by}
+use Rattle.manifold_tool.specs.Commands.{held, joined}
 use Rattle.manifold_tool.proofs.CommandWords.{word_digits, word_operand}
 use Rattle.manifold_tool.proofs.commands.take_word.Goals as goal
 
