@@ -80,7 +80,7 @@ fn a_box_grows_in_a_union_and_shrinks_in_the_others(rt: HostRuntime) -> Result<(
 
 #[test]
 fn a_sum_of_nothing_is_no_mark(rt: HostRuntime) -> Result<(), Fail> {
-    // Two triangles back to back, as far apart as the grid allows.
+    // Two triangles back to back, with corners at the bounds of the grid.
     let end = 1 << 30;
     let points = [[-end, -end, end], [end, -end, end], [-end, end, -end]];
     let mesh = mesh_of(rt.alloc(), &points, &[[0, 1, 2], [2, 1, 0]])?;

@@ -130,10 +130,11 @@ round_odd f odd = record {
       omega (arith, ints, first, second, third);
 }
 
--- two vertices are read from their number
+-- the first vertex is read from the number of two
 first_of_pair : (a b : ℕ) → b < 4294967296 → pair_number a b / 4294967296 ≡ a
 first_of_pair a b narrow = omega (arith, narrow)
 
+-- and the second
 second_of_pair : (a b : ℕ) → b < 4294967296 → pair_number a b % 4294967296 ≡ b
 second_of_pair a b narrow = omega (arith, narrow)
 

@@ -7,7 +7,7 @@ ghost use Rattle.mesh_check.specs.Cancelling.{halves_of, left_marks, kept_marks}
 ghost use Rattle.mesh_check.specs.Orientations.{orientation_edges, IsTriangle};
 
 use crate::oriented::Oriented;
-use crate::sides::{oriented_triples, other_sides};
+use crate::oriented_lists::{oriented_triples, other_sides};
 use mb_base::NoMemory;
 use std::alloc::Global;
 use std::cmp::Ordering;

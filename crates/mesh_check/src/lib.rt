@@ -1,13 +1,14 @@
 //! Closed triangle meshes: `Mesh::check` accepts a soup exactly where each directed edge occurs as
-//! often as its reverse, and names the least open edge where one does not.
+//! often as its reverse, and names the least open edge where one does not. `reduce` removes the
+//! triangles that cancel, and leaves no two with the same three vertices and different orientations.
 #![tactic(auto)]
 
 mod cancel;
 mod mesh;
 mod opposites;
 mod oriented;
+mod oriented_lists;
 mod reduction;
-mod sides;
 #[cfg(test)]
 mod tests;
 

@@ -3,7 +3,7 @@ use Rattle.std.proofs.Common.{◌≡◌, ℕ, ◌<◌, Bool, true, false, List, 
 use Rattle.std.specs.Prelude.{◌==◌, ◌&&◌, ◌||◌}
 use Rattle.std.proofs.lemmas.Bool.Decides.{nat_tests}
 use Rattle.std.proofs.lemmas.List.Elements.{All-nil, All-cons, All-head, All-tail}
-use Rattle.text_terms.specs.Lines.{is_comment, before_comment, last_is}
+use Rattle.text_terms.specs.Lines.{is_comment, last_is}
 use Rattle.text_terms.specs.Numbers.{is_digit, all_digits}
 use Rattle.grid_number.specs.Bytes.{is_number_byte}
 use Rattle.grid_number.proofs.Bytes.{AreNumberBytes}
@@ -54,10 +54,6 @@ last_is-append b (x ∷ z ∷ xs) y ys = last_is-append b (z ∷ xs) y ys
 pub last_is-word : (xs word : List ℕ) → IsPlain word → last_is 92 (xs ++ word) ≡ false
 last_is-word xs [] plain = absurd (omega (arith, plain.word.some))
 last_is-word xs (c ∷ cs) plain = last_is-append 92 xs c cs ∙ plain.no_end
-
--- no plain word ends a line
-pub before_comment-plain : (w : List ℕ) (ws : List (List ℕ)) → is_comment w ≡ false → before_comment (w ∷ ws) ≡ w ∷ before_comment ws
-before_comment-plain w ws e = rw e refl
 
 -- digits are bytes of numbers
 AreNumberBytes-digits : (ds : List ℕ) → all_digits ds ≡ true → AreNumberBytes ds

@@ -21,8 +21,8 @@ abbrev pub square_text : List ℕ
 square_text = codes "v 0 0 0\nv 1 0 0\nv 1 1 0\nf 1 2 3\nv 0 1 0\nf 1 2 3 4 \n"
 
 -- room for so many points and triangles
-abbrev pub narrow_limits : ℕ → ℕ → Limits
-narrow_limits points triangles = record { file_bytes = 1000; points = points; triangles = triangles; halfedges = 1 }
+abbrev pub room_for : ℕ → ℕ → Limits
+room_for points triangles = record { file_bytes = 1000; points = points; triangles = triangles; halfedges = 1 }
 
 pub record FilesRead : Type 0 where
   -- under lawful limits
@@ -57,6 +57,6 @@ pub record FilesRead : Type 0 where
   -- a fault is on the first part of its line
   pub first_part : obj 0 wide_limits (codes "o \\\nq\nv 1 2 \\\n\\\n\n") ≡ Err (Bad 3 2)
   -- last the limits, with the counts as they are passed
-  pub over_points : obj 0 (narrow_limits 3 2) square_text ≡ Err (Over Points 4)
-  pub over_triangles : obj 0 (narrow_limits 4 2) square_text ≡ Err (Over Triangles 3)
-  pub within : obj 0 (narrow_limits 4 3) square_text ≡ Ok (record { points = (pos 0 ∷ pos 0 ∷ pos 0 ∷ []) ∷ (pos 1 ∷ pos 0 ∷ pos 0 ∷ []) ∷ (pos 1 ∷ pos 1 ∷ pos 0 ∷ []) ∷ (pos 0 ∷ pos 1 ∷ pos 0 ∷ []) ∷ []; triples = (0, 1, 2) ∷ (0, 1, 2) ∷ (0, 2, 3) ∷ []; unused = 0 })
+  pub over_points : obj 0 (room_for 3 2) square_text ≡ Err (Over Points 4)
+  pub over_triangles : obj 0 (room_for 4 2) square_text ≡ Err (Over Triangles 3)
+  pub within : obj 0 (room_for 4 3) square_text ≡ Ok (record { points = (pos 0 ∷ pos 0 ∷ pos 0 ∷ []) ∷ (pos 1 ∷ pos 0 ∷ pos 0 ∷ []) ∷ (pos 1 ∷ pos 1 ∷ pos 0 ∷ []) ∷ (pos 0 ∷ pos 1 ∷ pos 0 ∷ []) ∷ []; triples = (0, 1, 2) ∷ (0, 1, 2) ∷ (0, 2, 3) ∷ []; unused = 0 })

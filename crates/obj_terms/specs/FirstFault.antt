@@ -1,15 +1,11 @@
 -- Reading on until the first fault.
-use Rattle.std.specs.Prelude.{ℕ, List, [], ◌∷◌, Option, Some, None, Result, Ok, Err}
+use Rattle.std.specs.Prelude.{ℕ, List, [], ◌∷◌, Result, Ok, Err}
 use Rattle.mesh_terms.specs.Faults.{Fault, Bad}
 
 -- go on where nothing is wrong
 abbrev pub then_read : {A B : Type 0} → Result A Fault → (A → Result B Fault) → Result B Fault
 then_read (Err e) go = Err e
 then_read (Ok a) go = go a
-
-abbrev pub or_fault : {A : Type 0} → Fault → Option A → Result A Fault
-or_fault e None = Err e
-or_fault e (Some a) = Ok a
 
 -- line after line, until the first fault
 abbrev pub read_each : {L S : Type 0} → (L → S → Result S Fault) → List L → S → Result S Fault

@@ -4,7 +4,7 @@ use Rattle.halfedge.specs.Pairing.{numbered}
 use Rattle.mesh_terms.specs.Meshes.{triples_of}
 use Rattle.mesh_check.specs.Cancelling.{vertices_of, halves_of}
 use Rattle.mesh_check.specs.Orientations.{orientation_edges, IsNarrow}
-use Rattle.mesh_check.proofs.sides.oriented_triples.Given as goal
+use Rattle.mesh_check.proofs.oriented_lists.oriented_triples.Given as goal
 
 -- the triangles so far
 abbrev pub invariant-loop-triple : goal.invariant-loop-triple

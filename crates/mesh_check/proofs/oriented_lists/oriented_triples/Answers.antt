@@ -4,7 +4,7 @@ use Rattle.std.proofs.lemmas.List.Elements.{All-append, All-cons, All-nil}
 use Rattle.mesh_check.specs.Cancelling.{vertices_of}
 use Rattle.mesh_check.specs.Orientations.{IsNarrow}
 use Rattle.mesh_check.proofs.SideSteps.{sides_more}
-use Rattle.mesh_check.proofs.sides.oriented_triples.Goals as goal
+use Rattle.mesh_check.proofs.oriented_lists.oriented_triples.Goals as goal
 
 pub loop-triple-preserved : goal.loop-triple-preserved
 loop-triple-preserved c =

@@ -1,6 +1,6 @@
 use Rattle.std.proofs.Common.{◌≡◌, take, map}
 use Rattle.mesh_check.specs.Cancelling.{turned_over}
-use Rattle.mesh_check.proofs.sides.other_sides.Given as goal
+use Rattle.mesh_check.proofs.oriented_lists.other_sides.Given as goal
 
 -- the triangles so far
 abbrev pub invariant-loop-one : goal.invariant-loop-one
