@@ -98,11 +98,11 @@ fn read_digits(words: &ArgList, place: usize, given: &mut Given<'_>) -> Option<u
     if place == words.len() {
         return None;
     }
-    let word = words.get(place);
-    if word == "--" {
+    let value = words.get(place);
+    if value == "--" {
         return None;
     }
-    take_digits(given, word.as_bytes())?;
+    take_digits(given, value.as_bytes())?;
     Some(place + 1)
 }
 

@@ -10,7 +10,7 @@ returns-in_err-take_digits-clause-refused c none =
     let within : c.args.place < length words = search rules in
     let unended : is_option_end value ≡ false = search rules in
     refused_next words c.args.given.now (with_digits value) c.args.place _ (c.in_err-take_digits.ensures.refused refl)
-    (next-value words c.args.place value c.args.given.now.ended within (c.as_bytes.ensures.value ∙ c.get-word.ensures) c.requires.open unended)
+    (next-value words c.args.place value c.args.given.now.ended within (c.as_bytes.ensures.value ∙ c.get-value.ensures) c.requires.open unended)
 
 pub returns-clause-given : goal.returns-clause-given
 returns-clause-given c =
@@ -19,4 +19,4 @@ returns-clause-given c =
     let within : c.args.place < length words = search rules in
     let unended : is_option_end value ≡ false = search rules in
     given_next words c.args.given.now c.take_digits.new.given (with_digits value) c.args.place _ c.in_ok-take_digits.ensures.taken
-    (next-value words c.args.place value c.args.given.now.ended within (c.as_bytes.ensures.value ∙ c.get-word.ensures) c.requires.open unended)
+    (next-value words c.args.place value c.args.given.now.ended within (c.as_bytes.ensures.value ∙ c.get-value.ensures) c.requires.open unended)
