@@ -10,8 +10,9 @@ use Rattle.text_terms.specs.Numbers.{grid_number, is_on_grid}
 use Rattle.mesh_terms.specs.Points.{IsOnGrid}
 use Rattle.std.specs.Option.{option_and_then}
 use Rattle.run_terms.specs.Files.{Bytes}
-use Rattle.play_terms.specs.Words.{Command, Given, is_option_end, before_end, after_end, with_operand, with_digits, begins_with, with_word, with_more, given, digits_of, grid_operand, copy_of, inside_of, command_with, command_by, command}
-use Rattle.manifold_tool.specs.Commands.{Takes, Refuses, HasFewDigits, digits_text, held, given_by, given_in_all, joined, IsNoCommand}
+use Rattle.play_terms.specs.Words.{Given, is_option_end, before_end, after_end, with_operand, with_digits, begins_with, with_word, with_more, given, digits_of, grid_operand, copy_of, inside_of, command_with, command_by, command}
+use Rattle.manifold_tool.specs.Commands.{Takes, Refuses, HasFewDigits, digits_text, digits_in, held, given_by, given_in_all, joined, IsNoCommand}
+use Rattle.manifold_tool.specs.declared.commands.Command.{Command}
 use Rattle.manifold_tool.specs.declared.commands.Given.{Given as Held}
 
 -- where each value gives nothing, there is nothing
@@ -219,6 +220,10 @@ digits_taken (Some d) few =
     let high : nat_le (48 + d) 54 ≡ true = le-leb (48 + d) 54 (omega (arith, most)) in
     let back : 48 + d - 48 ≡ d = omega arith in
     (rw (low, high, back) refl, most)
+
+-- the digits of a command are few, where they are those that were taken
+pub few_in : (g : Held) (k : ℕ) (what : Option Command) → HasFewDigits g → k ≡ unwrap_or g.digits 4 → IfSome what (λ c. digits_in c ≡ k) → IfSome what (λ c. digits_in c ≤ 6)
+few_in g k what few taken same = if_some what _ _ (λ c is. omega (arith, is, taken, (digits_taken g.digits few).1)) same
 
 -- the command of words that are there
 pub command_read : (ws : List Bytes) → (ws ≡ [] → ⊥) → command ws ≡ command_by (get_or ws 0 []) (given_by false (drop 1 ws))

@@ -159,7 +159,8 @@ fn is_obj_name(name: &[u8]) -> bool
 
 // The copy with these operands.
 fn copy_with<'a>(digits: u8, operands: &[&'a str]) -> Option<Command<'a>>
-    ensures { option_map command_of result ≡ copy_of digits (map (λ w. w.now) operands.now) }
+    ensures command { option_map command_of result ≡ copy_of digits (map (λ w. w.now) operands.now) }
+    ensures digits { IfSome result (λ command. digits_in command ≡ digits) }
 {
     if operands.len() != 2 {
         return None;
@@ -183,7 +184,8 @@ fn coordinate(word: &str, digits: u8) -> Option<i32>
 // The point with these operands.
 fn inside_with<'a>(digits: u8, operands: &[&'a str]) -> Option<Command<'a>>
     requires { digits ≤ 6 }
-    ensures { option_map command_of result ≡ inside_of digits (map (λ w. w.now) operands.now) }
+    ensures command { option_map command_of result ≡ inside_of digits (map (λ w. w.now) operands.now) }
+    ensures digits { IfSome result (λ command. digits_in command ≡ digits) }
 {
     if operands.len() != 4 {
         return None;
