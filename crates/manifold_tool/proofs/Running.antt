@@ -1,14 +1,17 @@
 -- A run by its words, and the statuses of halts.
 use Rattle.std.proofs.Common.{◌≡◌, ℕ, ℤ, codes, false, bytes_eq, Result, Ok, Err, IsOk, OnOk, IfErr, ◌∷◌, List, [], get_or, Option, Some, None, IsTrue, arith, ap, sym, ◌∙◌, refl, subst, inl, inr, ◌⊎◌}
+use Rattle.std.specs.Option.{option_map}
 use Rattle.mesh_terms.specs.Limits.{Limits}
 use Rattle.run_terms.specs.Files.{Bytes, Files}
 use Rattle.run_terms.specs.Runs.{World, Faults, Play, Done, status_of}
 use Rattle.play_terms.specs.Commands.{play, play_of}
 use Rattle.play_terms.specs.Meets.{RunMeets}
-use Rattle.play_terms.specs.Words.{Command, CopyFile, InsideFile, command}
+use Rattle.play_terms.specs.Words.{Command, command}
+use Rattle.manifold_tool.specs.Commands.{command_of}
 use Rattle.manifold_tool.specs.Halts.{halt_status, halt_line, ended_status, ended_line}
 use Rattle.manifold_tool.specs.Winding.{winding_in}
 use Rattle.manifold_tool.specs.Stops.{stop_status, is_reading_stop}
+use Rattle.manifold_tool.specs.declared.commands.Command.{Command as Read}
 use Rattle.manifold_tool.specs.declared.halt.Halt.{Halt}
 use Rattle.manifold_tool.specs.declared.halt.Halt.TheVariants.{Reading, Saving, Reporting}
 use Rattle.manifold_tool.specs.declared.stop.Stop.{Stop}
@@ -23,6 +26,10 @@ as_asked limits files words what w v status status' before now line asked same m
     let P : Option Command → Type 0 = λ o. RunMeets (play_of winding_in limits files o) w v status' before now line in
     let Q : ℕ → Type 0 = λ s. RunMeets (play_of winding_in limits files (Some what)) w v s before now line in
     subst P (sym asked) (subst Q (sym same) meets)
+
+-- the words ask for the command that was read of them
+pub asked_for : (words : List Bytes) (read : Option Read) (what : Read) → option_map command_of read ≡ command words → read ≡ Some what → command words ≡ Some (command_of what)
+asked_for words read what exact is = sym exact ∙ ap (option_map command_of) is
 
 -- the run of a command that ended well or stopped
 pub ended_meets : (p : Play) (from to : Bytes) (w v : World) (before now : Faults) (ended : Result (Unit {0}) Halt)
