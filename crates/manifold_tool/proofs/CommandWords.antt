@@ -1,16 +1,13 @@
 -- Words of a command line, one after the other.
-use Rattle.std.proofs.Common.{◌≡◌, ℕ, ℤ, of_z, to_z, w32, nat_abs, ◌^◌, ◌+◌, ◌-◌, ◌≤◌, List, [], ◌∷◌, ◌++◌, Bool, true, false, cond, ◌&&◌, ◌||◌, not, nat_le, Option, Some, None, IsSome, IfSome, map, length, take, drop, drop-cons, add-one, get_or, ◌<◌, unwrap_or, codes, ap, sym, ◌∙◌, refl, subst, append_assoc, append-nil, arith, length-append, ◌⊎◌, inl, inr}
+use Rattle.std.proofs.Common.{◌≡◌, ℕ, ◌+◌, ◌-◌, ◌≤◌, List, [], ◌∷◌, ◌++◌, Bool, true, false, cond, ◌&&◌, ◌||◌, not, nat_le, Option, Some, None, IsSome, IfSome, map, length, drop, drop-cons, add-one, get_or, ◌<◌, unwrap_or, codes, ap, sym, ◌∙◌, refl, subst, append_assoc, append-nil, arith, length-append, ◌⊎◌, inl, inr}
 use Rattle.std.specs.Str.{bytes_eq}
 use Rattle.std.specs.Borrow.{Bor}
-use Rattle.std.proofs.lemmas.Int.{to_z-of_z, fits_signed_from_abs}
 use Rattle.std.proofs.lemmas.List.{drop_all}
 use Rattle.std.proofs.lemmas.Slice.Eq.{bytes_eq-Decides}
 use Rattle.std.proofs.lemmas.Bool.{cases_Bool, and_parts, leb-true, le-leb}
-use Rattle.text_terms.specs.Numbers.{grid_number, is_on_grid}
-use Rattle.mesh_terms.specs.Points.{IsOnGrid}
 use Rattle.std.specs.Option.{option_and_then}
 use Rattle.run_terms.specs.Files.{Bytes}
-use Rattle.play_terms.specs.Words.{Given, is_option_end, before_end, after_end, with_operand, with_digits, begins_with, with_word, with_more, given, digits_of, grid_operand, copy_of, inside_of, command_with, command_by, command}
+use Rattle.play_terms.specs.Words.{Given, is_option_end, before_end, after_end, with_operand, with_digits, begins_with, with_word, with_more, given, digits_of, copy_of, inside_of, command_with, command_by, command}
 use Rattle.manifold_tool.specs.Commands.{Takes, Refuses, HasFewDigits, digits_text, digits_in, held, given_by, given_in_all, joined, IsNoCommand}
 use Rattle.manifold_tool.specs.declared.commands.Command.{Command}
 use Rattle.manifold_tool.specs.declared.commands.Given.{Given as Held}

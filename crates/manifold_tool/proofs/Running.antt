@@ -1,5 +1,5 @@
 -- A run by its words, and the statuses of halts.
-use Rattle.std.proofs.Common.{◌≡◌, ℕ, ℤ, codes, false, bytes_eq, Result, Ok, Err, IsOk, OnOk, IfErr, ◌∷◌, List, [], get_or, Option, Some, None, IsTrue, arith, ap, sym, ◌∙◌, refl, subst, inl, inr, ◌⊎◌}
+use Rattle.std.proofs.Common.{◌≡◌, ℕ, Result, Ok, Err, IsOk, OnOk, IfErr, List, [], Option, Some, IsTrue, arith, ap, sym, ◌∙◌, refl, subst, inl, inr, ◌⊎◌}
 use Rattle.std.specs.Option.{option_map}
 use Rattle.mesh_terms.specs.Limits.{Limits}
 use Rattle.run_terms.specs.Files.{Bytes, Files}

@@ -1,6 +1,5 @@
 -- What the words of a command line give, as they are read one by one.
 use Rattle.std.specs.Prelude.{◌≡◌, ℕ, ◌+◌, ◌≤◌, ◌∷◌, ◌++◌, List, [], Bool, true, false, Option, Some, None, drop, map}
-use Rattle.std.specs.Borrow.{Bor}
 use Rattle.run_terms.specs.Files.{Bytes}
 use Rattle.play_terms.specs.Words as words
 use Rattle.play_terms.specs.Words.{Given, before_end, after_end, given, with_more, command_by}

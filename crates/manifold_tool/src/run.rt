@@ -106,7 +106,11 @@ pub fn run<S: Shelf, O: Sink, E: Sink, L: Ledger>(
             let ended = copy(alloc, from, to, digits, limits, shelf, out);
             concluded(from, to, ended, err)
         }
-        Command::InsideFile { digits, file, point } => {
+        Command::InsideFile {
+            digits,
+            file,
+            point,
+        } => {
             let ended = inside(alloc, file, point, digits, limits, shelf, out, steps);
             concluded(file, file, ended, err)
         }

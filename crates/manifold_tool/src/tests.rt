@@ -507,14 +507,8 @@ fn a_point_is_read_as_the_digits_say(rt: HostRuntime) -> Result<(), Fail> {
             b"winding 1\n",
         ),
         (&["inside", "c.obj", "05", ".5", "1E1"], b"winding 1\n"),
-        (
-            &["inside", "c.obj", "5", "4", "10.00004"],
-            b"winding 1\n",
-        ),
-        (
-            &["inside", "c.obj", "5", "4", "10.00005"],
-            b"winding 0\n",
-        ),
+        (&["inside", "c.obj", "5", "4", "10.00004"], b"winding 1\n"),
+        (&["inside", "c.obj", "5", "4", "10.00005"], b"winding 0\n"),
         (
             &["inside", "c.obj", "--digits", "0", "5", "4", "10.4"],
             b"winding 1\n",
@@ -565,7 +559,8 @@ fn digits_stand_anywhere_among_the_operands(rt: HostRuntime) -> Result<(), Fail>
 
 #[test]
 fn a_copy_keeps_so_many_digits(rt: HostRuntime) -> Result<(), Fail> {
-    let fine = b"v 0 0 0\nv 1.26 0 0\nv 0 1.24 0\nv 0 0 -1.25\nf 1 2 3\nf 1 4 2\nf 2 4 3\nf 3 4 1\n";
+    let fine =
+        b"v 0 0 0\nv 1.26 0 0\nv 0 1.24 0\nv 0 0 -1.25\nf 1 2 3\nf 1 4 2\nf 2 4 3\nf 3 4 1\n";
     let out = b"copied u.obj: points 4, triangles 4, unused 0\n";
     let words = ["copy", "--digits", "1", "--", "-t.obj", "u.obj"];
     let mut one = copied(&words, "-t.obj", fine, out);

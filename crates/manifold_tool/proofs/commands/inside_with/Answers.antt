@@ -1,4 +1,4 @@
-use Rattle.std.proofs.Common.{◌≡◌, ◌∙◌, length, map, sym}
+use Rattle.std.proofs.Common.{◌∙◌, map, sym}
 use Rattle.std.proofs.lemmas.List.{length-map}
 use Rattle.manifold_tool.proofs.CommandWords.{not_four}
 use Rattle.manifold_tool.proofs.commands.inside_with.Goals as goal

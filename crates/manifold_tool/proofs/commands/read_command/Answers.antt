@@ -1,4 +1,4 @@
-use Rattle.std.proofs.Common.{◌≡◌, ◌∙◌, [], get_or, refl, sym}
+use Rattle.std.proofs.Common.{◌∙◌, [], get_or, refl, sym}
 use Rattle.manifold_tool.proofs.CommandWords.{command_read, as_copy, as_inside, as_other, few_in}
 use Rattle.manifold_tool.proofs.commands.read_command.Goals as goal
 

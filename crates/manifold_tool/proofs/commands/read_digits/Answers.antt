@@ -1,4 +1,4 @@
-use Rattle.std.proofs.Common.{◌≡◌, ◌<◌, ◌∙◌, length, false, arith, rules, refl}
+use Rattle.std.proofs.Common.{◌≡◌, ◌<◌, ◌∙◌, length, false, rules, refl}
 use Rattle.play_terms.specs.Words.{is_option_end, with_digits}
 use Rattle.manifold_tool.proofs.CommandWords.{next-value, given_next, refused_next}
 use Rattle.manifold_tool.proofs.commands.read_digits.Goals as goal

@@ -1,8 +1,8 @@
-use Rattle.std.proofs.Common.{◌≡◌, ◌+◌, ◌∙◌, ◌∷◌, codes, drop, true, false, rules, refl, ap, sym}
+use Rattle.std.proofs.Common.{◌≡◌, ◌∙◌, codes, true, false, rules, refl, ap, sym}
 use Rattle.std.specs.Str.{bytes_eq}
 use Rattle.std.proofs.lemmas.Slice.Eq.{bytes_eq-Decides}
 use Rattle.play_terms.specs.Words.{is_option_end, with_operand, with_word}
-use Rattle.manifold_tool.specs.Commands.{given_by, given_in_all, held, joined}
+use Rattle.manifold_tool.specs.Commands.{held, joined}
 use Rattle.manifold_tool.proofs.CommandWords.{if_some, next-ended, next-digits, next-word, given_next, refused_next}
 use Rattle.manifold_tool.proofs.commands.read_word.Goals as goal
 

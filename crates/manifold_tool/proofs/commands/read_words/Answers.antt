@@ -1,4 +1,4 @@
-use Rattle.std.proofs.Common.{◌≡◌, ◌∙◌, drop, [], map, false, ap}
+use Rattle.std.proofs.Common.{◌∙◌, drop, [], map, false, ap}
 use Rattle.manifold_tool.specs.Commands.{given_by, joined}
 use Rattle.manifold_tool.proofs.CommandWords.{joined-nothing}
 use Rattle.manifold_tool.proofs.commands.read_words.Goals as goal

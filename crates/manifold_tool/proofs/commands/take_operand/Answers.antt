@@ -1,4 +1,4 @@
-use Rattle.std.proofs.Common.{◌≡◌, ◌∙◌, length, map, rules}
+use Rattle.std.proofs.Common.{◌≡◌, ◌∙◌, length, rules}
 use Rattle.std.proofs.lemmas.List.{length-map}
 use Rattle.manifold_tool.specs.Commands.{held}
 use Rattle.manifold_tool.proofs.CommandWords.{fifth_operand}

@@ -1,4 +1,4 @@
-use Rattle.std.proofs.Common.{◌≡◌, ◌∙◌, ◌||◌, not, drop, codes, true, false, rules, sym, ap}
+use Rattle.std.proofs.Common.{◌≡◌, ◌∙◌, ◌||◌, not, drop, codes, true, false, rules, ap}
 use Rattle.std.specs.Str.{bytes_eq}
 use Rattle.play_terms.specs.Words.{begins_with, command_by}
 use Rattle.manifold_tool.specs.Commands.{held, joined}

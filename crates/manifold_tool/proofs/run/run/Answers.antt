@@ -1,4 +1,4 @@
-use Rattle.std.proofs.Common.{◌≡◌, ap, sym, ◌∙◌, inl, inr, Some}
+use Rattle.std.proofs.Common.{ap, sym, ◌∙◌, inl, inr, Some}
 use Rattle.std.proofs.lemmas.Result.{on_ok_weaker, IfErr-weaker}
 use Rattle.manifold_tool.specs.Halts.{ended_line}
 use Rattle.manifold_tool.specs.Statuses.{status_number}
