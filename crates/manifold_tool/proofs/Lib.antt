@@ -1,7 +1,7 @@
 pub mod Back
+pub mod CommandWords
 pub mod Copying
 pub mod Numbers
-pub mod Operands
 pub mod Running
 pub mod Saved
 pub mod Texts

@@ -1,36 +1,35 @@
 -- A run by its words, and the statuses of halts.
-use Rattle.std.proofs.Common.{◌≡◌, ℕ, ℤ, codes, false, bytes_eq, Result, Ok, Err, IsOk, OnOk, IfErr, ◌∷◌, List, [], get_or, Option, Some, None, IsTrue, arith, ap, sym, ◌∙◌, refl, subst, inl, inr, ◌⊎◌}
+use Rattle.std.proofs.Common.{◌≡◌, ℕ, Result, Ok, Err, IsOk, OnOk, IfErr, List, [], Option, Some, IsTrue, arith, ap, sym, ◌∙◌, refl, subst, inl, inr, ◌⊎◌}
+use Rattle.std.specs.Option.{option_map}
 use Rattle.mesh_terms.specs.Limits.{Limits}
 use Rattle.run_terms.specs.Files.{Bytes, Files}
 use Rattle.run_terms.specs.Runs.{World, Faults, Play, Done, status_of}
 use Rattle.play_terms.specs.Commands.{play, play_of}
 use Rattle.play_terms.specs.Meets.{RunMeets}
-use Rattle.play_terms.specs.Words.{Command, CopyFile, InsideFile, narrow_command}
+use Rattle.play_terms.specs.Words.{Command, command}
+use Rattle.manifold_tool.specs.Commands.{command_of}
 use Rattle.manifold_tool.specs.Halts.{halt_status, halt_line, ended_status, ended_line}
 use Rattle.manifold_tool.specs.Winding.{winding_in}
 use Rattle.manifold_tool.specs.Stops.{stop_status, is_reading_stop}
+use Rattle.manifold_tool.specs.declared.commands.Command.{Command as Read}
 use Rattle.manifold_tool.specs.declared.halt.Halt.{Halt}
 use Rattle.manifold_tool.specs.declared.halt.Halt.TheVariants.{Reading, Saving, Reporting}
 use Rattle.manifold_tool.specs.declared.stop.Stop.{Stop}
 use Rattle.manifold_tool.specs.declared.stop.Stop.TheVariants.{Usage, Missing, BadText, BadEdge, Over, ReadFault, WriteFault, NoMemory}
 
 -- a command is what the words ask for
-pub as_asked : (limits : Limits) (files : Files) (words : List Bytes) (command : Command) (w v : World) (status status' : ℕ) (before now : Faults) (line : Bytes)
-    → narrow_command words ≡ Some command → status' ≡ status
-    → RunMeets (play_of winding_in limits files (Some command)) w v status before now line
+pub as_asked : (limits : Limits) (files : Files) (words : List Bytes) (what : Command) (w v : World) (status status' : ℕ) (before now : Faults) (line : Bytes)
+    → command words ≡ Some what → status' ≡ status
+    → RunMeets (play_of winding_in limits files (Some what)) w v status before now line
     → RunMeets (play winding_in words files limits) w v status' before now line
-as_asked limits files words command w v status status' before now line asked same meets =
+as_asked limits files words what w v status status' before now line asked same meets =
     let P : Option Command → Type 0 = λ o. RunMeets (play_of winding_in limits files o) w v status' before now line in
-    let Q : ℕ → Type 0 = λ s. RunMeets (play_of winding_in limits files (Some command)) w v s before now line in
+    let Q : ℕ → Type 0 = λ s. RunMeets (play_of winding_in limits files (Some what)) w v s before now line in
     subst P (sym asked) (subst Q (sym same) meets)
 
--- names of a copy by the words that hold them
-pub copy_asked : (command : Option Command) (a b from to : Bytes) → command ≡ Some (CopyFile 4 a b) → from ≡ a → to ≡ b → command ≡ Some (CopyFile 4 from to)
-copy_asked command a b from to asked same_from same_to = rw (same_from, same_to) asked
-
--- the name of a file by the word that holds it
-pub inside_asked : (command : Option Command) (a file : Bytes) (point : List ℤ) → command ≡ Some (InsideFile 4 a point) → file ≡ a → command ≡ Some (InsideFile 4 file point)
-inside_asked command a file point asked same = rw same asked
+-- the words ask for the command that was read of them
+pub asked_for : (words : List Bytes) (read : Option Read) (what : Read) → option_map command_of read ≡ command words → read ≡ Some what → command words ≡ Some (command_of what)
+asked_for words read what exact is = sym exact ∙ ap (option_map command_of) is
 
 -- the run of a command that ended well or stopped
 pub ended_meets : (p : Play) (from to : Bytes) (w v : World) (before now : Faults) (ended : Result (Unit {0}) Halt)
@@ -38,14 +37,6 @@ pub ended_meets : (p : Play) (from to : Bytes) (w v : World) (before now : Fault
     → RunMeets p w v (ended_status ended) before now (ended_line from to ended)
 ended_meets p from to w v before now (Ok x) done halted = done
 ended_meets p from to w v before now (Err halt) done halted = halted
-
--- words that ask for one thing do not ask for another
-pub not_both : (words : List Bytes) → (narrow_command words ≡ None) ⊎ (bytes_eq (get_or words 0 []) (codes "copy") ≡ false)
-    → (narrow_command words ≡ None) ⊎ (bytes_eq (get_or words 0 []) (codes "inside") ≡ false) → narrow_command words ≡ None
-not_both [] copy inside = refl
-not_both words (inl none) inside = none
-not_both words copy (inl none) = none
-not_both (w ∷ ws) (inr copy) (inr inside) = rw (copy, inside) refl
 
 -- a stop in reading has no status of a write
 pub no_write : (stop : Stop) → IsTrue (is_reading_stop stop) → stop_status stop ≡ 7 → ⊥

@@ -18,7 +18,8 @@ use mb_base::Limits;
 use mb_outside::{Shelf, Sink};
 use std::alloc::Global;
 
-/// Reads a mesh from one file, saves it to another, and reports that on the output. It stops at the first thing that goes wrong.
+/// Reads a mesh from one file, saves it to another, and reports that on the output. It stops at the first thing that goes wrong. `digits`
+/// are the decimal digits of a unit on the grid, in both files.
 pub fn copy<S: Shelf, O: Sink>(
     alloc: Global,
     from: &str,

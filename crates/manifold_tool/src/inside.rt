@@ -19,8 +19,8 @@ use std::sync::ledger::Ledger;
 use steps::Steps;
 use winding::winding_at;
 
-/// Reads a mesh from a file and reports the winding number of a point in it. It stops at the first thing that goes wrong. It counts one
-/// step where it ends well, at most one, and none where it stops before the number is found.
+/// Reads a mesh from a file, where a unit has `digits` decimal digits on the grid, and reports the winding number of a point of the grid in
+/// it. It stops at the first thing that goes wrong. It counts one step where it ends well, at most one, and none where it stops before the number is found.
 pub fn inside<S: Shelf, O: Sink, L: Ledger>(
     alloc: Global,
     file: &str,

@@ -7,6 +7,7 @@
 ghost use Rattle.std.specs.Prelude.{◌≡◌, ◌<◌, ◌^◌, ◌-◌, ◌⊎◌, IfErr};
 ghost use Rattle.std.specs.IoError.{error_kind};
 
+mod commands;
 mod copy;
 mod halt;
 mod inside;
@@ -19,7 +20,6 @@ mod stop;
 mod tail;
 #[cfg(test)]
 mod tests;
-mod words;
 
 use mb_base::{ArgList, Limits};
 use mb_outside::{FolderShelf, Sink, StdSink};

@@ -112,7 +112,7 @@ fn mesh_of_text(alloc: Global, bytes: &[u8], digits: u8, limits: &Limits) -> Res
     Ok(Read { mesh, unused })
 }
 
-/// Reads a mesh from a file of a shelf. It asks for the size, reads the file in pieces of at most 65,536 bytes, reads its text
+/// Reads a mesh from a file of a shelf, where a unit has `digits` decimal digits on the grid. It asks for the size, reads the file in pieces of at most 65,536 bytes, reads its text
 /// and checks that the mesh is closed. It stops with the first thing that is wrong, in this order: the shelf fails, no file has
 /// the name, the file is longer than the limit, a line of the text or a count of points or triangles past its limit, an edge
 /// without its reverse. Where the shelf tells its files, `ReadFault` comes only where its count of read faults rose;

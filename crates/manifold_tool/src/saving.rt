@@ -26,7 +26,7 @@ fn append_text<S: Shelf>(mesh: &Mesh, name: &str, digits: u8, shelf: &mut S) -> 
     write_obj(mesh, digits, &mut sink)
 }
 
-/// Saves a mesh as the OBJ text of a file of a shelf, with `digits` decimal digits for a unit.
+/// Saves a mesh as the OBJ text of a file of a shelf, where a unit has `digits` decimal digits on the grid.
 ///
 /// The only stop is `WriteFault`, which comes only where the shelf's count of write faults rose. The file then holds a first part
 /// of its text, or what it held. No other file changes. Where the shelf's spare is this file's and the text fits its

@@ -1,9 +1,10 @@
 // Whole runs over memory, with what users and scripts see of them: status, output, error line, files.
 ghost use Rattle.std.specs.Prelude.{◌≡◌, ◌<◌};
 
+use crate::commands::{Command, read_command};
 use crate::run::run;
 use mb_base::{ArgList, Limits, NoMemory};
-use mb_outside::{MemoryShelf, MemorySink};
+use mb_outside::{MemoryShelf, MemorySink, SureShelf};
 use std::alloc::Global;
 use std::marker::Brand;
 use std::process::Abort;
@@ -298,14 +299,64 @@ fn judge_usage<R: Abort + AllocGlobal>(rt: &R, words: &[&str]) -> Result<(), NoM
 
 #[test]
 fn other_words_are_usage(rt: HostRuntime) -> Result<(), Fail> {
-    judge_usage(&rt, &[])?;
-    judge_usage(&rt, &["copy", "c.obj"])?;
-    judge_usage(&rt, &["copy", "c.obj", "u.ply"])?;
-    judge_usage(&rt, &["copy", "c.obj", "u.obj", "v.obj"])?;
-    judge_usage(&rt, &["inside", "c.obj", "-5", "4", "3"])?;
-    judge_usage(&rt, &["inside", "c.obj", "5", "107375", "3"])?;
-    judge_usage(&rt, &["inside", "c.obj", "5", "4"])?;
-    judge_usage(&rt, &["inside", "5", "4", "3"])?;
+    let others: [&[&str]; 12] = [
+        &[],
+        &["--help"],
+        &["--version"],
+        &["run", "s.txt"],
+        &["--", "copy", "c.obj", "u.obj"],
+        &["copy", "c.obj"],
+        &["copy", "c.obj", "u.ply"],
+        &["copy", "c.obj", "u.stl"],
+        &["copy", "c.obj", "u.obj", "v.obj"],
+        &["copy", "c.obj", "u.obj", ""],
+        &["copy", "-c.obj", "u.obj"],
+        &["copy", "--", "c.obj", "--", "u.obj"],
+    ];
+    for words in others {
+        judge_usage(&rt, words)?;
+    }
+    Ok(())
+}
+
+#[test]
+fn digits_are_one_character_given_once(rt: HostRuntime) -> Result<(), Fail> {
+    let others: [&[&str]; 12] = [
+        &["copy", "--digits", "7", "c.obj", "u.obj"],
+        &["copy", "--digits=7", "c.obj", "u.obj"],
+        &["copy", "--digits=07", "c.obj", "u.obj"],
+        &["copy", "--digits=", "c.obj", "u.obj"],
+        &["copy", "--digits", "", "c.obj", "u.obj"],
+        &["copy", "--digit=3", "c.obj", "u.obj"],
+        &["copy", "c.obj", "u.obj", "--digits"],
+        &["copy", "--digits", "--", "4", "c.obj", "u.obj"],
+        &["copy", "--digits=3", "c.obj", "u.obj", "--digits=3"],
+        &["copy", "--digits", "3", "--digits", "3", "c.obj", "u.obj"],
+        &["copy", "c.obj", "u.obj", "--", "--digits=3"],
+        &["--digits", "3", "copy", "c.obj", "u.obj"],
+    ];
+    for words in others {
+        judge_usage(&rt, words)?;
+    }
+    Ok(())
+}
+
+#[test]
+fn a_point_has_three_numbers_on_the_grid(rt: HostRuntime) -> Result<(), Fail> {
+    let others: [&[&str]; 9] = [
+        &["inside", "5", "4", "3"],
+        &["inside", "c.obj", "5", "4"],
+        &["inside", "c.obj", "5", "4", "3", "2"],
+        &["inside", "c.ply", "5", "4", "3"],
+        &["inside", "c.obj", "-5", "4", "3"],
+        &["inside", "c.obj", "5", "4", "3e"],
+        &["inside", "c.obj", "5", "4", ""],
+        &["inside", "c.obj", "5", "4", "107374.18245"],
+        &["inside", "--digits=6", "c.obj", "5", "4", "1073.7418245"],
+    ];
+    for words in others {
+        judge_usage(&rt, words)?;
+    }
     Ok(())
 }
 
@@ -407,18 +458,15 @@ fn a_fault_of_the_report_comes_after_the_file(rt: HostRuntime) -> Result<(), Fai
     Ok(())
 }
 
-// A winding number, by three operands.
+// The winding number of a point in a mesh.
 fn judge_winding<R: Abort + AllocGlobal>(
     rt: &R,
+    words: &[&str],
     bytes: &[u8],
-    x: &str,
-    y: &str,
-    z: &str,
     line: &[u8],
 ) -> Result<(), NoMemory> {
-    let words = ["inside", "c.obj", x, y, z];
     let case = Case {
-        words: &words,
+        words,
         name: "c.obj",
         bytes,
         to: "u.obj",
@@ -437,11 +485,117 @@ fn judge_winding<R: Abort + AllocGlobal>(
 
 #[test]
 fn a_mesh_winds_round_a_point(rt: HostRuntime) -> Result<(), Fail> {
-    judge_winding(&rt, CUBE, "5", "4", "3", b"winding 1\n")?;
-    judge_winding(&rt, CUBE, "11", "4", "3", b"winding 0\n")?;
-    judge_winding(&rt, CUBE, "10", "10", "10", b"winding 1\n")?;
-    judge_winding(&rt, CUBE, "0", "0", "0", b"winding 0\n")?;
-    judge_winding(&rt, TURNED_CUBE, "5", "4", "3", b"winding -1\n")?;
-    judge_winding(&rt, NESTED_CUBES, "5", "4", "3", b"winding 2\n")?;
+    let middle = ["inside", "c.obj", "5", "4", "3"];
+    judge_winding(&rt, &middle, CUBE, b"winding 1\n")?;
+    judge_winding(&rt, &middle, TURNED_CUBE, b"winding -1\n")?;
+    judge_winding(&rt, &middle, NESTED_CUBES, b"winding 2\n")?;
+    let outside = ["inside", "c.obj", "11", "4", "3"];
+    judge_winding(&rt, &outside, CUBE, b"winding 0\n")?;
+    let greatest = ["inside", "c.obj", "10", "10", "10"];
+    judge_winding(&rt, &greatest, CUBE, b"winding 1\n")?;
+    let least = ["inside", "c.obj", "0", "0", "0"];
+    judge_winding(&rt, &least, CUBE, b"winding 0\n")?;
+    Ok(())
+}
+
+#[test]
+fn a_point_is_read_as_the_digits_say(rt: HostRuntime) -> Result<(), Fail> {
+    let points: [(&[&str], &[u8]); 7] = [
+        (&["inside", "c.obj", "--", "-5", "4", "3"], b"winding 0\n"),
+        (
+            &["inside", "--", "c.obj", "+5", "4.25", "3e0"],
+            b"winding 1\n",
+        ),
+        (&["inside", "c.obj", "05", ".5", "1E1"], b"winding 1\n"),
+        (&["inside", "c.obj", "5", "4", "10.00004"], b"winding 1\n"),
+        (&["inside", "c.obj", "5", "4", "10.00005"], b"winding 0\n"),
+        (
+            &["inside", "c.obj", "--digits", "0", "5", "4", "10.4"],
+            b"winding 1\n",
+        ),
+        (
+            &["inside", "c.obj", "5", "4", "10.4", "--digits=1"],
+            b"winding 0\n",
+        ),
+    ];
+    for (words, line) in points {
+        judge_winding(&rt, words, CUBE, line)?;
+    }
+    Ok(())
+}
+
+// Whether the words are a copy of `a.obj` to `b.obj` with so many digits.
+fn is_copy_with(alloc: Global, words: &[&str], wanted: u8) -> Result<bool, NoMemory> {
+    let mut list = ArgList::start(alloc);
+    for word in words {
+        list.push(word)?;
+    }
+    match read_command(&list) {
+        Some(Command::CopyFile { digits, from, to }) => {
+            Ok(digits == wanted && from == "a.obj" && to == "b.obj")
+        }
+        _ => Ok(false),
+    }
+}
+
+#[test]
+fn digits_stand_anywhere_among_the_operands(rt: HostRuntime) -> Result<(), Fail> {
+    let alloc = rt.alloc();
+    let taken: [(&[&str], u8); 8] = [
+        (&["copy", "a.obj", "b.obj"], 4),
+        (&["copy", "a.obj", "b.obj", "--digits", "0"], 0),
+        (&["copy", "a.obj", "--digits", "6", "b.obj"], 6),
+        (&["copy", "--digits=5", "a.obj", "--", "b.obj"], 5),
+        (&["copy", "--digits", "1", "--", "a.obj", "b.obj"], 1),
+        (&["copy", "a.obj", "b.obj", "--digits=2", "--"], 2),
+        (&["copy", "--", "a.obj", "b.obj"], 4),
+        (&["copy", "a.obj", "--", "b.obj"], 4),
+    ];
+    for (words, digits) in taken {
+        assert!(rt; is_copy_with(alloc, words, digits)?);
+    }
+    Ok(())
+}
+
+#[test]
+fn a_copy_keeps_so_many_digits(rt: HostRuntime) -> Result<(), Fail> {
+    let fine =
+        b"v 0 0 0\nv 1.26 0 0\nv 0 1.24 0\nv 0 0 -1.25\nf 1 2 3\nf 1 4 2\nf 2 4 3\nf 3 4 1\n";
+    let out = b"copied u.obj: points 4, triangles 4, unused 0\n";
+    let words = ["copy", "--digits", "1", "--", "-t.obj", "u.obj"];
+    let mut one = copied(&words, "-t.obj", fine, out);
+    one.saved = b"v 0 0 0\nv 1.3 0 0\nv 0 1.2 0\nv 0 0 -1.3\nf 1 2 3\nf 1 4 2\nf 2 4 3\nf 3 4 1\n";
+    judge(&rt, &one)?;
+    let words = ["copy", "t.OBJ", "u.obj", "--digits=6"];
+    let six = copied(&words, "t.OBJ", fine, out);
+    judge(&rt, &six)?;
+    Ok(())
+}
+
+fn ran_surely<L: Ledger>(alloc: Global, shelf: &mut SureShelf, blank: Blank) -> Result<u8, NoMemory>
+    requires name { blank.name ≡ L.name }
+    requires parts { blank.parts ≡ L.parts }
+    requires some { 0 < blank.parts }
+{
+    let mut words = ArgList::start(alloc);
+    words.push("copy")?;
+    words.push("t.obj")?;
+    words.push("u.obj")?;
+    let mut out = MemorySink::of(alloc, ROOM, ROOM, Vec::new(alloc))?;
+    let mut err = MemorySink::of(alloc, ROOM, ROOM, Vec::new(alloc))?;
+    let mut steps = Steps::<L>::over(blank);
+    let limits = Limits::program();
+    let status = run(
+        alloc, &words, &limits, shelf, &mut out, &mut err, &mut steps,
+    );
+    Ok(status.number())
+}
+
+#[test]
+fn a_copy_fits_the_room_that_its_text_needs(rt: HostRuntime) -> Result<(), Fail> {
+    let mut shelf = SureShelf::of(rt.alloc(), "t.obj", TETRAHEDRON, "u.obj", 64)?;
+    let status = ran_surely::<Brand>(rt.alloc(), &mut shelf, Blank::new(1))?;
+    assert_eq!(rt; status, 0);
+    assert_eq!(rt; shelf.get("u.obj"), Some(TETRAHEDRON));
     Ok(())
 }

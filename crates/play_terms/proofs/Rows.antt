@@ -1,5 +1,5 @@
 -- The plays of small command lines over one file, computed.
-use Rattle.std.specs.Prelude.{◌≡◌, pos, get_or, List, [], ◌∷◌, ◌++◌, if◌then◌else◌, codes, bytes_eq, Some, None}
+use Rattle.std.specs.Prelude.{◌≡◌, pos, negsuc, get_or, List, [], ◌∷◌, ◌++◌, if◌then◌else◌, codes, bytes_eq, Some, None}
 use Rattle.std.proofs.Common.{refl}
 use Rattle.std.specs.Fmt.{digits}
 use Rattle.mesh_terms.specs.Limits.{Limits}
@@ -7,6 +7,7 @@ use Rattle.obj_terms.specs.Written.{line_of}
 use Rattle.run_terms.specs.Files.{Bytes, Files}
 use Rattle.run_terms.specs.Runs.{Ask, Write, Say, Done, Refused, Refusal, Play}
 use Rattle.play_terms.specs.Commands.{Winding, play}
+use Rattle.play_terms.specs.Words.{CopyFile, InsideFile, command}
 
 abbrev program : Limits
 program = record { file_bytes = 1073741824; points = 15000000; triangles = 10000000; halfedges = 6000000 }
@@ -99,5 +100,32 @@ says_a_winding_number : play told (codes "inside" ∷ codes "t.obj" ∷ codes "2
 unfolding digits
 says_a_winding_number = refl
 
-refuses_a_negative_operand : play told (codes "inside" ∷ codes "t.obj" ∷ codes "-5" ∷ codes "4" ∷ codes "3" ∷ []) (λ n. None) program ≡ record { actions = []; end = Refused (record { status = 1; line = line_of (codes "usage: manifold_tool copy IN OUT, inside FILE X Y Z or run SCRIPT, each with --digits K") }) }
-refuses_a_negative_operand = refl
+takes_digits_after_the_names : command (codes "copy" ∷ codes "a.obj" ∷ codes "b.OBJ" ∷ codes "--digits" ∷ codes "0" ∷ []) ≡ Some (CopyFile 0 (codes "a.obj") (codes "b.OBJ"))
+takes_digits_after_the_names = refl
+
+takes_digits_in_one_word : command (codes "copy" ∷ codes "--digits=6" ∷ codes "a.obj" ∷ codes "b.obj" ∷ []) ≡ Some (CopyFile 6 (codes "a.obj") (codes "b.obj"))
+takes_digits_in_one_word = refl
+
+takes_any_operand_after_the_end : command (codes "inside" ∷ codes "cube.obj" ∷ codes "--" ∷ codes "-5" ∷ codes "4" ∷ codes "3" ∷ []) ≡ Some (InsideFile 4 (codes "cube.obj") (negsuc 49999 ∷ pos 40000 ∷ pos 30000 ∷ []))
+takes_any_operand_after_the_end = refl
+
+takes_a_second_end_as_an_operand : command (codes "copy" ∷ codes "--" ∷ codes "-a.obj" ∷ codes "--" ∷ []) ≡ None
+takes_a_second_end_as_an_operand = refl
+
+refuses_a_sign_before_the_end : command (codes "inside" ∷ codes "cube.obj" ∷ codes "-5" ∷ codes "4" ∷ codes "3" ∷ []) ≡ None
+refuses_a_sign_before_the_end = refl
+
+refuses_digits_before_the_command : command (codes "--digits" ∷ codes "3" ∷ codes "copy" ∷ codes "a.obj" ∷ codes "b.obj" ∷ []) ≡ None
+refuses_digits_before_the_command = refl
+
+refuses_seven_digits : command (codes "copy" ∷ codes "--digits=7" ∷ codes "a.obj" ∷ codes "b.obj" ∷ []) ≡ None
+refuses_seven_digits = refl
+
+refuses_digits_without_a_value : command (codes "copy" ∷ codes "a.obj" ∷ codes "b.obj" ∷ codes "--digits" ∷ codes "--" ∷ []) ≡ None
+refuses_digits_without_a_value = refl
+
+refuses_digits_twice : command (codes "copy" ∷ codes "--digits=3" ∷ codes "--digits" ∷ codes "3" ∷ codes "a.obj" ∷ codes "b.obj" ∷ []) ≡ None
+refuses_digits_twice = refl
+
+refuses_another_suffix : command (codes "copy" ∷ codes "a.obj" ∷ codes "b.ply" ∷ []) ≡ None
+refuses_another_suffix = refl

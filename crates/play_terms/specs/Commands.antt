@@ -10,7 +10,7 @@ use Rattle.obj_terms.specs.Written.{obj_text}
 use Rattle.run_terms.specs.Files.{Bytes, Files}
 use Rattle.run_terms.specs.Runs.{Action, Ask, Write, Say, Refusal, Done, Refused, Play}
 use Rattle.play_terms.specs.Lines.{usage, missing, over, fault_refusal, open_refusal, copied_line, winding_line}
-use Rattle.play_terms.specs.Words.{Command, CopyFile, InsideFile, narrow_command}
+use Rattle.play_terms.specs.Words.{Command, CopyFile, InsideFile, command}
 
 -- no action, and the refusal
 abbrev pub refused : Refusal → Play
@@ -61,4 +61,4 @@ play_of winding limits files (Some (InsideFile k file p)) = inside_play k windin
 
 -- the play of the words
 abbrev pub play : Winding → List Bytes → Files → Limits → Play
-play winding words files limits = play_of winding limits files (narrow_command words)
+play winding words files limits = play_of winding limits files (command words)
