@@ -2,10 +2,11 @@
 //! crossing of the edge of P's first two with Q's face, and that of P's face with the edge of Q's first two.
 //!
 //! A corner is its x, y and z in grid steps, a digit each, and the axes on which it counts as moved up. A crossing is its
-//! number and the x, y and z of its point; a dot stands for none. The points are those of a fine step of one grid step.
+//! number and the x, y and z of its point; a dot stands for none.
 //!
 //! The corners came from a random generator, many of them at one point or with one coordinate. The answers are those of an
-//! independent reference program, which was written from the definitions alone.
+//! independent reference program, which was written from the definitions alone. They hold where a fine step is one grid
+//! step.
 pub(crate) const ROWS: &str = "\
 111 210 111 022 010 022 . .
 211 000x 231xz 010 022 231 . .
