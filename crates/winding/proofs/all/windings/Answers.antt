@@ -1,7 +1,6 @@
-use Rattle.std.proofs.Common.{◌≡◌, ℕ, ℤ, pos, neg_ℤ, ◌+ℤ◌, ◌∷◌, [], get_or, length, refl, arith, ap, ◌∙◌}
+use Rattle.std.proofs.Common.{ℕ, ℤ, pos, ◌∷◌, [], get_or, refl, arith, ap}
 use Rattle.std.proofs.lemmas.Int.{ints}
 use Rattle.chain_laws.specs.Chains.{IsOdd}
-use Rattle.mb_base.specs.declared.point.Corner.{Corner}
 use Rattle.mesh_terms.specs.Meshes.{Triple}
 use Rattle.rounding.specs.Corners.{corner_at}
 use Rattle.shadow_kernels.specs.Counts.{shadow_of}
