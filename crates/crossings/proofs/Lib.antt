@@ -3,4 +3,5 @@ pub mod Numbers
 pub mod Order
 pub mod Rounds
 pub mod Rows
+mod Tetrahedra
 pub mod Totals

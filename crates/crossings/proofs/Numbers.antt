@@ -1,12 +1,11 @@
 -- The numbers by half-edge are those of the half-edges' corners.
-use Rattle.std.proofs.Common.{◌≡◌, ◌≢◌, ℕ, ◌<◌, ◌≤◌, ℤ, neg_ℤ, List, length, get_or, if◌then◌else◌, arith, inl, inr, ap, sym, ◌∙◌}
+use Rattle.std.proofs.Common.{◌≡◌, ◌≢◌, ℕ, ◌<◌, ◌≤◌, ℤ, neg_ℤ, length, get_or, if◌then◌else◌, arith, inl, inr, ap, ◌∙◌}
 use Rattle.std.proofs.lemmas.Int.{ints}
 use Rattle.std.proofs.lemmas.Bool.{cases_lt, lt-ltb, le-ltb}
-use Rattle.std.specs.List.{All}
-use Rattle.chain_terms.specs.Chains.{all_edges, IsClosed}
+use Rattle.chain_terms.specs.Chains.{all_edges}
 use Rattle.chain_laws.specs.Ranks.{start, finish, twin}
 use Rattle.halfedge.proofs.Around.{pair_up}
-use Rattle.mesh_terms.specs.Meshes.{Triple, HasThree}
+use Rattle.mesh_terms.specs.Meshes.{Triple}
 use Rattle.edge_face.specs.Crossings.{number_of}
 use Rattle.lean.specs.Sides.{Side, IsSide, edge_of, face_of}
 use Rattle.crossings.specs.Hits.{CrossTest, hits_of}

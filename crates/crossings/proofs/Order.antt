@@ -1,11 +1,11 @@
 -- All hits are in order, of lower half-edges and faces, with numbers that may be listed.
-use Rattle.std.proofs.Common.{◌≡◌, ◌≢◌, ℕ, ℤ, pos, negsuc, ◌≤ℤ◌, zero, suc, ◌+◌, ◌<◌, ◌≤◌, List, [], ◌∷◌, ◌++◌, Option, Some, None, Bool, true, false, cond, nat_lt, filter, length, refl, arith, inl, inr, sym, ap, ◌∙◌, subst, IfSome}
+use Rattle.std.proofs.Common.{◌≡◌, ◌≢◌, ℕ, pos, negsuc, ◌≤ℤ◌, zero, suc, ◌+◌, ◌<◌, ◌≤◌, List, [], ◌∷◌, ◌++◌, Option, Some, None, Bool, true, nat_lt, filter, length, refl, arith, inl, inr, sym, ap, ◌∙◌, subst, IfSome}
 use Rattle.std.specs.List.{All, AllPairs, cons_option, filter_map, flat_map}
 use Rattle.std.proofs.lemmas.Bool.{ltb-true, cases_Bool}
 use Rattle.std.proofs.lemmas.List.Elements.{All-append, All-cons, All-head, All-nil, All-tail, All-weaker}
 use Rattle.std.proofs.lemmas.List.Kept.{AllPairs-cons}
 use Rattle.chain_terms.specs.Chains.{all_edges}
-use Rattle.chain_terms.specs.Sums.{up_from, upto}
+use Rattle.chain_terms.specs.Sums.{up_from}
 use Rattle.chain_laws.specs.Ranks.{twin}
 use Rattle.mb_base.specs.declared.results.Hit.{Hit}
 use Rattle.edge_face.specs.declared.Cross.{Cross}

@@ -1,5 +1,5 @@
 -- The lists of hits, step by step.
-use Rattle.std.proofs.Common.{◌≡◌, ℕ, ◌+◌, ◌<◌, ◌≤◌, List, [], ◌∷◌, ◌++◌, Option, Some, None, true, false, nat_lt, filter, length, ap, sym, ◌∙◌, append-nil, append_assoc}
+use Rattle.std.proofs.Common.{◌≡◌, ℕ, ◌+◌, ◌<◌, ◌≤◌, List, [], ◌∷◌, ◌++◌, Option, Some, None, nat_lt, filter, ap, sym, ◌∙◌, append-nil, append_assoc}
 use Rattle.std.specs.List.{cons_option, filter_map, flat_map}
 use Rattle.std.proofs.lemmas.Bool.{lt-ltb, le-ltb}
 use Rattle.std.proofs.lemmas.List.Elements.{filter_map-append}
@@ -12,7 +12,7 @@ use Rattle.chain_laws.proofs.Places.{upto_more}
 use Rattle.mb_base.specs.declared.results.Hit.{Hit}
 use Rattle.edge_face.specs.declared.Cross.{Cross}
 use Rattle.lean.specs.Sides.{Side, edge_at, face_at}
-use Rattle.crossings.specs.Hits.{CrossTest, hit_of, hits_along, hits_of}
+use Rattle.crossings.specs.Hits.{CrossTest, hit_of, hits_along}
 
 -- the hits of one half-edge with the first n faces
 abbrev pub hits_to : CrossTest → Side → Side → ℕ → ℕ → List Hit

@@ -1,5 +1,5 @@
 //! Where the edges of one side cross the faces of another: one hit for each edge and face whose number of crossings is
-//! not 0. The numbers agree with each other whatever the rounding did: for a face of each side, the crossings of the one's
+//! not 0. For any lawful kernels the numbers agree with each other: for a face of each side, the crossings of the one's
 //! edges with the other add up to those of the other's edges with the one. After J. M. Smith's thesis "Towards robust
 //! inexact geometric computation" and the Manifold library.
 #![tactic(auto)]

@@ -24,11 +24,11 @@ pub fn crossings<K: Kernels>(
     ensures x21 { IfOk result (λ hits. hits.x21.items ≡ hits_of (λ edge face. ⟦<K as Crosses<3, 2>>⟧.cross_of kernels.now face edge) q.now p.now) }
 
     // Each is named by its lower half-edge, in order, with a number from -2 to 2 that is not 0.
-    ensures p_edges { IfOk result (λ hits. AreHits (all_edges p.now.triples) (length q.now.triples) hits.x12.items) }
-    ensures q_edges { IfOk result (λ hits. AreHits (all_edges q.now.triples) (length p.now.triples) hits.x21.items) }
+    ensures x12_listed { IfOk result (λ hits. AreHits (all_edges p.now.triples) (length q.now.triples) hits.x12.items) }
+    ensures x21_listed { IfOk result (λ hits. AreHits (all_edges q.now.triples) (length p.now.triples) hits.x21.items) }
 
     // Over numbers by half-edge, of which those of twins are turned: a face of p and one of q have one sum, round either.
-    ensures pairs { IfOk result (λ hits. PairIdentity (length p.now.triples) (length q.now.triples) (half_number (all_edges p.now.triples) hits.x12.items) (half_number (all_edges q.now.triples) hits.x21.items)) }
+    ensures pair_identity { IfOk result (λ hits. PairIdentity (length p.now.triples) (length q.now.triples) (half_number (all_edges p.now.triples) hits.x12.items) (half_number (all_edges q.now.triples) hits.x21.items)) }
 {
     // Read so that what sides keep is known here.
     let _ = p.twins();

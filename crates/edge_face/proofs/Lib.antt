@@ -3,3 +3,4 @@ pub mod Sums
 pub mod Placed
 pub mod Firsts
 pub mod Found
+mod Upright

@@ -1,10 +1,12 @@
 -- Settled values and points of them.
-use Rattle.std.proofs.Common.{arith, ◌≡◌, ℤ, Option, None, Some, IsSome, IfSome, FitsSigned, List, [], ◌∷◌, ap, ◌∙◌}
+use Rattle.std.proofs.Common.{arith, ◌≡◌, ◌^◌, ℤ, pos, neg_ℤ, ◌*ℤ◌, Option, None, Some, IsSome, IfSome, FitsSigned, List, [], ◌∷◌, ap, ◌∙◌}
 use Rattle.std.proofs.lemmas.Int.{ints}
 use Rattle.std.specs.Int.{w32, w64}
+use Rattle.mb_base.specs.declared.TheConstants.{UNIT}
 use Rattle.mesh_terms.specs.Points.{IsOnGrid}
 use Rattle.rounding.specs.Fine.{IsFine, IsWeight}
 use Rattle.shadow_kernels.specs.Spots.{Between}
+use Rattle.edge_face.specs.Lawful.{IsSettling}
 use Rattle.edge_face.specs.Points.{Settle}
 use Rattle.edge_face.proofs.Kept.{seen}
 
@@ -23,6 +25,15 @@ kept_settled w settle r u v a b g h e fu fv wa wb x y fits =
     ∙ ap (λ (z : ℤ). settle (w u z (seen w64 a) (seen w64 b))) v_kept
     ∙ ap (λ (z : ℤ). settle (w u v z (seen w64 b))) (a_kept ∙ x)
     ∙ ap (λ (z : ℤ). settle (w u v g z)) (b_kept ∙ y)
+
+-- a fine value settles to a coordinate of the grid
+pub settled_grid : (settle : Settle) → IsSettling settle → (z : ℤ) → IsFine z → IsOnGrid (settle z)
+settled_grid settle s z fz =
+    let top : IsFine (UNIT *ℤ pos (2 ^ 30)) = record { low = omega (arith, ints); high = omega (arith, ints) } in
+    let bottom : IsFine (UNIT *ℤ neg_ℤ (pos (2 ^ 30))) = record { low = omega (arith, ints); high = omega (arith, ints) } in
+    let high = s.monotone z (UNIT *ℤ pos (2 ^ 30)) fz top (omega (arith, ints, fz.high)) in
+    let low = s.monotone (UNIT *ℤ neg_ℤ (pos (2 ^ 30))) z bottom fz (omega (arith, ints, fz.low)) in
+    omega (arith, ints, high, low, s.units (pos (2 ^ 30)) top, s.units (neg_ℤ (pos (2 ^ 30))) bottom)
 
 -- a coordinate of the grid stays one at its width
 pub kept_on : (r : ℤ) → IsOnGrid r → IsOnGrid (seen w32 r)

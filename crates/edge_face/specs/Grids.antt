@@ -1,19 +1,15 @@
--- The shadow tests on the grid, and that they are lawful.
-use Rattle.std.specs.Prelude.{ℕ, ◌+◌, ◌<◌, Option, List}
-use Rattle.std.proofs.Common.{arith, refl}
+-- The shadow tests and the crossings on the grid, over lists of corners.
+use Rattle.std.specs.Prelude.{Option, List}
 use Rattle.mb_base.specs.declared.point.Corner.{Corner}
 use Rattle.rounding.specs.Corners.{corner_at}
 use Rattle.shadow_kernels.specs.declared.Meet.{Meet}
 use Rattle.shadow_kernels.specs.Spots.{Between}
 use Rattle.shadow_kernels.specs.Shadows.{meet01, meet10, meet11, meet02, meet20}
-use Rattle.shadow_kernels.specs.Hulls.{StaysBetween}
-use Rattle.shadow_kernels.specs.Sizes.{sized_bounds, sized_present}
-use Rattle.shadow_kernels.specs.EdgeLaws.{lift11, sized11, reverse11_p_law, reverse11_q_law, hull11_law, apart11_law, side11_law}
-use Rattle.shadow_kernels.specs.FaceLaws.{lift02, lift20, sized02, sized20, hull02_law, hull20_law, apart02_law, apart20_law, side02_law, side20_law}
-use Rattle.edge_face.specs.Points.{pairs12, pairs21}
-use Rattle.edge_face.specs.Tests.{IsLawful, Tests, AreLawful}
+use Rattle.edge_face.specs.declared.Cross.{Cross}
+use Rattle.edge_face.specs.Crossings.{Tests}
+use Rattle.edge_face.specs.Points.{Settle, pairs12, pairs21, cross23, cross32}
 
--- over lists of corners
+-- the tests
 abbrev pub grid_tests : Between → Tests
 grid_tests w = record {
   vertex_edge = λ p q. meet01 w (corner_at p 0) (corner_at q 0) (corner_at q 1);
@@ -31,55 +27,10 @@ grid_pairs12 w p q = pairs12 (grid_tests w).vertex_face (grid_tests w).edge_edge
 abbrev pub grid_pairs21 : Between → List Corner → List Corner → List (Option Meet)
 grid_pairs21 w p q = pairs21 (grid_tests w).face_vertex (grid_tests w).edge_edge (corner_at p 0) (corner_at p 1) (corner_at p 2) (corner_at q 0) (corner_at q 1)
 
--- the first two axes are those below the last
-axes : (i : ℕ) → i < 2 → i + 2 < 4
-axes i h = omega arith
+-- the crossing of the two corners of a list of P with the three of one of Q
+abbrev pub grid_cross23 : Between → Settle → List Corner → List Corner → Option Cross
+grid_cross23 w settle p q = cross23 (grid_tests w) w settle p q
 
--- two edges
-lawful11 : (w : Between) → StaysBetween w → IsLawful 2 2 (grid_tests w).edge_edge
-lawful11 w stays = record {
-  size = λ p q l m fp fq.
-      sized_bounds (meet11 w (corner_at p 0) (corner_at p 1) (corner_at q 0) (corner_at q 1)) (sized11 w (corner_at p 0) (corner_at p 1) (corner_at q 0) (corner_at q 1));
-  present = λ p q l m fp fq.
-      sized_present (meet11 w (corner_at p 0) (corner_at p 1) (corner_at q 0) (corner_at q 1)) (sized11 w (corner_at p 0) (corner_at p 1) (corner_at q 0) (corner_at q 1));
-  hull = λ p q l m fp fq. hull11_law w stays p q l m fp fq;
-  apart = λ p q i l m fp fq less a. apart11_law w stays p q i l m fp fq (axes i less) a;
-  side = λ p q l m fp fq. side11_law w stays p q 2 l m fp fq refl;
-}
-
--- a vertex and a face
-lawful02 : (w : Between) → StaysBetween w → IsLawful 1 3 (grid_tests w).vertex_face
-lawful02 w stays = record {
-  size = λ p q l m fp fq.
-      sized_bounds (meet02 w (corner_at p 0) (corner_at q 0) (corner_at q 1) (corner_at q 2)) (sized02 w (corner_at p 0) (corner_at q 0) (corner_at q 1) (corner_at q 2));
-  present = λ p q l m fp fq.
-      sized_present (meet02 w (corner_at p 0) (corner_at q 0) (corner_at q 1) (corner_at q 2)) (sized02 w (corner_at p 0) (corner_at q 0) (corner_at q 1) (corner_at q 2));
-  hull = λ p q l m fp fq. hull02_law w stays p q l m fp fq;
-  apart = λ p q i l m fp fq less a. apart02_law w stays p q i l m fp fq (axes i less) a;
-  side = λ p q l m fp fq. side02_law w stays p q 2 l m fp fq refl;
-}
-
--- a face and a vertex
-lawful20 : (w : Between) → StaysBetween w → IsLawful 3 1 (grid_tests w).face_vertex
-lawful20 w stays = record {
-  size = λ p q l m fp fq.
-      sized_bounds (meet20 w (corner_at p 0) (corner_at p 1) (corner_at p 2) (corner_at q 0)) (sized20 w (corner_at p 0) (corner_at p 1) (corner_at p 2) (corner_at q 0));
-  present = λ p q l m fp fq.
-      sized_present (meet20 w (corner_at p 0) (corner_at p 1) (corner_at p 2) (corner_at q 0)) (sized20 w (corner_at p 0) (corner_at p 1) (corner_at p 2) (corner_at q 0));
-  hull = λ p q l m fp fq. hull20_law w stays p q l m fp fq;
-  apart = λ p q i l m fp fq less a. apart20_law w stays p q i l m fp fq (axes i less) a;
-  side = λ p q l m fp fq. side20_law w stays p q 2 l m fp fq refl;
-}
-
--- all of them, under a rounding that stays between
-pub grid_lawful : (w : Between) → StaysBetween w → AreLawful (grid_tests w)
-grid_lawful w stays = record {
-  edges = lawful11 w stays;
-  vertices = lawful02 w stays;
-  faces = lawful20 w stays;
-  reverse_p = λ p q l m fp fq. reverse11_p_law w (corner_at q 0) (corner_at q 1) p 0 1 (omega arith) (omega arith) l;
-  reverse_q = λ p q l m fp fq. reverse11_q_law w (corner_at p 0) (corner_at p 1) q 0 1 (omega arith) (omega arith) m;
-  lift_11 = λ a b c d fp fq. lift11 w a b c d;
-  lift_02 = λ p u v t fp fq. lift02 w p u v t;
-  lift_20 = λ u v t q fp fq. lift20 w u v t q;
-}
+-- of three with two
+abbrev pub grid_cross32 : Between → Settle → List Corner → List Corner → Option Cross
+grid_cross32 w settle p q = cross32 (grid_tests w) w settle p q

@@ -1,19 +1,18 @@
 -- The laws of the crossings of an edge and a face under lawful tests, over lists of corners.
-use Rattle.std.specs.Prelude.{◌≡◌, ◌≢◌, ℕ, ◌<◌, ℤ, pos, negsuc, neg_ℤ, ◌≤ℤ◌, Option, None, IfSome, List, [], ◌∷◌, length, swap}
+use Rattle.std.specs.Prelude.{◌≡◌, ◌≢◌, ℕ, ◌<◌, ℤ, pos, negsuc, neg_ℤ, ◌≤ℤ◌, None, IfSome, List, [], ◌∷◌, length, swap}
 use Rattle.std.proofs.Common.{arith, ap, sym, ◌∙◌}
 use Rattle.mb_base.specs.declared.point.Corner.{Corner}
 use Rattle.rounding.specs.Corners.{corner_at, AllFine}
 use Rattle.shadow_kernels.specs.Spots.{Between}
 use Rattle.shadow_kernels.specs.Boxes.{AreApart}
 use Rattle.shadow_kernels.specs.Hulls.{StaysBetween}
-use Rattle.edge_face.specs.declared.Cross.{Cross}
-use Rattle.edge_face.specs.Crossings.{number_of, number12, number21}
-use Rattle.edge_face.specs.Points.{Settle, p_point, q_point, cross12, cross21}
+use Rattle.edge_face.specs.Crossings.{number_of, number12, number21, Tests}
+use Rattle.edge_face.specs.Points.{Settle, p_point, q_point, cross12, cross21, cross23, cross32}
 use Rattle.edge_face.specs.Wholes.{AllWhole, IsPointIn}
-use Rattle.edge_face.specs.Tests.{Tests, AreLawful}
-use Rattle.edge_face.specs.Rims.{boundary12, boundary21, turn12, turn21}
+use Rattle.edge_face.specs.Lawful.{AreLawful, IsSettling}
+use Rattle.edge_face.specs.Boundaries.{boundary12, boundary21, turn12, turn21}
 use Rattle.edge_face.specs.Answers.{answer_present, answer_number, answer_small, answer_apart, answer_at}
-use Rattle.edge_face.specs.Settled.{IsSettling, p_point_inside, q_point_inside}
+use Rattle.edge_face.specs.Settled.{p_point_inside, q_point_inside}
 
 -- what holds of every edge holds of every list of two
 by_two : (P : List Corner → Type 0) → ((a b : Corner) → P (a ∷ b ∷ [])) → (cs : List Corner) → length cs ≡ 2 → P cs
@@ -41,14 +40,6 @@ face_edge : (P : List Corner → List Corner → Type 0) → ((u v t c d : Corne
     (p q : List Corner) → length p ≡ 3 → length q ≡ 2 → AllFine p → AllFine q → P p q
 face_edge P f p q l m =
     by_three (λ p. AllFine p → AllFine q → P p q) (λ u v t. by_two (λ q. AllFine (u ∷ v ∷ t ∷ []) → AllFine q → P (u ∷ v ∷ t ∷ []) q) (λ c d. f u v t c d) q m) p l
-
--- the crossing of the two corners of a list with the three of another
-abbrev pub cross23 : Tests → Between → Settle → List Corner → List Corner → Option Cross
-cross23 t w settle p q = cross12 t.vertex_face t.edge_edge w settle (corner_at p 0) (corner_at p 1) (corner_at q 0) (corner_at q 1) (corner_at q 2)
-
--- of three with two
-abbrev pub cross32 : Tests → Between → Settle → List Corner → List Corner → Option Cross
-cross32 t w settle p q = cross21 t.face_vertex t.edge_edge w settle (corner_at p 0) (corner_at p 1) (corner_at p 2) (corner_at q 0) (corner_at q 1)
 
 -- the number of an answer is its definition
 pub lift12 : (t : Tests) (w : Between) (settle : Settle) (a b u v x : Corner) → number_of (cross12 t.vertex_face t.edge_edge w settle a b u v x) ≡ number12 t.vertex_face t.edge_edge a b u v x

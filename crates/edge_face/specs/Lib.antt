@@ -1,13 +1,16 @@
+-- definitions
 pub mod Crossings
 pub mod Points
+pub mod Grids
 pub mod Pairs
 pub mod Wholes
-pub mod Tests
+pub mod Lawful
+-- laws, which the traits' ghost members cite
 pub mod Parts
 pub mod Fives
 pub mod Numbers
-pub mod Rims
+pub mod Boundaries
 pub mod Settled
 pub mod Answers
 pub mod Laws
-pub mod Grids
+pub mod GridLaws

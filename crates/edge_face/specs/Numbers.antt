@@ -12,7 +12,7 @@ use Rattle.shadow_kernels.specs.Hulls.{IsOnSide}
 use Rattle.shadow_kernels.specs.Lifted.{first_own}
 use Rattle.shadow_kernels.specs.Sizes.{IsSized}
 use Rattle.edge_face.specs.Crossings.{ShadowTest}
-use Rattle.edge_face.specs.Tests.{IsLawful}
+use Rattle.edge_face.specs.Lawful.{IsLawful}
 use Rattle.edge_face.specs.Parts.{IsPart, wider_hull, parts_below, parts_apart}
 use Rattle.edge_face.specs.Fives.{five, five_number, AreFive, five_size, five_sides, five_one_side, five_none}
 

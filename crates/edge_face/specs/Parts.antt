@@ -27,7 +27,7 @@ third_of : (u v w : Corner) (P : Corner → Type 0) → All P (u ∷ v ∷ w ∷
 third_of u v w P h = All-head P w [] (All-tail P v (w ∷ []) (All-tail P u (v ∷ w ∷ []) h))
 
 -- two corners of which something holds
-both_of : (P : Corner → Type 0) (a b : Corner) → P a → P b → All P (a ∷ b ∷ [])
+pub both_of : (P : Corner → Type 0) (a b : Corner) → P a → P b → All P (a ∷ b ∷ [])
 both_of P a b h k = All-cons P a (b ∷ []) h (All-cons P b [] k (All-nil P))
 
 -- the start and the end of an edge

@@ -2,12 +2,13 @@
 use Rattle.std.specs.Prelude.{ℤ, pos, true, false, if◌then◌else◌, Option, None, Some, List, [], ◌∷◌, map}
 use Rattle.std.specs.Ordering.{int_eq}
 use Rattle.mb_base.specs.declared.point.Corner.{Corner}
+use Rattle.rounding.specs.Corners.{corner_at}
 use Rattle.shadow_kernels.specs.declared.Spot.{Spot}
 use Rattle.shadow_kernels.specs.declared.Meet.{Meet}
 use Rattle.shadow_kernels.specs.Spots.{Between, gap}
 use Rattle.shadow_kernels.specs.Counts.{first_spot}
 use Rattle.edge_face.specs.declared.Cross.{Cross}
-use Rattle.edge_face.specs.Crossings.{ShadowTest, rim, number12, number21}
+use Rattle.edge_face.specs.Crossings.{ShadowTest, Tests, face_edges, number12, number21}
 
 -- the grid step of a fine coordinate
 abbrev pub Settle : Type 0
@@ -16,12 +17,12 @@ Settle = ℤ → ℤ
 -- the answers of the start and the end of P's edge with the face, and of the edge with each edge of the face
 abbrev pub pairs12 : ShadowTest → ShadowTest → Corner → Corner → Corner → Corner → Corner → List (Option Meet)
 pairs12 vertex_face edge_edge a b u v w =
-    vertex_face (a ∷ []) (u ∷ v ∷ w ∷ []) ∷ vertex_face (b ∷ []) (u ∷ v ∷ w ∷ []) ∷ map (edge_edge (a ∷ b ∷ [])) (rim u v w)
+    vertex_face (a ∷ []) (u ∷ v ∷ w ∷ []) ∷ vertex_face (b ∷ []) (u ∷ v ∷ w ∷ []) ∷ map (edge_edge (a ∷ b ∷ [])) (face_edges u v w)
 
 -- the answers of P's face with the start and the end of the edge, and of each edge of the face with the edge
 abbrev pub pairs21 : ShadowTest → ShadowTest → Corner → Corner → Corner → Corner → Corner → List (Option Meet)
 pairs21 face_vertex edge_edge u v w c d =
-    face_vertex (u ∷ v ∷ w ∷ []) (c ∷ []) ∷ face_vertex (u ∷ v ∷ w ∷ []) (d ∷ []) ∷ map (λ e. edge_edge e (c ∷ d ∷ [])) (rim u v w)
+    face_vertex (u ∷ v ∷ w ∷ []) (c ∷ []) ∷ face_vertex (u ∷ v ∷ w ∷ []) (d ∷ []) ∷ map (λ e. edge_edge e (c ∷ d ∷ [])) (face_edges u v w)
 
 -- a point between a spot that is not above and one that is, weighted by their gaps in z: P's values, settled
 unfoldable pub p_point : Between → Settle → Spot → Spot → List ℤ
@@ -52,3 +53,11 @@ unfoldable pub cross21 : ShadowTest → ShadowTest → Between → Settle → Co
 cross21 face_vertex edge_edge between settle u v w c d =
     let pairs = pairs21 face_vertex edge_edge u v w c d in
     crossed (number21 face_vertex edge_edge u v w c d) (q_point between settle (first_spot false pairs) (first_spot true pairs))
+
+-- the crossing of the two corners of a list with the three of another
+abbrev pub cross23 : Tests → Between → Settle → List Corner → List Corner → Option Cross
+cross23 t w settle p q = cross12 t.vertex_face t.edge_edge w settle (corner_at p 0) (corner_at p 1) (corner_at q 0) (corner_at q 1) (corner_at q 2)
+
+-- of three with two
+abbrev pub cross32 : Tests → Between → Settle → List Corner → List Corner → Option Cross
+cross32 t w settle p q = cross21 t.face_vertex t.edge_edge w settle (corner_at p 0) (corner_at p 1) (corner_at p 2) (corner_at q 0) (corner_at q 1)

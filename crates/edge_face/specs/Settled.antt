@@ -1,10 +1,7 @@
 -- Settled points stay in the box of an edge whose ends lie on the grid.
-use Rattle.std.specs.Prelude.{◌≡◌, ℕ, ◌^◌, ℤ, pos, neg_ℤ, ◌*ℤ◌, ◌≤ℤ◌, List, [], ◌∷◌}
-use Rattle.std.specs.List.{All}
+use Rattle.std.specs.Prelude.{◌≡◌, ℕ, ℤ, ◌*ℤ◌, ◌≤ℤ◌, List, [], ◌∷◌}
 use Rattle.std.proofs.Common.{arith, sym, subst, inl, inr}
 use Rattle.std.proofs.lemmas.Int.{ints, by_lt_z}
-use Rattle.std.proofs.lemmas.List.Elements.{All-nil, All-cons}
-use Rattle.mesh_terms.specs.Points.{IsOnGrid}
 use Rattle.mb_base.specs.declared.TheConstants.{UNIT}
 use Rattle.mb_base.specs.declared.point.Corner.{Corner}
 use Rattle.rounding.specs.Fine.{IsFine, IsWeight, LiesBetween}
@@ -16,12 +13,9 @@ use Rattle.shadow_kernels.specs.Bounds.{box_between, hull_fine}
 use Rattle.shadow_kernels.specs.Hulls.{StaysBetween}
 use Rattle.shadow_kernels.specs.Lifted.{gap_weight}
 use Rattle.edge_face.specs.Points.{Settle, p_point, q_point}
+use Rattle.edge_face.specs.Lawful.{IsSettling}
+use Rattle.edge_face.specs.Parts.{both_of}
 use Rattle.edge_face.specs.Wholes.{IsWhole, IsWholeCorner, AllWhole, IsPointIn}
-
--- the laws of settling
-pub record IsSettling (settle : Settle) : Type 0 where
-  pub monotone : (f g : ℤ) → IsFine f → IsFine g → f ≤ℤ g → settle f ≤ℤ settle g
-  pub units : (k : ℤ) → IsFine (UNIT *ℤ k) → settle (UNIT *ℤ k) ≡ k
 
 -- a whole number of grid steps settles to that number
 settled_whole : (settle : Settle) → IsSettling settle → (x : ℤ) → IsFine x → (h : IsWhole x) → settle x ≡ h.steps
@@ -35,19 +29,6 @@ settled_low settle s x z fx fz h l =
 settled_high : (settle : Settle) → IsSettling settle → (y z : ℤ) → IsFine y → IsFine z → IsWhole y → z ≤ℤ y → (UNIT *ℤ settle z) ≤ℤ y
 settled_high settle s y z fy fz h l =
     let e = settled_whole settle s y fy h in let m = s.monotone z y fz fy l in let v = h.value in omega (arith, ints, e, m, v)
-
--- a fine value settles to a coordinate of the grid
-pub settled_grid : (settle : Settle) → IsSettling settle → (z : ℤ) → IsFine z → IsOnGrid (settle z)
-settled_grid settle s z fz =
-    let top : IsFine (UNIT *ℤ pos (2 ^ 30)) = record { low = omega (arith, ints); high = omega (arith, ints) } in
-    let bottom : IsFine (UNIT *ℤ neg_ℤ (pos (2 ^ 30))) = record { low = omega (arith, ints); high = omega (arith, ints) } in
-    let high = s.monotone z (UNIT *ℤ pos (2 ^ 30)) fz top (omega (arith, ints, fz.high)) in
-    let low = s.monotone (UNIT *ℤ neg_ℤ (pos (2 ^ 30))) z bottom fz (omega (arith, ints, fz.low)) in
-    omega (arith, ints, high, low, s.units (pos (2 ^ 30)) top, s.units (neg_ℤ (pos (2 ^ 30))) bottom)
-
--- two corners of which something holds
-both_of : (P : Corner → Type 0) (a b : Corner) → P a → P b → All P (a ∷ b ∷ [])
-both_of P a b h k = All-cons P a (b ∷ []) h (All-cons P b [] k (All-nil P))
 
 -- a value between the ends of an edge settles between them
 settled_box : (settle : Settle) → IsSettling settle → (i : ℕ) (a b : Corner) (z : ℤ) → IsFine (axis i a) → IsFine (axis i b) → IsFine z → IsWhole (axis i a) → IsWhole (axis i b) →

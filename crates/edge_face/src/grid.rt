@@ -4,9 +4,10 @@ ghost use Rattle.std.specs.Prelude.{◌≡◌, ◌≢◌, ◌<◌, ◌∷◌, []
 ghost use Rattle.std.proofs.Common.{arith};
 ghost use Rattle.rounding.specs.Corners.{AllFine};
 ghost use Rattle.shadow_kernels.specs.FaceLaws.{lift02, lift20};
-ghost use Rattle.edge_face.specs.Grids.{grid_tests, grid_lawful, grid_pairs12, grid_pairs21};
+ghost use Rattle.edge_face.specs.Grids.{grid_tests, grid_pairs12, grid_pairs21, grid_cross23, grid_cross32};
+ghost use Rattle.edge_face.specs.GridLaws.{grid_lawful};
 ghost use Rattle.edge_face.specs.Pairs.{ArePairsOf, first_on};
-ghost use Rattle.edge_face.specs.Laws.{cross23, cross32, lift12, lift21, present23, present32, size23, size32, turn23, turn32, apart23, apart32, inside23, inside32};
+ghost use Rattle.edge_face.specs.Laws.{lift12, lift21, present23, present32, size23, size32, turn23, turn32, apart23, apart32, inside23, inside32};
 
 use crate::pair::Pairs;
 use crate::pairs::{edge_face_pairs, face_edge_pairs};
@@ -17,7 +18,7 @@ use rounding::Rounding;
 use shadow_kernels::{Grid, Meet, Meets};
 
 impl<R: Rounding> Crosses<2, 3> for Grid<R> {
-    ghost cross_of = { λ k p q. cross23 (grid_tests (R.between_of k.rounding)) (R.between_of k.rounding) (R.settle_of k.rounding) p q };
+    ghost cross_of = { λ k p q. grid_cross23 (R.between_of k.rounding) (R.settle_of k.rounding) p q };
 
     ghost present = { λ k p q l m a b. present23 (grid_tests (R.between_of k.rounding)) (R.between_of k.rounding) (R.settle_of k.rounding) p q };
 
@@ -36,7 +37,7 @@ impl<R: Rounding> Crosses<2, 3> for Grid<R> {
     fn cross(&self, p: &[Corner; 2], q: &[Corner; 3]) -> Option<Cross>
         requires p_fine { AllFine p.now }
         requires q_fine { AllFine q.now }
-        ensures value { result ≡ cross23 (grid_tests (R.between_of self.now.rounding)) (R.between_of self.now.rounding) (R.settle_of self.now.rounding) p.now q.now }
+        ensures value { result ≡ grid_cross23 (R.between_of self.now.rounding) (R.settle_of self.now.rounding) p.now q.now }
     {
         let pairs = edge_face_pairs(&self.rounding, p, q);
         let number = pairs.number()?;
@@ -48,7 +49,7 @@ impl<R: Rounding> Crosses<2, 3> for Grid<R> {
 }
 
 impl<R: Rounding> Crosses<3, 2> for Grid<R> {
-    ghost cross_of = { λ k p q. cross32 (grid_tests (R.between_of k.rounding)) (R.between_of k.rounding) (R.settle_of k.rounding) p q };
+    ghost cross_of = { λ k p q. grid_cross32 (R.between_of k.rounding) (R.settle_of k.rounding) p q };
 
     ghost present = { λ k p q l m a b. present32 (grid_tests (R.between_of k.rounding)) (R.between_of k.rounding) (R.settle_of k.rounding) p q };
 
@@ -67,7 +68,7 @@ impl<R: Rounding> Crosses<3, 2> for Grid<R> {
     fn cross(&self, p: &[Corner; 3], q: &[Corner; 2]) -> Option<Cross>
         requires p_fine { AllFine p.now }
         requires q_fine { AllFine q.now }
-        ensures value { result ≡ cross32 (grid_tests (R.between_of self.now.rounding)) (R.between_of self.now.rounding) (R.settle_of self.now.rounding) p.now q.now }
+        ensures value { result ≡ grid_cross32 (R.between_of self.now.rounding) (R.settle_of self.now.rounding) p.now q.now }
     {
         let pairs = face_edge_pairs(&self.rounding, p, q);
         let number = pairs.number()?;

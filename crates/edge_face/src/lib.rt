@@ -1,6 +1,6 @@
 //! How often an edge of one side crosses a face of the other, with its sign, and where. The number is what the shadow
-//! tests of the edge's ends and of the edge itself leave over, so crossings and winding numbers never contradict each
-//! other, whatever the rounding did. After J. M. Smith's thesis "Towards robust inexact geometric computation" and the
+//! tests of the edge's ends and of the edge itself leave over, so under every lawful rounding crossings and winding
+//! numbers agree with each other. After J. M. Smith's thesis "Towards robust inexact geometric computation" and the
 //! Manifold library.
 #![tactic(auto)]
 
@@ -11,7 +11,7 @@ ghost use Rattle.rounding.specs.Corners.{AllFine};
 ghost use Rattle.shadow_kernels.specs.Boxes.{AreApart};
 ghost use Rattle.shadow_kernels.specs.Counts.{count_of, shadow_of};
 ghost use Rattle.edge_face.specs.declared.Cross.{Cross};
-ghost use Rattle.edge_face.specs.Crossings.{number_of, rim, number12, number21};
+ghost use Rattle.edge_face.specs.Crossings.{number_of, face_edges, number12, number21};
 ghost use Rattle.edge_face.specs.Wholes.{AllWhole, IsPointIn};
 
 use mb_base::{Corner, Point};
@@ -79,12 +79,12 @@ pub trait Kernels: Flats + Meets<1, 3> + Meets<3, 1> + Crosses<2, 3> + Crosses<3
     /// A vertex and a face.
     ghost lift_02: { (k : Self) (p u v w : Corner) → AllFine (p ∷ []) → AllFine (u ∷ v ∷ w ∷ []) →
         count_of (⟦<Self as Meets<1, 3>>⟧.meet_of k (p ∷ []) (u ∷ v ∷ w ∷ []))
-        ≡ total (λ e. shadow_of (⟦<Self as Meets<1, 2>>⟧.meet_of k (p ∷ []) e)) (rim u v w) };
+        ≡ total (λ e. shadow_of (⟦<Self as Meets<1, 2>>⟧.meet_of k (p ∷ []) e)) (face_edges u v w) };
 
     /// A face and a vertex.
     ghost lift_20: { (k : Self) (u v w q : Corner) → AllFine (u ∷ v ∷ w ∷ []) → AllFine (q ∷ []) →
         count_of (⟦<Self as Meets<3, 1>>⟧.meet_of k (u ∷ v ∷ w ∷ []) (q ∷ []))
-        ≡ total (λ e. shadow_of (⟦<Self as Meets<2, 1>>⟧.meet_of k e (q ∷ []))) (rim u v w) };
+        ≡ total (λ e. shadow_of (⟦<Self as Meets<2, 1>>⟧.meet_of k e (q ∷ []))) (face_edges u v w) };
 
     /// An edge of P and a face of Q.
     ghost lift_12: { (k : Self) (a b u v w : Corner) → AllFine (a ∷ b ∷ []) → AllFine (u ∷ v ∷ w ∷ []) →

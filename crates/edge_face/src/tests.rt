@@ -1,68 +1,95 @@
-ghost use Rattle.std.specs.Prelude.{◌≡◌, ◌∷◌, []};
+ghost use Rattle.std.specs.Prelude.{◌≡◌, ◌<◌, ◌∷◌, [], pos, int_lt, IfSome, true, false, if◌then◌else◌, refl};
+ghost use Rattle.std.specs.Ordering.{int_eq};
+ghost use Rattle.std.proofs.Common.{arith, inl, inr};
+ghost use Rattle.std.proofs.lemmas.Bool.{cond_both};
+ghost use Rattle.std.proofs.lemmas.Bool.Decides.{Decides-int_eq};
+ghost use Rattle.std.proofs.lemmas.Int.{ints, by_lt_z};
+ghost use Rattle.rounding.specs.Fine.{IsFine, IsWeight, LiesBetween};
+ghost use Rattle.rounding.specs.Nearest.{settle_nearest};
+ghost use Rattle.rounding.specs.Lawful.{settle_monotone, settle_units};
 ghost use Rattle.rounding.specs.Corners.{IsFineCorner, AllFine};
 ghost use Rattle.edge_face.specs.Crossings.{number_of};
 
 use super::*;
-use crate::rows::{ROWS_0, ROWS_1, ROWS_2, ROWS_3};
+use crate::rows::ROWS;
 use mb_base::UNIT;
-use rounding::Nearest;
+use rounding::{Nearest, Rounding};
 use shadow_kernels::Grid;
 
-/// A corner from nine bits of coordinates and three of marks.
-fn corner(at: u64, up: u64) -> Corner
-    ensures { IsFineCorner result }
+/// What a line of the table says.
+#[derive(Drop)]
+struct Row {
+    p: [Corner; 3],
+    q: [Corner; 3],
+    edge_face: Option<Cross>,
+    face_edge: Option<Cross>,
+    ghost p_fine: { AllFine p },
+    ghost q_fine: { AllFine q },
+}
+
+/// A corner from a word as `210xz`.
+fn corner(word: &str) -> Option<Corner>
+    ensures { IfSome result (λ c. IsFineCorner c) }
 {
-    Corner {
-        at: [
-            (at % 8) as i64 * UNIT,
-            (at / 8 % 8) as i64 * UNIT,
-            (at / 64 % 8) as i64 * UNIT,
-        ],
-        up: [up % 2 == 1, up / 2 % 2 == 1, up / 4 % 2 == 1],
-    }
+    let mut digits = word.bytes();
+    let x = digits.next()?.checked_sub(b'0')?;
+    let y = digits.next()?.checked_sub(b'0')?;
+    let z = digits.next()?.checked_sub(b'0')?;
+    Some(Corner {
+        at: [x as i64 * UNIT, y as i64 * UNIT, z as i64 * UNIT],
+        up: [word.contains('x'), word.contains('y'), word.contains('z')],
+    })
 }
 
-/// An answer from its eleven bits.
-fn answer(code: u32) -> Option<Cross> {
-    if code % 4 == 0 {
-        return None;
+/// A crossing from a word as `-1:122`, or none from a dot.
+fn crossing(word: &str) -> Option<Option<Cross>> {
+    if word == "." {
+        return Some(None);
     }
-    let number = if code % 4 == 1 { 1 } else { -1 };
-    let at = Point::of(
-        (code / 4 % 8) as i32,
-        (code / 32 % 8) as i32,
-        (code / 256 % 8) as i32,
-    )?;
-    Some(Cross { number, at })
+    let (number, point) = word.split_once(':')?;
+    let mut digits = point.bytes();
+    let x = digits.next()?.checked_sub(b'0')?;
+    let y = digits.next()?.checked_sub(b'0')?;
+    let z = digits.next()?.checked_sub(b'0')?;
+    Some(cross_at(number.parse::<i8>().ok()?, x as i32, y as i32, z as i32))
 }
 
-/// Whether the answers of a row are those of its corners.
-fn agrees(row: &(u64, u32)) -> bool {
-    let corners = row.0;
+/// The row of a line.
+fn read_row(line: &str) -> Option<Row> {
+    let mut words = line.split_whitespace();
     let p = [
-        corner(corners, corners >> 54),
-        corner(corners >> 9, corners >> 57),
-        corner(corners >> 18, corners >> 60),
+        corner(words.next()?)?,
+        corner(words.next()?)?,
+        corner(words.next()?)?,
     ];
     let q = [
-        corner(corners >> 27, 0),
-        corner(corners >> 36, 0),
-        corner(corners >> 45, 0),
+        corner(words.next()?)?,
+        corner(words.next()?)?,
+        corner(words.next()?)?,
     ];
-    crosses(&p, &q) == (answer(row.1), answer(row.1 >> 11))
+    let edge_face = crossing(words.next()?)?;
+    let face_edge = crossing(words.next()?)?;
+    Some(Row {
+        p,
+        q,
+        edge_face,
+        face_edge,
+    })
 }
 
-/// The answers of the first edge of P with Q's face, and of P's face with the first edge of Q.
-fn crosses(p: &[Corner; 3], q: &[Corner; 3]) -> (Option<Cross>, Option<Cross>)
-    requires p_fine { AllFine p.now }
-    requires q_fine { AllFine q.now }
-{
+/// Whether the crossings of a line are those of its corners.
+fn agrees(line: &str) -> bool {
+    let Some(row) = read_row(line) else {
+        return false;
+    };
     let grid = Grid { rounding: Nearest };
-    (grid.cross(&[p[0], p[1]], q), grid.cross(p, &[q[0], q[1]]))
+    let edge_face = grid.cross(&[row.p[0], row.p[1]], &row.q);
+    let face_edge = grid.cross(&row.p, &[row.q[0], row.q[1]]);
+    edge_face == row.edge_face && face_edge == row.face_edge
 }
 
-/// The number of the edge from a to b and a face, asked of the edge from b to a: right under any kernels, by the laws
-/// alone.
+/// The number of the edge from a to b and a face, asked of the edge from b to a: right for any lawful kernels, by their
+/// laws alone.
 fn number_back<K: Kernels>(kernels: &K, a: &Corner, b: &Corner, q: &[Corner; 3]) -> i64
     requires a_fine { IsFineCorner a.now }
     requires b_fine { IsFineCorner b.now }
@@ -75,35 +102,28 @@ fn number_back<K: Kernels>(kernels: &K, a: &Corner, b: &Corner, q: &[Corner; 3])
     }
 }
 
-/// Whether an edge asked the other way round has the number of the row.
-fn turns(row: &(u64, u32)) -> bool {
-    let corners = row.0;
-    let a = corner(corners, corners >> 54);
-    let b = corner(corners >> 9, corners >> 57);
-    let q = [
-        corner(corners >> 27, 0),
-        corner(corners >> 36, 0),
-        corner(corners >> 45, 0),
-    ];
-    let number = match answer(row.1) {
+/// Whether the edge of a line, asked the other way round, has the line's number turned.
+fn turns(line: &str) -> bool {
+    let Some(row) = read_row(line) else {
+        return false;
+    };
+    let number = match row.edge_face {
         None => 0,
         Some(c) => c.number as i64,
     };
-    number_back(&Grid { rounding: Nearest }, &a, &b, &q) == number
-}
-
-#[test]
-fn turned_edges_have_turned_numbers(rt: HostRuntime) {
-    assert!(rt; ROWS_0.iter().all(turns));
-    assert!(rt; ROWS_3.iter().all(turns));
+    let [a, b, _] = row.p;
+    number_back(&Grid { rounding: Nearest }, &a, &b, &row.q) == number
 }
 
 #[test]
 fn agrees_with_the_table(rt: HostRuntime) {
-    assert!(rt; ROWS_0.iter().all(agrees));
-    assert!(rt; ROWS_1.iter().all(agrees));
-    assert!(rt; ROWS_2.iter().all(agrees));
-    assert!(rt; ROWS_3.iter().all(agrees));
+    assert_eq!(rt; ROWS.lines().count(), 200);
+    assert!(rt; ROWS.lines().all(agrees));
+}
+
+#[test]
+fn turned_edges_have_turned_numbers(rt: HostRuntime) {
+    assert!(rt; ROWS.lines().all(turns));
 }
 
 /// A corner of P or of Q at a point given in grid steps.
@@ -140,4 +160,90 @@ fn a_cube_crosses_a_post(rt: HostRuntime) {
     assert_eq!(rt; grid.cross(&diagonal, &side), cross_at(-1, 6, 6, 10));
     let wall = [front[1], front[2]];
     assert_eq!(rt; grid.cross(&top, &wall), cross_at(1, 5, 4, 10));
+}
+
+/// A lawful rounding that is hardly ever near: the farther of the two values, but where a weight is 0.
+#[derive(Clone, Copy, Drop)]
+struct Far;
+
+impl Rounding for Far {
+    ghost between_of = { λ r u v a b. if int_eq a (pos 0) then u else (if int_eq b (pos 0) then v else (if int_lt a b then v else u)) };
+
+    ghost settle_of = { λ r. settle_nearest };
+
+    ghost within = { λ r u v a b p q s t.
+        let first : LiesBetween u v u = by_lt_z u v (λ l. inl (Prim.omega (arith, ints), Prim.omega (arith, ints))) (λ l. inr (Prim.omega (arith, ints), Prim.omega (arith, ints))) in
+        let second : LiesBetween u v v = by_lt_z u v (λ l. inl (Prim.omega (arith, ints), Prim.omega (arith, ints))) (λ l. inr (Prim.omega (arith, ints), Prim.omega (arith, ints))) in
+        elim (int_eq a (pos 0)) as (λ x. LiesBetween u v (if x then u else (if int_eq b (pos 0) then v else (if int_lt a b then v else u)))) [
+          | true ↦ first
+          | false ↦ elim (int_eq b (pos 0)) as (λ x. LiesBetween u v (if x then v else (if int_lt a b then v else u))) [
+            | true ↦ second
+            | false ↦ elim (int_lt a b) as (λ x. LiesBetween u v (if x then v else u)) [ true ↦ second | false ↦ first ]
+          ]
+        ] };
+
+    ghost starts = { λ r u v b p q t. refl };
+
+    ghost ends = { λ r u v a p q s h. cond_both (int_eq a (pos 0)) u v (λ z. z ≡ v)
+        (λ t. let e = (Decides-int_eq a (pos 0)).0 t in absurd (Prim.omega (arith, ints, e)))
+        (λ t. refl) };
+
+    ghost monotone = { λ r f g p q h. settle_monotone f g h };
+
+    ghost units = { λ r k p. settle_units k };
+
+    fn between(&self, u: i64, v: i64, a: i64, b: i64) -> i64 {
+        if a == 0 {
+            u
+        } else if b == 0 || a < b {
+            v
+        } else {
+            u
+        }
+    }
+
+    fn settle(&self, fine: i64) -> i32 {
+        Nearest.settle(fine)
+    }
+}
+
+// Answers of an independent reference program, in which the point depends on which pair stands first in the order start,
+// end, first, second and third edge of the face.
+#[test]
+fn a_crossing_lies_between_the_first_pairs_on_each_side(rt: HostRuntime) {
+    let grid = Grid { rounding: Far };
+    let still = [false; 3];
+    let edge = [
+        at(2, 1, 2, [true, true, false]),
+        at(1, 2, 2, [true, false, true]),
+    ];
+    let face = [at(0, 1, 2, still), at(4, 2, 4, still), at(1, 0, 1, still)];
+    assert_eq!(rt; grid.cross(&edge, &face), cross_at(1, 2, 1, 2));
+    let face = [
+        at(0, 0, 1, [false, false, true]),
+        at(2, 3, 3, [false, true, false]),
+        at(4, 3, 1, [true, true, false]),
+    ];
+    let edge = [at(1, 1, 1, still), at(3, 0, 4, still)];
+    assert_eq!(rt; grid.cross(&face, &edge), cross_at(-1, 1, 1, 1));
+}
+
+// A straight edge crosses a flat face once at most; shadows that are rounded far away can count it twice.
+#[test]
+fn far_rounding_can_count_a_crossing_twice(rt: HostRuntime) {
+    let grid = Grid { rounding: Far };
+    let still = [false; 3];
+    let edge = [
+        at(2, 2, 0, [false, true, true]),
+        at(1, 3, 3, [true, false, false]),
+    ];
+    let face = [at(0, 1, 0, still), at(4, 4, 4, still), at(2, 4, 0, still)];
+    assert_eq!(rt; grid.cross(&edge, &face), cross_at(-2, 2, 2, 0));
+    let face = [
+        at(4, 2, 0, [true, true, true]),
+        at(3, 3, 3, [false, false, true]),
+        at(1, 0, 4, still),
+    ];
+    let edge = [at(4, 3, 4, still), at(2, 1, 3, still)];
+    assert_eq!(rt; grid.cross(&face, &edge), cross_at(2, 3, 1, 3));
 }

@@ -1,10 +1,10 @@
 -- The edge identity: along a half-edge the winding number changes by its crossings with all faces.
-use Rattle.std.proofs.Common.{◌≡◌, ℕ, ◌*◌, ◌<◌, ℤ, pos, neg_ℤ, ◌+ℤ◌, ◌-ℤ◌, List, length, get_or, map, refl, arith, ap, sym, ◌∙◌}
+use Rattle.std.proofs.Common.{◌≡◌, ℕ, ◌<◌, ℤ, pos, neg_ℤ, ◌-ℤ◌, List, length, get_or, map, arith, ap, sym, ◌∙◌}
 use Rattle.std.proofs.lemmas.Int.{ints}
 use Rattle.std.proofs.lemmas.List.{get_or-map}
 use Rattle.std.specs.List.{All}
-use Rattle.chain_terms.specs.Chains.{edges, all_edges}
-use Rattle.chain_terms.specs.Sums.{total, upto}
+use Rattle.chain_terms.specs.Chains.{all_edges}
+use Rattle.chain_terms.specs.Sums.{total}
 use Rattle.chain_laws.specs.Chains.{IsOdd}
 use Rattle.chain_laws.specs.Identities.{crossing}
 use Rattle.chain_laws.specs.Ranks.{start, finish}

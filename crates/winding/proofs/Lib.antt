@@ -1,3 +1,4 @@
 pub mod Identity
 pub mod Plain
 pub mod Steps
+mod Rows

@@ -1,7 +1,7 @@
 -- How often a mesh winds round a point.
 use Rattle.std.specs.Prelude.{ℤ, neg_ℤ, false, List, [], ◌∷◌, get_or}
 use Rattle.chain_terms.specs.Sums.{total}
-use Rattle.mesh_terms.specs.Meshes.{Mesh, Triple}
+use Rattle.mesh_terms.specs.Meshes.{Mesh}
 use Rattle.mb_base.specs.declared.point.Corner.{Corner}
 use Rattle.rounding.specs.Nearest.{nearest}
 use Rattle.shadow_kernels.specs.Counts.{shadow_of}

@@ -32,8 +32,8 @@ pub fn windings<K: Kernels, L: Ledger>(
     ensures w30 { IfOk result (λ w. w.w30.items ≡ map (λ c. winding_back (⟦<K as Meets<3, 1>>⟧.meet_of kernels.now) p.now c) q.now.corners) }
 
     // Along every half-edge, on the numbers that the hits give.
-    ensures p_edges { IfOk result (λ w. EdgeIdentity (all_edges p.now.triples) (length q.now.triples) (λ v. get_or w.w03.items v (pos 0)) (half_number (all_edges p.now.triples) hits.now.x12.items)) }
-    ensures q_edges { IfOk result (λ w. EdgeIdentity (all_edges q.now.triples) (length p.now.triples) (λ v. get_or w.w30.items v (pos 0)) (half_number (all_edges q.now.triples) hits.now.x21.items)) }
+    ensures p_edge_identity { IfOk result (λ w. EdgeIdentity (all_edges p.now.triples) (length q.now.triples) (λ v. get_or w.w03.items v (pos 0)) (half_number (all_edges p.now.triples) hits.now.x12.items)) }
+    ensures q_edge_identity { IfOk result (λ w. EdgeIdentity (all_edges q.now.triples) (length p.now.triples) (λ v. get_or w.w30.items v (pos 0)) (half_number (all_edges q.now.triples) hits.now.x21.items)) }
 
     ensures p_size { IfOk result (λ w. All (λ n. nat_abs n ≤ length q.now.triples) w.w03.items) }
     ensures q_size { IfOk result (λ w. All (λ n. nat_abs n ≤ length p.now.triples) w.w30.items) }

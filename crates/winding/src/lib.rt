@@ -1,9 +1,10 @@
-//! How often a closed mesh winds round a point: 1 inside a solid, 0 outside, -1 inside a solid turned inside out, and
-//! the sum where solids overlap. It is minus the sum of the shadow tests of the point with all faces, so it is a whole
-//! number whatever the rounding did, also for a point on the mesh. `winding_sum` and `winding_sum_back` compute it under
-//! any shadow tests, for a corner of P in Q and of Q in P, `windings` for all corners of two sides, and `winding_at` for a
-//! point of the grid in a mesh as it was read. Along every edge the winding number changes by the edge's crossings. After
-//! J. M. Smith's thesis "Towards robust inexact geometric computation" and the Manifold library.
+//! How often a closed mesh winds round a point: minus the sum of the shadow tests of the point with all faces, which is a
+//! whole number for any lawful kernels, also for a point on the mesh. That it is 1 inside a cube, 0 outside, -1 inside one
+//! turned inside out, and the sum where two overlap is tested, not proved. `winding_sum` and `winding_sum_back` compute it
+//! for any lawful kernels, for a corner of P in Q and of Q in P, `windings` for all corners of two sides, and `winding_at`
+//! for a point of the grid in a mesh as it was read. Along every edge the winding number changes by minus the edge's
+//! numbers with all faces. After J. M. Smith's thesis "Towards robust inexact geometric computation" and the Manifold
+//! library.
 #![tactic(auto)]
 
 mod all;

@@ -10,13 +10,13 @@ use shadow_kernels::{Meet, Meets};
 /// What tells the shadow of a vertex of one side on a face of the other.
 pub trait VertexFace {
     /// What `shadow` answers.
-    ghost cast_of: { Self → Corner → List Corner → ℤ };
+    ghost vertex_shadow: { Self → Corner → List Corner → ℤ };
 
     /// The shadow: -1, 0 or 1.
     fn shadow(&self, vertex: &Corner, face: &[Corner; 3]) -> i64
         requires vertex_fine { IsFineCorner vertex.now }
         requires face_fine { AllFine face.now }
-        ensures value { result ≡ cast_of self.now vertex.now face.now }
+        ensures value { result ≡ vertex_shadow self.now vertex.now face.now }
         ensures low { negsuc 0 ≤ℤ result }
         ensures high { result ≤ℤ pos 1 };
 }
@@ -26,7 +26,7 @@ pub trait VertexFace {
 pub struct PVertices<'a, K>(pub &'a K);
 
 impl<K: Meets<1, 3>> VertexFace for PVertices<'_, K> {
-    ghost cast_of = { λ s vertex face. shadow_of (K.meet_of s.0.now (vertex ∷ []) face) };
+    ghost vertex_shadow = { λ s vertex face. shadow_of (K.meet_of s.0.now (vertex ∷ []) face) };
 
     fn shadow(&self, vertex: &Corner, face: &[Corner; 3]) -> i64 {
         shadow_of(self.0.meet(&[*vertex], face))
@@ -38,7 +38,7 @@ impl<K: Meets<1, 3>> VertexFace for PVertices<'_, K> {
 pub struct QVertices<'a, K>(pub &'a K);
 
 impl<K: Meets<3, 1>> VertexFace for QVertices<'_, K> {
-    ghost cast_of = { λ s vertex face. shadow_of (K.meet_of s.0.now face (vertex ∷ [])) };
+    ghost vertex_shadow = { λ s vertex face. shadow_of (K.meet_of s.0.now face (vertex ∷ [])) };
 
     fn shadow(&self, vertex: &Corner, face: &[Corner; 3]) -> i64 {
         shadow_of(self.0.meet(face, &[*vertex]))

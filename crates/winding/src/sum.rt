@@ -53,7 +53,7 @@ fn minus_shadows<S: VertexFace, L: Ledger>(
     steps: &mut Steps<L>,
 ) -> i64
     requires { IsFineCorner vertex.now }
-    ensures value { result ≡ neg_ℤ (total (λ t. S.cast_of shadows.now vertex.now (face_of faces.now.corners t)) faces.now.triples) }
+    ensures value { result ≡ neg_ℤ (total (λ t. S.vertex_shadow shadows.now vertex.now (face_of faces.now.corners t)) faces.now.triples) }
     ensures size { nat_abs result ≤ length faces.now.triples }
     ensures cost { steps.new ≡ steps.old + 1 }
 {

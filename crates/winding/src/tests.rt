@@ -1,8 +1,11 @@
 // Winding numbers in cubes, worked out by hand.
 ghost use Rattle.std.specs.Prelude.{◌≡◌, ◌<◌};
 
+mod low;
+mod numbers;
 mod pairs;
 mod table;
+mod text;
 
 use crate::{winding_at, winding_sum};
 use lean::{Side, corner_of};

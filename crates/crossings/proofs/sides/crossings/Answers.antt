@@ -1,4 +1,4 @@
-use Rattle.std.proofs.Common.{◌≡◌, ℕ, ℤ, ◌∷◌, [], List, length, get_or, refl, ap, sym, ◌∙◌, subst}
+use Rattle.std.proofs.Common.{ℕ, ℤ, ◌∷◌, [], List, length, get_or, refl, ap, sym, ◌∙◌, subst}
 use Rattle.chain_terms.specs.Chains.{all_edges}
 use Rattle.chain_laws.specs.Ranks.{start, finish}
 use Rattle.mb_base.specs.declared.results.Hit.{Hit}
@@ -6,15 +6,15 @@ use Rattle.mesh_terms.specs.Meshes.{Triple}
 use Rattle.rounding.specs.Corners.{corner_at}
 use Rattle.shadow_kernels.specs.Counts.{shadow_of}
 use Rattle.lean.specs.Sides.{IsSide, edge_at, edge_of, face_at, face_of}
-use Rattle.lean.proofs.Corners.{corner_fine, edge_fine, face_fine}
+use Rattle.lean.proofs.Corners.{edge_fine, face_fine}
 use Rattle.crossings.specs.Hits.{AreHits, CrossTest, hits_of}
 use Rattle.crossings.specs.Identities.{half_number, PairIdentity}
 use Rattle.crossings.proofs.Order.{AllListed, hits_in_order, listed_number}
 use Rattle.crossings.proofs.Rounds.{pairs_agree}
 use Rattle.crossings.proofs.sides.crossings.Goals as goal
 
-pub returns-clause-p_edges : goal.returns-clause-p_edges
-returns-clause-p_edges g c =
+pub returns-clause-x12_listed : goal.returns-clause-x12_listed
+returns-clause-x12_listed g c =
     let k = c.args.kernels.now in
     let p = c.args.p.now in
     let q = c.args.q.now in
@@ -28,8 +28,8 @@ returns-clause-p_edges g c =
     listed_number (test (edge_at p h) (face_at q f)) (g.met.K.Crosses-1.present k (edge_at p h) (face_at q f) refl refl a b) (g.met.K.Crosses-1.size k (edge_at p h) (face_at q f) refl refl a b) in
     subst (AreHits (all_edges p.triples) (length q.triples)) (sym c.in_ok-x12.ensures) (hits_in_order test p q listed)
 
-pub returns-clause-q_edges : goal.returns-clause-q_edges
-returns-clause-q_edges g c =
+pub returns-clause-x21_listed : goal.returns-clause-x21_listed
+returns-clause-x21_listed g c =
     let k = c.args.kernels.now in
     let p = c.args.p.now in
     let q = c.args.q.now in
@@ -43,8 +43,8 @@ returns-clause-q_edges g c =
     listed_number (test (edge_at q h) (face_at p f)) (g.met.K.Crosses-2.present k (face_at p f) (edge_at q h) refl refl b a) (g.met.K.Crosses-2.size k (face_at p f) (edge_at q h) refl refl b a) in
     subst (AreHits (all_edges q.triples) (length p.triples)) (sym c.in_ok-x21.ensures) (hits_in_order test q p listed)
 
-pub returns-clause-pairs : goal.returns-clause-pairs
-returns-clause-pairs g c =
+pub returns-clause-pair_identity : goal.returns-clause-pair_identity
+returns-clause-pair_identity g c =
     let k = c.args.kernels.now in
     let p = c.args.p.now in
     let q = c.args.q.now in

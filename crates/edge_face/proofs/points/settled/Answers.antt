@@ -6,8 +6,10 @@ use Rattle.rounding.specs.Fine.{IsFine}
 use Rattle.shadow_kernels.specs.Hulls.{StaysBetween}
 use Rattle.shadow_kernels.specs.Spots.{Between}
 use Rattle.shadow_kernels.proofs.Values.{kept_between}
-use Rattle.edge_face.specs.Settled.{IsSettling, between_fine, settled_grid}
+use Rattle.edge_face.specs.Lawful.{IsSettling}
+use Rattle.edge_face.specs.Settled.{between_fine}
 use Rattle.edge_face.proofs.Kept.{seen}
+use Rattle.edge_face.proofs.Placed.{settled_grid}
 use Rattle.edge_face.proofs.points.settled.Goals as goal
 
 pub settle-requires : goal.settle-requires

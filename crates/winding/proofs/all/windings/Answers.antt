@@ -1,7 +1,6 @@
-use Rattle.std.proofs.Common.{◌≡◌, ℕ, ℤ, pos, neg_ℤ, ◌+ℤ◌, ◌∷◌, [], get_or, length, refl, arith, ap, ◌∙◌}
+use Rattle.std.proofs.Common.{ℕ, ℤ, pos, ◌∷◌, [], get_or, refl, arith, ap}
 use Rattle.std.proofs.lemmas.Int.{ints}
 use Rattle.chain_laws.specs.Chains.{IsOdd}
-use Rattle.mb_base.specs.declared.point.Corner.{Corner}
 use Rattle.mesh_terms.specs.Meshes.{Triple}
 use Rattle.rounding.specs.Corners.{corner_at}
 use Rattle.shadow_kernels.specs.Counts.{shadow_of}
@@ -13,8 +12,8 @@ use Rattle.winding.specs.Windings.{winding, winding_back}
 use Rattle.winding.proofs.Identity.{edges_conserve, winding_listed}
 use Rattle.winding.proofs.all.windings.Goals as goal
 
-pub returns-clause-p_edges : goal.returns-clause-p_edges
-returns-clause-p_edges g c =
+pub returns-clause-p_edge_identity : goal.returns-clause-p_edge_identity
+returns-clause-p_edge_identity g c =
     let k = c.args.kernels.now in
     let p = c.args.p.now in
     let q = c.args.q.now in
@@ -40,8 +39,8 @@ returns-clause-p_edges g c =
     odd c.requires.x12
     (winding_listed (λ v. winding (g.K.Meets-5.meet_of k) v q) p.corners c.in_ok-w03.w03.items c.in_ok-w03.ensures.value)
 
-pub returns-clause-q_edges : goal.returns-clause-q_edges
-returns-clause-q_edges g c =
+pub returns-clause-q_edge_identity : goal.returns-clause-q_edge_identity
+returns-clause-q_edge_identity g c =
     let k = c.args.kernels.now in
     let p = c.args.p.now in
     let q = c.args.q.now in

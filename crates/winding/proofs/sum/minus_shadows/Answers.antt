@@ -8,12 +8,12 @@ use Rattle.winding.proofs.sum.minus_shadows.Goals as goal
 
 pub loop-face-preserved : goal.loop-face-preserved
 loop-face-preserved g c =
-    let cast = g.S.VertexFace.cast_of c.args.shadows.now c.args.vertex.now in
+    let shadow = g.S.VertexFace.vertex_shadow c.args.shadows.now c.args.vertex.now in
     let faces = c.args.faces.now in
     let i = c.loop-face.face in
-    let f : Triple → ℤ = λ t. cast (face_of faces.corners t) in
+    let f : Triple → ℤ = λ t. shadow (face_of faces.corners t) in
     let inside : i < length faces.triples = omega (arith, ap length c.triples.ensures.value, length-map c.triples.result.now triple_of) in
-    let here : c.shadow-winding.result ≡ f (get_or faces.triples i (0, 0, 0)) = c.shadow-winding.ensures.value ∙ ap cast c.face.ensures.value in
+    let here : c.shadow-winding.result ≡ f (get_or faces.triples i (0, 0, 0)) = c.shadow-winding.ensures.value ∙ ap shadow c.face.ensures.value in
     let low = c.shadow-winding.ensures.low in
     let high = c.shadow-winding.ensures.high in
     let more = one_more f faces.triples i (to_z w64 c.loop-face.winding-bits) c.shadow-winding.result inside c.loop-face.invariant.value here in

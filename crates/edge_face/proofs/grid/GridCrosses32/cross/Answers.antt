@@ -5,10 +5,11 @@ use Rattle.shadow_kernels.specs.FinePairs.{fine_two, fine_three}
 use Rattle.shadow_kernels.specs.Hulls.{StaysBetween}
 use Rattle.shadow_kernels.specs.Shadows.{meet11, meet20}
 use Rattle.shadow_kernels.specs.Spots.{Between}
-use Rattle.edge_face.specs.Grids.{grid_tests, grid_lawful}
+use Rattle.edge_face.specs.Grids.{grid_tests}
+use Rattle.edge_face.specs.GridLaws.{grid_lawful}
 use Rattle.edge_face.specs.Pairs.{pairs_number}
 use Rattle.edge_face.specs.Points.{Settle, q_point, cross21}
-use Rattle.edge_face.specs.Rims.{boundary21}
+use Rattle.edge_face.specs.Boundaries.{boundary21}
 use Rattle.edge_face.proofs.Kept.{seen, kept_fit, fine_in}
 use Rattle.edge_face.proofs.Found.{any_zero, any_number, number_pairs, always_found, found_fine, crossed_not, crossed_at}
 use Rattle.edge_face.proofs.grid.GridCrosses32.cross.Goals as goal

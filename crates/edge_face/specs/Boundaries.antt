@@ -6,8 +6,8 @@ use Rattle.mb_base.specs.declared.point.Corner.{Corner}
 use Rattle.rounding.specs.Corners.{AllFine, IsFineCorner}
 use Rattle.shadow_kernels.specs.Counts.{shadow_of}
 use Rattle.shadow_kernels.specs.Sizes.{turned_shadow}
-use Rattle.edge_face.specs.Crossings.{number12, number21}
-use Rattle.edge_face.specs.Tests.{Tests, AreLawful}
+use Rattle.edge_face.specs.Crossings.{number12, number21, Tests}
+use Rattle.edge_face.specs.Lawful.{AreLawful}
 use Rattle.edge_face.specs.Parts.{itself, start_of, end_of, first_edge, second_edge, third_edge}
 use Rattle.edge_face.specs.Numbers.{IsBoundary, pair_of}
 

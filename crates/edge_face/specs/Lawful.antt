@@ -1,11 +1,14 @@
--- The laws of shadow tests that crossings rest on.
-use Rattle.std.specs.Prelude.{◌≡◌, ◌≢◌, ℕ, ◌<◌, pos, negsuc, ◌+ℤ◌, ◌-ℤ◌, ◌≤ℤ◌, true, false, None, IfSome, List, [], ◌∷◌, length, swap}
+-- The laws of shadow tests and of settling that crossings rest on.
+use Rattle.std.specs.Prelude.{◌≡◌, ◌≢◌, ℕ, ◌<◌, ℤ, pos, negsuc, ◌+ℤ◌, ◌-ℤ◌, ◌*ℤ◌, ◌≤ℤ◌, true, false, None, IfSome, List, [], ◌∷◌, length, swap}
 use Rattle.chain_terms.specs.Sums.{total}
+use Rattle.mb_base.specs.declared.TheConstants.{UNIT}
 use Rattle.mb_base.specs.declared.point.Corner.{Corner}
 use Rattle.rounding.specs.Corners.{AllFine}
+use Rattle.rounding.specs.Fine.{IsFine}
 use Rattle.shadow_kernels.specs.Boxes.{AreApart, IsBelow, IsInHull}
 use Rattle.shadow_kernels.specs.Counts.{count_of, shadow_of, turned}
-use Rattle.edge_face.specs.Crossings.{ShadowTest, rim}
+use Rattle.edge_face.specs.Crossings.{ShadowTest, Tests, face_edges}
+use Rattle.edge_face.specs.Points.{Settle}
 
 -- the laws of a test of simplices with m and n corners
 pub record IsLawful (m n : ℕ) (test : ShadowTest) : Type 0 where
@@ -14,14 +17,6 @@ pub record IsLawful (m n : ℕ) (test : ShadowTest) : Type 0 where
   pub hull : (p q : List Corner) → length p ≡ m → length q ≡ n → AllFine p → AllFine q → IfSome (test p q) (λ a. IsInHull p q a.spot)
   pub apart : (p q : List Corner) (i : ℕ) → length p ≡ m → length q ≡ n → AllFine p → AllFine q → i < 2 → AreApart i p q → test p q ≡ None
   pub side : (p q : List Corner) → length p ≡ m → length q ≡ n → AllFine p → AllFine q → IfSome (test p q) (λ a. (IsBelow 2 p q → a.above ≡ false) × (IsBelow 2 q p → a.above ≡ true))
-
--- the tests of vertices, edges and faces with each other
-pub record Tests : Type 0 where
-  pub vertex_edge : ShadowTest
-  pub edge_vertex : ShadowTest
-  pub edge_edge : ShadowTest
-  pub vertex_face : ShadowTest
-  pub face_vertex : ShadowTest
 
 -- their laws: of each of the last three, and how their counts are made
 pub record AreLawful (t : Tests) : Type 0 where
@@ -34,5 +29,10 @@ pub record AreLawful (t : Tests) : Type 0 where
       count_of (t.edge_edge (a ∷ b ∷ []) (c ∷ d ∷ []))
       ≡ shadow_of (t.vertex_edge (b ∷ []) (c ∷ d ∷ [])) -ℤ shadow_of (t.vertex_edge (a ∷ []) (c ∷ d ∷ []))
       +ℤ shadow_of (t.edge_vertex (a ∷ b ∷ []) (d ∷ [])) -ℤ shadow_of (t.edge_vertex (a ∷ b ∷ []) (c ∷ []))
-  pub lift_02 : (p u v w : Corner) → AllFine (p ∷ []) → AllFine (u ∷ v ∷ w ∷ []) → count_of (t.vertex_face (p ∷ []) (u ∷ v ∷ w ∷ [])) ≡ total (λ e. shadow_of (t.vertex_edge (p ∷ []) e)) (rim u v w)
-  pub lift_20 : (u v w q : Corner) → AllFine (u ∷ v ∷ w ∷ []) → AllFine (q ∷ []) → count_of (t.face_vertex (u ∷ v ∷ w ∷ []) (q ∷ [])) ≡ total (λ e. shadow_of (t.edge_vertex e (q ∷ []))) (rim u v w)
+  pub lift_02 : (p u v w : Corner) → AllFine (p ∷ []) → AllFine (u ∷ v ∷ w ∷ []) → count_of (t.vertex_face (p ∷ []) (u ∷ v ∷ w ∷ [])) ≡ total (λ e. shadow_of (t.vertex_edge (p ∷ []) e)) (face_edges u v w)
+  pub lift_20 : (u v w q : Corner) → AllFine (u ∷ v ∷ w ∷ []) → AllFine (q ∷ []) → count_of (t.face_vertex (u ∷ v ∷ w ∷ []) (q ∷ [])) ≡ total (λ e. shadow_of (t.edge_vertex e (q ∷ []))) (face_edges u v w)
+
+-- the laws of settling
+pub record IsSettling (settle : Settle) : Type 0 where
+  pub monotone : (f g : ℤ) → IsFine f → IsFine g → f ≤ℤ g → settle f ≤ℤ settle g
+  pub units : (k : ℤ) → IsFine (UNIT *ℤ k) → settle (UNIT *ℤ k) ≡ k
