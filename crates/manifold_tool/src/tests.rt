@@ -17,6 +17,10 @@ const ROOM: usize = 65_536;
 const TETRAHEDRON: &[u8] =
     b"v 0 0 0\nv 1 0 0\nv 0 1 0\nv 0 0 1\nf 1 3 2\nf 1 2 4\nf 2 3 4\nf 3 1 4\n";
 
+// A tetrahedron whose coordinates have two digits after the point.
+const FINE_TETRAHEDRON: &[u8] =
+    b"v 0 0 0\nv 1.26 0 0\nv 0 1.24 0\nv 0 0 -1.25\nf 1 2 3\nf 1 4 2\nf 2 4 3\nf 3 4 1\n";
+
 // A cube.
 const CUBE: &[u8] =
     b"v 0 0 0\nv 10 0 0\nv 0 10 0\nv 10 10 0\nv 0 0 10\nv 10 0 10\nv 0 10 10\nv 10 10 10\nf 1 4 2\nf 1 3 4\nf 5 6 8\nf 5 8 7\nf 1 2 5\nf 2 6 5\nf 2 4 8\nf 2 8 6\nf 4 3 7\nf 4 7 8\nf 1 5 7\nf 1 7 3\n";
@@ -162,7 +166,13 @@ fn plain<'a>(
 }
 
 // A copy without faults, under the program's limits.
-fn copied<'a>(words: &'a [&'a str], name: &'a str, bytes: &'a [u8], out: &'a [u8]) -> Case<'a> {
+fn copied<'a>(
+    words: &'a [&'a str],
+    name: &'a str,
+    bytes: &'a [u8],
+    out: &'a [u8],
+    saved: &'a [u8],
+) -> Case<'a> {
     Case {
         words,
         name,
@@ -176,7 +186,7 @@ fn copied<'a>(words: &'a [&'a str], name: &'a str, bytes: &'a [u8], out: &'a [u8
         out,
         err: b"",
         is_saved: true,
-        saved: bytes,
+        saved,
     }
 }
 
@@ -188,6 +198,7 @@ fn what_is_copied_is_saved_and_reported(rt: HostRuntime) -> Result<(), Fail> {
         "t.obj",
         TETRAHEDRON,
         b"copied u.obj: points 4, triangles 4, unused 0\n",
+        TETRAHEDRON,
     );
     judge(&rt, &case)?;
     Ok(())
@@ -201,6 +212,7 @@ fn meshes_that_touch_or_are_flat_are_copied(rt: HostRuntime) -> Result<(), Fail>
         "t.obj",
         CUBE_AND_FLAT,
         b"copied u.obj: points 11, triangles 14, unused 0\n",
+        CUBE_AND_FLAT,
     );
     judge(&rt, &flat)?;
     let pinched = copied(
@@ -208,6 +220,7 @@ fn meshes_that_touch_or_are_flat_are_copied(rt: HostRuntime) -> Result<(), Fail>
         "t.obj",
         CUBES_AT_A_CORNER,
         b"copied u.obj: points 15, triangles 24, unused 0\n",
+        CUBES_AT_A_CORNER,
     );
     judge(&rt, &pinched)?;
     Ok(())
@@ -559,43 +572,78 @@ fn digits_stand_anywhere_among_the_operands(rt: HostRuntime) -> Result<(), Fail>
 
 #[test]
 fn a_copy_keeps_so_many_digits(rt: HostRuntime) -> Result<(), Fail> {
-    let fine =
-        b"v 0 0 0\nv 1.26 0 0\nv 0 1.24 0\nv 0 0 -1.25\nf 1 2 3\nf 1 4 2\nf 2 4 3\nf 3 4 1\n";
-    let out = b"copied u.obj: points 4, triangles 4, unused 0\n";
-    let words = ["copy", "--digits", "1", "--", "-t.obj", "u.obj"];
-    let mut one = copied(&words, "-t.obj", fine, out);
-    one.saved = b"v 0 0 0\nv 1.3 0 0\nv 0 1.2 0\nv 0 0 -1.3\nf 1 2 3\nf 1 4 2\nf 2 4 3\nf 3 4 1\n";
-    judge(&rt, &one)?;
-    let words = ["copy", "t.OBJ", "u.obj", "--digits=6"];
-    let six = copied(&words, "t.OBJ", fine, out);
-    judge(&rt, &six)?;
+    let one = ["copy", "--digits", "1", "--", "-t.obj", "u.obj"];
+    let rounded = copied(
+        &one,
+        "-t.obj",
+        FINE_TETRAHEDRON,
+        b"copied u.obj: points 4, triangles 4, unused 0\n",
+        b"v 0 0 0\nv 1.3 0 0\nv 0 1.2 0\nv 0 0 -1.3\nf 1 2 3\nf 1 4 2\nf 2 4 3\nf 3 4 1\n",
+    );
+    judge(&rt, &rounded)?;
+    let six = ["copy", "t.OBJ", "u.obj", "--digits=6"];
+    let whole = copied(
+        &six,
+        "t.OBJ",
+        FINE_TETRAHEDRON,
+        b"copied u.obj: points 4, triangles 4, unused 0\n",
+        FINE_TETRAHEDRON,
+    );
+    judge(&rt, &whole)?;
     Ok(())
 }
 
-fn ran_surely<L: Ledger>(alloc: Global, shelf: &mut SureShelf, blank: Blank) -> Result<u8, NoMemory>
+// What a copy over a shelf of two files left.
+#[derive(Drop)]
+struct SureOutcome {
+    status: u8,
+    shelf: SureShelf,
+}
+
+// A copy of the tetrahedron to a file with room for so many bytes.
+fn ran_surely<L: Ledger>(alloc: Global, room: usize, blank: Blank) -> Result<SureOutcome, NoMemory>
     requires name { blank.name ≡ L.name }
     requires parts { blank.parts ≡ L.parts }
     requires some { 0 < blank.parts }
 {
     let mut words = ArgList::start(alloc);
-    words.push("copy")?;
-    words.push("t.obj")?;
-    words.push("u.obj")?;
+    for word in ["copy", "t.obj", "u.obj"] {
+        words.push(word)?;
+    }
+    let mut shelf = SureShelf::of(alloc, "t.obj", TETRAHEDRON, "u.obj", room)?;
     let mut out = MemorySink::of(alloc, ROOM, ROOM, Vec::new(alloc))?;
     let mut err = MemorySink::of(alloc, ROOM, ROOM, Vec::new(alloc))?;
     let mut steps = Steps::<L>::over(blank);
-    let limits = Limits::program();
     let status = run(
-        alloc, &words, &limits, shelf, &mut out, &mut err, &mut steps,
+        alloc,
+        &words,
+        &Limits::program(),
+        &mut shelf,
+        &mut out,
+        &mut err,
+        &mut steps,
     );
-    Ok(status.number())
+    Ok(SureOutcome {
+        status: status.number(),
+        shelf,
+    })
+}
+
+fn judge_surely<R: Abort + AllocGlobal>(
+    rt: &R,
+    room: usize,
+    status: u8,
+    saved: &[u8],
+) -> Result<(), NoMemory> {
+    let outcome = ran_surely::<Brand>(rt.alloc(), room, Blank::new(1))?;
+    assert_eq!(rt; outcome.status, status);
+    assert_eq!(rt; outcome.shelf.get("u.obj"), Some(saved));
+    Ok(())
 }
 
 #[test]
-fn a_copy_fits_the_room_that_its_text_needs(rt: HostRuntime) -> Result<(), Fail> {
-    let mut shelf = SureShelf::of(rt.alloc(), "t.obj", TETRAHEDRON, "u.obj", 64)?;
-    let status = ran_surely::<Brand>(rt.alloc(), &mut shelf, Blank::new(1))?;
-    assert_eq!(rt; status, 0);
-    assert_eq!(rt; shelf.get("u.obj"), Some(TETRAHEDRON));
+fn a_copy_needs_room_for_its_text_alone(rt: HostRuntime) -> Result<(), Fail> {
+    judge_surely(&rt, 64, 0, TETRAHEDRON)?;
+    judge_surely(&rt, 63, 7, b"")?;
     Ok(())
 }
