@@ -56,11 +56,12 @@ fn counted(
     requires few { length edges.items ≤ 300000000 }
     ensures { IfOk result (λ r. IsSortOf edges.items r.0.items × IsSortOf back.items r.1.items) }
 {
-    let (by_end, spare) = by_first(alloc, back, edges, bound)?;
-    let (sorted, spare) = by_first(alloc, turned_in_place(by_end), spare, bound)?;
-    let turned = turned_edges(alloc, &sorted)?;
-    let (sorted_back, _) = by_first(alloc, turned, spare, bound)?;
-    Ok((sorted, sorted_back))
+    let by_ends = by_first(alloc, &back, edges, bound)?;
+    let turned = turned_in_place(by_ends);
+    let by_starts = by_first(alloc, &turned, back, bound)?;
+    let again = turned_in_place(by_starts);
+    let sorted_back = by_first(alloc, &again, turned, bound)?;
+    Ok((turned_in_place(again), sorted_back))
 }
 
 // A number above each start and each end.
