@@ -42,8 +42,9 @@ fn compared(
     (edges, back)
 }
 
-// The same by counting them: a list that is in the order of its numbers is sorted by its second
-// entries and then, which keeps that order where it can, by its first ones.
+// Both lists sorted by counting, with the lists that come in as room. A sort by the first entries
+// keeps the order of those that have one: so half-edges in the order of their numbers are sorted by
+// their ends, these by their starts, and these by their ends again.
 fn counted(
     alloc: Global,
     edges: Vec<(u32, u32, u32)>,
