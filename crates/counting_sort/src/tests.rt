@@ -13,9 +13,8 @@ fn sorted(
     if records.len() > 10 || !records.iter().all(|r| (r.0 as usize) < bound) {
         return Ok(None);
     }
-    let list = records.to_vec(alloc)?;
-    let spare = vec![in alloc; (4, 4, 4); records.len()]?;
-    let (list, _) = by_first(alloc, list, spare, bound)?;
+    let into = vec![in alloc; (4, 4, 4); records.len()]?;
+    let list = by_first(alloc, records, into, bound)?;
     Ok(Some(list))
 }
 

@@ -87,7 +87,7 @@ then_again Equal b c = refl
 then_again Greater b c = refl
 
 -- turned twice
-turned_twice : (xs : List Half) → map turned (map turned xs) ≡ xs
+pub turned_twice : (xs : List Half) → map turned (map turned xs) ≡ xs
 turned_twice [] = refl
 turned_twice (x ∷ xs) = ap (λ l. x ∷ l) (turned_twice xs)
 

@@ -42,8 +42,9 @@ fn compared(
     (edges, back)
 }
 
-// The same by counting them: a list that is in the order of its numbers is sorted by its second
-// entries and then, which keeps that order where it can, by its first ones.
+// Both lists sorted by counting, with the lists that come in as room. A sort by the first entries
+// keeps the order of those that have one: so half-edges in the order of their numbers are sorted by
+// their ends, these by their starts, and these by their ends again.
 fn counted(
     alloc: Global,
     edges: Vec<(u32, u32, u32)>,
@@ -56,11 +57,12 @@ fn counted(
     requires few { length edges.items ≤ 300000000 }
     ensures { IfOk result (λ r. IsSortOf edges.items r.0.items × IsSortOf back.items r.1.items) }
 {
-    let (by_end, spare) = by_first(alloc, back, edges, bound)?;
-    let (sorted, spare) = by_first(alloc, turned_in_place(by_end), spare, bound)?;
-    let turned = turned_edges(alloc, &sorted)?;
-    let (sorted_back, _) = by_first(alloc, turned, spare, bound)?;
-    Ok((sorted, sorted_back))
+    let by_ends = by_first(alloc, &back, edges, bound)?;
+    let turned = turned_in_place(by_ends);
+    let by_starts = by_first(alloc, &turned, back, bound)?;
+    let again = turned_in_place(by_starts);
+    let sorted_back = by_first(alloc, &again, turned, bound)?;
+    Ok((turned_in_place(again), sorted_back))
 }
 
 // A number above each start and each end.

@@ -25,6 +25,20 @@ fn the_tetrahedron_has_one_fan_at_each_vertex(rt: HostRuntime) -> Result<(), Fai
 }
 
 #[test]
+fn vertex_numbers_may_be_far_above_the_number_of_triangles(rt: HostRuntime) -> Result<(), Fail> {
+    let far = [
+        [0, 4_000_000_000, 1],
+        [0, 1, 3],
+        [1, 4_000_000_000, 3],
+        [4_000_000_000, 0, 3],
+    ];
+    let twins = Twins::of(rt.alloc(), &far)?;
+    let near = Twins::of(rt.alloc(), &TETRAHEDRON)?;
+    assert_eq!(rt; twins.twins(), near.twins());
+    Ok(())
+}
+
+#[test]
 fn an_edge_that_is_used_four_times_is_paired_in_order(rt: HostRuntime) -> Result<(), Fail> {
     let [a, b, c, d] = TETRAHEDRON;
     let twins = Twins::of(rt.alloc(), &[a, b, c, d, a, b, c, d])?;

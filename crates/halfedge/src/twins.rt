@@ -74,7 +74,8 @@ impl Twins {
     /// to b is the twin of the k-th from b to a. Exactly where the triangles are not closed, which
     /// is where some edge runs more often one way than back, the answer is `Open` with the least
     /// such edge, or `NoMemory`, which may come for any triangles. It sorts the half-edges by where
-    /// they run, and a second list of them by where they run back.
+    /// they run, and a second list of them by where they run back: in time linear in the triangles,
+    /// unless a vertex number is above some six times their number, when it compares half-edges.
     pub fn of(alloc: Global, triples: &[[u32; 3]]) -> Result<Twins, TwinFault>
         requires three { All HasThree (triples_of triples.now) }
         requires few { length triples.now ≤ 100000000 }
