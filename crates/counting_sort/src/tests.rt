@@ -4,7 +4,7 @@ use mb_base::NoMemory;
 use std::alloc::Global;
 use std::test::Fail;
 
-// The records sorted, or none where a first number is not below the bound.
+// The records sorted, or none where there are more than ten or a first number is not below the bound.
 fn sorted(
     alloc: Global,
     records: &[(u32, u32, u32)],

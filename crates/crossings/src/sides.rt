@@ -27,7 +27,8 @@ pub fn crossings<K: Kernels>(
     ensures x12_listed { IfOk result (λ hits. AreHits (all_edges p.now.triples) (length q.now.triples) hits.x12.items) }
     ensures x21_listed { IfOk result (λ hits. AreHits (all_edges q.now.triples) (length p.now.triples) hits.x21.items) }
 
-    // Over numbers by half-edge, of which those of twins are turned: a face of p and one of q have one sum, round either.
+    // An upper half-edge has the number of its edge, turned. Round a face of p, the numbers with a face of q add up to
+    // the same as round that face of q with this one.
     ensures pair_identity { IfOk result (λ hits. PairIdentity (length p.now.triples) (length q.now.triples) (half_number (all_edges p.now.triples) hits.x12.items) (half_number (all_edges q.now.triples) hits.x21.items)) }
 {
     // Read so that what sides keep is known here.

@@ -4,7 +4,7 @@
 //! A corner is its x, y and z in grid steps, a digit each, and the axes on which it counts as moved up. A crossing is its
 //! number and the x, y and z of its point; a dot stands for none.
 //!
-//! The corners came from a random generator, many of them at one point or with one coordinate. The answers are those of an
+//! The corners came from a random generator, many of them equal, or equal in a coordinate. The answers are those of an
 //! independent reference program, which was written from the definitions alone. They hold where a fine step is one grid
 //! step.
 pub(crate) const ROWS: &str = "\

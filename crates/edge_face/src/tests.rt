@@ -1,3 +1,4 @@
+// Crossings against a table, and under a rounding that is far from the nearest.
 ghost use Rattle.std.specs.Prelude.{◌≡◌, ◌<◌, ◌∷◌, [], pos, int_lt, IfSome, true, false, if◌then◌else◌, refl};
 ghost use Rattle.std.specs.Ordering.{int_eq};
 ghost use Rattle.std.proofs.Common.{arith, inl, inr};

@@ -42,9 +42,10 @@ fn compared(
     (edges, back)
 }
 
-// Both lists sorted by counting, with the lists that come in as room. A sort by the first entries
-// keeps the order of those that have one: so half-edges in the order of their numbers are sorted by
-// their ends, these by their starts, and these by their ends again.
+// Both lists sorted by counting, each written over a list that is no longer needed. A sort by the
+// first entries keeps the order of those with the same one: so half-edges in the order of their
+// numbers are sorted by their ends, then by their starts, which gives the first list, and then by
+// their ends again, which gives the second.
 fn counted(
     alloc: Global,
     edges: Vec<(u32, u32, u32)>,
@@ -60,9 +61,9 @@ fn counted(
     let by_ends = by_first(alloc, &back, edges, bound)?;
     let turned = turned_in_place(by_ends);
     let by_starts = by_first(alloc, &turned, back, bound)?;
-    let again = turned_in_place(by_starts);
-    let sorted_back = by_first(alloc, &again, turned, bound)?;
-    Ok((turned_in_place(again), sorted_back))
+    let turned_back = turned_in_place(by_starts);
+    let sorted_back = by_first(alloc, &turned_back, turned, bound)?;
+    Ok((turned_in_place(turned_back), sorted_back))
 }
 
 // A number above each start and each end.

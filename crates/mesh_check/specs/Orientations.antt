@@ -11,7 +11,7 @@ least_first t =
 abbrev pub other_side : Triple → Triple
 other_side t = (t.0, t.2, t.1)
 
--- two vertices as one number
+-- two vertices as one number, only so that an orientation is an edge between two numbers
 abbrev pub pair_number : ℕ → ℕ → ℕ
 pair_number a b = a * 4294967296 + b
 

@@ -104,6 +104,14 @@ fn a_two_sided_triangle_goes_with_its_points(rt: HostRuntime) -> Result<(), Fail
     assert_eq!(rt; reduced.points()[0].at(), [3, 0, 0]);
     assert_eq!(rt; reduced.points()[7].at(), [10, 0, 0]);
     assert_eq!(rt; reduced.triples(), BOX.as_slice());
+    // The box first, which keeps its points.
+    let mut triples = BOX.to_vec(rt.alloc())?;
+    triples.push([8, 9, 10])?;
+    triples.push([8, 10, 9])?;
+    let mesh = Mesh::check(rt.alloc(), soup_of(rt.alloc(), 11, &triples)?)?;
+    let reduced = reduce(rt.alloc(), &mesh)?;
+    assert_eq!(rt; reduced.points().len(), 8);
+    assert_eq!(rt; reduced.triples(), BOX.as_slice());
     Ok(())
 }
 

@@ -59,7 +59,7 @@ fn refuses_the_first_faulty_line(rt: HostRuntime) -> Result<(), Fail> {
         (b"v 0 0 0\nvn 0 0 1\nx\nv 0", 3, TextKind::UnknownLine),
         (b"vp 1\n", 1, TextKind::UnknownLine),
         (b"o \\\n \\\nv\nV 1 2 3\n", 4, TextKind::UnknownLine),
-        (b"v 1 2 3 \\\n# c \\\nv 4 5 6\nq", 4, TextKind::UnknownLine),
+        (b"v 1 2 3 \\\n# c \\\nq\n", 3, TextKind::UnknownLine),
         (b"\r\nv 0 \\\r\n0\r\nq", 2, TextKind::BadVertex),
         (b"v 0 0 # 0\n", 1, TextKind::BadVertex),
         (b"v 0 0 x 0 0 0 0 0\n", 1, TextKind::BadVertex),

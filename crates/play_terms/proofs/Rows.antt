@@ -7,7 +7,7 @@ use Rattle.obj_terms.specs.Written.{line_of}
 use Rattle.run_terms.specs.Files.{Bytes, Files}
 use Rattle.run_terms.specs.Runs.{Ask, Write, Say, Done, Refused, Refusal, Play}
 use Rattle.play_terms.specs.Commands.{Winding, play}
-use Rattle.play_terms.specs.Words.{CopyFile, InsideFile, command}
+use Rattle.play_terms.specs.Words.{CopyFile, InsideFile, given, command}
 
 abbrev program : Limits
 program = record { file_bytes = 1073741824; points = 15000000; triangles = 10000000; halfedges = 6000000 }
@@ -109,8 +109,11 @@ takes_digits_in_one_word = refl
 takes_any_operand_after_the_end : command (codes "inside" ∷ codes "cube.obj" ∷ codes "--" ∷ codes "-5" ∷ codes "4" ∷ codes "3" ∷ []) ≡ Some (InsideFile 4 (codes "cube.obj") (negsuc 49999 ∷ pos 40000 ∷ pos 30000 ∷ []))
 takes_any_operand_after_the_end = refl
 
-takes_a_second_end_as_an_operand : command (codes "copy" ∷ codes "--" ∷ codes "-a.obj" ∷ codes "--" ∷ []) ≡ None
+takes_a_second_end_as_an_operand : command (codes "copy" ∷ codes "--" ∷ codes "a.obj" ∷ codes "--" ∷ codes "b.obj" ∷ []) ≡ None
 takes_a_second_end_as_an_operand = refl
+
+takes_a_dash_as_an_operand : given (codes "-" ∷ []) ≡ Some (record { operands = codes "-" ∷ []; digits = [] })
+takes_a_dash_as_an_operand = refl
 
 refuses_a_sign_before_the_end : command (codes "inside" ∷ codes "cube.obj" ∷ codes "-5" ∷ codes "4" ∷ codes "3" ∷ []) ≡ None
 refuses_a_sign_before_the_end = refl
@@ -121,7 +124,7 @@ refuses_digits_before_the_command = refl
 refuses_seven_digits : command (codes "copy" ∷ codes "--digits=7" ∷ codes "a.obj" ∷ codes "b.obj" ∷ []) ≡ None
 refuses_seven_digits = refl
 
-refuses_digits_without_a_value : command (codes "copy" ∷ codes "a.obj" ∷ codes "b.obj" ∷ codes "--digits" ∷ codes "--" ∷ []) ≡ None
+refuses_digits_without_a_value : command (codes "copy" ∷ codes "--digits" ∷ codes "--" ∷ codes "4" ∷ codes "a.obj" ∷ codes "b.obj" ∷ []) ≡ None
 refuses_digits_without_a_value = refl
 
 refuses_digits_twice : command (codes "copy" ∷ codes "--digits=3" ∷ codes "--digits" ∷ codes "3" ∷ codes "a.obj" ∷ codes "b.obj" ∷ []) ≡ None

@@ -42,6 +42,7 @@ pub fn windings<K: Kernels, L: Ledger>(
     // Read so that what sides keep is known here.
     let _ = p.twins();
     let _ = q.twins();
+    // The sums need no hits; the identities are about them.
     let _ = hits;
     let w03 = p_windings(alloc, p, q, kernels, steps)?;
     let w30 = q_windings(alloc, p, q, kernels, steps)?;

@@ -14,7 +14,7 @@ use std::sync::ledger::Ledger;
 use steps::Steps;
 
 /// The winding number of a corner of P in Q: minus the sum of its shadows on all faces of Q. The corner's coordinates
-/// lie within `UNIT * 2^30` fine steps of 0. It counts one step, asks one test a face and takes no memory.
+/// lie within `UNIT * 2^30` fine steps of 0. It counts one step and takes no memory.
 pub fn winding_sum<K: Kernels, L: Ledger>(
     p: &Corner,
     q: &Side,
@@ -30,7 +30,7 @@ pub fn winding_sum<K: Kernels, L: Ledger>(
 }
 
 /// The winding number of a corner of Q in P: minus the sum of the shadows of all faces of P on it. The corner's
-/// coordinates lie within `UNIT * 2^30` fine steps of 0. It counts one step, asks one test a face and takes no memory.
+/// coordinates lie within `UNIT * 2^30` fine steps of 0. It counts one step and takes no memory.
 pub fn winding_sum_back<K: Kernels, L: Ledger>(
     p: &Side,
     q: &Corner,

@@ -11,7 +11,8 @@ ghost use Rattle.rounding.specs.Lawful.{settle_monotone, settle_units};
 
 use rounding::{Nearest, Rounding};
 
-/// A lawful rounding that is hardly ever near: the first of the two, but where its weight alone is not 0.
+/// A lawful rounding that is hardly ever near: the first of the two values, but the second where the
+/// second weight is 0 and the first is not.
 #[derive(Clone, Copy, Drop)]
 pub struct Low;
 

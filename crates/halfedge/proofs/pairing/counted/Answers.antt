@@ -23,12 +23,12 @@ many_second c =
 -- and of what the third one reads
 within_third : (c : goal.After-deref-3) → All (IsWithin c.args.bound) c.deref-3.result.now
 within_third c =
-    moved_within c.args.bound c.deref-2.result.now c.in_ok-by_starts.by_starts.items c.deref-3.result.now c.in_ok-by_starts.ensures.permutation (c.deref-3.ensures.value ∙ c.turned_in_place-again.ensures)
+    moved_within c.args.bound c.deref-2.result.now c.in_ok-by_starts.by_starts.items c.deref-3.result.now c.in_ok-by_starts.ensures.permutation (c.deref-3.ensures.value ∙ c.turned_in_place-turned_back.ensures)
     (moved_within c.args.bound c.deref.result.now c.in_ok-by_ends.by_ends.items c.deref-2.result.now c.in_ok-by_ends.ensures.permutation (c.deref-2.ensures.value ∙ c.turned_in_place-turned.ensures)
     (subst (All (IsWithin c.args.bound)) (sym (c.deref.ensures.value ∙ c.requires.turned)) (turned_within c.args.bound c.args.edges.items c.requires.below)))
 
 many_third : (c : goal.After-deref-3) → length c.deref-3.result.now ≡ length c.deref-2.result.now
-many_third c = moved_length c.deref-2.result.now c.in_ok-by_starts.by_starts.items c.deref-3.result.now c.in_ok-by_starts.ensures.permutation (c.deref-3.ensures.value ∙ c.turned_in_place-again.ensures)
+many_third c = moved_length c.deref-2.result.now c.in_ok-by_starts.by_starts.items c.deref-3.result.now c.in_ok-by_starts.ensures.permutation (c.deref-3.ensures.value ∙ c.turned_in_place-turned_back.ensures)
 
 pub by_first-requires-clause-below : goal.by_first-requires-clause-below
 by_first-requires-clause-below c = first_within c.args.bound c.deref.result.now (within_first c)
@@ -75,7 +75,7 @@ steps c =
       moved_again = two.permutation;
       up_again = two.sorted;
       stable_again = two.stable;
-      turned_last = c.deref-3.ensures.value ∙ c.turned_in_place-again.ensures;
+      turned_last = c.deref-3.ensures.value ∙ c.turned_in_place-turned_back.ensures;
       moved_last = three.permutation;
       up_last = three.sorted;
       stable_last = three.stable;
@@ -83,6 +83,6 @@ steps c =
 
 pub returns : goal.returns
 returns c = (
-  subst (IsSortOf c.args.edges.items) (sym (c.turned_in_place.ensures ∙ ap (map turned) c.turned_in_place-again.ensures ∙ turned_twice c.in_ok-by_starts.by_starts.items)) (edges_sorted _ _ _ _ _ _ _ (steps c)),
+  subst (IsSortOf c.args.edges.items) (sym (c.turned_in_place.ensures ∙ ap (map turned) c.turned_in_place-turned_back.ensures ∙ turned_twice c.in_ok-by_starts.by_starts.items)) (edges_sorted _ _ _ _ _ _ _ (steps c)),
   subst (λ l. IsSortOf l c.in_ok-sorted_back.sorted_back.items) c.deref.ensures.value (back_sorted _ _ _ _ _ _ _ (steps c)),
 )
