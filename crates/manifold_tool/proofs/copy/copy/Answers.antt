@@ -82,3 +82,16 @@ returns-clause-back g c told soup is =
     let saved = save.saved (subst P (sym read.told) told) ∙ ap (put to (obj_text c.args.digits here.points here.triples)) read.files in
     let Q : Soup → Type 0 = λ s. g.S.Shelf.files c.save_mesh.new.shelf ≡ put to (obj_text c.args.digits s.points s.triples) (g.S.Shelf.files c.args.shelf.now) in
     saved_is_taken c.args.digits c.args.limits.now from to _ _ _ soup c.requires.digits read.lawful is (subst Q same saved)
+
+pub returns-in_default-say_copied-clause-back_unreported : goal.returns-in_default-say_copied-clause-back_unreported
+returns-in_default-say_copied-clause-back_unreported g c rose told soup is =
+    let P : Bool → Type 0 = λ b. IsTrue b in
+    let read = c.in-Ok.ensures in
+    let save = c.in-Ok-save_mesh.ensures in
+    let from = c.args.from.now in
+    let to = c.args.to.now in
+    let here = soup_with c.in-Ok.read in
+    let same : here ≡ soup = same_soup _ here soup (read.mesh told) is in
+    let saved = save.saved (subst P (sym read.told) told) ∙ ap (put to (obj_text c.args.digits here.points here.triples)) read.files in
+    let Q : Soup → Type 0 = λ s. g.S.Shelf.files c.save_mesh.new.shelf ≡ put to (obj_text c.args.digits s.points s.triples) (g.S.Shelf.files c.args.shelf.now) in
+    saved_is_taken c.args.digits c.args.limits.now from to _ _ _ soup c.requires.digits read.lawful is (subst Q same saved)
