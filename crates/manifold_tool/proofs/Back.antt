@@ -70,3 +70,16 @@ saved_is_taken k limits from to file old new soup few lawful is saved =
     let text = obj_text k soup.points soup.triples in
     let here : new to ≡ Some text = ap (λ f. f to) saved ∙ ap (λ b. cond b (Some text) (old to)) ((bytes_eq-Decides to to).1 refl) in
     ap (mesh_of k limits to) here ∙ text_is_taken k limits to soup back taken.2
+
+-- one answer has one soup
+same_soup : (r : Result Soup Refusal) (a b : Soup) → r ≡ Ok a → r ≡ Ok b → a ≡ b
+same_soup r a b first second = cc
+
+-- the mesh of one file, whose text was saved to another, is taken from that one
+pub copied_is_taken : (k : ℕ) (limits : Limits) (from to : Bytes) (old new : Files) (read soup : Soup) → k ≤ 6 → IsLawful limits
+    → mesh_of k limits from (old from) ≡ Ok read → mesh_of k limits from (old from) ≡ Ok soup → new ≡ put to (obj_text k read.points read.triples) old
+    → mesh_of k limits to (new to) ≡ Ok (as_saved soup)
+copied_is_taken k limits from to old new read soup few lawful was is saved =
+    let same = same_soup (mesh_of k limits from (old from)) read soup was is in
+    let Q : Soup → Type 0 = λ s. new ≡ put to (obj_text k s.points s.triples) old in
+    saved_is_taken k limits from to (old from) old new soup few lawful is (subst Q same saved)

@@ -35,7 +35,7 @@ joined first (Some g) = Some (record { operands = first.operands ++ g.operands; 
 abbrev pub given_in_all : List Bytes → Held → ℕ → Option Given
 given_in_all ws g place = joined (held g) (given_by g.ended (drop place ws))
 
--- no command has been given so
+-- whatever the first word, this gives no command
 abbrev pub IsNoCommand : Option Given → Type 0
 IsNoCommand o = (w : Bytes) → command_by w o ≡ None
 

@@ -53,6 +53,9 @@ pub fn copy<S: Shelf, O: Sink>(
     ensures back { OnOk result (IsTrue (S.tells shelf.old) → (soup : Soup) →
         mesh_of digits limits.now from.now (S.files shelf.old from.now) ≡ Ok soup →
         mesh_of digits limits.now to.now (S.files shelf.new to.now) ≡ Ok (as_saved soup)) }
+    ensures back_unreported { O.faults out.old < O.faults out.new → IsTrue (S.tells shelf.old) → (soup : Soup) →
+        mesh_of digits limits.now from.now (S.files shelf.old from.now) ≡ Ok soup →
+        mesh_of digits limits.now to.now (S.files shelf.new to.now) ≡ Ok (as_saved soup) }
 {
     let read = match read_mesh(alloc, from, digits, limits, shelf) {
         Ok(read) => read,

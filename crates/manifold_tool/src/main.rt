@@ -1,5 +1,5 @@
 //! `manifold_tool`: copies closed triangle meshes from file to file, and says how often one winds round a point. A result is closed for any input that is
-//! accepted, and a run does exactly what its play says.
+//! accepted.
 //!
 //! `run` is the top call, and its contract is the program's promise; `main` only hands it the outside.
 #![tactic(auto)]

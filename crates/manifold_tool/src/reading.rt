@@ -34,6 +34,7 @@ fn size_of<S: Shelf>(name: &str, limits: &Limits, shelf: &mut S) -> Result<usize
     ensures files { S.files shelf.new ≡ S.files shelf.old }
     ensures told { S.tells shelf.new ≡ S.tells shelf.old }
     ensures writes { S.write_faults shelf.new ≡ S.write_faults shelf.old }
+    ensures spare { S.spare shelf.new ≡ S.spare shelf.old }
 {
     let most = limits.file_bytes();
     let Ok(answer) = shelf.size(name) else {
@@ -69,6 +70,7 @@ fn read_piece<S: Shelf>(
     ensures files { S.files shelf.new ≡ S.files shelf.old }
     ensures told { S.tells shelf.new ≡ S.tells shelf.old }
     ensures writes { S.write_faults shelf.new ≡ S.write_faults shelf.old }
+    ensures spare { S.spare shelf.new ≡ S.spare shelf.old }
 {
     let count = shelf.read_at(name, have as u64, &mut bytes[have..end])?;
     Ok(count)
@@ -84,6 +86,7 @@ fn read_to<S: Shelf>(alloc: Global, name: &str, size: usize, shelf: &mut S) -> R
     ensures files { S.files shelf.new ≡ S.files shelf.old }
     ensures told { S.tells shelf.new ≡ S.tells shelf.old }
     ensures writes { S.write_faults shelf.new ≡ S.write_faults shelf.old }
+    ensures spare { S.spare shelf.new ≡ S.spare shelf.old }
 {
     let mut bytes = vec![in alloc; 0u8; size]?;
     let mut have = 0;
@@ -116,7 +119,7 @@ fn mesh_of_text(alloc: Global, bytes: &[u8], digits: u8, limits: &Limits) -> Res
 /// and checks that the mesh is closed. It stops with the first thing that is wrong, in this order: the shelf fails, no file has
 /// the name, the file is longer than the limit, a line of the text or a count of points or triangles past its limit, an edge
 /// without its reverse. Where the shelf tells its files, `ReadFault` comes only where its count of read faults rose;
-/// where it tells none, also where the file ended before the size that was told. No file changes.
+/// where it tells none, also where the file ended before the size that was told. No file changes, nor does the shelf's spare.
 ///
 /// It takes memory for the file's bytes and the mesh.
 pub fn read_mesh<S: Shelf>(
@@ -135,6 +138,7 @@ pub fn read_mesh<S: Shelf>(
     ensures files { S.files shelf.new ≡ S.files shelf.old }
     ensures told { S.tells shelf.new ≡ S.tells shelf.old }
     ensures writes { S.write_faults shelf.new ≡ S.write_faults shelf.old }
+    ensures spare { S.spare shelf.new ≡ S.spare shelf.old }
 {
     let size = size_of(name, limits, shelf)?;
     let bytes = read_to(alloc, name, size, shelf)?;

@@ -53,7 +53,8 @@ fn concluded<E: Sink>(from: &str, to: &str, ended: Result<(), Halt>, err: &mut E
 /// it says the bytes where `out` tells them. With status 0 to 5 every action of the play was done whole, and the status and the
 /// line are those of the play's end; with 6 a file could not be read, with 7 a file or a line was written in part or not at
 /// all, and with 8 memory ran out between two actions. So a run whose play ends well, and in which no fault came, ends with 0, or for want
-/// of memory; and what a copy saved is read, under the same digits and limits, as the points and triangles that were copied, with none unused.
+/// of memory; and what a copy saved, also where its report failed, is read, under the same digits and limits, as the points and triangles that were
+/// copied, with none unused.
 ///
 /// The read faults of the shelf rise with status 6 alone, its write faults and the faults of `out` with 7 alone, and one of the two does. With
 /// 6 the read faults rose, or the shelf tells no files.
@@ -89,7 +90,11 @@ pub fn run<S: Shelf, O: Sink, E: Sink, L: Ledger>(
     ensures complete { (play winding_in words.now (S.files shelf.old) limits.now).end ≡ Done → IsTrue (S.tells shelf.old) →
         S.read_faults shelf.new ≡ S.read_faults shelf.old → S.write_faults shelf.new ≡ S.write_faults shelf.old → O.faults out.new ≡ O.faults out.old →
         (result ≡ Status.Done) ⊎ (result ≡ Status.NoMemory) }
+    ensures untouched { result ≡ Status.Usage → (shelf.new ≡ shelf.old) × (out.new ≡ out.old) }
     ensures back { result ≡ Status.Done → IsTrue (S.tells shelf.old) → (k : ℕ) (from to : Bytes) (soup : Soup) →
+        command words.now ≡ Some (CopyFile k from to) → mesh_of k limits.now from (S.files shelf.old from) ≡ Ok soup →
+        mesh_of k limits.now to (S.files shelf.new to) ≡ Ok (as_saved soup) }
+    ensures back_unreported { O.faults out.old < O.faults out.new → IsTrue (S.tells shelf.old) → (k : ℕ) (from to : Bytes) (soup : Soup) →
         command words.now ≡ Some (CopyFile k from to) → mesh_of k limits.now from (S.files shelf.old from) ≡ Ok soup →
         mesh_of k limits.now to (S.files shelf.new to) ≡ Ok (as_saved soup) }
     ensures copies_uncounted { (k : ℕ) (from to : Bytes) → command words.now ≡ Some (CopyFile k from to) → steps.new ≡ steps.old }

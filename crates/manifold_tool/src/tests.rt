@@ -552,7 +552,7 @@ fn is_copy_with(alloc: Global, words: &[&str], wanted: u8) -> Result<bool, NoMem
 }
 
 #[test]
-fn digits_stand_anywhere_among_the_operands(rt: HostRuntime) -> Result<(), Fail> {
+fn digits_stand_anywhere_before_the_end_of_options(rt: HostRuntime) -> Result<(), Fail> {
     let alloc = rt.alloc();
     let taken: [(&[&str], u8); 8] = [
         (&["copy", "a.obj", "b.obj"], 4),
@@ -595,13 +595,17 @@ fn a_copy_keeps_so_many_digits(rt: HostRuntime) -> Result<(), Fail> {
 
 // What a copy over a shelf of two files left.
 #[derive(Drop)]
-struct SureOutcome {
+struct RoomOutcome {
     status: u8,
     shelf: SureShelf,
 }
 
 // A copy of the tetrahedron to a file with room for so many bytes.
-fn ran_surely<L: Ledger>(alloc: Global, room: usize, blank: Blank) -> Result<SureOutcome, NoMemory>
+fn ran_with_room<L: Ledger>(
+    alloc: Global,
+    room: usize,
+    blank: Blank,
+) -> Result<RoomOutcome, NoMemory>
     requires name { blank.name ≡ L.name }
     requires parts { blank.parts ≡ L.parts }
     requires some { 0 < blank.parts }
@@ -623,19 +627,19 @@ fn ran_surely<L: Ledger>(alloc: Global, room: usize, blank: Blank) -> Result<Sur
         &mut err,
         &mut steps,
     );
-    Ok(SureOutcome {
+    Ok(RoomOutcome {
         status: status.number(),
         shelf,
     })
 }
 
-fn judge_surely<R: Abort + AllocGlobal>(
+fn judge_with_room<R: Abort + AllocGlobal>(
     rt: &R,
     room: usize,
     status: u8,
     saved: &[u8],
 ) -> Result<(), NoMemory> {
-    let outcome = ran_surely::<Brand>(rt.alloc(), room, Blank::new(1))?;
+    let outcome = ran_with_room::<Brand>(rt.alloc(), room, Blank::new(1))?;
     assert_eq!(rt; outcome.status, status);
     assert_eq!(rt; outcome.shelf.get("u.obj"), Some(saved));
     Ok(())
@@ -643,7 +647,7 @@ fn judge_surely<R: Abort + AllocGlobal>(
 
 #[test]
 fn a_copy_needs_room_for_its_text_alone(rt: HostRuntime) -> Result<(), Fail> {
-    judge_surely(&rt, 64, 0, TETRAHEDRON)?;
-    judge_surely(&rt, 63, 7, b"")?;
+    judge_with_room(&rt, 64, 0, TETRAHEDRON)?;
+    judge_with_room(&rt, 63, 7, b"")?;
     Ok(())
 }

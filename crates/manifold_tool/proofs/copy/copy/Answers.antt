@@ -1,20 +1,14 @@
-use Rattle.std.proofs.Common.{◌≡◌, ◌<◌, ◌^◌, ◌-◌, ℕ, Bool, IsTrue, Result, Ok, Err, ap, sym, ◌∙◌, refl, subst}
-use Rattle.mesh_terms.specs.Meshes.{Soup}
+use Rattle.std.proofs.Common.{◌≡◌, ◌<◌, ◌^◌, ◌-◌, ℕ, Bool, IsTrue, Err, ap, sym, ◌∙◌, refl, subst}
 use Rattle.obj_terms.specs.Written.{obj_text}
 use Rattle.run_terms.specs.Files.{Files, put}
-use Rattle.run_terms.specs.Runs.{Refusal}
 use Rattle.play_terms.specs.Commands.{copy_actions, mesh_of}
 use Rattle.manifold_tool.specs.Pieces.{soup_with}
 use Rattle.manifold_tool.specs.Reports.{world}
 use Rattle.manifold_tool.specs.Saves.{IsSavedInPart}
 use Rattle.manifold_tool.specs.declared.stop.Stop.TheVariants.{ReadFault}
-use Rattle.manifold_tool.proofs.Back.{saved_is_taken}
+use Rattle.manifold_tool.proofs.Back.{copied_is_taken}
 use Rattle.manifold_tool.proofs.Copying.{greater, same_faults, reading_stopped, saving_stopped, reporting_stopped, copy_done}
 use Rattle.manifold_tool.proofs.copy.copy.Goals as goal
-
--- one answer has one soup
-same_soup : (r : Result Soup Refusal) (a b : Soup) → r ≡ Ok a → r ≡ Ok b → a ≡ b
-same_soup r a b first second = cc
 
 pub returns-in-Err-clause-halted : goal.returns-in-Err-clause-halted
 returns-in-Err-clause-halted g c told =
@@ -74,11 +68,20 @@ pub returns-clause-back : goal.returns-clause-back
 returns-clause-back g c told soup is =
     let P : Bool → Type 0 = λ b. IsTrue b in
     let read = c.in-Ok.ensures in
-    let save = c.in-Ok-save_mesh.ensures in
-    let from = c.args.from.now in
     let to = c.args.to.now in
     let here = soup_with c.in-Ok.read in
-    let same : here ≡ soup = same_soup _ here soup (read.mesh told) is in
-    let saved = save.saved (subst P (sym read.told) told) ∙ ap (put to (obj_text c.args.digits here.points here.triples)) read.files in
-    let Q : Soup → Type 0 = λ s. g.S.Shelf.files c.save_mesh.new.shelf ≡ put to (obj_text c.args.digits s.points s.triples) (g.S.Shelf.files c.args.shelf.now) in
-    saved_is_taken c.args.digits c.args.limits.now from to _ _ _ soup c.requires.digits read.lawful is (subst Q same saved)
+    let old = g.S.Shelf.files c.args.shelf.now in
+    let new = g.S.Shelf.files c.save_mesh.new.shelf in
+    let saved = c.in-Ok-save_mesh.ensures.saved (subst P (sym read.told) told) ∙ ap (put to (obj_text c.args.digits here.points here.triples)) read.files in
+    copied_is_taken c.args.digits c.args.limits.now c.args.from.now to old new here soup c.requires.digits read.lawful (read.mesh told) is saved
+
+pub returns-in_default-say_copied-clause-back_unreported : goal.returns-in_default-say_copied-clause-back_unreported
+returns-in_default-say_copied-clause-back_unreported g c rose told soup is =
+    let P : Bool → Type 0 = λ b. IsTrue b in
+    let read = c.in-Ok.ensures in
+    let to = c.args.to.now in
+    let here = soup_with c.in-Ok.read in
+    let old = g.S.Shelf.files c.args.shelf.now in
+    let new = g.S.Shelf.files c.save_mesh.new.shelf in
+    let saved = c.in-Ok-save_mesh.ensures.saved (subst P (sym read.told) told) ∙ ap (put to (obj_text c.args.digits here.points here.triples)) read.files in
+    copied_is_taken c.args.digits c.args.limits.now c.args.from.now to old new here soup c.requires.digits read.lawful (read.mesh told) is saved

@@ -19,6 +19,7 @@ loop-have-preserved g c =
       files = e.files ∙ inv.files;
       bytes = λ t. reads_on _ old new c.loop-have.have c.in-Ok.count (subst Q inv.files (e.bytes (subst P (sym inv.told) t))) (inv.bytes t);
       writes = e.writes ∙ inv.writes;
+      spare = e.spare ∙ inv.spare;
       reads = e.reads.ok (search rules) ∙ inv.reads;
     }
 

@@ -10,6 +10,7 @@ invariant-loop-have g l = record {
   files : g.S.Shelf.files l.shelf ≡ g.S.Shelf.files l.initial.shelf;
   bytes : IsTrue (g.S.Shelf.tells l.initial.shelf) → take l.have l.bytes.items ≡ take l.have (text_of (g.S.Shelf.files l.initial.shelf l.name));
   writes : g.S.Shelf.write_faults l.shelf ≡ g.S.Shelf.write_faults l.initial.shelf;
+  spare : g.S.Shelf.spare l.shelf ≡ g.S.Shelf.spare l.initial.shelf;
   reads : g.S.Shelf.read_faults l.shelf ≡ g.S.Shelf.read_faults l.initial.shelf;
 }
 

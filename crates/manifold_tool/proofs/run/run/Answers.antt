@@ -22,6 +22,10 @@ returns-in-CopyFile-clause-play g c told =
       c.concluded.ensures.report,
     )
 
+pub returns-in-CopyFile-clause-untouched : goal.returns-in-CopyFile-clause-untouched
+returns-in-CopyFile-clause-untouched g c is =
+    absurd (ended_after_words c.copy-ended.result c.copy-ended.ensures.reading (sym c.concluded.ensures.status ∙ ap status_number is))
+
 pub returns-in-CopyFile-clause-write_fault : goal.returns-in-CopyFile-clause-write_fault
 returns-in-CopyFile-clause-write_fault g c is =
     let e = c.copy-ended.ensures in
@@ -45,6 +49,10 @@ returns-in-InsideFile-clause-play g c told =
           (ended_meets _ file file _ _ _ _ c.inside-ended.result (on_ok_weaker c.inside-ended.result (λ meets. meets told) e.done) (IfErr-weaker c.inside-ended.result _ _ (λ halt meets. meets told) e.halted)),
       c.concluded-in-InsideFile.ensures.report,
     )
+
+pub returns-in-InsideFile-clause-untouched : goal.returns-in-InsideFile-clause-untouched
+returns-in-InsideFile-clause-untouched g c is =
+    absurd (ended_after_words c.inside-ended.result c.inside-ended.ensures.reading (sym c.concluded-in-InsideFile.ensures.status ∙ ap status_number is))
 
 pub returns-in-InsideFile-clause-write_fault : goal.returns-in-InsideFile-clause-write_fault
 returns-in-InsideFile-clause-write_fault g c is =
