@@ -1,62 +1,45 @@
-// Lists that are sorted by hand.
-use crate::by_first;
+// Keys whose buckets are known.
+use crate::Buckets;
 use mb_base::NoMemory;
 use std::alloc::Global;
 use std::test::Fail;
 
-// The records sorted, or none where there are more than ten or a first number is not below the bound.
-fn sorted(
+// Bucket k of the places, or none where there are more than ten keys or k or a key is not below the count.
+fn bucket_of(
     alloc: Global,
-    records: &[(u32, u32, u32)],
-    bound: usize,
-) -> Result<Option<Vec<(u32, u32, u32)>>, NoMemory> {
-    if records.len() > 10 || !records.iter().all(|r| (r.0 as usize) < bound) {
+    keys: &[u32],
+    count: usize,
+    k: usize,
+) -> Result<Option<Vec<u32>>, NoMemory> {
+    if keys.len() > 10 || k >= count || !keys.iter().all(|key| (*key as usize) < count) {
         return Ok(None);
     }
-    let into = vec![in alloc; (4, 4, 4); records.len()]?;
-    let list = by_first(alloc, records, into, bound)?;
-    Ok(Some(list))
+    let buckets = Buckets::of(alloc, keys, count)?;
+    let places = buckets.bucket(k).to_vec(alloc)?;
+    Ok(Some(places))
 }
 
 #[test]
-fn records_are_sorted_by_their_first_number(rt: HostRuntime) -> Result<(), Fail> {
-    // A list, a bound of the first numbers, and the list sorted by them.
-    let table: [(&[(u32, u32, u32)], usize, &[(u32, u32, u32)]); 6] = [
-        (&[], 0, &[]),
-        (&[], 3, &[]),
-        (&[(7, 1, 2)], 8, &[(7, 1, 2)]),
+fn places_are_gathered_by_key(rt: HostRuntime) -> Result<(), Fail> {
+    // Keys, and the places in each bucket.
+    let table: [(&[u32], &[&[u32]]); 7] = [
+        (&[], &[]),
+        (&[], &[&[], &[], &[]]),
+        (&[0], &[&[0]]),
+        (&[2], &[&[], &[], &[0]]),
+        (&[0, 0, 0, 0], &[&[0, 1, 2, 3]]),
+        (&[2, 1, 0], &[&[2], &[1], &[0]]),
         (
-            &[(0, 3, 0), (0, 1, 1), (0, 2, 2)],
-            1,
-            &[(0, 3, 0), (0, 1, 1), (0, 2, 2)],
-        ),
-        (
-            &[(2, 9, 0), (0, 9, 1), (2, 1, 2), (1, 5, 3), (0, 4, 4)],
-            10,
-            &[(0, 9, 1), (0, 4, 4), (1, 5, 3), (2, 9, 0), (2, 1, 2)],
-        ),
-        (
-            &[
-                (9000, 0, 0),
-                (1, 0, 1),
-                (8999, 0, 2),
-                (9000, 0, 3),
-                (1, 0, 4),
-            ],
-            9001,
-            &[
-                (1, 0, 1),
-                (1, 0, 4),
-                (8999, 0, 2),
-                (9000, 0, 0),
-                (9000, 0, 3),
-            ],
+            &[4, 1, 3, 1, 4, 4, 1],
+            &[&[], &[1, 3, 6], &[], &[2], &[0, 4, 5], &[]],
         ),
     ];
-    for (records, bound, wanted) in table {
-        let found = sorted(rt.alloc(), records, bound)?;
-        let list = found.as_ref().map(|list| list.as_slice());
-        assert_eq!(rt; list, Some(wanted));
+    for (keys, wanted) in table {
+        for (k, places) in wanted.iter().enumerate() {
+            let found = bucket_of(rt.alloc(), keys, wanted.len(), k)?;
+            let list = found.as_ref().map(|list| list.as_slice());
+            assert_eq!(rt; list, Some(*places));
+        }
     }
     Ok(())
 }

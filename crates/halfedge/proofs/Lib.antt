@@ -1,4 +1,6 @@
 pub mod Around
+pub mod Bucketed
+pub mod Buckets
 pub mod Edges
 pub mod FanOrder
 pub mod FanProgress
@@ -11,6 +13,8 @@ pub mod OpenPair
 pub mod Order
 pub mod Positions
 pub mod Single
-pub mod Sorting
-pub mod TwinPlaces
+pub mod SortedHalves
+pub mod Split
+pub mod TwinSides
 pub mod Walk
+pub mod Writing

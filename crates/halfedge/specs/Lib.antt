@@ -3,5 +3,6 @@ pub mod Halves
 pub mod Laws
 pub mod Numbering
 pub mod Pairing
+pub mod Sides
 pub mod Surplus
 pub mod Twins

@@ -1,9 +1,8 @@
 -- Numbers given to the half-edges of a fan, and to fans in the order of their starts.
-use Rattle.std.specs.Prelude.{◌≡◌, ℕ, ◌<◌, ◌≤◌, ◌⊎◌, List, length, get_or, map}
+use Rattle.std.specs.Prelude.{◌≡◌, ℕ, ◌<◌, ◌⊎◌, List, length, get_or, map}
 use Rattle.std.specs.List.Sorted.{IsPermutation, IsSorted}
 use Rattle.std.specs.Ordering.{nat_cmp, ordering_then}
 use Rattle.std.specs.declared.cmp.Ordering.{Ordering}
-use Rattle.chain_laws.specs.Ranks.{start}
 use Rattle.halfedge.specs.Halves.{around, SameFan}
 use Rattle.halfedge.specs.Pairing.{numbered}
 

@@ -5,7 +5,9 @@
 #![tactic(auto)]
 
 mod fans;
+mod open_edge;
 mod pairing;
+mod sides;
 mod surplus;
 #[cfg(test)]
 mod tests;

@@ -1,122 +1,83 @@
-// Half-edges with their numbers, sorted by where they run, and paired with those that run back.
-ghost use Rattle.std.specs.Prelude.{◌≡◌, ◌<◌, ◌≤◌, ◌↔◌, ℕ, List, IfOk, IsSorted, IsTrue, length, get_or, map};
+// Twins, bucket by bucket.
+ghost use Rattle.std.specs.Prelude.{◌≡◌, ◌<◌, ◌≤◌, ◌↔◌, ℕ, List, IfOk, IsNone, IfSome, IsSorted, IsTrue, length, map};
 ghost use Rattle.std.specs.List.{All};
-ghost use Rattle.chain_terms.specs.Chains.{all_edges};
-ghost use Rattle.mesh_terms.specs.Meshes.{triples_of};
+ghost use Rattle.chain_terms.specs.Chains.{all_edges, IsClosed};
+ghost use Rattle.chain_terms.specs.Sums.{upto};
+ghost use Rattle.chain_laws.specs.Ranks.{twin};
+ghost use Rattle.mesh_terms.specs.Meshes.{HasThree, triples_of};
 ghost use Rattle.halfedge.specs.Laws.{AreSingle};
-ghost use Rattle.halfedge.specs.Pairing.{numbered, turned, half_at, by_number, ends_of, IsSortOf, IsWithin, AreSorted, ArePartners};
+ghost use Rattle.halfedge.specs.Pairing.{ends_of};
+ghost use Rattle.halfedge.specs.Sides.{ArePartners, AreWritten};
 
-use counting_sort::by_first;
+use crate::sides::{Half, bucket_numbers, sides};
+use counting_sort::Buckets;
 use mb_base::NoMemory;
 use std::alloc::Global;
 
-/// The half-edges of the triangles, each as its start, its end and its number, sorted; and the same
-/// with start and end exchanged, sorted. The time is linear in the half-edges, unless some vertex
-/// number is above about twice their count: then they are sorted by comparing them.
-pub fn sorted_edges(
-    alloc: Global,
-    triples: &[[u32; 3]],
-) -> Result<(Vec<(u32, u32, u32)>, Vec<(u32, u32, u32)>), NoMemory>
-    requires { length triples.now ≤ 100000000 }
-    ensures { IfOk result (λ r. AreSorted (all_edges (triples_of triples.now)) r.0.items r.1.items) }
+/// The twin of each half-edge, and whether no two run the same way; none where the triangles are not
+/// closed. The half-edges lie in buckets by their lesser ends, modulo the number of buckets, which is
+/// one more than that of the triangles. In each bucket those that run up, sorted, must run as those
+/// that run down, turned and sorted: so the k-th from a to b stands beside the k-th from b to a.
+pub fn paired(alloc: Global, triples: &[[u32; 3]]) -> Result<Option<(Vec<u32>, bool)>, NoMemory>
+    requires few { length triples.now ≤ 100000000 }
+    requires three { All HasThree (triples_of triples.now) }
+    ensures none { IfOk result (λ r. IsNone r → IsClosed (all_edges (triples_of triples.now)) → ⊥) }
+    ensures closed { IfOk result (λ r. IfSome r (λ _. IsClosed (all_edges (triples_of triples.now)))) }
+    ensures twins { IfOk result (λ r. IfSome r (λ p. p.0.items ≡ map (twin (all_edges (triples_of triples.now))) (upto (length (all_edges (triples_of triples.now)))))) }
+    ensures single { IfOk result (λ r. IfSome r (λ p. IsTrue p.1 ↔ AreSingle (all_edges (triples_of triples.now)))) }
 {
-    let edges = numbered_edges(alloc, triples)?;
-    let back = turned_edges(alloc, &edges)?;
-    let bound = bound_of(&edges);
-    if bound > 2 * edges.len() + 1000 {
-        return Ok(compared(edges, back));
+    let count = triples.len() as u32 + 1;
+    let numbers = bucket_numbers(alloc, triples, count)?;
+    let buckets = Buckets::of(alloc, &numbers, count as usize)?;
+    // Each number is no longer needed, and is written over by a twin.
+    let mut twins = numbers;
+    let mut lists = (Vec::new(alloc), Vec::new(alloc));
+    let mut single = true;
+    for k in 0..count as usize {
+        let (ups, downs) = sides(triples, buckets.bucket(k), lists)?;
+        if !run_alike(&ups, &downs) {
+            return Ok(None);
+        }
+        pair_up(&ups, &downs, &mut twins);
+        single &= are_single(&ups);
+        lists = (ups, downs);
     }
-    counted(alloc, edges, back, bound)
+    Ok(Some((twins, single)))
 }
 
-// Both lists sorted by comparing the half-edges.
-fn compared(
-    mut edges: Vec<(u32, u32, u32)>,
-    mut back: Vec<(u32, u32, u32)>,
-) -> (Vec<(u32, u32, u32)>, Vec<(u32, u32, u32)>)
-    ensures edges { IsSortOf edges.items result.0.items }
-    ensures back { IsSortOf back.items result.1.items }
+// Whether both lists run the same way, place by place.
+fn run_alike(ups: &[Half], downs: &[Half]) -> bool
+    ensures { IsTrue result ↔ (ends_of ups.now ≡ ends_of downs.now) }
 {
-    edges.sort_unstable();
-    back.sort_unstable();
-    (edges, back)
-}
-
-// Both lists sorted by counting, each written over a list that is no longer needed. A sort by the
-// first entries keeps the order of those with the same one: so half-edges in the order of their
-// numbers are sorted by their ends, then by their starts, which gives the first list, and then by
-// their ends again, which gives the second.
-fn counted(
-    alloc: Global,
-    edges: Vec<(u32, u32, u32)>,
-    back: Vec<(u32, u32, u32)>,
-    bound: usize,
-) -> Result<(Vec<(u32, u32, u32)>, Vec<(u32, u32, u32)>), NoMemory>
-    requires turned { back.items ≡ map turned edges.items }
-    requires in_order { IsSorted by_number edges.items }
-    requires below { All (IsWithin bound) edges.items }
-    requires few { length edges.items ≤ 300000000 }
-    ensures { IfOk result (λ r. IsSortOf edges.items r.0.items × IsSortOf back.items r.1.items) }
-{
-    let by_ends = by_first(alloc, &back, edges, bound)?;
-    let turned = turned_in_place(by_ends);
-    let by_starts = by_first(alloc, &turned, back, bound)?;
-    let turned_back = turned_in_place(by_starts);
-    let sorted_back = by_first(alloc, &turned_back, turned, bound)?;
-    Ok((turned_in_place(turned_back), sorted_back))
-}
-
-// A number above each start and each end.
-fn bound_of(edges: &[(u32, u32, u32)]) -> usize
-    ensures { All (IsWithin result) edges.now }
-{
-    let mut bound = 0usize;
-    for (from, to, _) in edges {
-        bound = bound.max(*from as usize + 1).max(*to as usize + 1);
+    if ups.len() != downs.len() {
+        return false;
     }
-    bound
-}
-
-// The half-edges of the triangles in order.
-fn numbered_edges(alloc: Global, triples: &[[u32; 3]]) -> Result<Vec<(u32, u32, u32)>, NoMemory>
-    requires { length triples.now ≤ 100000000 }
-    ensures { IfOk result (λ edges. edges.items ≡ numbered 0 (all_edges (triples_of triples.now))) }
-{
-    let mut edges = Vec::with_capacity(alloc, 3 * triples.len())?;
-    let mut half = 0;
-    for [a, b, c] in triples {
-        edges.push((*a, *b, half))?;
-        edges.push((*b, *c, half + 1))?;
-        edges.push((*c, *a, half + 2))?;
-        half += 3;
+    for i in 0..ups.len() {
+        if (ups[i].0, ups[i].1) != (downs[i].0, downs[i].1) {
+            return false;
+        }
     }
-    Ok(edges)
+    true
 }
 
-// Each half-edge the other way round, with its number.
-fn turned_edges(alloc: Global, edges: &[(u32, u32, u32)]) -> Result<Vec<(u32, u32, u32)>, NoMemory>
-    ensures { IfOk result (λ back. back.items ≡ map turned edges.now) }
+// Makes the half-edges at each place of the two lists each other's twins.
+fn pair_up(ups: &[Half], downs: &[Half], twins: &mut [u32])
+    requires same_length { length downs.now ≡ length ups.now }
+    requires ups_within { All (λ e. e.2 < length twins.old) ups.now }
+    requires downs_within { All (λ e. e.2 < length twins.old) downs.now }
+    ensures length { length twins.new ≡ length twins.old }
+    ensures written { (partner : ℕ → ℕ) → ArePartners partner ups.now downs.now → AreWritten partner ups.now downs.now twins.old twins.new }
 {
-    let mut back = Vec::with_capacity(alloc, edges.len())?;
-    for (from, to, half) in edges {
-        back.push((*to, *from, *half))?;
+    for i in 0..ups.len() {
+        let (_, _, up) = ups[i];
+        let (_, _, down) = downs[i];
+        twins[up as usize] = down;
+        twins[down as usize] = up;
     }
-    Ok(back)
 }
 
-// The same, written over the list.
-fn turned_in_place(mut edges: Vec<(u32, u32, u32)>) -> Vec<(u32, u32, u32)>
-    ensures { result.items ≡ map turned edges.items }
-{
-    for edge in edges.iter_mut() {
-        let (from, to, half) = *edge;
-        *edge = (to, from, half);
-    }
-    edges
-}
-
-/// Whether no two half-edges of the sorted list run the same way.
-pub fn are_single(edges: &[(u32, u32, u32)]) -> bool
+// Whether no two half-edges of the sorted list run the same way.
+fn are_single(edges: &[Half]) -> bool
     requires { IsSorted ⟦<(u32, u32, u32) as Ord>⟧.cmp edges.now }
     ensures { IsTrue result ↔ AreSingle (ends_of edges.now) }
 {
@@ -126,24 +87,4 @@ pub fn are_single(edges: &[(u32, u32, u32)]) -> bool
         }
     }
     true
-}
-
-/// For each half-edge of the first list the number of the one at its place in the second.
-pub fn partners(
-    alloc: Global,
-    edges: &[(u32, u32, u32)],
-    back: &[(u32, u32, u32)],
-) -> Result<Vec<u32>, NoMemory>
-    requires same_length { length back.now ≡ length edges.now }
-    requires one_each { ArePartners edges.now back.now }
-    ensures length { IfOk result (λ twins. length twins.items ≡ length edges.now) }
-    ensures paired { IfOk result (λ twins. (i : ℕ) → i < length edges.now → get_or twins.items (half_at edges.now i) 0 ≡ half_at back.now i) }
-{
-    let mut twins = vec![in alloc; 0; edges.len()]?;
-    for i in 0..edges.len() {
-        let (_, _, half) = edges[i];
-        let (_, _, twin) = back[i];
-        twins[half as usize] = twin;
-    }
-    Ok(twins)
 }

@@ -3,12 +3,13 @@ ghost use Rattle.std.specs.Prelude.{◌≡◌, IfSome, IsNone, IsSorted};
 ghost use Rattle.halfedge.specs.Pairing.{ends_of};
 ghost use Rattle.halfedge.specs.Surplus.{IsLeastSurplus, HasNoSurplus};
 
+use crate::sides::Half;
 use std::cmp::Ordering;
 
 /// The least edge, by its start and then by its end, that the first list has more often than the
 /// second. Both are read from the front; what is less than all that is left of the first is passed
 /// over in the second.
-pub fn least_surplus(edges: &[(u32, u32, u32)], others: &[(u32, u32, u32)]) -> Option<(u32, u32)>
+pub fn least_surplus(edges: &[Half], others: &[Half]) -> Option<(u32, u32)>
     requires edges_sorted { IsSorted ⟦<(u32, u32, u32) as Ord>⟧.cmp edges.now }
     requires others_sorted { IsSorted ⟦<(u32, u32, u32) as Ord>⟧.cmp others.now }
     ensures none { IsNone result → HasNoSurplus (ends_of edges.now) (ends_of others.now) }

@@ -26,11 +26,12 @@ fn the_tetrahedron_has_one_fan_at_each_vertex(rt: HostRuntime) -> Result<(), Fai
 
 #[test]
 fn vertex_numbers_may_be_far_above_the_number_of_triangles(rt: HostRuntime) -> Result<(), Fail> {
+    // All four vertices lie in one of the five buckets.
     let far = [
-        [0, 4_000_000_000, 1],
-        [0, 1, 3],
-        [1, 4_000_000_000, 3],
-        [4_000_000_000, 0, 3],
+        [0, 4_000_000_000, 5],
+        [0, 5, u32::MAX],
+        [5, 4_000_000_000, u32::MAX],
+        [4_000_000_000, 0, u32::MAX],
     ];
     let twins = Twins::of(rt.alloc(), &far)?;
     let near = Twins::of(rt.alloc(), &TETRAHEDRON)?;

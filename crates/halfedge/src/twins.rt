@@ -10,8 +10,8 @@ ghost use Rattle.halfedge.specs.Halves.{next_half};
 ghost use Rattle.halfedge.specs.Laws.{PairUp, GoAround, AreSingle};
 ghost use Rattle.halfedge.specs.Twins.{IsTwinned};
 
-use crate::pairing::{are_single, partners, sorted_edges};
-use crate::surplus::least_surplus;
+use crate::open_edge::least_open_edge;
+use crate::pairing::paired;
 use mb_base::NoMemory;
 use std::alloc::{AllocError, Global};
 use std::marker::Model;
@@ -73,9 +73,11 @@ impl Twins {
     /// The triangles, of which this takes a copy, with the twin of each half-edge: the k-th from a
     /// to b is the twin of the k-th from b to a. Exactly where the triangles are not closed, which
     /// is where some edge runs more often one way than back, the answer is `Open` with the least
-    /// such edge, or `NoMemory`, which may come for any triangles. It sorts the half-edges by where
-    /// they run, and a second list of them by where they run back: in time linear in the triangles,
-    /// unless a vertex number is above some six times their number, when it compares half-edges.
+    /// such edge, or `NoMemory`, which may come for any triangles. Half-edges are gathered by their
+    /// lesser vertex, modulo one more than the number of triangles, and those gathered together are
+    /// sorted. So the time is linear in the triangles where each vertex has few of them and no vertex
+    /// number is more than a few times their number; otherwise, and to name an open edge, it is at
+    /// most that of sorting all half-edges.
     pub fn of(alloc: Global, triples: &[[u32; 3]]) -> Result<Twins, TwinFault>
         requires three { All HasThree (triples_of triples.now) }
         requires few { length triples.now ≤ 100000000 }
@@ -147,19 +149,22 @@ impl Twins {
 
 // The twin of each half-edge, and whether no two run the same way.
 fn listed_twins(alloc: Global, triples: &[[u32; 3]]) -> Result<(Vec<u32>, bool), TwinFault>
-    requires { length triples.now ≤ 100000000 }
+    requires few { length triples.now ≤ 100000000 }
+    requires three { All HasThree (triples_of triples.now) }
     ensures single { IfOk result (λ r. IsTrue r.1 ↔ AreSingle (all_edges (triples_of triples.now))) }
     ensures twins { IfOk result (λ r. r.0.items ≡ map (twin (all_edges (triples_of triples.now))) (upto (length (all_edges (triples_of triples.now))))) }
     ensures closed { IfOk result (λ _. IsClosed (all_edges (triples_of triples.now))) }
     ensures open { (a b : ℕ) → IsErrOf result (TwinFault.Open a b) → open_pair (all_edges (triples_of triples.now)) ≡ Some (a, b) }
     ensures accepts { IsClosed (all_edges (triples_of triples.now)) → IsOk result ⊎ IsErrOf result TwinFault.NoMemory }
 {
-    let (edges, back) = sorted_edges(alloc, triples)?;
-    if let Some((from, to)) = least_surplus(&edges, &back) {
-        return Err(TwinFault::Open { from, to });
+    if let Some(found) = paired(alloc, triples)? {
+        return Ok(found);
     }
-    let twins = partners(alloc, &edges, &back)?;
-    Ok((twins, are_single(&edges)))
+    match least_open_edge(alloc, triples)? {
+        Some((from, to)) => Err(TwinFault::Open { from, to }),
+        // Triangles that are not closed have an open edge.
+        None => unreachable!(),
+    }
 }
 
 // A copy of the triangles.

@@ -58,7 +58,7 @@ impl Point {
 }
 
 /// A corner of a simplex in fine steps, with a mark for each axis on which it counts as moved up by
-/// less than any number.
+/// less than any number above 0.
 #[derive(Clone, Copy, Debug, PartialEq, Eq, Drop)]
 pub struct Corner {
     pub at: [i64; 3],

@@ -1,21 +1,25 @@
--- Two sorted lists, of edges and of the same edges turned, read side by side: the k-th from a to b goes with the k-th from b to a.
-use Rattle.std.proofs.Common.{◌≡◌, ◌≢◌, ◌<◌, ◌≤◌, ◌+◌, ◌-◌, ◌⊎◌, inl, inr, ℕ, suc, min, Bool, true, false, List, [], ◌∷◌, length, get_or, set, replicate, refl, sym, ◌∙◌, ap, subst, arith, below_more, get_or-set_other, get_or-set_same}
-use Rattle.std.specs.Prelude.{nat_le}
-use Rattle.std.proofs.lemmas.Bool.{cases_Bool, cases_lt}
+-- The two sorted sides of a bucket, read side by side: the k-th edge from a to b goes with the k-th from b to a.
+use Rattle.std.proofs.Common.{◌≡◌, ◌<◌, ◌≤◌, ◌+◌, ◌-◌, ◌⊎◌, inl, inr, ℕ, min, Bool, true, false, List, [], ◌∷◌, length, get_or, set, refl, sym, ◌∙◌, ap, subst, arith, below_more, get_or-set_other, get_or-set_same}
+use Rattle.std.specs.Prelude.{nat_le, nat_lt, cond, ◌==◌}
+use Rattle.std.specs.List.{filter}
+use Rattle.std.proofs.lemmas.Bool.{cases_Bool, cases_lt, cases_order, and_parts, ltb-true, lt-ltb, eqb-true}
 use Rattle.std.proofs.lemmas.Bool.Decides.{nat_tests}
-use Rattle.std.proofs.lemmas.List.{get_or-map, get_or_default, get_or-replicate, get_or_past, length-map, length-replicate, same_lists}
+use Rattle.std.proofs.lemmas.List.{get_or_default, length-map, length-set}
 use Rattle.chain_terms.specs.Chains.{dir, is_edge, one_if}
-use Rattle.chain_terms.specs.Sums.{upto}
-use Rattle.chain_laws.specs.Chains.{backward, turned_edge, dir-backward}
+use Rattle.chain_laws.specs.Chains.{backward, turned_edge, is_self, dir-count_by}
 use Rattle.chain_laws.specs.Counts.{count_by-cons}
 use Rattle.chain_laws.specs.Ranks.{rank, start, finish, runs_as}
-use Rattle.chain_laws.proofs.Places.{get_or-up_from, length-up_from}
+use Rattle.chain_laws.proofs.Ranks.{rank_below}
 use Rattle.mesh_terms.specs.OpenEdges.{is_lesser}
-use Rattle.halfedge.specs.Pairing.{Half, half_at, ends, AreSorted}
-use Rattle.halfedge.proofs.Order.{before, one_edge, same_edge, is_itself}
-use Rattle.halfedge.proofs.Positions.{lesser_count, IsPlaced, placed, place_of, ends_placed}
-use Rattle.halfedge.proofs.TwinPlaces.{edge_at, lesser_count_more, rank_at_most, rank_suc, sorted_length}
-use Rattle.mesh_check.specs.Cancelling.{is_left, left_marks}
+use Rattle.halfedge.specs.Pairing.{Half, numbered, half_at, ends, ends_of, IsSortOf}
+use Rattle.halfedge.specs.Sides.{lesser_end, lesser_end_at, EndsDiffer, edge_lies_in, lies_in, AreSides}
+use Rattle.halfedge.proofs.Buckets.{side_count, ups_count, downs_count}
+use Rattle.halfedge.proofs.Order.{one_edge, same_edge, is_itself}
+use Rattle.halfedge.proofs.Positions.{lesser_count}
+use Rattle.halfedge.proofs.Single.{ends_at}
+use Rattle.halfedge.proofs.SortedHalves.{edge_at, lesser_count_more}
+use Rattle.halfedge.proofs.TwinSides.{IsPlacedIn, placed_in, placed_lies, rank_backward, backward_at, up_placed, down_placed}
+use Rattle.mesh_check.specs.Cancelling.{is_left, AreMarked}
 
 -- how many edges run as x
 abbrev same_count : List (ℕ × ℕ) → ℕ × ℕ → ℕ
@@ -44,56 +48,42 @@ compared x y = elim (cases_Bool (is_lesser x y)) as (λ _. Compared x y) [
   ]
 ]
 
--- what place i of the sorted edges holds: half-edge g, at its edge x
-record Stands (es : List (ℕ × ℕ)) (i : ℕ) (x : ℕ × ℕ) : Type 0 where
-  low : lesser_count es x ≤ i
-  high : i < lesser_count es x + same_count es x
+-- at place i of the sorted edges stands x
+pub record Stands (es : List (ℕ × ℕ)) (i : ℕ) (x : ℕ × ℕ) : Type 0 where
+  pub low : lesser_count es x ≤ i
+  pub high : i < lesser_count es x + same_count es x
 
--- a place of a sorted list stands at its edge
-stands : (es : List (ℕ × ℕ)) (i g : ℕ) → IsPlaced es i g → Stands es i (edge_at es g)
-stands es i g p = record { low = omega (arith, p.low); high = omega (arith, p.high, rank_at_most es (start es g) (finish es g) (suc g)) }
+-- all that run as x stand before place i
+abbrev pub IsPassed : List (ℕ × ℕ) → ℕ → ℕ × ℕ → Type 0
+IsPassed es i x = lesser_count es x + same_count es x ≤ i
 
--- i is known by its half-edge
-place_is : (es : List (ℕ × ℕ)) (i g : ℕ) → IsPlaced es i g → i ≡ lesser_count es (edge_at es g) + rank (runs_as es g) es g
-place_is es i g p = omega (arith, p.low, p.high, rank_suc (runs_as es g) es g)
+-- of each edge as many are passed in both lists, as far as both have it
+abbrev pub IsLevel : List (ℕ × ℕ) → List (ℕ × ℕ) → ℕ → ℕ → Type 0
+IsLevel es fs i j = (x : ℕ × ℕ) → min (i - lesser_count es x) (min (same_count es x) (same_count fs x)) ≡ min (j - lesser_count fs x) (min (same_count es x) (same_count fs x))
 
--- of each edge that stands from place i on as many are passed in both lists, as far as there are as many in the second
-abbrev pub IsLevel : List (ℕ × ℕ) → ℕ → ℕ → Type 0
-IsLevel es i j = (x : ℕ × ℕ) → i < lesser_count es x + same_count es x → min (j - lesser_count (backward es) x) (same_count (backward es) x) ≡ min (i - lesser_count es x) (same_count (backward es) x)
-
--- an edge that stands from place i on, where x stands, is not lesser than x
-not_before : (es : List (ℕ × ℕ)) (i : ℕ) (x y : ℕ × ℕ) → Stands es i x → i < lesser_count es y + same_count es y → is_lesser y x ≡ false
-not_before es i x y at later = by (is_lesser y x) refl
-  where
-    by : (t : Bool) → is_lesser y x ≡ t → is_lesser y x ≡ false
-    by false is = is
-    by true is = absurd (omega (arith, at.low, later, lesser_count_more es y x is))
-
--- the second list's edge is lesser, and is passed
-level_less : (es : List (ℕ × ℕ)) (i j : ℕ) (x y : ℕ × ℕ) → Stands es i x → Stands (backward es) j y → is_lesser y x ≡ true → IsLevel es i j → IsLevel es i (j + 1)
-level_less es i j x y at back less level z later =
-    let up = before x y z less (not_before es i x z at later) in
-    omega (arith, level z later, back.high, lesser_count_more (backward es) y z up)
+-- that is so with the lists exchanged
+level_exchanged : (es fs : List (ℕ × ℕ)) (i j : ℕ) → IsLevel es fs i j → IsLevel fs es j i
+level_exchanged es fs i j level x = omega (arith, level x)
 
 -- both lists have the edge, and pass it
-level_same : (es : List (ℕ × ℕ)) (i j : ℕ) (x : ℕ × ℕ) → Stands es i x → Stands (backward es) j x → IsLevel es i j → IsLevel es (i + 1) (j + 1)
-level_same es i j x at back level z later = elim (compared z x) as (λ _. min (j + 1 - lesser_count (backward es) z) (same_count (backward es) z) ≡ min (i + 1 - lesser_count es z) (same_count (backward es) z)) [
-  | Lesser less ↦ absurd (omega (arith, at.low, later, lesser_count_more es z x less))
+level_same : (es fs : List (ℕ × ℕ)) (i j : ℕ) (x : ℕ × ℕ) → Stands es i x → Stands fs j x → IsLevel es fs i j → IsLevel es fs (i + 1) (j + 1)
+level_same es fs i j x here there level z = elim (compared z x) as (λ _. min (i + 1 - lesser_count es z) (min (same_count es z) (same_count fs z)) ≡ min (j + 1 - lesser_count fs z) (min (same_count es z) (same_count fs z))) [
+  | Lesser less ↦ omega (arith, level z, here.low, there.low, lesser_count_more es z x less, lesser_count_more fs z x less)
   | Same is ↦
-      let here : Stands es i z = subst (Stands es i) (sym is) at in
-      let there : Stands (backward es) j z = subst (Stands (backward es) j) (sym is) back in
-      omega (arith, level z (omega (arith, later)), here.low, there.low, there.high)
-  | More more ↦ omega (arith, at.high, back.high, lesser_count_more es x z more, lesser_count_more (backward es) x z more)
+      let at : Stands es i z = subst (Stands es i) (sym is) here in
+      let back : Stands fs j z = subst (Stands fs j) (sym is) there in
+      omega (arith, level z, at.low, at.high, back.low, back.high)
+  | More more ↦ omega (arith, level z, here.high, there.high, lesser_count_more es x z more, lesser_count_more fs x z more)
 ]
 
--- the second list's edge is greater: the first list's is passed
-level_more : (es : List (ℕ × ℕ)) (i j : ℕ) (x y : ℕ × ℕ) → Stands es i x → Stands (backward es) j y → is_lesser x y ≡ true → IsLevel es i j → IsLevel es (i + 1) j
-level_more es i j x y at back more level z later = elim (compared z x) as (λ _. min (j - lesser_count (backward es) z) (same_count (backward es) z) ≡ min (i + 1 - lesser_count es z) (same_count (backward es) z)) [
-  | Lesser less ↦ absurd (omega (arith, at.low, later, lesser_count_more es z x less))
+-- the first list's edge is passed, where all that run so are passed in the second
+level_more : (es fs : List (ℕ × ℕ)) (i j : ℕ) (x : ℕ × ℕ) → Stands es i x → IsPassed fs j x → IsLevel es fs i j → IsLevel es fs (i + 1) j
+level_more es fs i j x here passed level z = elim (compared z x) as (λ _. min (i + 1 - lesser_count es z) (min (same_count es z) (same_count fs z)) ≡ min (j - lesser_count fs z) (min (same_count es z) (same_count fs z))) [
+  | Lesser less ↦ omega (arith, level z, here.low, lesser_count_more es z x less)
   | Same is ↦
-      let up : is_lesser z y ≡ true = subst (λ w. is_lesser w y ≡ true) (sym is) more in
-      omega (arith, level z (omega (arith, later)), back.low, lesser_count_more (backward es) z y up)
-  | More after ↦ omega (arith, level z (omega (arith, later)), at.high, lesser_count_more es x z after)
+      let past : IsPassed fs j z = subst (IsPassed fs j) (sym is) passed in
+      omega (arith, level z, past)
+  | More more ↦ omega (arith, level z, here.high, lesser_count_more es x z more)
 ]
 
 -- tests of numbers
@@ -103,137 +93,323 @@ le_true m n h = grind (arith, nat_tests, h)
 le_false : (m n : ℕ) → n < m → nat_le m n ≡ false
 le_false m n h = grind (arith, nat_tests, h)
 
--- half-edge g at place p is left where from a place before it all that run back stand before place j
-is_left_more : (es : List (ℕ × ℕ)) (i j p g : ℕ) → i ≤ p → IsPlaced es p g → IsLevel es i j → lesser_count (backward es) (edge_at es g) + same_count (backward es) (edge_at es g) ≤ j → is_left es g ≡ true
-is_left_more es i j p g low at level passed =
-    let here = stands es p g at in
-    le_true (dir es (finish es g) (start es g)) (rank (runs_as es g) es g)
-    (omega (arith, low, place_is es p g at, level (edge_at es g) (omega (arith, low, here.high)), passed, dir-backward es (start es g) (finish es g)))
+-- half-edge g, where x stands at place p of its side: it is left where those that run back are no more than those before it
+pub record IsAt (es : List (ℕ × ℕ)) (key : ℕ → ℕ) (k : ℕ) (ones others : List (ℕ × ℕ)) (p g : ℕ) (x : ℕ × ℕ) : Type 0 where
+  pub within : g < length es
+  pub keyed : key (lesser_end_at es g) ≡ k
+  pub stands : Stands ones p x
+  pub left : is_left es g ≡ nat_le (same_count others x) (p - lesser_count ones x)
 
--- it is not left where one that runs back stands at place j
-is_left_same : (es : List (ℕ × ℕ)) (i j g : ℕ) → IsPlaced es i g → IsLevel es i j → Stands (backward es) j (edge_at es g) → is_left es g ≡ false
-is_left_same es i j g at level back =
-    let here = stands es i g at in
-    le_false (dir es (finish es g) (start es g)) (rank (runs_as es g) es g)
-    (omega (arith, place_is es i g at, level (edge_at es g) here.high, back.low, back.high, dir-backward es (start es g) (finish es g)))
+-- it is left where from a place before it all that run back are passed
+left_more : (es : List (ℕ × ℕ)) (key : ℕ → ℕ) (k : ℕ) (ones others : List (ℕ × ℕ)) (i j p g : ℕ) (x : ℕ × ℕ) → IsAt es key k ones others p g x → i ≤ p → IsLevel ones others i j → IsPassed others j x → is_left es g ≡ true
+left_more es key k ones others i j p g x at low level passed =
+    at.left ∙ le_true (same_count others x) (p - lesser_count ones x) (omega (arith, low, at.stands.low, at.stands.high, level x, passed))
 
--- the lists are read to i and j: the marks of what stands before i say what is left, the others are set
-pub record IsRead (es : List (ℕ × ℕ)) (xs : List Half) (i j : ℕ) (left : List Bool) : Type 0 where
-  pub level : IsLevel es i j
-  pub done : (p : ℕ) → p < i → get_or left (half_at xs p) true ≡ is_left es (half_at xs p)
+-- it is not left where one that runs back is passed with it
+left_same : (es : List (ℕ × ℕ)) (key : ℕ → ℕ) (k : ℕ) (ones others : List (ℕ × ℕ)) (i j g : ℕ) (x : ℕ × ℕ) → IsAt es key k ones others i g x → IsLevel ones others i j → Stands others j x → is_left es g ≡ false
+left_same es key k ones others i j g x at level there =
+    at.left ∙ le_false (same_count others x) (i - lesser_count ones x) (omega (arith, at.stands.low, at.stands.high, level x, there.low, there.high))
+
+-- what stands at the places of two sides, different half-edges at different places
+pub record AreKnown (es : List (ℕ × ℕ)) (key : ℕ → ℕ) (k : ℕ) (ones others : List Half) : Type 0 where
+  pub first : (p : ℕ) → p < length ones → IsAt es key k (ends_of ones) (ends_of others) p (half_at ones p) (ends_at ones p)
+  pub second : (p : ℕ) → p < length others → IsAt es key k (ends_of others) (ends_of ones) p (half_at others p) (ends_at others p)
+  pub first_once : (p q : ℕ) → p < length ones → q < length ones → half_at ones p ≡ half_at ones q → p ≡ q
+  pub second_once : (p q : ℕ) → p < length others → q < length others → half_at others p ≡ half_at others q → p ≡ q
+  pub apart : (p q : ℕ) → p < length ones → q < length others → half_at ones p ≡ half_at others q → ⊥
+
+-- the same with the sides exchanged
+known_exchanged : (es : List (ℕ × ℕ)) (key : ℕ → ℕ) (k : ℕ) (ones others : List Half) → AreKnown es key k ones others → AreKnown es key k others ones
+known_exchanged es key k ones others known = record {
+  first = known.second;
+  second = known.first;
+  first_once = known.second_once;
+  second_once = known.first_once;
+  apart = λ p q below low same. known.apart q p low below (sym same);
+}
+
+-- one side is read to i: the marks of what stands before say what is left, the others are set
+pub record IsReadTo (es : List (ℕ × ℕ)) (xs : List Half) (i : ℕ) (left : List Bool) : Type 0 where
+  pub done : (p : ℕ) → p < i → p < length xs → get_or left (half_at xs p) true ≡ is_left es (half_at xs p)
   pub rest : (p : ℕ) → i ≤ p → p < length xs → get_or left (half_at xs p) true ≡ true
 
+-- one more is read, which is left
+one_left : (es : List (ℕ × ℕ)) (xs : List Half) (i : ℕ) (left : List Bool) → i < length xs → is_left es (half_at xs i) ≡ true → IsReadTo es xs i left → IsReadTo es xs (i + 1) left
+one_left es xs i left low is read = record {
+  done = below_more (λ p. p < length xs → get_or left (half_at xs p) true ≡ is_left es (half_at xs p)) i read.done (λ _. read.rest i (omega arith) low ∙ sym is);
+  rest = λ p later. read.rest p (omega (arith, later));
+}
+
+-- one more is read, whose mark goes
+one_goes : (es : List (ℕ × ℕ)) (xs : List Half) (i : ℕ) (left : List Bool) → i < length xs → half_at xs i < length left → is_left es (half_at xs i) ≡ false → ((p q : ℕ) → p < length xs → q < length xs → half_at xs p ≡ half_at xs q → p ≡ q)
+    → IsReadTo es xs i left → IsReadTo es xs (i + 1) (set left (half_at xs i) false)
+one_goes es xs i left low within is once read = record {
+  done = below_more (λ p. p < length xs → get_or (set left (half_at xs i) false) (half_at xs p) true ≡ is_left es (half_at xs p)) i
+      (λ p before below. stays p below (λ same. absurd (omega (arith, before, once p i below low same))) ∙ read.done p before below)
+      (λ _. get_or-set_same left (half_at xs i) false true within ∙ sym is);
+  rest = λ p later below. stays p below (λ same. absurd (omega (arith, later, once p i below low same))) ∙ read.rest p (omega (arith, later)) below;
+}
+  where
+    stays : (p : ℕ) → p < length xs → (half_at xs p ≡ half_at xs i → ⊥) → get_or (set left (half_at xs i) false) (half_at xs p) true ≡ get_or left (half_at xs p) true
+    stays p below other = get_or-set_other left (half_at xs i) (half_at xs p) false true other
+
+-- the mark of another half-edge goes
+other_goes : (es : List (ℕ × ℕ)) (xs : List Half) (i g : ℕ) (left : List Bool) → ((p : ℕ) → p < length xs → half_at xs p ≡ g → ⊥) → IsReadTo es xs i left → IsReadTo es xs i (set left g false)
+other_goes es xs i g left other read = record {
+  done = λ p before below. get_or-set_other left g (half_at xs p) false true (other p below) ∙ read.done p before below;
+  rest = λ p later below. get_or-set_other left g (half_at xs p) false true (other p below) ∙ read.rest p later below;
+}
+
+-- both sides are read, to i and j; the marks of half-edges in other buckets are as before
+pub record IsRead (es : List (ℕ × ℕ)) (key : ℕ → ℕ) (k : ℕ) (ones others : List Half) (i j : ℕ) (old left : List Bool) : Type 0 where
+  pub level : IsLevel (ends_of ones) (ends_of others) i j
+  pub first : IsReadTo es ones i left
+  pub second : IsReadTo es others j left
+  pub kept : (h : ℕ) → (key (lesser_end_at es h) ≡ k → ⊥) → get_or left h true ≡ get_or old h true
+
+-- the same with the sides exchanged
+read_exchanged : (es : List (ℕ × ℕ)) (key : ℕ → ℕ) (k : ℕ) (ones others : List Half) (i j : ℕ) (old left : List Bool) → IsRead es key k ones others i j old left → IsRead es key k others ones j i old left
+read_exchanged es key k ones others i j old left read = record {
+  level = level_exchanged (ends_of ones) (ends_of others) i j read.level;
+  first = read.second;
+  second = read.first;
+  kept = read.kept;
+}
+
 -- nothing is read
-pub read_none : (es : List (ℕ × ℕ)) (xs : List Half) (n : ℕ) → IsRead es xs 0 0 (replicate n true)
-read_none es xs n = record {
-  level = λ x later. omega arith;
-  done = λ p low. absurd (omega (arith, low));
-  rest = λ p low high. all_set n (half_at xs p);
+pub none_read : (es : List (ℕ × ℕ)) (key : ℕ → ℕ) (k : ℕ) (ones others : List Half) (left : List Bool) → AreKnown es key k ones others → AreMarked es key k left → IsRead es key k ones others 0 0 left left
+none_read es key k ones others left known marked = record {
+  level = λ x. omega arith;
+  first = record {
+    done = λ p before. absurd (omega (arith, before));
+    rest = λ p later below. let at = known.first p below in marked.rest (half_at ones p) at.within (omega (arith, at.keyed));
+  };
+  second = record {
+    done = λ p before. absurd (omega (arith, before));
+    rest = λ p later below. let at = known.second p below in marked.rest (half_at others p) at.within (omega (arith, at.keyed));
+  };
+  kept = λ h other. refl;
+}
+
+-- the first side's edge is lesser
+pub first_read : (es : List (ℕ × ℕ)) (key : ℕ → ℕ) (k : ℕ) (ones others : List Half) (i j : ℕ) (old left : List Bool) → AreKnown es key k ones others → i < length ones → j < length others → is_lesser (ends_at ones i) (ends_at others j) ≡ true
+    → IsRead es key k ones others i j old left → IsRead es key k ones others (i + 1) j old left
+first_read es key k ones others i j old left known low below less read = record {
+  level = level_more (ends_of ones) (ends_of others) i j (ends_at ones i) at.stands passed read.level;
+  first = one_left es ones i left low (left_more es key k (ends_of ones) (ends_of others) i j i (half_at ones i) (ends_at ones i) at (omega arith) read.level passed) read.first;
+  second = read.second;
+  kept = read.kept;
 }
   where
-    all_set : (n g : ℕ) → get_or (replicate n true) g true ≡ true
-    all_set n g = elim (cases_lt g n) as (λ _. get_or (replicate n true) g true ≡ true) [
-      | inl low ↦ get_or-replicate n g true true low
-      | inr high ↦ get_or_past (replicate n true) g true (omega (arith, high, length-replicate n true))
-    ]
+    at : IsAt es key k (ends_of ones) (ends_of others) i (half_at ones i) (ends_at ones i)
+    at = known.first i low
 
--- places of the sorted list with the same half-edge are the same
-one_place : (es : List (ℕ × ℕ)) (p q g : ℕ) → IsPlaced es p g → IsPlaced es q g → p ≡ q
-one_place es p q g at_p at_q = place_is es p g at_p ∙ sym (place_is es q g at_q)
+    passed : IsPassed (ends_of others) j (ends_at ones i)
+    passed = let there = known.second j below in omega (arith, there.stands.low, lesser_count_more (ends_of others) (ends_at ones i) (ends_at others j) less)
 
--- the places i and j of two sorted lists, and how their edges compare
-pub record AreAt (es : List (ℕ × ℕ)) (xs ys : List Half) (i j : ℕ) : Type 0 where
-  pub sorted : AreSorted es xs ys
-  pub in_first : i < length xs
-  pub in_second : j < length ys
+-- the second side's edge is lesser
+pub second_read : (es : List (ℕ × ℕ)) (key : ℕ → ℕ) (k : ℕ) (ones others : List Half) (i j : ℕ) (old left : List Bool) → AreKnown es key k ones others → i < length ones → j < length others → is_lesser (ends_at others j) (ends_at ones i) ≡ true
+    → IsRead es key k ones others i j old left → IsRead es key k ones others i (j + 1) old left
+second_read es key k ones others i j old left known low below less read =
+    read_exchanged es key k others ones (j + 1) i old left
+    (first_read es key k others ones j i old left (known_exchanged es key k ones others known) below low less (read_exchanged es key k ones others i j old left read))
 
--- what stands there
-at_first : (es : List (ℕ × ℕ)) (xs ys : List Half) (i j : ℕ) → AreAt es xs ys i j → IsPlaced es i (half_at xs i)
-at_first es xs ys i j at = placed es xs at.sorted.moved at.sorted.up i at.in_first
-
-stands_first : (es : List (ℕ × ℕ)) (xs ys : List Half) (i j : ℕ) → AreAt es xs ys i j → Stands es i (ends (get_or xs i (0, 0, 0)))
-stands_first es xs ys i j at = subst (Stands es i) (sym (ends_placed es xs at.sorted.moved i at.in_first)) (stands es i (half_at xs i) (at_first es xs ys i j at))
-
-stands_second : (es : List (ℕ × ℕ)) (xs ys : List Half) (i j : ℕ) → AreAt es xs ys i j → Stands (backward es) j (ends (get_or ys j (0, 0, 0)))
-stands_second es xs ys i j at =
-    subst (Stands (backward es) j) (sym (ends_placed (backward es) ys at.sorted.back_moved j at.in_second))
-    (stands (backward es) j (half_at ys j) (placed (backward es) ys at.sorted.back_moved at.sorted.back_up j at.in_second))
-
--- the second list's edge is lesser
-pub read_less : (es : List (ℕ × ℕ)) (xs ys : List Half) (i j : ℕ) (left : List Bool) → AreAt es xs ys i j → is_lesser (ends (get_or ys j (0, 0, 0))) (ends (get_or xs i (0, 0, 0))) ≡ true → IsRead es xs i j left → IsRead es xs i (j + 1) left
-read_less es xs ys i j left at less read = record {
-  level = level_less es i j _ _ (stands_first es xs ys i j at) (stands_second es xs ys i j at) less read.level;
-  done = read.done;
-  rest = read.rest;
-}
-
--- the second list's edge is greater
-pub read_more : (es : List (ℕ × ℕ)) (xs ys : List Half) (i j : ℕ) (left : List Bool) → AreAt es xs ys i j → is_lesser (ends (get_or xs i (0, 0, 0))) (ends (get_or ys j (0, 0, 0))) ≡ true → IsRead es xs i j left → IsRead es xs (i + 1) j left
-read_more es xs ys i j left at more read = record {
-  level = level_more es i j _ _ (stands_first es xs ys i j at) (stands_second es xs ys i j at) more read.level;
-  done = below_more _ i read.done (read.rest i (omega arith) at.in_first ∙ sym left_here);
-  rest = λ p low high. read.rest p (omega (arith, low)) high;
+-- both sides have the edge: both marks go
+pub both_read : (es : List (ℕ × ℕ)) (key : ℕ → ℕ) (k : ℕ) (ones others : List Half) (i j : ℕ) (old left : List Bool) → AreKnown es key k ones others → i < length ones → j < length others → ends_at others j ≡ ends_at ones i → length left ≡ length es
+    → IsRead es key k ones others i j old left → IsRead es key k ones others (i + 1) (j + 1) old (set (set left (half_at ones i) false) (half_at others j) false)
+both_read es key k ones others i j old left known low below same full read = record {
+  level = level_same (ends_of ones) (ends_of others) i j x at.stands back read.level;
+  first = other_goes es ones (i + 1) t (set left g false) (λ p l. known.apart p j l below) (one_goes es ones i left low (omega (arith, at.within, full)) goes known.first_once read.first);
+  second = one_goes es others j (set left g false) below (omega (arith, there.within, full, length-set left g false)) goes_too known.second_once
+      (other_goes es others j g left (λ p l is. known.apart i p low l (sym is)) read.second);
+  kept = λ h other. get_or-set_other (set left g false) t h false true (elsewhere t there.keyed h other) ∙ get_or-set_other left g h false true (elsewhere g at.keyed h other) ∙ read.kept h other;
 }
   where
-    passed : lesser_count (backward es) (ends (get_or xs i (0, 0, 0))) + same_count (backward es) (ends (get_or xs i (0, 0, 0))) ≤ j
-    passed = let back = stands_second es xs ys i j at in omega (arith, back.low, lesser_count_more (backward es) (ends (get_or xs i (0, 0, 0))) (ends (get_or ys j (0, 0, 0))) more)
+    g : ℕ
+    g = half_at ones i
 
-    left_here : is_left es (half_at xs i) ≡ true
-    left_here =
-        is_left_more es i j i (half_at xs i) (omega arith) (at_first es xs ys i j at) read.level
-        (subst (λ x. lesser_count (backward es) x + same_count (backward es) x ≤ j) (ends_placed es xs at.sorted.moved i at.in_first) passed)
+    t : ℕ
+    t = half_at others j
 
--- both have the edge: its mark goes
-pub read_same : (es : List (ℕ × ℕ)) (xs ys : List Half) (i j : ℕ) (left : List Bool) → AreAt es xs ys i j → ends (get_or ys j (0, 0, 0)) ≡ ends (get_or xs i (0, 0, 0)) → length left ≡ length xs → IsRead es xs i j left
-    → IsRead es xs (i + 1) (j + 1) (set left (half_at xs i) false)
-read_same es xs ys i j left at same full read = record {
-  level = level_same es i j _ (stands_first es xs ys i j at) back read.level;
-  done = below_more _ i
-      (λ p low. get_or-set_other left (half_at xs i) (half_at xs p) false true (other p (omega (arith, low, at.in_first)) (omega (arith, low))) ∙ read.done p low)
-      (get_or-set_same left (half_at xs i) false true within ∙ sym (is_left_same es i j (half_at xs i) here read.level (subst (Stands (backward es) j) (ends_placed es xs at.sorted.moved i at.in_first) back)));
-  rest = λ p low high. get_or-set_other left (half_at xs i) (half_at xs p) false true (other p high (omega (arith, low))) ∙ read.rest p (omega (arith, low)) high;
-}
-  where
-    here : IsPlaced es i (half_at xs i)
-    here = at_first es xs ys i j at
+    x : ℕ × ℕ
+    x = ends_at ones i
 
-    back : Stands (backward es) j (ends (get_or xs i (0, 0, 0)))
-    back = subst (Stands (backward es) j) same (stands_second es xs ys i j at)
+    at : IsAt es key k (ends_of ones) (ends_of others) i g x
+    at = known.first i low
 
-    within : half_at xs i < length left
-    within = let n = sorted_length es xs ys at.sorted in omega (arith, here.within, full, n.0)
+    there : IsAt es key k (ends_of others) (ends_of ones) j t x
+    there = subst (IsAt es key k (ends_of others) (ends_of ones) j t) same (known.second j below)
 
-    other : (p : ℕ) → p < length xs → p ≢ i → half_at xs p ≢ half_at xs i
-    other p low apart is = apart (one_place es p i (half_at xs i) (subst (IsPlaced es p) is (placed es xs at.sorted.moved at.sorted.up p low)) here)
+    back : Stands (ends_of others) j x
+    back = there.stands
 
--- where one list is read the marks say what is left
-read_all : (es : List (ℕ × ℕ)) (xs ys : List Half) (i j : ℕ) (left : List Bool) → AreSorted es xs ys → IsRead es xs i j left → (length xs ≤ i) ⊎ (length ys ≤ j) → (p : ℕ) → p < length xs → get_or left (half_at xs p) true ≡ is_left es (half_at xs p)
-read_all es xs ys i j left sorted read ended p low = elim (cases_lt p i) as (λ _. get_or left (half_at xs p) true ≡ is_left es (half_at xs p)) [
-  | inl before ↦ read.done p before
+    goes : is_left es g ≡ false
+    goes = left_same es key k (ends_of ones) (ends_of others) i j g x at read.level back
+
+    goes_too : is_left es t ≡ false
+    goes_too = left_same es key k (ends_of others) (ends_of ones) j i t x there (level_exchanged (ends_of ones) (ends_of others) i j read.level) at.stands
+
+    elsewhere : (m : ℕ) → key (lesser_end_at es m) ≡ k → (h : ℕ) → (key (lesser_end_at es h) ≡ k → ⊥) → h ≡ m → ⊥
+    elsewhere m keyed h other is = other (ap (λ n. key (lesser_end_at es n)) is ∙ keyed)
+
+-- where the other side is at its end, the marks of a side say what is left
+side_marked : (es : List (ℕ × ℕ)) (key : ℕ → ℕ) (k : ℕ) (ones others : List Half) (i j : ℕ) (old left : List Bool) → AreKnown es key k ones others → (length ones ≤ i) ⊎ (length others ≤ j) → IsRead es key k ones others i j old left
+    → (p : ℕ) → p < length ones → get_or left (half_at ones p) true ≡ is_left es (half_at ones p)
+side_marked es key k ones others i j old left known ended read p low = elim (cases_lt p i) as (λ _. get_or left (half_at ones p) true ≡ is_left es (half_at ones p)) [
+  | inl before ↦ read.first.done p before low
   | inr later ↦ by ended later
 ]
   where
-    by : (length xs ≤ i) ⊎ (length ys ≤ j) → i ≤ p → get_or left (half_at xs p) true ≡ is_left es (half_at xs p)
+    by : (length ones ≤ i) ⊎ (length others ≤ j) → i ≤ p → get_or left (half_at ones p) true ≡ is_left es (half_at ones p)
     by (inl first) later = absurd (omega (arith, first, later, low))
     by (inr second) later =
-        let n = sorted_length es xs ys sorted in
-        let g = half_at xs p in
-        let all : length (backward es) ≡ length es = length-map es turned_edge in
-        read.rest p later low ∙ sym (is_left_more es i j p g later (placed es xs sorted.moved sorted.up p low) read.level (omega (arith, second, n.0, n.1, all, lesser_and_same (backward es) (edge_at es g))))
+        read.first.rest p later low
+        ∙ sym (left_more es key k (ends_of ones) (ends_of others) i j p (half_at ones p) (ends_at ones p) (known.first p low) later read.level (omega (arith, second, lesser_and_same (ends_of others) (ends_at ones p), length-map others ends)))
 
--- and are the list of those
-pub read_to_end : (es : List (ℕ × ℕ)) (xs ys : List Half) (i j : ℕ) (left : List Bool) → AreSorted es xs ys → IsRead es xs i j left → (length xs ≤ i) ⊎ (length ys ≤ j) → length left ≡ length xs → left ≡ left_marks es
-read_to_end es xs ys i j left sorted read ended full =
-    same_lists left (left_marks es) (omega (arith, full, n.0, length-map (upto (length es)) (is_left es), length-up_from 0 (length es)))
-    (λ h d below. get_or_default left h d true below ∙ at h (omega (arith, below, full, n.0)) (place_of es xs sorted.moved h (omega (arith, below, full, n.0))) ∙ sym (listed h d (omega (arith, below, full, n.0))))
+-- that one side is at its end, with the sides exchanged
+ended_exchanged : (ones others : List Half) (i j : ℕ) → (length ones ≤ i) ⊎ (length others ≤ j) → (length others ≤ j) ⊎ (length ones ≤ i)
+ended_exchanged ones others i j (inl first) = inr first
+ended_exchanged ones others i j (inr second) = inl second
+
+-- a place of the turned chain is one of the chain
+within_turned : (es : List (ℕ × ℕ)) (t : ℕ) → t < length (backward es) → t < length es
+within_turned es t low = omega (arith, low, length-map es turned_edge)
+
+-- a half-edge has fewer before it that run as it than there are
+rank_less : (es : List (ℕ × ℕ)) (g : ℕ) → g < length es → rank (runs_as es g) es g < same_count es (edge_at es g)
+rank_less es g low =
+    omega (arith, rank_below (runs_as es g) es g low (λ d. ap (runs_as es g) (get_or_default es g d (0, 0) low) ∙ is_self (start es g) (finish es g)), dir-count_by es (start es g) (finish es g))
+
+-- so the place stands at its edge
+stands_there : (es : List (ℕ × ℕ)) (key : ℕ → ℕ) (k : ℕ) (xs : List Half) → IsSortOf (filter (lies_in key k) (numbered 0 es)) xs → (i : ℕ) → i < length xs → Stands (ends_of xs) i (edge_at es (half_at xs i))
+stands_there es key k xs sorted i low =
+    let p = placed_in es key k xs sorted i low in
+    let g = half_at xs i in
+    let lies = placed_lies es key k xs sorted i low in
+    let all = side_count es key k xs sorted (start es g) (finish es g) ∙ ap (λ t. cond t (dir es (start es g) (finish es g)) 0) lies in
+    record { low = omega (arith, p.place); high = omega (arith, p.place, all, rank_less es g p.within) }
+
+-- an edge of the bucket runs from a lesser vertex with key k to a greater one
+goes_up : (key : ℕ → ℕ) (k a b : ℕ) → edge_lies_in key k (a, b) ≡ true → (a < b) × (key a ≡ k)
+goes_up key k a b is = let p = and_parts (nat_lt a b) (key a == k) is in (ltb-true a b p.0, eqb-true (key a) k p.1)
+
+-- so a half-edge of the ups runs up
+ups_rise : (es : List (ℕ × ℕ)) (key : ℕ → ℕ) (k : ℕ) (xs : List Half) → IsSortOf (filter (lies_in key k) (numbered 0 es)) xs → (i : ℕ) → i < length xs → (start es (half_at xs i) < finish es (half_at xs i)) × (key (start es (half_at xs i)) ≡ k)
+ups_rise es key k xs sorted i low =
+    goes_up key k (start es (half_at xs i)) (finish es (half_at xs i)) (placed_lies es key k xs sorted i low)
+
+-- and a half-edge of the downs down
+downs_fall : (es : List (ℕ × ℕ)) (key : ℕ → ℕ) (k : ℕ) (xs : List Half) → IsSortOf (filter (lies_in key k) (numbered 0 (backward es))) xs → (i : ℕ) → i < length xs → (finish es (half_at xs i) < start es (half_at xs i)) × (key (finish es (half_at xs i)) ≡ k)
+downs_fall es key k xs sorted i low =
+    let t = half_at xs i in
+    subst (λ (x : ℕ × ℕ). (x.0 < x.1) × (key x.0 ≡ k)) (backward_at es t (within_turned es t (placed_in (backward es) key k xs sorted i low).within)) (ups_rise (backward es) key k xs sorted i low)
+
+-- the lesser end of an edge that runs up is its start
+lesser_start : (a b : ℕ) → a < b → lesser_end (a, b) ≡ a
+lesser_start a b up = ap (λ t. cond t a b) (lt-ltb a b up)
+
+-- and of one that runs down its finish
+lesser_finish : (a b : ℕ) → b < a → lesser_end (a, b) ≡ b
+lesser_finish a b down = grind (arith, nat_tests, down)
+
+-- a half-edge at a place of the ups
+up_at : (es : List (ℕ × ℕ)) (key : ℕ → ℕ) (k : ℕ) (ups downs : List Half) → AreSides es key k ups downs → (p : ℕ) → p < length ups → IsAt es key k (ends_of ups) (ends_of downs) p (half_at ups p) (ends_at ups p)
+up_at es key k ups downs sides p low =
+    subst (IsAt es key k (ends_of ups) (ends_of downs) p g) (sym at.runs)
+    (record {
+      within = at.within;
+      keyed = ap key (lesser_start (start es g) (finish es g) way.0) ∙ way.1;
+      stands = stands_there es key k ups sides.ups_sorted p low;
+      left = ap (λ n. nat_le n (rank (runs_as es g) es g)) (sym (downs_count es key k ups downs sides (start es g) (finish es g) way.0 way.1)) ∙ ap (nat_le (same_count (ends_of downs) (edge_at es g))) before;
+    })
   where
-    n : (length xs ≡ length es) × (length ys ≡ length xs)
-    n = sorted_length es xs ys sorted
+    g : ℕ
+    g = half_at ups p
 
-    at : (h : ℕ) → h < length es → (p : ℕ) × (p < length xs) × (half_at xs p ≡ h) → get_or left h true ≡ is_left es h
-    at h below (p, low, is) = subst (λ g. get_or left g true ≡ is_left es g) is (read_all es xs ys i j left sorted read ended p low)
+    at : IsPlacedIn es ups p g
+    at = placed_in es key k ups sides.ups_sorted p low
 
-    listed : (h : ℕ) (d : Bool) → h < length es → get_or (left_marks es) h d ≡ is_left es h
-    listed h d below =
-        let first : 0 + h ≡ h = omega arith in
-        get_or-map (is_left es) (upto (length es)) h h d (omega (arith, below, length-up_from 0 (length es))) ∙ ap (is_left es) (get_or-up_from 0 (length es) h h below ∙ first)
+    way : (start es g < finish es g) × (key (start es g) ≡ k)
+    way = ups_rise es key k ups sides.ups_sorted p low
+
+    before : rank (runs_as es g) es g ≡ p - lesser_count (ends_of ups) (edge_at es g)
+    before = omega (arith, at.place)
+
+-- and at a place of the downs
+down_at : (es : List (ℕ × ℕ)) (key : ℕ → ℕ) (k : ℕ) (ups downs : List Half) → AreSides es key k ups downs → (p : ℕ) → p < length downs → IsAt es key k (ends_of downs) (ends_of ups) p (half_at downs p) (ends_at downs p)
+down_at es key k ups downs sides p low =
+    subst (IsAt es key k (ends_of downs) (ends_of ups) p t) (sym (at.runs ∙ turn))
+    (record {
+      within = within;
+      keyed = ap key (lesser_finish (start es t) (finish es t) way.0) ∙ way.1;
+      stands = subst (Stands (ends_of downs) p) turn (stands_there (backward es) key k downs sides.downs_sorted p low);
+      left = ap (λ n. nat_le n (rank (runs_as es t) es t)) (sym (ups_count es key k ups downs sides (finish es t) (start es t) way.0 way.1)) ∙ ap (nat_le (same_count (ends_of ups) (finish es t, start es t))) before;
+    })
+  where
+    t : ℕ
+    t = half_at downs p
+
+    at : IsPlacedIn (backward es) downs p t
+    at = placed_in (backward es) key k downs sides.downs_sorted p low
+
+    within : t < length es
+    within = within_turned es t at.within
+
+    turn : edge_at (backward es) t ≡ (finish es t, start es t)
+    turn = backward_at es t within
+
+    way : (finish es t < start es t) × (key (finish es t) ≡ k)
+    way = downs_fall es key k downs sides.downs_sorted p low
+
+    place : p ≡ lesser_count (ends_of downs) (finish es t, start es t) + rank (λ e. is_edge e (finish es t) (start es t)) (backward es) t
+    place = subst (λ (x : ℕ × ℕ). p ≡ lesser_count (ends_of downs) x + rank (λ e. is_edge e x.0 x.1) (backward es) t) turn at.place
+
+    before : rank (runs_as es t) es t ≡ p - lesser_count (ends_of downs) (finish es t, start es t)
+    before = omega (arith, place, rank_backward es (finish es t) (start es t) t)
+
+-- one half-edge has one place
+one_place : (es : List (ℕ × ℕ)) (xs : List Half) (p q : ℕ) → IsPlacedIn es xs p (half_at xs p) → IsPlacedIn es xs q (half_at xs q) → half_at xs p ≡ half_at xs q → p ≡ q
+one_place es xs p q at there same = at.place ∙ sym (subst (IsPlacedIn es xs q) (sym same) there).place
+
+-- so what stands in the two sides of a bucket is known
+pub sides_known : (es : List (ℕ × ℕ)) (key : ℕ → ℕ) (k : ℕ) (ups downs : List Half) → AreSides es key k ups downs → AreKnown es key k ups downs
+sides_known es key k ups downs sides = record {
+  first = up_at es key k ups downs sides;
+  second = down_at es key k ups downs sides;
+  first_once = λ p q low below. one_place es ups p q (placed_in es key k ups sides.ups_sorted p low) (placed_in es key k ups sides.ups_sorted q below);
+  second_once = λ p q low below. one_place (backward es) downs p q (placed_in (backward es) key k downs sides.downs_sorted p low) (placed_in (backward es) key k downs sides.downs_sorted q below);
+  apart = λ p q low below same.
+      let up = ups_rise es key k ups sides.ups_sorted p low in
+      let down = downs_fall es key k downs sides.downs_sorted q below in
+      absurd (omega (arith, up.0, down.0, ap (start es) same, ap (finish es) same));
+}
+
+-- once one side is at its end, one bucket more is marked
+pub marked_more : (es : List (ℕ × ℕ)) (key : ℕ → ℕ) (k : ℕ) (ups downs : List Half) (i j : ℕ) (old left : List Bool) → AreSides es key k ups downs → EndsDiffer es
+    → (length ups ≤ i) ⊎ (length downs ≤ j) → length left ≡ length old → AreMarked es key k old → IsRead es key k ups downs i j old left → AreMarked es key (k + 1) left
+marked_more es key k ups downs i j old left sides differ ended full marked read = record {
+  full = full ∙ marked.full;
+  done = λ h within low. elim (cases_lt (key (lesser_end_at es h)) k) as (λ _. get_or left h true ≡ is_left es h) [
+    | inl before ↦ read.kept h (λ is. absurd (omega (arith, before, is))) ∙ marked.done h within before
+    | inr later ↦ in_bucket h within (omega (arith, low, later))
+  ];
+  rest = λ h within later. read.kept h (λ is. absurd (omega (arith, later, is))) ∙ marked.rest h within (omega (arith, later));
+}
+  where
+    known : AreKnown es key k ups downs
+    known = sides_known es key k ups downs sides
+
+    at_up : (h : ℕ) → (p : ℕ) × (p < length ups) × (half_at ups p ≡ h) → get_or left h true ≡ is_left es h
+    at_up h (p, low, is) = subst (λ g. get_or left g true ≡ is_left es g) is (side_marked es key k ups downs i j old left known ended read p low)
+
+    at_down : (h : ℕ) → (p : ℕ) × (p < length downs) × (half_at downs p ≡ h) → get_or left h true ≡ is_left es h
+    at_down h (p, low, is) =
+        subst (λ g. get_or left g true ≡ is_left es g) is
+        (side_marked es key k downs ups j i old left (known_exchanged es key k ups downs known) (ended_exchanged ups downs i j ended) (read_exchanged es key k ups downs i j old left read) p low)
+
+    in_bucket : (h : ℕ) → h < length es → key (lesser_end_at es h) ≡ k → get_or left h true ≡ is_left es h
+    in_bucket h within keyed = elim (cases_order (start es h) (finish es h)) as (λ _. get_or left h true ≡ is_left es h) [
+      | inl same ↦ absurd (differ h within same)
+      | inr (inl up) ↦ at_up h (up_placed es key k ups downs sides h within up (ap key (sym (lesser_start (start es h) (finish es h) up)) ∙ keyed))
+      | inr (inr down) ↦ at_down h (down_placed es key k ups downs sides h within down (ap key (sym (lesser_finish (start es h) (finish es h) down)) ∙ keyed))
+    ]

@@ -7,3 +7,4 @@ pub mod OpenPair
 pub mod Orientations
 pub mod ReducedMesh
 pub mod SideSteps
+pub mod TriangleBuckets

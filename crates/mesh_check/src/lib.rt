@@ -7,7 +7,7 @@ mod cancel;
 mod mesh;
 mod opposites;
 mod oriented;
-mod oriented_lists;
+mod oriented_sides;
 mod reduction;
 #[cfg(test)]
 mod tests;

@@ -62,8 +62,9 @@ impl From<NoMemory> for MeshFault {
 impl Mesh {
     /// The mesh of a soup: accepted exactly where its edges are closed, with its points and
     /// triangles as they stand; otherwise `OpenEdge` with the least open edge, vertices counted
-    /// from 0. `NoMemory` may come for any soup. It sorts the half-edges to find their twins, which
-    /// the mesh keeps.
+    /// from 0. `NoMemory` may come for any soup. It finds the twins of the half-edges, which the mesh
+    /// keeps, in time linear in the triangles where each vertex has few of them; otherwise, and to name
+    /// an open edge, it takes at most that of sorting all half-edges.
     pub fn check(alloc: Global, soup: Soup) -> Result<Mesh, MeshFault>
         ensures points { IfOk result (λ m. m.points ≡ soup.points) }
         ensures triples { IfOk result (λ m. m.triples ≡ soup.triples) }

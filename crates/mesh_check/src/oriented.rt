@@ -47,7 +47,7 @@ impl Oriented {
     }
 
     /// The same vertices the other way round, at the same place.
-    pub fn other_side(self) -> Oriented
+    pub fn turned_over(self) -> Oriented
         ensures { result ≡ turned_over self }
     {
         Oriented {

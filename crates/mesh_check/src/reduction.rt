@@ -16,7 +16,9 @@ use unused_points::without_unused;
 /// one orientation where one is a rotation of the other. Points that no triangle uses any more are
 /// then dropped. The triangles and points that stay keep their order. `NoMemory` may come for any mesh.
 /// Where no two half-edges run the same way and nothing is removed, it takes one pass over the
-/// triangles and a copy; otherwise it sorts them.
+/// triangles and a copy. Otherwise it gathers the triangles by their least vertices and sorts those
+/// gathered together: the time is linear where each vertex has few triangles, and at most that of
+/// sorting them all.
 pub fn reduce(alloc: Global, mesh: &Mesh) -> Result<Mesh, NoMemory>
     ensures points { IfOk result (λ m. m.points ≡ (reduced mesh.now.points mesh.now.triples).points) }
     ensures triples { IfOk result (λ m. m.triples ≡ (reduced mesh.now.points mesh.now.triples).triples) }

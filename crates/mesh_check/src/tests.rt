@@ -6,7 +6,7 @@ use mb_base::{Point, Soup};
 use std::alloc::Global;
 use std::process::Abort;
 use std::test::Fail;
-use table::{MESHES_1, MESHES_2, MESHES_3, MESHES_4, Row};
+use table::{FIRST_MESHES, FOURTH_MESHES, Row, SECOND_MESHES, THIRD_MESHES};
 
 const TETRAHEDRON: [[u32; 3]; 4] = [[0, 2, 1], [0, 1, 3], [1, 2, 3], [2, 0, 3]];
 
@@ -115,6 +115,37 @@ fn a_two_sided_triangle_goes_with_its_points(rt: HostRuntime) -> Result<(), Fail
     Ok(())
 }
 
+// Five two-sided triangles, the last one turned, and a tetrahedron on the vertices 15 to 18.
+const SHEETS_AND_TETRAHEDRON: [[u32; 3]; 14] = [
+    [0, 1, 2],
+    [0, 2, 1],
+    [3, 4, 5],
+    [3, 5, 4],
+    [15, 17, 16],
+    [15, 16, 18],
+    [6, 7, 8],
+    [6, 8, 7],
+    [9, 10, 11],
+    [9, 11, 10],
+    [16, 17, 18],
+    [17, 15, 18],
+    [14, 13, 12],
+    [13, 14, 12],
+];
+
+#[test]
+fn vertices_may_be_more_than_triangles(rt: HostRuntime) -> Result<(), Fail> {
+    let mesh = Mesh::check(
+        rt.alloc(),
+        soup_of(rt.alloc(), 19, &SHEETS_AND_TETRAHEDRON)?,
+    )?;
+    let reduced = reduce(rt.alloc(), &mesh)?;
+    assert_eq!(rt; reduced.points().len(), 4);
+    assert_eq!(rt; reduced.points()[0].at(), [15, 0, 0]);
+    assert_eq!(rt; reduced.triples(), TETRAHEDRON.as_slice());
+    Ok(())
+}
+
 // The number that a digit stands for.
 fn digit(byte: u8) -> u32 {
     u32::from(byte.saturating_sub(b'0'))
@@ -161,20 +192,20 @@ fn expect_reduced(rt: &(impl Abort + AllocGlobal), rows: &[Row]) -> Result<(), F
 
 #[test]
 fn the_first_meshes_are_reduced(rt: HostRuntime) -> Result<(), Fail> {
-    expect_reduced(&rt, &MESHES_1)
+    expect_reduced(&rt, &FIRST_MESHES)
 }
 
 #[test]
 fn the_second_meshes_are_reduced(rt: HostRuntime) -> Result<(), Fail> {
-    expect_reduced(&rt, &MESHES_2)
+    expect_reduced(&rt, &SECOND_MESHES)
 }
 
 #[test]
 fn the_third_meshes_are_reduced(rt: HostRuntime) -> Result<(), Fail> {
-    expect_reduced(&rt, &MESHES_3)
+    expect_reduced(&rt, &THIRD_MESHES)
 }
 
 #[test]
-fn the_last_meshes_are_reduced(rt: HostRuntime) -> Result<(), Fail> {
-    expect_reduced(&rt, &MESHES_4)
+fn the_fourth_meshes_are_reduced(rt: HostRuntime) -> Result<(), Fail> {
+    expect_reduced(&rt, &FOURTH_MESHES)
 }
