@@ -1,6 +1,7 @@
 #!/bin/sh
-# Times the built program on a made mesh, `in.obj`, of 4 * SIDE * SIDE triangles, in a folder of its own. Prints the
-# program's line, the seconds and the peak memory. Usage: benches/time.sh SIDE WORD..; SIDE 500 gives 1,000,000 triangles:
+# Times the program as it was last built by bin/manifold_tool, on a made mesh, `in.obj`, of 4 * SIDE * SIDE triangles, in a folder of its own. Lists the mesh,
+# prints the program's line, the seconds and the peak memory, and, where the command wrote `out.obj`, whether it equals `in.obj`. Ends with the program's status, or 1
+# where they differ. Needs python3. Usage: benches/time.sh SIDE WORD..; SIDE 500 gives 1,000,000 triangles:
 #   benches/time.sh 500 copy in.obj out.obj
 #   benches/time.sh 500 inside in.obj 1 1 0
 side=$1
@@ -16,6 +17,7 @@ if [ ! -x "$program" ]; then
     exit 1
 fi
 folder=$(mktemp -d) || exit 1
+trap 'rm -rf "$folder"' EXIT
 python3 "$top/benches/grid_mesh.py" "$side" > "$folder/in.obj" || exit 1
 cd "$folder" || exit 1
 ls -l in.obj
@@ -32,5 +34,4 @@ if [ $status = 0 ] && [ -f out.obj ]; then
     cmp in.obj out.obj && echo "out.obj equals in.obj"
     status=$?
 fi
-rm -r "$folder"
 exit $status

@@ -5,6 +5,7 @@ use std::alloc::Global;
 use std::test::Fail;
 
 // Bucket k of the places, or none where there are more than ten keys or k or a key is not below the count.
+// So few keys are plainly below 2^32, as `Buckets::of` requires.
 fn bucket_of(
     alloc: Global,
     keys: &[u32],

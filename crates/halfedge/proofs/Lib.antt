@@ -1,6 +1,5 @@
 pub mod Around
-pub mod Bucketed
-pub mod Buckets
+pub mod BucketContents
 pub mod Edges
 pub mod FanOrder
 pub mod FanProgress
@@ -8,12 +7,13 @@ pub mod FanSteps
 pub mod FanWalk
 pub mod FansOnce
 pub mod Listed
+pub mod NumberedHalves
 pub mod Numbers
 pub mod OpenPair
 pub mod Order
+pub mod PairedBuckets
 pub mod Positions
 pub mod Single
-pub mod SortedHalves
 pub mod Split
 pub mod TwinSides
 pub mod Walk

@@ -13,7 +13,7 @@ use Rattle.chain_laws.proofs.Ascending.{filter-upto_same, kept_at}
 use Rattle.counting_sort.specs.Buckets.{places_of}
 use Rattle.halfedge.specs.Pairing.{Half, numbered, turned}
 use Rattle.halfedge.specs.Sides.{half_of, lesser_end_at, runs_up, lies_in}
-use Rattle.halfedge.proofs.SortedHalves.{turned-numbered}
+use Rattle.halfedge.proofs.NumberedHalves.{turned-numbered}
 
 -- a filter of a map is the map of a filter
 filter-map : {X Y : Type 0} (p : Y → Bool) (f : X → Y) (xs : List X) → filter p (map f xs) ≡ map f (filter (λ x. p (f x)) xs)

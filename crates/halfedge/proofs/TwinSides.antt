@@ -18,7 +18,7 @@ use Rattle.halfedge.specs.Pairing.{Half, numbered, half_at, half_cmp, ends, ends
 use Rattle.halfedge.specs.Sides.{edge_lies_in, lies_in, AreSides, ArePartners}
 use Rattle.halfedge.proofs.Order.{same_edge}
 use Rattle.halfedge.proofs.Positions.{between, half_order, lesser_count, length-numbered, numbered_at, Holds}
-use Rattle.halfedge.proofs.SortedHalves.{rank_suc, edge_at}
+use Rattle.halfedge.proofs.NumberedHalves.{rank_suc, edge_at}
 
 -- a member of the filtered list is one of the list
 kept_is_member : {X : Type 0} (p : X → Bool) (xs : List X) (x : X) → Contains (filter p xs) x → Contains xs x

@@ -11,7 +11,7 @@ use mb_base::NoMemory;
 use std::alloc::Global;
 
 /// The least edge, by its start and then by its end, that runs more often one way than back; none
-/// where the triangles are closed. It compares half-edges to sort them.
+/// where the triangles are closed. It sorts all half-edges, so it is called only where they are not.
 pub fn least_open_edge(alloc: Global, triples: &[[u32; 3]]) -> Result<Option<(u32, u32)>, NoMemory>
     requires { length triples.now ≤ 100000000 }
     ensures { IfOk result (λ r. r ≡ open_pair (all_edges (triples_of triples.now))) }

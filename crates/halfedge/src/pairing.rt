@@ -16,8 +16,9 @@ use std::alloc::Global;
 
 /// The twin of each half-edge, and whether no two run the same way; none where the triangles are not
 /// closed. The half-edges lie in buckets by their lesser ends, modulo the number of buckets, which is
-/// one more than that of the triangles. In each bucket those that run up, sorted, must run as those
-/// that run down, turned and sorted: so the k-th from a to b stands beside the k-th from b to a.
+/// one more than that of the triangles, so that there always is one. In each bucket those that run up,
+/// sorted, must run as those that run down, turned and sorted: so the k-th from a to b stands beside
+/// the k-th from b to a.
 pub fn paired(alloc: Global, triples: &[[u32; 3]]) -> Result<Option<(Vec<u32>, bool)>, NoMemory>
     requires few { length triples.now ≤ 100000000 }
     requires three { All HasThree (triples_of triples.now) }
@@ -29,7 +30,7 @@ pub fn paired(alloc: Global, triples: &[[u32; 3]]) -> Result<Option<(Vec<u32>, b
     let count = triples.len() as u32 + 1;
     let numbers = bucket_numbers(alloc, triples, count)?;
     let buckets = Buckets::of(alloc, &numbers, count as usize)?;
-    // Each number is no longer needed, and is written over by a twin.
+    // The bucket numbers are no longer needed; each is written over by a twin.
     let mut twins = numbers;
     let mut lists = (Vec::new(alloc), Vec::new(alloc));
     let mut single = true;

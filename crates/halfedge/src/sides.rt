@@ -1,5 +1,5 @@
-// Half-edges in buckets by their lesser ends, and the two sides of a bucket: what runs up, and what
-// runs down.
+// Half-edges in buckets by their lesser ends, and the two sides of a bucket: what runs up, from a
+// lesser vertex to a greater one, and what runs down.
 ghost use Rattle.std.specs.Prelude.{◌≡◌, ◌<◌, ◌≤◌, ◌*◌, List, IfOk, length, map};
 ghost use Rattle.std.specs.List.{All, filter};
 ghost use Rattle.chain_terms.specs.Chains.{all_edges};
@@ -11,7 +11,8 @@ ghost use Rattle.halfedge.specs.Sides.{half_of, bucket_of, runs_up};
 use mb_base::NoMemory;
 use std::alloc::Global;
 
-/// A half-edge: where it starts, where it ends, and its number.
+/// A half-edge: where it starts, where it ends, and its number. In a list of turned half-edges the
+/// end stands first and then the start.
 pub type Half = (u32, u32, u32);
 
 /// The bucket of each half-edge: its lesser end, modulo the number of buckets.
@@ -61,7 +62,7 @@ pub fn sides(
     Ok((ups, downs))
 }
 
-// The same, each list in the order of the bucket.
+// The same two lists, not sorted: each in the order of the bucket.
 fn split(
     triples: &[[u32; 3]],
     bucket: &[u32],

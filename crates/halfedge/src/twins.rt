@@ -71,11 +71,10 @@ impl From<NoMemory> for TwinFault {
 
 impl Twins {
     /// The triangles, of which this takes a copy, with the twin of each half-edge: the k-th from a
-    /// to b is the twin of the k-th from b to a. Exactly where the triangles are not closed, which
-    /// is where some edge runs more often one way than back, the answer is `Open` with the least
-    /// such edge, or `NoMemory`, which may come for any triangles. Half-edges are gathered by their
-    /// lesser vertex, modulo one more than the number of triangles, and those gathered together are
-    /// sorted. So the time is linear in the triangles where each vertex has few of them and no vertex
+    /// to b is the twin of the k-th from b to a. Only where the triangles are not closed, which is
+    /// where some edge runs more often one way than back, the answer is `Open`, with the least such
+    /// edge. `NoMemory` may come for any triangles. Half-edges are gathered by their lesser end,
+    /// modulo one more than the number of triangles, and those gathered together are sorted. So the time is linear in the triangles where each vertex has few of them and no vertex
     /// number is more than a few times their number; otherwise, and to name an open edge, it is at
     /// most that of sorting all half-edges.
     pub fn of(alloc: Global, triples: &[[u32; 3]]) -> Result<Twins, TwinFault>
@@ -147,7 +146,7 @@ impl Twins {
     }
 }
 
-// The twin of each half-edge, and whether no two run the same way.
+// The twin of each half-edge, and whether no two run the same way; or the least open edge.
 fn listed_twins(alloc: Global, triples: &[[u32; 3]]) -> Result<(Vec<u32>, bool), TwinFault>
     requires few { length triples.now ≤ 100000000 }
     requires three { All HasThree (triples_of triples.now) }

@@ -13,11 +13,11 @@ use Rattle.chain_laws.proofs.Ranks.{rank_below}
 use Rattle.mesh_terms.specs.OpenEdges.{is_lesser}
 use Rattle.halfedge.specs.Pairing.{Half, numbered, half_at, ends, ends_of, IsSortOf}
 use Rattle.halfedge.specs.Sides.{lesser_end, lesser_end_at, EndsDiffer, edge_lies_in, lies_in, AreSides}
-use Rattle.halfedge.proofs.Buckets.{side_count, ups_count, downs_count}
+use Rattle.halfedge.proofs.PairedBuckets.{side_count, ups_count, downs_count}
 use Rattle.halfedge.proofs.Order.{one_edge, same_edge, is_itself}
 use Rattle.halfedge.proofs.Positions.{lesser_count}
 use Rattle.halfedge.proofs.Single.{ends_at}
-use Rattle.halfedge.proofs.SortedHalves.{edge_at, lesser_count_more}
+use Rattle.halfedge.proofs.NumberedHalves.{edge_at, lesser_count_more}
 use Rattle.halfedge.proofs.TwinSides.{IsPlacedIn, placed_in, placed_lies, rank_backward, backward_at, up_placed, down_placed}
 use Rattle.mesh_check.specs.Cancelling.{is_left, AreMarked}
 

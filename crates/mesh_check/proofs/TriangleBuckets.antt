@@ -8,7 +8,7 @@ use Rattle.chain_laws.proofs.Places.{get_or-up_from, length-up_from}
 use Rattle.mesh_terms.specs.Meshes.{Triple}
 use Rattle.halfedge.specs.Pairing.{Half, half_at, turned, IsSortOf}
 use Rattle.halfedge.specs.Sides.{half_of, lesser_end, lesser_end_at, EndsDiffer, runs_up, AreSides}
-use Rattle.halfedge.proofs.Bucketed.{IsBucket, bucket_sides}
+use Rattle.halfedge.proofs.BucketContents.{IsBucket, bucket_sides}
 use Rattle.halfedge.proofs.Split.{AreKeys}
 use Rattle.halfedge.proofs.TwinSides.{halves_of_sides}
 use Rattle.mesh_check.specs.declared.oriented.Oriented.{Oriented}

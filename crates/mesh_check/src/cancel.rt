@@ -1,4 +1,5 @@
-// Triangles that cancel: the k-th of one orientation with the k-th of the other.
+// Triangles that cancel: on the same three vertices, the k-th of one orientation with the k-th of the
+// other.
 ghost use Rattle.std.specs.Prelude.{◌≡◌, ◌<◌, ◌≤◌, ◌+◌, ℕ, List, IfOk, length};
 ghost use Rattle.std.specs.List.{All};
 ghost use Rattle.halfedge.specs.Sides.{EndsDiffer, AreSides};
@@ -15,8 +16,9 @@ use std::cmp::Ordering;
 
 /// For each triangle whether it stays when, for each three vertices, the k-th of one orientation goes
 /// with the k-th of the other. The triangles lie in buckets by their least vertices, modulo the number
-/// of buckets, which is one more than that of the triangles; so all on the same three vertices lie in
-/// one. In each bucket the two orientations make two lists, which are sorted and read side by side.
+/// of buckets, which is one more than that of the triangles, so that there always is one; so all on the
+/// same three vertices lie in one bucket. In each the two orientations make two lists, which are sorted
+/// and read side by side.
 pub fn uncancelled(alloc: Global, triples: &[[u32; 3]]) -> Result<Vec<bool>, NoMemory>
     requires few { length triples.now ≤ 100000000 }
     requires triangles { All IsTriangle (triples_of triples.now) }
@@ -25,6 +27,7 @@ pub fn uncancelled(alloc: Global, triples: &[[u32; 3]]) -> Result<Vec<bool>, NoM
     let count = triples.len() as u32 + 1;
     let numbers = bucket_numbers(alloc, triples, count)?;
     let buckets = Buckets::of(alloc, &numbers, count as usize)?;
+    // True for each triangle that is left over.
     let mut left = vec![in alloc; true; triples.len()]?;
     let mut lists = (Vec::new(alloc), Vec::new(alloc));
     for k in 0..count as usize {

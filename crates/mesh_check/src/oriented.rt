@@ -3,8 +3,8 @@ ghost use Rattle.std.specs.Prelude.{◌≡◌};
 ghost use Rattle.mesh_terms.specs.Meshes.{triple_of};
 ghost use Rattle.mesh_check.specs.Orientations.{least_first, IsNarrow};
 
-/// A triangle from its least vertex on, and its place among others. Triangles on the same three
-/// vertices have the same numbers here where they have the same orientation.
+/// A triangle from its least vertex on, and its place among others. Of triangles on the same three
+/// vertices, exactly those of one orientation have the same `least`, `second` and `third`.
 #[derive(Clone, Copy, Debug, PartialEq, Eq, PartialOrd, Ord, Drop)]
 pub struct Oriented {
     pub least: u32,

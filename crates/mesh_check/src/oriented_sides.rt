@@ -1,5 +1,5 @@
 // Triangles in buckets by their least vertices, and the two sides of a bucket: read from the least
-// vertex on, the triangles whose second vertex is below the third, and the other sides of the rest.
+// vertex on, the triangles whose second vertex is below the third, and the rest, turned over.
 ghost use Rattle.std.specs.Prelude.{◌≡◌, ◌<◌, IfOk, length, map};
 ghost use Rattle.std.specs.List.{All, filter};
 ghost use Rattle.halfedge.specs.Pairing.{turned, IsSortOf};
@@ -19,6 +19,7 @@ pub fn bucket_numbers(alloc: Global, triples: &[[u32; 3]], count: u32) -> Result
 {
     let mut numbers = Vec::with_capacity(alloc, triples.len())?;
     for triple in triples {
+        // Only the least vertex is asked for, so any place will do.
         numbers.push(Oriented::of(triple, 0).least % count)?;
     }
     Ok(numbers)
@@ -26,7 +27,7 @@ pub fn bucket_numbers(alloc: Global, triples: &[[u32; 3]], count: u32) -> Result
 
 /// Of the triangles of a bucket, given by their places and each read from its least vertex on: those
 /// whose second vertex is below the third, sorted; and those whose third is below the second, turned
-/// over, sorted. Opposite triangles so have the same vertices in the two lists. The given lists are
+/// over, sorted. So opposite triangles have the same vertices in the two lists. The given lists are
 /// emptied and filled again, so that their memory serves all buckets.
 pub fn oriented_sides(
     triples: &[[u32; 3]],
@@ -43,7 +44,7 @@ pub fn oriented_sides(
     Ok((ones, others))
 }
 
-// The same, each list in the order of the bucket.
+// The same two lists, not sorted: each in the order of the bucket.
 fn split(
     triples: &[[u32; 3]],
     bucket: &[u32],

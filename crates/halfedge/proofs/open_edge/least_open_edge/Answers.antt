@@ -4,7 +4,7 @@ use Rattle.chain_terms.specs.Chains.{all_edges}
 use Rattle.chain_laws.specs.Chains.{backward}
 use Rattle.mesh_terms.specs.Meshes.{triples_of}
 use Rattle.halfedge.specs.Pairing.{numbered, turned}
-use Rattle.halfedge.proofs.SortedHalves.{turned-numbered, open_found}
+use Rattle.halfedge.proofs.NumberedHalves.{turned-numbered, open_found}
 use Rattle.halfedge.proofs.open_edge.least_open_edge.Goals as goal
 
 pub returns : goal.returns

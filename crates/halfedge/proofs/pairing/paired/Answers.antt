@@ -13,8 +13,8 @@ use Rattle.halfedge.specs.Laws.{AreSingle}
 use Rattle.halfedge.specs.Pairing.{Half, turned, half_at, half_cmp, ends_of, IsSortOf}
 use Rattle.halfedge.specs.Sides.{half_of, lesser_end, bucket_of, runs_up, AreSides, ArePartners, AreWritten, ArePaired}
 use Rattle.halfedge.proofs.Edges.{length-all_edges}
-use Rattle.halfedge.proofs.Bucketed.{numbers_below, edge_keys, read_bucket, bucket_members, bucket_sides}
-use Rattle.halfedge.proofs.Buckets.{paired_more, paired_all, not_closed, edges_differ}
+use Rattle.halfedge.proofs.BucketContents.{numbers_below, edge_keys, read_bucket, bucket_members, bucket_sides}
+use Rattle.halfedge.proofs.PairedBuckets.{paired_more, paired_all, not_closed, edges_differ}
 use Rattle.halfedge.proofs.TwinSides.{twins_of_sides, halves_of_sides, up_placed, down_placed}
 use Rattle.halfedge.proofs.pairing.paired.Goals as goal
 

@@ -6,7 +6,7 @@ use Rattle.mesh_terms.specs.Meshes.{Triple, triple_of, triples_of}
 use Rattle.counting_sort.specs.Buckets.{places_of}
 use Rattle.counting_sort.proofs.Upto.{length-map-upto}
 use Rattle.halfedge.specs.Sides.{AreSides}
-use Rattle.halfedge.proofs.Bucketed.{numbers_below, read_bucket, bucket_members}
+use Rattle.halfedge.proofs.BucketContents.{numbers_below, read_bucket, bucket_members}
 use Rattle.mesh_check.specs.Cancelling.{halves_of, bucket_of_triple, bucket_of_end, AreMarked}
 use Rattle.mesh_check.specs.Orientations.{least_first, orientation_edge, orientation_edges}
 use Rattle.mesh_check.proofs.KeptMarks.{kept_marks_left}

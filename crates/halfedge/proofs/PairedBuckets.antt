@@ -17,7 +17,7 @@ use Rattle.halfedge.specs.Laws.{AreSingle}
 use Rattle.halfedge.specs.Pairing.{Half, numbered, ends, ends_of, half_at, IsSortOf}
 use Rattle.halfedge.specs.Sides.{EndsDiffer, edge_lies_in, lies_in, AreSides, AreWritten, ArePaired}
 use Rattle.halfedge.proofs.Order.{one_edge, is_itself, same_edge}
-use Rattle.halfedge.proofs.SortedHalves.{ends-numbered}
+use Rattle.halfedge.proofs.NumberedHalves.{ends-numbered}
 use Rattle.halfedge.proofs.TwinSides.{lies_from}
 use Rattle.halfedge.proofs.Walk.{IsRising, rising_from_sorted, none_lesser}
 

@@ -1,4 +1,4 @@
--- Half-edges, and the turned ones, in any order; and how often edges run that are lesser.
+-- Numbered half-edges and the turned ones; how many edges are lesser than an edge; the least open edge from two lists in any order.
 use Rattle.std.proofs.Common.{◌≡◌, ◌≤◌, ◌+◌, ℕ, zero, suc, Bool, true, false, List, [], ◌∷◌, map, Option, refl, ap, subst, arith}
 use Rattle.std.specs.List.Sorted.{IsPermutation}
 use Rattle.std.specs.Option.{IsNone, IfSome}
