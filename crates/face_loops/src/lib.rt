@@ -1,0 +1,6 @@
+//! Loops of vertices.
+#![tactic(auto)]
+
+mod loops;
+
+pub use loops::Loop;
