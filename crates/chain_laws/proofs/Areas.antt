@@ -5,7 +5,8 @@ use Rattle.std.proofs.lemmas.Int.{ints}
 use Rattle.chain_terms.specs.Sums.{total}
 use Rattle.chain_terms.specs.Chains.{boundary, edges, all_edges}
 use Rattle.chain_laws.specs.Sums.{total-flat_map, total-same}
-use Rattle.chain_laws.specs.Chains.{IsOdd, along, same_boundary}
+use Rattle.chain_terms.specs.Odd.{IsOdd, along}
+use Rattle.chain_laws.specs.Chains.{same_boundary}
 use Rattle.chain_laws.specs.Areas.{area_at, orientation}
 use Rattle.chain_laws.specs.Products.{mul-sub, sub-mul}
 

@@ -8,8 +8,8 @@ use Rattle.std.proofs.lemmas.List.{append_assoc}
 use Rattle.std.proofs.lemmas.List.Sorted.{IsPermutation-refl, IsPermutation-cons, IsPermutation-trans, IsPermutation-middle, IsPermutation-append_right, length_permutation, sum_by-IsPermutation}
 use Rattle.chain_terms.specs.Chains.{one_if}
 use Rattle.chain_laws.specs.Counts.{one_if-true, one_if-false, count_by-cons}
-use Rattle.chain_laws.specs.Cycles.{out, into, Balanced, end_from, without_from, on_end, put_first, follow, cycles_within}
-use Rattle.chain_laws.specs.Paths.{path, last_of, round_edges}
+use Rattle.chain_terms.specs.Cycles.{out, into, Balanced, end_from, without_from, on_end, put_first, follow, cycles_within}
+use Rattle.chain_terms.specs.Paths.{path, last_of, round_edges}
 
 -- either no edge starts at v, or the first that does is taken out
 abbrev pub Found : ℕ → List (ℕ × ℕ) → Option ℕ → List (ℕ × ℕ) → Type 0

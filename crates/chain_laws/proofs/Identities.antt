@@ -5,7 +5,8 @@ use Rattle.std.proofs.lemmas.Int.{ints}
 use Rattle.chain_terms.specs.Sums.{total}
 use Rattle.chain_terms.specs.Chains.{IsClosed, edges, all_edges}
 use Rattle.chain_laws.specs.Sums.{total-append, total-swap}
-use Rattle.chain_laws.specs.Chains.{IsOdd, along, odd_sum}
+use Rattle.chain_terms.specs.Odd.{IsOdd, along}
+use Rattle.chain_laws.specs.Chains.{odd_sum}
 use Rattle.chain_laws.specs.Identities.{crossing, winding}
 
 -- the crossings of an edge with all triangles, by ends and sides

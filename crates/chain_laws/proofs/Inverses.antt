@@ -4,7 +4,7 @@ use Rattle.std.proofs.Common.{sym, ap, ◌∙◌, inl, inr}
 use Rattle.std.proofs.lemmas.Bool.{eqb-true, eqb-false, cases_Bool}
 use Rattle.chain_terms.specs.Sums.{total, upto}
 use Rattle.chain_laws.specs.Sums.{total-swap}
-use Rattle.chain_laws.specs.Permutations.{AreInverse}
+use Rattle.chain_terms.specs.Permutations.{AreInverse}
 use Rattle.chain_laws.proofs.Places.{where_same, where_same-apart, where_same-at, total-upto_same, one_hit, one_hit_of}
 
 -- h is t k exactly where k is s h

@@ -7,7 +7,7 @@ use Rattle.std.proofs.lemmas.List.{length-append}
 use Rattle.std.proofs.lemmas.List.Sorted.{IsPermutation-refl, IsPermutation-to_front}
 use Rattle.chain_terms.specs.Sums.{total}
 use Rattle.chain_laws.specs.Sums.{total-append}
-use Rattle.chain_laws.specs.Paths.{path, last_of, round_edges}
+use Rattle.chain_terms.specs.Paths.{path, last_of, round_edges}
 
 -- a longer list of vertices ends where its second part ends
 pub last_of-append : (x : ℕ) (s : List ℕ) (y : ℕ) (t : List ℕ) → last_of x (s ++ y ∷ t) ≡ last_of y t

@@ -5,7 +5,7 @@ use Rattle.std.proofs.lemmas.Bool.{cond_both, cases_order}
 use Rattle.std.proofs.lemmas.List.{take_all}
 use Rattle.chain_terms.specs.Chains.{one_if}
 use Rattle.chain_laws.specs.Counts.{one_if-true, one_if-false, count_by-cons}
-use Rattle.chain_laws.specs.Ranks.{rank, nth, IsPlace}
+use Rattle.chain_terms.specs.Ranks.{rank, nth, IsPlace}
 
 -- the rank is a count of the first i members
 pub rank-count_by : {X : Type 0} (p : X → Bool) (xs : List X) (i : ℕ) → rank p xs i ≡ count_by p (take i xs)

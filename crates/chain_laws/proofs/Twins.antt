@@ -5,8 +5,8 @@ use Rattle.std.proofs.lemmas.Bool.{cases_lt}
 use Rattle.std.proofs.lemmas.List.{get_or_default}
 use Rattle.chain_terms.specs.Chains.{is_edge, IsClosed}
 use Rattle.chain_laws.specs.Chains.{edge_is, is_self, dir-count_by}
-use Rattle.chain_laws.specs.Permutations.{AreInverse}
-use Rattle.chain_laws.specs.Ranks.{rank, IsPlace, start, finish, runs_as, runs_against, twin, RunsBack}
+use Rattle.chain_terms.specs.Permutations.{AreInverse}
+use Rattle.chain_terms.specs.Ranks.{rank, IsPlace, start, finish, runs_as, runs_against, twin, RunsBack}
 use Rattle.chain_laws.proofs.Ranks.{nth_is, rank_ascends, rank_lower, rank_below, same_place}
 
 -- the edge at a place runs as itself, whatever stands past the end

@@ -5,7 +5,7 @@ use Rattle.std.proofs.lemmas.Int.{ints}
 use Rattle.std.proofs.lemmas.Bool.{cases_eq}
 use Rattle.chain_terms.specs.Sums.{total, upto}
 use Rattle.chain_laws.specs.Sums.{total-swap, total-zero}
-use Rattle.chain_laws.specs.Permutations.{AreInverse, times, Returns}
+use Rattle.chain_terms.specs.Permutations.{AreInverse, times, Returns}
 use Rattle.chain_laws.proofs.Places.{where_same, where_same-apart, where_same-at, total-upto_more, total-upto_same, total-upto_ones, total-upto_at_most, one_hit}
 
 -- the walk stays below n

@@ -8,30 +8,11 @@ use Rattle.std.proofs.lemmas.Int.{ints}
 use Rattle.std.proofs.lemmas.Bool.{and_parts, eqb-true, eq-eqb, and_from}
 use Rattle.std.proofs.lemmas.List.Sorted.{sum_by-IsPermutation}
 use Rattle.chain_terms.specs.Sums.{total}
+use Rattle.chain_terms.specs.Odd.{IsOdd, along, turned_edge, backward, SameChain}
 use Rattle.chain_terms.specs.Chains.{is_edge, one_if, dir, IsClosed, boundary}
 use Rattle.chain_laws.specs.Sums.{total-append, total-map}
 use Rattle.chain_laws.specs.Counts.{count_by-cons, total-count_by, same_counts}
 use Rattle.chain_laws.specs.Firsts.{counted, passing}
-
--- f turns its sign with the direction
-pub record IsOdd (f : ℕ → ℕ → ℤ) : Type 0 where
-  pub turns : (a b : ℕ) → f a b +ℤ f b a ≡ pos 0
-
--- f of an edge
-abbrev pub along : (ℕ → ℕ → ℤ) → (ℕ × ℕ) → ℤ
-along f e = f e.0 e.1
-
--- the edge the other way
-abbrev pub turned_edge : (ℕ × ℕ) → ℕ × ℕ
-turned_edge e = (e.1, e.0)
-
--- each edge of the chain the other way
-abbrev pub backward : List (ℕ × ℕ) → List (ℕ × ℕ)
-backward es = map turned_edge es
-
--- every odd function has the same sum over both chains
-abbrev pub SameChain : List (ℕ × ℕ) → List (ℕ × ℕ) → Type 0
-SameChain es ms = (f : ℕ → ℕ → ℤ) → IsOdd f → total (along f) es ≡ total (along f) ms
 
 -- an edge that runs from a to b is that edge
 pub edge_is : (e : ℕ × ℕ) (a b : ℕ) → is_edge e a b ≡ true → (e.0 ≡ a) × (e.1 ≡ b)

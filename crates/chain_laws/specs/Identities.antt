@@ -2,7 +2,7 @@
 use Rattle.std.specs.Prelude.{ℕ, ℤ, neg_ℤ, ◌-ℤ◌, List}
 use Rattle.chain_terms.specs.Sums.{total}
 use Rattle.chain_terms.specs.Chains.{edges}
-use Rattle.chain_laws.specs.Chains.{along}
+use Rattle.chain_terms.specs.Odd.{along}
 
 -- the number of the edge from a to b with the triangle g: from the shadows of its ends, and of itself on the edges of g
 abbrev pub crossing : (ℕ → (ℕ × ℕ × ℕ) → ℤ) → (ℕ → ℕ → ℕ → ℕ → ℤ) → ℕ → ℕ → (ℕ × ℕ × ℕ) → ℤ

@@ -5,12 +5,12 @@ use Rattle.std.specs.List.Sorted.{IsPermutation}
 use Rattle.chain_terms.specs.Sums.{total}
 use Rattle.chain_terms.specs.Chains.{IsClosed, boundary, edges, all_edges}
 use Rattle.chain_laws.specs.Areas.{area_at, orientation}
-use Rattle.chain_laws.specs.Chains.{IsOdd, along, SameChain}
-use Rattle.chain_laws.specs.Cycles.{Balanced, cycles}
+use Rattle.chain_terms.specs.Odd.{IsOdd, along, SameChain}
+use Rattle.chain_terms.specs.Cycles.{Balanced, cycles}
 use Rattle.chain_laws.specs.Identities.{crossing, winding}
-use Rattle.chain_laws.specs.Paths.{round_edges}
-use Rattle.chain_laws.specs.Permutations.{AreInverse, Returns}
-use Rattle.chain_laws.specs.Ranks.{twin, RunsBack}
+use Rattle.chain_terms.specs.Paths.{round_edges}
+use Rattle.chain_terms.specs.Permutations.{AreInverse, Returns}
+use Rattle.chain_terms.specs.Ranks.{twin, RunsBack}
 use Rattle.chain_laws.specs.Signs.{whole, number, weight}
 use Rattle.chain_laws.specs.Triples.{renamed_triple}
 

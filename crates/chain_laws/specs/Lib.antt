@@ -3,14 +3,10 @@ pub mod Ascending
 pub mod Chains
 pub mod Closed
 pub mod Counts
-pub mod Cycles
 pub mod Firsts
 pub mod Identities
 pub mod Laws
-pub mod Paths
-pub mod Permutations
 pub mod Products
-pub mod Ranks
 pub mod Sides
 pub mod Signs
 pub mod Sorting

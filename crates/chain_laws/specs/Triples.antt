@@ -6,7 +6,8 @@ use Rattle.std.proofs.lemmas.List.{append_assoc}
 use Rattle.chain_terms.specs.Sums.{total}
 use Rattle.chain_terms.specs.Chains.{IsClosed, edges, all_edges}
 use Rattle.chain_laws.specs.Sums.{total-append}
-use Rattle.chain_laws.specs.Chains.{along, backward, SameChain, renamed, total-backward, closed-append, closed-renamed, closed_same, closed-backward}
+use Rattle.chain_terms.specs.Odd.{along, backward, SameChain}
+use Rattle.chain_laws.specs.Chains.{renamed, total-backward, closed-append, closed-renamed, closed_same, closed-backward}
 
 -- the triple that an array of three holds
 abbrev pub triple_of : List ℕ → ℕ × ℕ × ℕ

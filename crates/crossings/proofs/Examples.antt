@@ -4,7 +4,7 @@ use Rattle.chain_terms.specs.Chains.{all_edges}
 use Rattle.chain_terms.specs.Sums.{total, upto}
 use Rattle.mb_base.specs.declared.results.Hit.{Hit}
 use Rattle.mesh_terms.specs.Meshes.{Triple}
-use Rattle.crossings.specs.Identities.{half_number}
+use Rattle.side_terms.specs.Conservation.{half_number}
 
 -- the triangles of a box
 abbrev pub box : List Triple

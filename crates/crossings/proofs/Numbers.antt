@@ -3,13 +3,13 @@ use Rattle.std.proofs.Common.{◌≡◌, ◌≢◌, ℕ, ◌<◌, ◌≤◌, ℤ
 use Rattle.std.proofs.lemmas.Int.{ints}
 use Rattle.std.proofs.lemmas.Bool.{cases_lt, lt-ltb, le-ltb}
 use Rattle.chain_terms.specs.Chains.{all_edges}
-use Rattle.chain_laws.specs.Ranks.{start, finish, twin}
+use Rattle.chain_terms.specs.Ranks.{start, finish, twin}
 use Rattle.halfedge.proofs.Around.{pair_up}
 use Rattle.mesh_terms.specs.Meshes.{Triple}
 use Rattle.edge_face.specs.Crossings.{number_of}
-use Rattle.lean.specs.Sides.{Side, IsSide, edge_of, face_of}
+use Rattle.side_terms.specs.Sides.{Side, IsSide, edge_of, face_of}
 use Rattle.crossings.specs.Hits.{CrossTest, hits_of}
-use Rattle.crossings.specs.Identities.{hit_number, half_number}
+use Rattle.side_terms.specs.Conservation.{hit_number, half_number}
 use Rattle.crossings.proofs.Totals.{hits_number}
 
 -- the number that is answered for the edge from a to b and a triangle

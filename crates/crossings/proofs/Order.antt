@@ -6,12 +6,13 @@ use Rattle.std.proofs.lemmas.List.Elements.{All-append, All-cons, All-head, All-
 use Rattle.std.proofs.lemmas.List.Kept.{AllPairs-cons}
 use Rattle.chain_terms.specs.Chains.{all_edges}
 use Rattle.chain_terms.specs.Sums.{up_from}
-use Rattle.chain_laws.specs.Ranks.{twin}
+use Rattle.chain_terms.specs.Ranks.{twin}
 use Rattle.mb_base.specs.declared.results.Hit.{Hit}
 use Rattle.edge_face.specs.declared.Cross.{Cross}
 use Rattle.edge_face.specs.Crossings.{number_of}
-use Rattle.lean.specs.Sides.{Side, edge_at, face_at}
-use Rattle.crossings.specs.Hits.{CrossTest, IsBefore, IsListed, AreHits, hit_of, hits_along, hits_of}
+use Rattle.side_terms.specs.Sides.{Side, edge_at, face_at}
+use Rattle.crossings.specs.Hits.{CrossTest, hit_of, hits_along, hits_of}
+use Rattle.side_terms.specs.Hits.{IsBefore, IsListed, AreHits}
 
 -- two lists in order, the one before the other
 in_order_append : (P Q : Hit → Type 0) → ((h k : Hit) → P h → Q k → IsBefore h k) → (xs ys : List Hit) → All P xs → All Q ys → AllPairs IsBefore xs → AllPairs IsBefore ys → AllPairs IsBefore (xs ++ ys)

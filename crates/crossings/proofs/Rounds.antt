@@ -3,16 +3,16 @@ use Rattle.std.proofs.Common.{◌≡◌, ℕ, ◌+◌, ◌*◌, ◌<◌, ℤ, �
 use Rattle.std.proofs.lemmas.Int.{ints}
 use Rattle.chain_terms.specs.Chains.{edges, all_edges}
 use Rattle.chain_terms.specs.Sums.{total, upto}
-use Rattle.chain_laws.specs.Chains.{along}
-use Rattle.chain_laws.specs.Ranks.{start, finish}
+use Rattle.chain_terms.specs.Odd.{along}
+use Rattle.chain_terms.specs.Ranks.{start, finish}
 use Rattle.chain_laws.specs.Sums.{total-same}
 use Rattle.chain_laws.proofs.Identities.{pair_identity}
 use Rattle.halfedge.proofs.Edges.{length-all_edges}
 use Rattle.mesh_terms.specs.Meshes.{Triple}
-use Rattle.lean.specs.Sides.{Side, IsSide}
+use Rattle.side_terms.specs.Sides.{Side, IsSide}
 use Rattle.lean.proofs.Triangles.{half_of_face}
 use Rattle.crossings.specs.Hits.{CrossTest, hits_of}
-use Rattle.crossings.specs.Identities.{half_number, PairIdentity}
+use Rattle.side_terms.specs.Conservation.{half_number, PairIdentity}
 use Rattle.crossings.proofs.Numbers.{edge_number, Turns, half_number_is}
 
 -- numbers of half-edges that are those of their ends, added up round a triangle

@@ -6,12 +6,12 @@ use Rattle.std.proofs.lemmas.List.Elements.{filter_map-append}
 use Rattle.std.proofs.lemmas.List.Concat.{flat_map-append}
 use Rattle.chain_terms.specs.Chains.{all_edges}
 use Rattle.chain_terms.specs.Sums.{upto}
-use Rattle.chain_laws.specs.Ranks.{twin}
+use Rattle.chain_terms.specs.Ranks.{twin}
 use Rattle.chain_laws.proofs.Ascending.{filter-upto_yes, filter-upto_no}
 use Rattle.chain_laws.proofs.Places.{upto_more}
 use Rattle.mb_base.specs.declared.results.Hit.{Hit}
 use Rattle.edge_face.specs.declared.Cross.{Cross}
-use Rattle.lean.specs.Sides.{Side, edge_at, face_at}
+use Rattle.side_terms.specs.Sides.{Side, edge_at, face_at}
 use Rattle.crossings.specs.Hits.{CrossTest, hit_of, hits_along}
 
 -- the hits of one half-edge with the first n faces

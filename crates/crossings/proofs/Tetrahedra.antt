@@ -7,7 +7,7 @@ use Rattle.shadow_kernels.specs.Shadows.{meet01, meet10, meet11, meet02, meet20}
 use Rattle.shadow_kernels.specs.Spots.{spot01, spot10, spot_between}
 use Rattle.edge_face.specs.Grids.{grid_cross23, grid_cross32}
 use Rattle.edge_face.specs.Points.{p_point, q_point, crossed, cross12, cross21}
-use Rattle.lean.specs.Sides.{Side, corners_of}
+use Rattle.side_terms.specs.Sides.{Side, corners_of}
 use Rattle.crossings.specs.Hits.{CrossTest, hits_of}
 
 abbrev faces : List Triple

@@ -3,16 +3,17 @@ use Rattle.std.proofs.Common.{◌≡◌, ℕ, ◌<◌, ◌==◌, ◌&&◌, ℤ, 
 use Rattle.std.proofs.lemmas.Bool.{lt-ltb}
 use Rattle.chain_terms.specs.Chains.{all_edges}
 use Rattle.chain_terms.specs.Sums.{total, upto}
-use Rattle.chain_laws.specs.Ranks.{twin}
+use Rattle.chain_terms.specs.Ranks.{twin}
 use Rattle.chain_laws.specs.Sums.{total-same, total-zero, total-flat_map, total-filter_map, value_or_zero}
 use Rattle.chain_laws.proofs.Ascending.{total-filter}
 use Rattle.chain_laws.proofs.Places.{where_same, one_hit_of}
 use Rattle.mb_base.specs.declared.results.Hit.{Hit}
 use Rattle.edge_face.specs.declared.Cross.{Cross}
 use Rattle.edge_face.specs.Crossings.{number_of}
-use Rattle.lean.specs.Sides.{Side, edge_at, face_at}
-use Rattle.crossings.specs.Hits.{CrossTest, hit_of, hits_along, lower_halves, hits_of}
-use Rattle.crossings.specs.Identities.{hit_number}
+use Rattle.side_terms.specs.Sides.{Side, edge_at, face_at}
+use Rattle.crossings.specs.Hits.{CrossTest, hit_of, hits_along, hits_of}
+use Rattle.side_terms.specs.Hits.{lower_halves}
+use Rattle.side_terms.specs.Conservation.{hit_number}
 
 -- what a hit adds to the number of an edge and a face
 abbrev pub added : ℕ → ℕ → Hit → ℤ

@@ -3,11 +3,11 @@ use Rattle.std.specs.Prelude.{◌≡◌, ◌≢◌, ℕ, ◌<◌, ◌⊎◌, ℤ
 use Rattle.std.specs.List.{All, AllPairs, filter_map, flat_map}
 use Rattle.chain_terms.specs.Chains.{all_edges}
 use Rattle.chain_terms.specs.Sums.{upto}
-use Rattle.chain_laws.specs.Ranks.{twin}
+use Rattle.chain_terms.specs.Ranks.{twin}
 use Rattle.mb_base.specs.declared.point.Corner.{Corner}
 use Rattle.mb_base.specs.declared.results.Hit.{Hit}
 use Rattle.edge_face.specs.declared.Cross.{Cross}
-use Rattle.lean.specs.Sides.{Side, edge_at, face_at}
+use Rattle.side_terms.specs.Sides.{Side, edge_at, face_at}
 
 -- what is answered for the corners of an edge and of a face
 abbrev pub CrossTest : Type 0
@@ -22,27 +22,6 @@ hit_of e f (Some c) = Some (record { edge = e; face = f; number = c.number; at =
 abbrev pub hits_along : CrossTest → Side → Side → ℕ → List Hit
 hits_along test edges faces h = filter_map (λ f. hit_of h f (test (edge_at edges h) (face_at faces f))) (upto (length faces.triples))
 
--- of each edge the half-edge that comes before its twin
-abbrev pub lower_halves : List (ℕ × ℕ) → List ℕ
-lower_halves es = filter (λ h. nat_lt h (twin es h)) (upto (length es))
-
 -- all hits, ascending by edge, then face
 abbrev pub hits_of : CrossTest → Side → Side → List Hit
 hits_of test edges faces = flat_map (hits_along test edges faces) (lower_halves (all_edges edges.triples))
-
--- a number of crossings that is listed
-pub record IsListed (n : ℤ) : Type 0 where
-  pub some : n ≢ pos 0
-  pub low : negsuc 1 ≤ℤ n
-  pub high : n ≤ℤ pos 2
-
--- by edge, then by face
-abbrev pub IsBefore : Hit → Hit → Type 0
-IsBefore h k = (h.edge < k.edge) ⊎ ((h.edge ≡ k.edge) × (h.face < k.face))
-
--- hits of a chain's lower half-edges with so many faces, in order, no pair twice
-pub record AreHits (es : List (ℕ × ℕ)) (faces : ℕ) (hits : List Hit) : Type 0 where
-  pub on_edges : All (λ h. (h.edge < length es) × (h.edge < twin es h.edge)) hits
-  pub on_faces : All (λ h. h.face < faces) hits
-  pub numbers : All (λ h. IsListed h.number) hits
-  pub ascending : AllPairs IsBefore hits

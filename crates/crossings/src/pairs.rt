@@ -1,7 +1,7 @@
 // Edges of either side against the faces of the other.
 ghost use Rattle.std.specs.Prelude.{◌≡◌, Option, List};
 ghost use Rattle.mb_base.specs.declared.point.Corner.{Corner};
-ghost use Rattle.rounding.specs.Corners.{AllFine};
+ghost use Rattle.side_terms.specs.Corners.{AllFine};
 ghost use Rattle.edge_face.specs.declared.Cross.{Cross};
 
 use edge_face::{Cross, Crosses};

@@ -1,8 +1,9 @@
 // All hits of two sides.
 ghost use Rattle.std.specs.Prelude.{◌≡◌, IfOk, length};
 ghost use Rattle.chain_terms.specs.Chains.{all_edges};
-ghost use Rattle.crossings.specs.Hits.{AreHits, hits_of};
-ghost use Rattle.crossings.specs.Identities.{half_number, PairIdentity};
+ghost use Rattle.side_terms.specs.Hits.{AreHits};
+ghost use Rattle.crossings.specs.Hits.{hits_of};
+ghost use Rattle.side_terms.specs.Conservation.{half_number, PairIdentity};
 
 use crate::hits::hits_of;
 use crate::pairs::{PEdges, QEdges};

@@ -3,7 +3,7 @@ use Rattle.std.proofs.Common.{arith, ◌≡◌, ◌<◌, ◌≤◌, ℕ, ℤ, po
 use Rattle.std.proofs.lemmas.Int.{ints}
 use Rattle.std.specs.Int.{Width, w8, cast_signed, cast_unsigned}
 use Rattle.mb_base.specs.declared.point.Corner.{Corner}
-use Rattle.rounding.specs.Corners.{corner_at, blank_corner, IsFineCorner, AllFine}
+use Rattle.side_terms.specs.Corners.{corner_at, blank_corner, IsFineCorner, AllFine}
 use Rattle.shadow_kernels.specs.declared.Meet.{Meet}
 use Rattle.shadow_kernels.specs.Counts.{count_of}
 use Rattle.shadow_kernels.specs.Sizes.{IsSized, sized_bounds}

@@ -7,7 +7,8 @@ use Rattle.std.proofs.lemmas.Bool.Decides.{Decides-int_eq}
 use Rattle.mb_base.specs.declared.point.Corner.{Corner}
 use Rattle.shadow_kernels.specs.declared.Spot.{Spot}
 use Rattle.shadow_kernels.specs.declared.Meet.{Meet}
-use Rattle.shadow_kernels.specs.Boxes.{AreApart, IsInHull}
+use Rattle.side_terms.specs.Boxes.{AreApart}
+use Rattle.shadow_kernels.specs.Boxes.{IsInHull}
 use Rattle.shadow_kernels.specs.Counts.{first_spot}
 use Rattle.shadow_kernels.specs.Sizes.{by_zero}
 use Rattle.edge_face.specs.declared.Cross.{Cross}

@@ -3,7 +3,7 @@ use Rattle.std.specs.Prelude.{◌≡◌, neg_ℤ, [], ◌∷◌}
 use Rattle.std.proofs.Common.{arith, refl, ap}
 use Rattle.std.proofs.lemmas.Int.{ints}
 use Rattle.mb_base.specs.declared.point.Corner.{Corner}
-use Rattle.rounding.specs.Corners.{AllFine, IsFineCorner}
+use Rattle.side_terms.specs.Corners.{AllFine, IsFineCorner}
 use Rattle.shadow_kernels.specs.Counts.{shadow_of}
 use Rattle.shadow_kernels.specs.Sizes.{turned_shadow}
 use Rattle.edge_face.specs.Crossings.{number12, number21, Tests}

@@ -1,7 +1,7 @@
 -- The shadow tests on the grid are lawful.
 use Rattle.std.specs.Prelude.{ℕ, ◌+◌, ◌<◌}
 use Rattle.std.proofs.Common.{arith, refl}
-use Rattle.rounding.specs.Corners.{corner_at}
+use Rattle.side_terms.specs.Corners.{corner_at}
 use Rattle.shadow_kernels.specs.Spots.{Between}
 use Rattle.shadow_kernels.specs.Shadows.{meet11, meet02, meet20}
 use Rattle.shadow_kernels.specs.Hulls.{StaysBetween}

@@ -1,7 +1,7 @@
 -- The shadow tests and the crossings on the grid, over lists of corners.
 use Rattle.std.specs.Prelude.{Option, List}
 use Rattle.mb_base.specs.declared.point.Corner.{Corner}
-use Rattle.rounding.specs.Corners.{corner_at}
+use Rattle.side_terms.specs.Corners.{corner_at}
 use Rattle.shadow_kernels.specs.declared.Meet.{Meet}
 use Rattle.shadow_kernels.specs.Spots.{Between}
 use Rattle.shadow_kernels.specs.Shadows.{meet01, meet10, meet11, meet02, meet20}

@@ -3,9 +3,10 @@ use Rattle.std.specs.Prelude.{◌≡◌, ◌≢◌, ℕ, ◌<◌, ℤ, pos, negs
 use Rattle.chain_terms.specs.Sums.{total}
 use Rattle.mb_base.specs.declared.TheConstants.{UNIT}
 use Rattle.mb_base.specs.declared.point.Corner.{Corner}
-use Rattle.rounding.specs.Corners.{AllFine}
-use Rattle.rounding.specs.Fine.{IsFine}
-use Rattle.shadow_kernels.specs.Boxes.{AreApart, IsBelow, IsInHull}
+use Rattle.side_terms.specs.Corners.{AllFine}
+use Rattle.side_terms.specs.Fine.{IsFine}
+use Rattle.side_terms.specs.Boxes.{AreApart, IsBelow}
+use Rattle.shadow_kernels.specs.Boxes.{IsInHull}
 use Rattle.shadow_kernels.specs.Counts.{count_of, shadow_of, turned}
 use Rattle.edge_face.specs.Crossings.{ShadowTest, Tests, face_edges}
 use Rattle.edge_face.specs.Points.{Settle}

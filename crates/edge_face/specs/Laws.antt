@@ -2,13 +2,14 @@
 use Rattle.std.specs.Prelude.{◌≡◌, ◌≢◌, ℕ, ◌<◌, ℤ, pos, negsuc, neg_ℤ, ◌≤ℤ◌, None, IfSome, List, [], ◌∷◌, length, swap}
 use Rattle.std.proofs.Common.{arith, ap, sym, ◌∙◌}
 use Rattle.mb_base.specs.declared.point.Corner.{Corner}
-use Rattle.rounding.specs.Corners.{corner_at, AllFine}
+use Rattle.side_terms.specs.Corners.{corner_at, AllFine}
 use Rattle.shadow_kernels.specs.Spots.{Between}
-use Rattle.shadow_kernels.specs.Boxes.{AreApart}
+use Rattle.side_terms.specs.Boxes.{AreApart}
 use Rattle.shadow_kernels.specs.Hulls.{StaysBetween}
 use Rattle.edge_face.specs.Crossings.{number_of, number12, number21, Tests}
 use Rattle.edge_face.specs.Points.{Settle, p_point, q_point, cross12, cross21, cross23, cross32}
-use Rattle.edge_face.specs.Wholes.{AllWhole, IsPointIn}
+use Rattle.side_terms.specs.Corners.{AllWhole}
+use Rattle.side_terms.specs.Boxes.{IsPointIn}
 use Rattle.edge_face.specs.Lawful.{AreLawful, IsSettling}
 use Rattle.edge_face.specs.Boundaries.{boundary12, boundary21, turn12, turn21}
 use Rattle.edge_face.specs.Answers.{answer_present, answer_number, answer_small, answer_apart, answer_at}

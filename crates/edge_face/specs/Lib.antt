@@ -3,7 +3,6 @@ pub mod Crossings
 pub mod Points
 pub mod Grids
 pub mod Pairs
-pub mod Wholes
 pub mod Lawful
 -- laws, which the traits' ghost members cite
 pub mod Parts

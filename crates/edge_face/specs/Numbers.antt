@@ -3,9 +3,10 @@ use Rattle.std.specs.Prelude.{◌≡◌, ◌≢◌, ℕ, zero, suc, ◌<◌, ℤ
 use Rattle.std.proofs.Common.{arith, inl, inr}
 use Rattle.std.proofs.lemmas.Int.{ints}
 use Rattle.mb_base.specs.declared.point.Corner.{Corner}
-use Rattle.rounding.specs.Corners.{AllFine, IsFineCorner}
+use Rattle.side_terms.specs.Corners.{AllFine, IsFineCorner}
 use Rattle.shadow_kernels.specs.declared.Meet.{Meet}
-use Rattle.shadow_kernels.specs.Boxes.{AreApart, IsBelow, IsInHull}
+use Rattle.side_terms.specs.Boxes.{AreApart, IsBelow}
+use Rattle.shadow_kernels.specs.Boxes.{IsInHull}
 use Rattle.shadow_kernels.specs.Counts.{count_of, first_spot}
 use Rattle.shadow_kernels.specs.FlatLaws.{by_side}
 use Rattle.shadow_kernels.specs.Hulls.{IsOnSide}

@@ -4,9 +4,10 @@ use Rattle.std.specs.List.{All}
 use Rattle.std.proofs.Common.{inl, inr}
 use Rattle.std.proofs.lemmas.List.Elements.{All-nil, All-cons, All-head, All-tail, All-weaker}
 use Rattle.mb_base.specs.declared.point.Corner.{Corner}
-use Rattle.rounding.specs.Corners.{axis}
+use Rattle.side_terms.specs.Corners.{axis}
 use Rattle.shadow_kernels.specs.declared.Spot.{Spot}
-use Rattle.shadow_kernels.specs.Boxes.{IsInBox, IsBelow, AreApart, IsInHull}
+use Rattle.side_terms.specs.Boxes.{IsInBox, IsBelow, AreApart}
+use Rattle.shadow_kernels.specs.Boxes.{IsInHull}
 
 -- what holds of all corners of the whole holds of those of the part
 abbrev pub IsPart : List Corner → List Corner → Type 1

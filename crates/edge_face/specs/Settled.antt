@@ -4,18 +4,20 @@ use Rattle.std.proofs.Common.{arith, sym, subst, inl, inr}
 use Rattle.std.proofs.lemmas.Int.{ints, by_lt_z}
 use Rattle.mb_base.specs.declared.TheConstants.{UNIT}
 use Rattle.mb_base.specs.declared.point.Corner.{Corner}
-use Rattle.rounding.specs.Fine.{IsFine, IsWeight, LiesBetween}
-use Rattle.rounding.specs.Corners.{axis, blank_corner, IsFineCorner, AllFine}
+use Rattle.side_terms.specs.Fine.{IsFine, IsWeight, LiesBetween}
+use Rattle.side_terms.specs.Corners.{axis, blank_corner, IsFineCorner, AllFine}
 use Rattle.shadow_kernels.specs.declared.Spot.{Spot}
 use Rattle.shadow_kernels.specs.Spots.{Between, gap}
-use Rattle.shadow_kernels.specs.Boxes.{IsInBox, IsInHull}
+use Rattle.side_terms.specs.Boxes.{IsInBox}
+use Rattle.shadow_kernels.specs.Boxes.{IsInHull}
 use Rattle.shadow_kernels.specs.Bounds.{box_between, hull_fine}
 use Rattle.shadow_kernels.specs.Hulls.{StaysBetween}
 use Rattle.shadow_kernels.specs.Lifted.{gap_weight}
 use Rattle.edge_face.specs.Points.{Settle, p_point, q_point}
 use Rattle.edge_face.specs.Lawful.{IsSettling}
 use Rattle.edge_face.specs.Parts.{both_of}
-use Rattle.edge_face.specs.Wholes.{IsWhole, IsWholeCorner, AllWhole, IsPointIn}
+use Rattle.side_terms.specs.Corners.{IsWhole, IsWholeCorner, AllWhole}
+use Rattle.side_terms.specs.Boxes.{IsPointIn}
 
 -- a whole number of grid steps settles to that number
 settled_whole : (settle : Settle) → IsSettling settle → (x : ℤ) → IsFine x → (h : IsWhole x) → settle x ≡ h.steps

@@ -2,7 +2,7 @@
 
 ghost use Rattle.std.specs.Prelude.{◌≡◌, ◌≢◌, ◌<◌, ◌∷◌, [], ℕ, ℤ, pos, negsuc, neg_ℤ, ◌≤ℤ◌, Option, None, IfSome, List, length, swap};
 ghost use Rattle.std.proofs.Common.{arith};
-ghost use Rattle.rounding.specs.Corners.{AllFine};
+ghost use Rattle.side_terms.specs.Corners.{AllFine};
 ghost use Rattle.shadow_kernels.specs.FaceLaws.{lift02, lift20};
 ghost use Rattle.edge_face.specs.Grids.{grid_tests, grid_pairs12, grid_pairs21, grid_cross23, grid_cross32};
 ghost use Rattle.edge_face.specs.GridLaws.{grid_lawful};

@@ -7,12 +7,13 @@
 ghost use Rattle.std.specs.Prelude.{◌≡◌, ◌≢◌, ◌<◌, ◌∷◌, [], ℕ, ℤ, pos, negsuc, neg_ℤ, ◌≤ℤ◌, Option, None, IfSome, List, length, swap};
 ghost use Rattle.chain_terms.specs.Sums.{total};
 ghost use Rattle.mb_base.specs.declared.point.Corner.{Corner};
-ghost use Rattle.rounding.specs.Corners.{AllFine};
-ghost use Rattle.shadow_kernels.specs.Boxes.{AreApart};
+ghost use Rattle.side_terms.specs.Corners.{AllFine};
+ghost use Rattle.side_terms.specs.Boxes.{AreApart};
 ghost use Rattle.shadow_kernels.specs.Counts.{count_of, shadow_of};
 ghost use Rattle.edge_face.specs.declared.Cross.{Cross};
 ghost use Rattle.edge_face.specs.Crossings.{number_of, face_edges, number12, number21};
-ghost use Rattle.edge_face.specs.Wholes.{AllWhole, IsPointIn};
+ghost use Rattle.side_terms.specs.Corners.{AllWhole};
+ghost use Rattle.side_terms.specs.Boxes.{IsPointIn};
 
 use mb_base::{Corner, Point};
 use shadow_kernels::{Flats, Meets};

@@ -2,7 +2,7 @@
 //! no spot is placed but where the boxes leave it open on which side a pair lies.
 
 ghost use Rattle.std.specs.Prelude.{◌≡◌, ◌≢◌, ◌↔◌, ◌≤◌, ◌∷◌, [], ◌+ℤ◌, ◌-ℤ◌, pos, unsigned_abs, IsTrue, if◌then◌else◌};
-ghost use Rattle.rounding.specs.Corners.{corner_at, IsFineCorner, AllFine};
+ghost use Rattle.side_terms.specs.Corners.{corner_at, IsFineCorner, AllFine};
 ghost use Rattle.shadow_kernels.specs.Counts.{count_of, shadow_of};
 ghost use Rattle.shadow_kernels.specs.Shadows.{meet01, meet10, meet11, meet02, meet20};
 ghost use Rattle.edge_face.specs.Grids.{grid_pairs12, grid_pairs21};

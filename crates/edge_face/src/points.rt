@@ -2,7 +2,7 @@
 
 ghost use Rattle.std.specs.Prelude.{◌≡◌, Some};
 ghost use Rattle.mesh_terms.specs.Points.{IsOnGrid};
-ghost use Rattle.rounding.specs.Fine.{IsFine, IsWeight};
+ghost use Rattle.side_terms.specs.Fine.{IsFine, IsWeight};
 ghost use Rattle.shadow_kernels.specs.Spots.{gap};
 ghost use Rattle.shadow_kernels.specs.Bounds.{IsFineSpot};
 ghost use Rattle.edge_face.specs.Points.{p_point, q_point};

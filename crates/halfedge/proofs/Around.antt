@@ -2,12 +2,12 @@
 use Rattle.std.proofs.Common.{◌≡◌, ◌≢◌, ◌<◌, ◌/◌, ℕ, zero, suc, List, length, refl, sym, ◌∙◌, ap, arith}
 use Rattle.std.specs.List.{All}
 use Rattle.chain_terms.specs.Chains.{all_edges, IsClosed}
-use Rattle.chain_laws.specs.Permutations.{AreInverse, times}
-use Rattle.chain_laws.specs.Ranks.{start, twin}
+use Rattle.chain_terms.specs.Permutations.{AreInverse, times}
+use Rattle.chain_terms.specs.Ranks.{start, twin}
 use Rattle.chain_laws.proofs.Twins.{twin_runs_back, twin_twin, twin_keeps_order}
 use Rattle.chain_laws.proofs.Walks.{times_below}
 use Rattle.mesh_terms.specs.Meshes.{Triple, HasThree}
-use Rattle.halfedge.specs.Halves.{next_half, prev_half, around}
+use Rattle.mesh_terms.specs.Halves.{next_half, prev_half, around}
 use Rattle.halfedge.specs.Laws.{PairUp, GoAround}
 use Rattle.halfedge.proofs.Edges.{next_below, next_starts, prev_below, prev_next, next_prev, not_back}
 

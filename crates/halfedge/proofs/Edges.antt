@@ -3,9 +3,9 @@ use Rattle.std.proofs.Common.{◌≡◌, ◌<◌, ◌*◌, ◌/◌, ℕ, zero, s
 use Rattle.std.specs.List.{All}
 use Rattle.std.proofs.lemmas.List.Elements.{All-head, All-tail}
 use Rattle.chain_terms.specs.Chains.{all_edges}
-use Rattle.chain_laws.specs.Ranks.{start, finish}
+use Rattle.chain_terms.specs.Ranks.{start, finish}
 use Rattle.mesh_terms.specs.Meshes.{Triple, HasThree}
-use Rattle.halfedge.specs.Halves.{next_half, prev_half}
+use Rattle.mesh_terms.specs.Halves.{next_half, prev_half}
 
 -- three half-edges for each triangle
 pub length-all_edges : (ts : List Triple) → length (all_edges ts) ≡ 3 * length ts

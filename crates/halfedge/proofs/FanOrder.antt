@@ -7,7 +7,7 @@ use Rattle.std.proofs.lemmas.Cmp.{then_total, on_total, nat_cmp_total}
 use Rattle.std.proofs.lemmas.List.{get_or_default, get_or-map, length-map}
 use Rattle.std.proofs.lemmas.List.MinMax.{ranks_by}
 use Rattle.std.proofs.lemmas.List.Sorted.{sorted_far, Contains-permutation, IsPermutation-sym, length_permutation}
-use Rattle.chain_laws.specs.Ranks.{start}
+use Rattle.chain_terms.specs.Ranks.{start}
 use Rattle.halfedge.specs.Pairing.{Half, numbered}
 use Rattle.halfedge.specs.Numbering.{by_starts, pair_cmp, AreInOrder, ordered_at}
 use Rattle.halfedge.proofs.Positions.{length-numbered, numbered_at}

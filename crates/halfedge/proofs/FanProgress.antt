@@ -1,7 +1,7 @@
 -- How far the fans are known after the first half-edges of the order.
 use Rattle.std.specs.Prelude.{◌≡◌, ℕ, ◌<◌, ◌≤◌, ◌⊎◌, List, length, get_or}
-use Rattle.chain_laws.specs.Ranks.{start}
-use Rattle.halfedge.specs.Halves.{SameFan}
+use Rattle.chain_terms.specs.Ranks.{start}
+use Rattle.mesh_terms.specs.Halves.{SameFan}
 use Rattle.halfedge.specs.Numbering.{no_fan, ordered_at, AreKeptAround}
 
 -- the fans of the first i half-edges of the order

@@ -3,12 +3,12 @@ use Rattle.std.proofs.Common.{◌≡◌, ◌≢◌, ◌<◌, ◌≤◌, ◌+◌,
 use Rattle.std.proofs.lemmas.Bool.{cases_lt, cases_eq}
 use Rattle.std.proofs.lemmas.List.{length-append, get_or_append_left, get_or_push, get_or-replicate, length-replicate}
 use Rattle.chain_terms.specs.Chains.{all_edges, IsClosed}
-use Rattle.chain_laws.specs.Permutations.{Returns}
-use Rattle.chain_laws.specs.Ranks.{start, twin}
+use Rattle.chain_terms.specs.Permutations.{Returns}
+use Rattle.chain_terms.specs.Ranks.{start, twin}
 use Rattle.chain_laws.proofs.Walks.{times_below, returns}
 use Rattle.mesh_terms.specs.Meshes.{Triple}
-use Rattle.halfedge.specs.Halves.{prev_half, around, around_times, SameFan}
-use Rattle.halfedge.specs.Fans.{AreFans}
+use Rattle.mesh_terms.specs.Halves.{prev_half, around, around_times, SameFan}
+use Rattle.mesh_terms.specs.Fans.{AreFans}
 use Rattle.halfedge.specs.Numbering.{no_fan, AreInOrder, ordered_at, AreKeptAround, IsFanNumbered}
 use Rattle.halfedge.proofs.FanProgress.{AreFansSoFar}
 use Rattle.halfedge.proofs.Around.{around_inverse, times_start}

@@ -2,7 +2,7 @@
 use Rattle.std.proofs.Common.{◌≡◌, ◌≢◌, ◌<◌, ◌⊎◌, inl, inr, ℕ, zero, suc, List, length, get_or, slice_set, refl, sym, ◌∙◌, ap, subst, arith}
 use Rattle.std.proofs.lemmas.Bool.{cases_eq}
 use Rattle.std.proofs.lemmas.List.{get_or-set_same, get_or-set_other, length-set}
-use Rattle.chain_laws.specs.Permutations.{AreInverse, times}
+use Rattle.chain_terms.specs.Permutations.{AreInverse, times}
 use Rattle.chain_laws.proofs.Walks.{times_below, IsOn, comes_back, next_is_on, back_is_on}
 use Rattle.halfedge.specs.Numbering.{no_fan}
 

@@ -4,11 +4,11 @@ use Rattle.std.specs.List.{Contains}
 use Rattle.std.proofs.lemmas.Bool.{cases_order}
 use Rattle.std.proofs.lemmas.List.{get_or_default, same_lists}
 use Rattle.chain_terms.specs.Chains.{all_edges, IsClosed}
-use Rattle.chain_laws.specs.Ranks.{start}
+use Rattle.chain_terms.specs.Ranks.{start}
 use Rattle.chain_laws.proofs.Ascending.{contains_later, contains_rest}
 use Rattle.mesh_terms.specs.Meshes.{Triple}
-use Rattle.halfedge.specs.Halves.{SameFan}
-use Rattle.halfedge.specs.Fans.{AreFans}
+use Rattle.mesh_terms.specs.Halves.{SameFan}
+use Rattle.mesh_terms.specs.Fans.{AreFans}
 use Rattle.halfedge.proofs.FanSteps.{same_in_fan}
 
 -- by the start, then by the number

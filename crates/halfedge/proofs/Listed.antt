@@ -3,10 +3,10 @@ use Rattle.std.proofs.Common.{◌≡◌, ◌<◌, ◌+◌, ◌*◌, ℕ, List, l
 use Rattle.std.proofs.lemmas.List.{length-map, get_or-map}
 use Rattle.chain_terms.specs.Chains.{all_edges}
 use Rattle.chain_terms.specs.Sums.{upto}
-use Rattle.chain_laws.specs.Ranks.{twin}
+use Rattle.chain_terms.specs.Ranks.{twin}
 use Rattle.chain_laws.proofs.Places.{get_or-up_from, length-up_from}
 use Rattle.mesh_terms.specs.Meshes.{Triple}
-use Rattle.halfedge.specs.Twins.{IsTwinned}
+use Rattle.mesh_terms.specs.Twins.{IsTwinned}
 use Rattle.halfedge.proofs.Edges.{length-all_edges}
 
 -- a function of the numbers below n, read at one of them

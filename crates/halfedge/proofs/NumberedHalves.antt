@@ -5,9 +5,9 @@ use Rattle.std.specs.Option.{IsNone, IfSome}
 use Rattle.std.proofs.lemmas.List.Sorted.{IsPermutation-map}
 use Rattle.std.proofs.lemmas.Bool.Decides.{nat_tests}
 use Rattle.chain_terms.specs.Chains.{is_edge, one_if, dir}
-use Rattle.chain_laws.specs.Chains.{backward}
+use Rattle.chain_terms.specs.Odd.{backward}
 use Rattle.chain_laws.specs.Counts.{count_by-cons}
-use Rattle.chain_laws.specs.Ranks.{rank, start, finish}
+use Rattle.chain_terms.specs.Ranks.{rank, start, finish}
 use Rattle.mesh_terms.specs.OpenEdges.{is_lesser, open_pair}
 use Rattle.halfedge.specs.Surplus.{IsLeastSurplus, HasNoSurplus}
 use Rattle.halfedge.proofs.OpenPair.{open_pair_found}

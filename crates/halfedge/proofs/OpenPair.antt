@@ -5,7 +5,8 @@ use Rattle.chain_terms.specs.Chains.{dir, is_edge, one_if, IsClosed}
 use Rattle.mesh_terms.specs.OpenEdges.{is_lesser, lesser, least_edge, open_pair}
 use Rattle.std.specs.Option.{IsNone, IfSome}
 use Rattle.std.specs.List.Sorted.{IsPermutation}
-use Rattle.chain_laws.specs.Chains.{backward, dir-permutation, dir-backward}
+use Rattle.chain_terms.specs.Odd.{backward}
+use Rattle.chain_laws.specs.Chains.{dir-permutation, dir-backward}
 use Rattle.halfedge.specs.Surplus.{IsLeastSurplus, HasNoSurplus}
 use Rattle.halfedge.proofs.Order.{one_edge, same_edge, is_itself}
 

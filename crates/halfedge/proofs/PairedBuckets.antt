@@ -8,8 +8,9 @@ use Rattle.std.proofs.lemmas.List.Elements.{All-head, All-tail}
 use Rattle.std.proofs.lemmas.List.Sorted.{IsPermutation-map}
 use Rattle.chain_terms.specs.Chains.{is_edge, one_if, dir, all_edges, IsClosed}
 use Rattle.chain_terms.specs.Sums.{upto}
-use Rattle.chain_laws.specs.Chains.{backward, edge_is, dir-backward, dir-permutation}
-use Rattle.chain_laws.specs.Ranks.{start, finish, twin}
+use Rattle.chain_terms.specs.Odd.{backward}
+use Rattle.chain_laws.specs.Chains.{edge_is, dir-backward, dir-permutation}
+use Rattle.chain_terms.specs.Ranks.{start, finish, twin}
 use Rattle.chain_laws.proofs.Places.{get_or-up_from, length-up_from}
 use Rattle.mesh_terms.specs.Meshes.{Triple, HasThree}
 use Rattle.mesh_terms.specs.OpenEdges.{is_lesser}

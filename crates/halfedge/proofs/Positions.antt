@@ -9,7 +9,7 @@ use Rattle.std.proofs.lemmas.List.MinMax.{ranks_by}
 use Rattle.std.proofs.lemmas.List.Sorted.{sorted_far}
 use Rattle.chain_terms.specs.Chains.{one_if}
 use Rattle.chain_laws.specs.Counts.{one_if-true, one_if-false, count_by-cons}
-use Rattle.chain_laws.specs.Ranks.{start, finish}
+use Rattle.chain_terms.specs.Ranks.{start, finish}
 use Rattle.mesh_terms.specs.OpenEdges.{is_lesser}
 use Rattle.halfedge.specs.Pairing.{Half, numbered, half_cmp}
 

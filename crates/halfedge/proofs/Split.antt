@@ -7,8 +7,8 @@ use Rattle.std.proofs.lemmas.Bool.Decides.{nat_tests}
 use Rattle.std.proofs.lemmas.List.Elements.{All-from_get_or}
 use Rattle.std.proofs.lemmas.Simd.{map-map}
 use Rattle.chain_terms.specs.Sums.{up_from, upto}
-use Rattle.chain_laws.specs.Chains.{backward}
-use Rattle.chain_laws.specs.Ranks.{start, finish}
+use Rattle.chain_terms.specs.Odd.{backward}
+use Rattle.chain_terms.specs.Ranks.{start, finish}
 use Rattle.chain_laws.proofs.Ascending.{filter-upto_same, kept_at}
 use Rattle.counting_sort.specs.Buckets.{places_of}
 use Rattle.halfedge.specs.Pairing.{Half, numbered, turned}

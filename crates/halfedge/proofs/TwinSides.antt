@@ -9,9 +9,10 @@ use Rattle.std.proofs.lemmas.List.{length-map, get_or-map, get_or_default}
 use Rattle.std.proofs.lemmas.List.Elements.{All-contains, filter_passes, Contains-get_or, Contains-append_left, Contains-append_cases}
 use Rattle.std.proofs.lemmas.List.Sorted.{sum_by-IsPermutation, Contains-permutation, IsPermutation-sym, IsPermutation-filter_both}
 use Rattle.chain_terms.specs.Chains.{is_edge, one_if}
-use Rattle.chain_laws.specs.Chains.{backward, turned_edge, edge_turned}
+use Rattle.chain_terms.specs.Odd.{backward, turned_edge}
+use Rattle.chain_laws.specs.Chains.{edge_turned}
 use Rattle.chain_laws.specs.Counts.{one_if-false, count_by-cons}
-use Rattle.chain_laws.specs.Ranks.{rank, nth, start, finish, runs_as, runs_against, twin, RunsBack}
+use Rattle.chain_terms.specs.Ranks.{rank, nth, start, finish, runs_as, runs_against, twin, RunsBack}
 use Rattle.chain_laws.proofs.Ranks.{nth_rank}
 use Rattle.mesh_terms.specs.OpenEdges.{is_lesser}
 use Rattle.halfedge.specs.Pairing.{Half, numbered, half_at, half_cmp, ends, ends_of, IsSortOf}

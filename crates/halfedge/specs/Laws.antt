@@ -1,9 +1,9 @@
 -- What twins and going around keep.
 use Rattle.std.specs.Prelude.{◌≡◌, ◌≢◌, ℕ, ◌<◌, ◌≤◌, ◌/◌, List, length}
 use Rattle.chain_terms.specs.Chains.{dir}
-use Rattle.chain_laws.specs.Permutations.{AreInverse}
-use Rattle.chain_laws.specs.Ranks.{start, finish, twin, RunsBack}
-use Rattle.halfedge.specs.Halves.{prev_half, around}
+use Rattle.chain_terms.specs.Permutations.{AreInverse}
+use Rattle.chain_terms.specs.Ranks.{start, finish, twin, RunsBack}
+use Rattle.mesh_terms.specs.Halves.{prev_half, around}
 
 -- the twin runs back, in another triangle; its twin is the half-edge; twins of half-edges that run the same way stand in their order
 pub record PairUp (es : List (ℕ × ℕ)) : Type 0 where

@@ -1,5 +1,3 @@
-pub mod Fans
-pub mod Halves
 pub mod Laws
 pub mod Numbering
 pub mod Pairing

@@ -3,7 +3,7 @@ use Rattle.std.specs.Prelude.{◌≡◌, ℕ, ◌<◌, ◌⊎◌, List, length, 
 use Rattle.std.specs.List.Sorted.{IsPermutation, IsSorted}
 use Rattle.std.specs.Ordering.{nat_cmp, ordering_then}
 use Rattle.std.specs.declared.cmp.Ordering.{Ordering}
-use Rattle.halfedge.specs.Halves.{around, SameFan}
+use Rattle.mesh_terms.specs.Halves.{around, SameFan}
 use Rattle.halfedge.specs.Pairing.{numbered}
 
 -- the number that stands for none

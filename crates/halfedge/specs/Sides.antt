@@ -2,8 +2,8 @@
 use Rattle.std.specs.Prelude.{◌≡◌, ◌≢◌, ◌↔◌, ℕ, ◌<◌, ◌≤◌, ◌%◌, List, Bool, IsTrue, cond, ◌==◌, ◌&&◌, nat_lt, length, get_or}
 use Rattle.std.specs.List.{filter}
 use Rattle.chain_terms.specs.Chains.{dir}
-use Rattle.chain_laws.specs.Chains.{backward}
-use Rattle.chain_laws.specs.Ranks.{start, finish, twin}
+use Rattle.chain_terms.specs.Odd.{backward}
+use Rattle.chain_terms.specs.Ranks.{start, finish, twin}
 use Rattle.halfedge.specs.Pairing.{Half, numbered, ends, half_at, IsSortOf}
 
 -- the half-edge at a place, with its ends

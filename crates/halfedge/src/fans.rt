@@ -2,9 +2,9 @@
 ghost use Rattle.std.specs.Prelude.{◌≡◌, ◌<◌, ◌≤◌, ℕ, List, IfOk, length, get_or};
 ghost use Rattle.chain_terms.specs.Chains.{all_edges};
 ghost use Rattle.mesh_terms.specs.Meshes.{triples_of};
-ghost use Rattle.halfedge.specs.Fans.{AreFans};
+ghost use Rattle.mesh_terms.specs.Fans.{AreFans};
 ghost use Rattle.halfedge.specs.Numbering.{no_fan, by_starts, AreInOrder, AreKeptAround, IsFanNumbered};
-ghost use Rattle.halfedge.specs.Twins.{IsTwinned};
+ghost use Rattle.mesh_terms.specs.Twins.{IsTwinned};
 
 use crate::twins::Twins;
 use mb_base::NoMemory;

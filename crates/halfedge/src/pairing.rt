@@ -3,7 +3,7 @@ ghost use Rattle.std.specs.Prelude.{◌≡◌, ◌<◌, ◌≤◌, ◌↔◌, �
 ghost use Rattle.std.specs.List.{All};
 ghost use Rattle.chain_terms.specs.Chains.{all_edges, IsClosed};
 ghost use Rattle.chain_terms.specs.Sums.{upto};
-ghost use Rattle.chain_laws.specs.Ranks.{twin};
+ghost use Rattle.chain_terms.specs.Ranks.{twin};
 ghost use Rattle.mesh_terms.specs.Meshes.{HasThree, triples_of};
 ghost use Rattle.halfedge.specs.Laws.{AreSingle};
 ghost use Rattle.halfedge.specs.Pairing.{ends_of};

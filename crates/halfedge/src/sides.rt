@@ -3,7 +3,7 @@
 ghost use Rattle.std.specs.Prelude.{◌≡◌, ◌<◌, ◌≤◌, ◌*◌, List, IfOk, length, map};
 ghost use Rattle.std.specs.List.{All, filter};
 ghost use Rattle.chain_terms.specs.Chains.{all_edges};
-ghost use Rattle.chain_laws.specs.Ranks.{start, finish};
+ghost use Rattle.chain_terms.specs.Ranks.{start, finish};
 ghost use Rattle.mesh_terms.specs.Meshes.{triples_of};
 ghost use Rattle.halfedge.specs.Pairing.{turned, IsSortOf};
 ghost use Rattle.halfedge.specs.Sides.{half_of, bucket_of, runs_up};

@@ -3,12 +3,12 @@ ghost use Rattle.std.specs.Prelude.{◌≡◌, ◌<◌, ◌≤◌, ◌*◌, ◌�
 ghost use Rattle.std.specs.List.{All};
 ghost use Rattle.chain_terms.specs.Chains.{all_edges, IsClosed};
 ghost use Rattle.chain_terms.specs.Sums.{upto};
-ghost use Rattle.chain_laws.specs.Ranks.{start, finish, twin, RunsBack};
+ghost use Rattle.chain_terms.specs.Ranks.{start, finish, twin, RunsBack};
 ghost use Rattle.mesh_terms.specs.Meshes.{HasThree, triples_of};
 ghost use Rattle.mesh_terms.specs.OpenEdges.{open_pair};
-ghost use Rattle.halfedge.specs.Halves.{next_half};
+ghost use Rattle.mesh_terms.specs.Halves.{next_half};
 ghost use Rattle.halfedge.specs.Laws.{PairUp, GoAround, AreSingle};
-ghost use Rattle.halfedge.specs.Twins.{IsTwinned};
+ghost use Rattle.mesh_terms.specs.Twins.{IsTwinned};
 
 use crate::open_edge::least_open_edge;
 use crate::pairing::paired;
@@ -27,7 +27,8 @@ pub struct Twins {
 
 impl Model for Twins {
     ghost use Rattle.mesh_terms.specs.Meshes.{triples_of};
-    ghost use Rattle.halfedge.specs.Twins.{Twins as TheTwins, IsKept};
+    ghost use Rattle.mesh_terms.specs.Twins.{Twins as TheTwins};
+    ghost use Rattle.halfedge.specs.Twins.{IsKept};
 
     ghost Value = { TheTwins };
 

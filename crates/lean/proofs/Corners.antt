@@ -6,10 +6,10 @@ use Rattle.std.proofs.lemmas.List.Elements.{All-cons, All-head, All-nil, All-tai
 use Rattle.std.proofs.lemmas.List.{take_more, map_push, take_all, length-map, get_or-map}
 use Rattle.std.proofs.lemmas.Slice.Zip.{length-zip, get_or-zip}
 use Rattle.mb_base.specs.declared.point.Corner.{Corner}
-use Rattle.rounding.specs.Corners.{corner_at, blank_corner, AllFine, IsFineCorner}
-use Rattle.rounding.specs.Fine.{IsFine}
+use Rattle.side_terms.specs.Corners.{corner_at, blank_corner, AllFine, IsFineCorner}
+use Rattle.side_terms.specs.Fine.{IsFine}
 use Rattle.mesh_terms.specs.Meshes.{Triple}
-use Rattle.lean.specs.Sides.{corner_of, corners_of, edge_of, face_of}
+use Rattle.side_terms.specs.Sides.{corner_of, corners_of, edge_of, face_of}
 
 -- the corners of the first i points
 abbrev pub corners_to : List (List ℤ) → List (List Bool) → ℕ → List Corner

@@ -4,7 +4,7 @@ use Rattle.std.specs.List.{All}
 use Rattle.std.proofs.lemmas.List.Elements.{All-head, All-tail}
 use Rattle.std.proofs.lemmas.List.{take_more, map_push, length-map, get_or-map}
 use Rattle.chain_terms.specs.Chains.{edges, all_edges}
-use Rattle.chain_laws.specs.Ranks.{start}
+use Rattle.chain_terms.specs.Ranks.{start}
 use Rattle.mesh_terms.specs.Meshes.{Triple, IsBelow, triple_of, triples_of}
 
 -- what holds of all triangles holds of the one at a place

@@ -1,3 +1,2 @@
 pub mod Leans
-pub mod Sides
 pub mod Vectors

@@ -1,7 +1,7 @@
 // Points of the grid as corners in fine steps.
 ghost use Rattle.std.specs.Prelude.{◌≡◌, ◌≤◌, ◌*ℤ◌, unsigned_abs};
-ghost use Rattle.rounding.specs.Corners.{IsFineCorner};
-ghost use Rattle.lean.specs.Sides.{corner_of};
+ghost use Rattle.side_terms.specs.Corners.{IsFineCorner};
+ghost use Rattle.side_terms.specs.Sides.{corner_of};
 
 use mb_base::{Corner, Point, UNIT};
 

@@ -2,10 +2,10 @@
 ghost use Rattle.std.specs.Prelude.{◌≡◌, ◌<◌, ◌*◌, IfOk, length, map};
 ghost use Rattle.chain_terms.specs.Chains.{all_edges};
 ghost use Rattle.chain_terms.specs.Sums.{upto};
-ghost use Rattle.chain_laws.specs.Ranks.{start, twin};
+ghost use Rattle.chain_terms.specs.Ranks.{start, twin};
 ghost use Rattle.mesh_terms.specs.Meshes.{triples_of};
-ghost use Rattle.rounding.specs.Corners.{corner_at, AllFine, IsFineCorner};
-ghost use Rattle.lean.specs.Sides.{IsSide, corners_of, face_at, edge_at};
+ghost use Rattle.side_terms.specs.Corners.{corner_at, AllFine, IsFineCorner};
+ghost use Rattle.side_terms.specs.Sides.{IsSide, corners_of, face_at, edge_at};
 
 use crate::corner::corner_of;
 use halfedge::Twins;
@@ -23,7 +23,7 @@ pub struct Side {
 }
 
 impl Model for Side {
-    ghost use Rattle.lean.specs.Sides.{Side as TheSide, IsSide};
+    ghost use Rattle.side_terms.specs.Sides.{Side as TheSide, IsSide};
 
     ghost Value = { TheSide };
 

@@ -9,11 +9,11 @@ use Rattle.std.proofs.lemmas.List.Elements.{All-contains_itself, All-head, All-t
 use Rattle.chain_terms.specs.Chains.{is_edge, all_edges, IsClosed}
 use Rattle.chain_laws.specs.Chains.{same_edge, is_self, dir-count_by}
 use Rattle.chain_laws.specs.Firsts.{passing}
-use Rattle.chain_laws.specs.Ranks.{start, finish, twin}
+use Rattle.chain_terms.specs.Ranks.{start, finish, twin}
 use Rattle.chain_laws.proofs.Ranks.{rank_lower, rank_below}
 use Rattle.chain_laws.proofs.Twins.{twin_runs_back}
 use Rattle.mesh_terms.specs.Meshes.{Triple, triples_of}
-use Rattle.halfedge.specs.Halves.{next_half}
+use Rattle.mesh_terms.specs.Halves.{next_half}
 use Rattle.halfedge.specs.Laws.{AreSingle}
 use Rattle.halfedge.proofs.Edges.{length-all_edges}
 use Rattle.mesh_check.specs.Opposites.{third_vertex}

@@ -6,9 +6,10 @@ use Rattle.std.proofs.lemmas.Bool.{cases_Bool, cases_lt, cases_order, and_parts,
 use Rattle.std.proofs.lemmas.Bool.Decides.{nat_tests}
 use Rattle.std.proofs.lemmas.List.{get_or_default, length-map, length-set}
 use Rattle.chain_terms.specs.Chains.{dir, is_edge, one_if}
-use Rattle.chain_laws.specs.Chains.{backward, turned_edge, is_self, dir-count_by}
+use Rattle.chain_terms.specs.Odd.{backward, turned_edge}
+use Rattle.chain_laws.specs.Chains.{is_self, dir-count_by}
 use Rattle.chain_laws.specs.Counts.{count_by-cons}
-use Rattle.chain_laws.specs.Ranks.{rank, start, finish, runs_as}
+use Rattle.chain_terms.specs.Ranks.{rank, start, finish, runs_as}
 use Rattle.chain_laws.proofs.Ranks.{rank_below}
 use Rattle.mesh_terms.specs.OpenEdges.{is_lesser}
 use Rattle.halfedge.specs.Pairing.{Half, numbered, half_at, ends, ends_of, IsSortOf}

@@ -9,7 +9,8 @@ use Rattle.std.proofs.lemmas.List.{append_assoc, get_or-map, length-append, leng
 use Rattle.std.proofs.lemmas.List.Elements.{All-append, All-cons, All-contains, All-head, All-nil, All-tail}
 use Rattle.chain_terms.specs.Chains.{is_edge, dir, one_if, edges, all_edges, IsClosed}
 use Rattle.chain_terms.specs.Sums.{total}
-use Rattle.chain_laws.specs.Chains.{IsOdd, along, SameChain, same_boundary, odd_sum, closed_from_sums, edge_is, dir_some}
+use Rattle.chain_terms.specs.Odd.{IsOdd, along, SameChain}
+use Rattle.chain_laws.specs.Chains.{same_boundary, odd_sum, closed_from_sums, edge_is, dir_some}
 use Rattle.chain_laws.specs.Triples.{edges-turned}
 use Rattle.mesh_terms.specs.Meshes.{Triple}
 use Rattle.mesh_check.specs.Orientations.{least_first, pair_number, edge_of, orientation_edge, orientation_edges, IsNarrow, IsTriangle}

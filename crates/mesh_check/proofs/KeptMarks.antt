@@ -7,7 +7,7 @@ use Rattle.std.proofs.lemmas.List.{append_assoc, append-nil, get_or-map, length-
 use Rattle.std.proofs.lemmas.List.Elements.{All-take}
 use Rattle.chain_terms.specs.Chains.{is_edge, dir}
 use Rattle.chain_terms.specs.Sums.{upto, up_from}
-use Rattle.chain_laws.specs.Ranks.{rank, start, finish, runs_as}
+use Rattle.chain_terms.specs.Ranks.{rank, start, finish, runs_as}
 use Rattle.chain_laws.proofs.Places.{get_or-up_from, length-up_from}
 use Rattle.mesh_terms.specs.Meshes.{Triple}
 use Rattle.mesh_check.specs.Cancelling.{is_left, left_marks, kept_marks, picked}

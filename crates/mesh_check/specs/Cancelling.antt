@@ -2,7 +2,7 @@
 use Rattle.std.specs.Prelude.{◌≡◌, ℕ, ◌<◌, ◌≤◌, ◌/◌, ◌%◌, List, [], ◌∷◌, ◌++◌, Bool, true, cond, nat_le, length, get_or, map}
 use Rattle.chain_terms.specs.Chains.{dir}
 use Rattle.chain_terms.specs.Sums.{upto}
-use Rattle.chain_laws.specs.Ranks.{rank, start, finish, runs_as}
+use Rattle.chain_terms.specs.Ranks.{rank, start, finish, runs_as}
 use Rattle.halfedge.specs.Pairing.{Half}
 use Rattle.halfedge.specs.Sides.{lesser_end_at}
 use Rattle.mesh_terms.specs.Meshes.{Triple}

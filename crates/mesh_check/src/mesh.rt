@@ -1,7 +1,7 @@
 // Accepted meshes.
 ghost use Rattle.std.specs.Prelude.{◌≡◌, ◌⊎◌, ℕ, List, IfOk, IsOk, IsErrOf, Some, length};
 ghost use Rattle.chain_terms.specs.Chains.{all_edges, IsClosed};
-ghost use Rattle.halfedge.specs.Twins.{IsTwinned};
+ghost use Rattle.mesh_terms.specs.Twins.{IsTwinned};
 ghost use Rattle.mesh_terms.specs.Meshes.{IsAccepted, triples_of};
 ghost use Rattle.mesh_terms.specs.OpenEdges.{open_pair};
 

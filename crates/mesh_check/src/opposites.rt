@@ -1,7 +1,7 @@
 // Whether a mesh plainly has no two opposite triangles.
 ghost use Rattle.std.specs.Prelude.{◌≡◌, ◌<◌, ◌*◌, IsTrue, length};
 ghost use Rattle.chain_terms.specs.Chains.{all_edges};
-ghost use Rattle.chain_laws.specs.Ranks.{start};
+ghost use Rattle.chain_terms.specs.Ranks.{start};
 ghost use Rattle.mesh_check.specs.Opposites.{third_vertex};
 ghost use Rattle.mesh_check.specs.Reduced.{NoOpposite};
 

@@ -3,6 +3,7 @@ use Rattle.std.specs.Prelude.{◌≡◌, ◌≢◌, ℕ, suc, ◌-◌, ◌<◌, 
 use Rattle.std.specs.List.{All, list_any}
 use Rattle.chain_terms.specs.Chains.{all_edges, IsClosed}
 use Rattle.chain_terms.specs.Sums.{upto}
+use Rattle.mesh_terms.specs.Limits.{most_points, most_triangles}
 
 -- the three point numbers of a triangle
 abbrev pub Triple : Type 0
@@ -40,8 +41,8 @@ pub record IsMesh (points : ℕ) (ts : List Triple) : Type 0 where
   pub three : All HasThree ts
   pub below : All (IsBelow points) ts
   pub used : (v : ℕ) → v < points → is_used ts v ≡ true
-  pub few_points : points ≤ 150000000
-  pub few_triples : length ts ≤ 100000000
+  pub few_points : points ≤ most_points
+  pub few_triples : length ts ≤ most_triangles
 
 -- a closed mesh
 pub record IsAccepted (points : ℕ) (ts : List Triple) : Type 0 where

@@ -5,7 +5,7 @@ use Rattle.std.proofs.Common.{arith, ap, refl, inl, inr}
 use Rattle.std.proofs.lemmas.Int.{ints, by_lt_z}
 use Rattle.std.proofs.lemmas.Bool.Decides.{Decides-int_eq}
 use Rattle.mb_base.specs.declared.TheConstants.{UNIT}
-use Rattle.rounding.specs.Fine.{LiesBetween}
+use Rattle.side_terms.specs.Fine.{LiesBetween}
 use Rattle.rounding.specs.Nearest.{rounded, nearest, settle_nearest}
 use Rattle.rounding.specs.Floor.{floor_at_least, floor_at_most, floor_monotone}
 use Rattle.rounding.specs.Shares.{share_between}

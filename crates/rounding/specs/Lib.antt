@@ -1,5 +1,3 @@
-pub mod Fine
-pub mod Corners
 pub mod Nearest
 pub mod Floor
 pub mod Shares

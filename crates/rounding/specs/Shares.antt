@@ -4,7 +4,7 @@ use Rattle.std.proofs.Common.{arith, inl, inr}
 use Rattle.std.proofs.Math.Nat.{mul-le-mul_right}
 use Rattle.std.proofs.lemmas.Int.{ints, by_lt_z}
 use borrow.Author.Differences.{up, down}
-use Rattle.rounding.specs.Fine.{LiesBetween}
+use Rattle.side_terms.specs.Fine.{LiesBetween}
 use Rattle.rounding.specs.Nearest.{rounded}
 use Rattle.rounding.specs.Floor.{floor_at_least, floor_at_most}
 

@@ -4,7 +4,7 @@
 ghost use Rattle.std.specs.Prelude.{◌≡◌, ◌≤◌, ◌^◌, ℤ, pos, ◌*ℤ◌, ◌≤ℤ◌, ◌<ℤ◌, unsigned_abs, FitsSigned};
 ghost use Rattle.std.specs.Int.{w64};
 ghost use Rattle.mb_base.specs.declared.TheConstants.{UNIT};
-ghost use Rattle.rounding.specs.Fine.{IsFine, IsWeight, LiesBetween};
+ghost use Rattle.side_terms.specs.Fine.{IsFine, IsWeight, LiesBetween};
 ghost use Rattle.rounding.specs.Nearest.{rounded, nearest, settle_nearest};
 ghost use Rattle.rounding.specs.Lawful.{nearest_within, nearest_starts, nearest_ends, settle_monotone, settle_units};
 

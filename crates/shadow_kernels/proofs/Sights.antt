@@ -5,12 +5,12 @@ use Rattle.std.proofs.lemmas.Int.{ints}
 use Rattle.std.proofs.lemmas.List.Elements.{All-nil, All-cons}
 use Rattle.chain_terms.specs.Sums.{total}
 use Rattle.mb_base.specs.declared.point.Corner.{Corner}
-use Rattle.rounding.specs.Fine.{IsFine, IsWeight, LiesBetween}
-use Rattle.rounding.specs.Corners.{axis}
+use Rattle.side_terms.specs.Fine.{IsFine, IsWeight, LiesBetween}
+use Rattle.side_terms.specs.Corners.{axis}
 use Rattle.shadow_kernels.specs.declared.Spot.{Spot}
 use Rattle.shadow_kernels.specs.declared.Meet.{Meet}
 use Rattle.shadow_kernels.specs.declared.sides.Sides.{Sides}
-use Rattle.shadow_kernels.specs.Boxes.{IsBelow}
+use Rattle.side_terms.specs.Boxes.{IsBelow}
 use Rattle.shadow_kernels.specs.Counts.{shadow_of, first_spot, joined, lifted}
 use Rattle.shadow_kernels.specs.Hulls.{StaysBetween}
 use Rattle.shadow_kernels.specs.Sides.{HasSides}

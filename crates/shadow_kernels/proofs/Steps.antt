@@ -2,7 +2,7 @@
 use Rattle.std.proofs.Common.{arith, ◌≡◌, ℤ, pos, ◌+ℤ◌, Bool, true, false, Option, List, [], ◌∷◌, IfSome, ap, sym, subst, ◌∙◌}
 use Rattle.std.proofs.lemmas.Int.{ints}
 use Rattle.chain_terms.specs.Sums.{total}
-use Rattle.rounding.specs.Fine.{IsFine}
+use Rattle.side_terms.specs.Fine.{IsFine}
 use Rattle.shadow_kernels.specs.declared.Spot.{Spot}
 use Rattle.shadow_kernels.specs.declared.Meet.{Meet}
 use Rattle.shadow_kernels.specs.declared.sides.Sides.{Sides}

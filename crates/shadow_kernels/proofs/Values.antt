@@ -2,7 +2,7 @@
 use Rattle.std.proofs.Common.{arith, ◌≡◌, ℤ, Bool, List, ap, ◌∙◌, FitsSigned}
 use Rattle.std.proofs.lemmas.Int.{ints}
 use Rattle.std.specs.Int.{Width, w64, cast_signed, cast_unsigned}
-use Rattle.rounding.specs.Fine.{IsFine, IsWeight}
+use Rattle.side_terms.specs.Fine.{IsFine, IsWeight}
 use Rattle.shadow_kernels.specs.declared.Spot.{Spot}
 use Rattle.shadow_kernels.specs.Spots.{Between, mark, marks, gap}
 

@@ -4,11 +4,12 @@ use Rattle.std.specs.List.{All}
 use Rattle.std.proofs.Common.{arith, inl, inr}
 use Rattle.std.proofs.lemmas.Int.{ints}
 use Rattle.mb_base.specs.declared.point.Corner.{Corner}
-use Rattle.rounding.specs.Fine.{fine_edge, IsFine, LiesBetween}
-use Rattle.rounding.specs.Corners.{axis, corner_at, blank_corner, AllFine}
+use Rattle.side_terms.specs.Fine.{fine_edge, IsFine, LiesBetween}
+use Rattle.side_terms.specs.Corners.{axis, corner_at, blank_corner, AllFine}
 use Rattle.shadow_kernels.specs.declared.Spot.{Spot}
 use Rattle.shadow_kernels.specs.declared.Meet.{Meet}
-use Rattle.shadow_kernels.specs.Boxes.{IsInBox, IsBelow, IsInHull}
+use Rattle.side_terms.specs.Boxes.{IsInBox, IsBelow}
+use Rattle.shadow_kernels.specs.Boxes.{IsInHull}
 use Rattle.shadow_kernels.specs.Sizes.{IsSized}
 
 -- a corner of the list lies in the list's box

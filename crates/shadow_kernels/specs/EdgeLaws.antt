@@ -3,11 +3,12 @@ use Rattle.std.specs.Prelude.{◌≡◌, ℕ, zero, suc, ◌+◌, ◌<◌, ◌+�
 use Rattle.std.proofs.Common.{arith, ap}
 use Rattle.std.proofs.lemmas.Int.{ints}
 use Rattle.mb_base.specs.declared.point.Corner.{Corner}
-use Rattle.rounding.specs.Corners.{corner_at, AllFine}
+use Rattle.side_terms.specs.Corners.{corner_at, AllFine}
 use Rattle.shadow_kernels.specs.Spots.{Between}
 use Rattle.shadow_kernels.specs.Counts.{count_of, shadow_of, turned}
 use Rattle.shadow_kernels.specs.Shadows.{meet01, meet10, boundary11, meet11}
-use Rattle.shadow_kernels.specs.Boxes.{IsBelow, AreApart, IsInHull}
+use Rattle.side_terms.specs.Boxes.{IsBelow, AreApart}
+use Rattle.shadow_kernels.specs.Boxes.{IsInHull}
 use Rattle.shadow_kernels.specs.FlatLaws.{by_side, both_sides}
 use Rattle.shadow_kernels.specs.Hulls.{StaysBetween, IsPlaced, placed, IsOnSide, hull01, hull10, side01, side10, apart01, apart10}
 use Rattle.shadow_kernels.specs.Lifted.{lifted_is, lifted_sized, lifted_none, lifted_hull, lifted_side, lifted_one_side}

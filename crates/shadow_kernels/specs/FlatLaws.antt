@@ -3,12 +3,13 @@ use Rattle.std.specs.Prelude.{◌≡◌, ◌≢◌, ℕ, zero, suc, ◌+◌, ◌
 use Rattle.std.proofs.Common.{arith, refl, inl, inr}
 use Rattle.std.proofs.lemmas.Int.{ints}
 use Rattle.mb_base.specs.declared.point.Corner.{Corner}
-use Rattle.rounding.specs.Corners.{corner_at, AllFine}
+use Rattle.side_terms.specs.Corners.{corner_at, AllFine}
 use Rattle.shadow_kernels.specs.declared.Meet.{Meet}
 use Rattle.shadow_kernels.specs.Spots.{Between, beyond}
 use Rattle.shadow_kernels.specs.Counts.{count_of, shadow_of, bit}
 use Rattle.shadow_kernels.specs.Shadows.{meet00, meet01, meet10}
-use Rattle.shadow_kernels.specs.Boxes.{IsBelow, AreApart, IsInHull}
+use Rattle.side_terms.specs.Boxes.{IsBelow, AreApart}
+use Rattle.shadow_kernels.specs.Boxes.{IsInHull}
 use Rattle.shadow_kernels.specs.Hulls.{StaysBetween, placed, IsOnSide, hull01, hull10, side00, side01, side10, apart01, apart10}
 use Rattle.shadow_kernels.specs.Squares.{count01, count10}
 

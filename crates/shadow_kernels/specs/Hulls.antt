@@ -3,12 +3,13 @@ use Rattle.std.specs.Prelude.{◌≡◌, ℕ, ◌<◌, ℤ, ◌-ℤ◌, ◌≤�
 use Rattle.std.proofs.Common.{arith, sym, inl, ◌∙◌}
 use Rattle.std.proofs.lemmas.Int.{ints}
 use Rattle.mb_base.specs.declared.point.Corner.{Corner}
-use Rattle.rounding.specs.Fine.{IsFine, IsWeight, LiesBetween}
-use Rattle.rounding.specs.Corners.{axis, up_on, corner_at, blank_corner, IsFineCorner, AllFine}
+use Rattle.side_terms.specs.Fine.{IsFine, IsWeight, LiesBetween}
+use Rattle.side_terms.specs.Corners.{axis, up_on, corner_at, blank_corner, IsFineCorner, AllFine}
 use Rattle.shadow_kernels.specs.declared.Spot.{Spot}
 use Rattle.shadow_kernels.specs.Spots.{Between, beyond, flag, above_y, above_z, spot01, spot10}
 use Rattle.shadow_kernels.specs.Shadows.{meet01, meet10}
-use Rattle.shadow_kernels.specs.Boxes.{IsInBox, IsBelow, IsInHull}
+use Rattle.side_terms.specs.Boxes.{IsInBox, IsBelow}
+use Rattle.shadow_kernels.specs.Boxes.{IsInHull}
 use Rattle.shadow_kernels.specs.Order.{beats_greater, beats_smaller, beats_le, not_beats_le}
 use Rattle.shadow_kernels.specs.Ends.{ends_same, ends_hold, ends_above}
 use Rattle.shadow_kernels.specs.Bounds.{corner_in_box, box_between, box_below}

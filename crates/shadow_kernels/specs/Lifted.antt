@@ -3,15 +3,16 @@ use Rattle.std.specs.Prelude.{◌≡◌, ◌≢◌, ℕ, ◌<◌, ℤ, pos, Bool
 use Rattle.std.proofs.Common.{arith, refl, ap, ◌∙◌}
 use Rattle.std.proofs.lemmas.Int.{ints}
 use Rattle.mb_base.specs.declared.point.Corner.{Corner}
-use Rattle.rounding.specs.Fine.{IsFine, IsWeight}
-use Rattle.rounding.specs.Corners.{AllFine}
+use Rattle.side_terms.specs.Fine.{IsFine, IsWeight}
+use Rattle.side_terms.specs.Corners.{AllFine}
 use Rattle.chain_terms.specs.Chains.{one_if}
 use Rattle.chain_terms.specs.Sums.{total}
 use Rattle.shadow_kernels.specs.declared.Spot.{Spot}
 use Rattle.shadow_kernels.specs.declared.Meet.{Meet}
 use Rattle.shadow_kernels.specs.Spots.{Between, gap, spot_between, no_spot, above_z}
 use Rattle.shadow_kernels.specs.Counts.{count_of, shadow_of, chosen, first_spot, joined, lifted}
-use Rattle.shadow_kernels.specs.Boxes.{IsInBox, IsInHull}
+use Rattle.side_terms.specs.Boxes.{IsInBox}
+use Rattle.shadow_kernels.specs.Boxes.{IsInHull}
 use Rattle.shadow_kernels.specs.Bounds.{box_between, hull_fine}
 use Rattle.shadow_kernels.specs.Sizes.{IsSized, met_none, met_count, met_sized, met_holds}
 use Rattle.shadow_kernels.specs.Tally.{Each, hit, hits, IsBalanced, tally, balanced_size}

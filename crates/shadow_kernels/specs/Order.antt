@@ -5,7 +5,7 @@ use Rattle.std.proofs.Common.{arith, refl, sym, ap, ◌∙◌}
 use Rattle.std.proofs.lemmas.Int.{ints, by_lt_z}
 use Rattle.std.proofs.lemmas.Bool.Decides.{Decides-int_eq}
 use Rattle.mb_base.specs.declared.point.Corner.{Corner}
-use Rattle.rounding.specs.Corners.{axis, up_on}
+use Rattle.side_terms.specs.Corners.{axis, up_on}
 use Rattle.shadow_kernels.specs.Spots.{beats, beyond}
 
 -- a smaller number is smaller

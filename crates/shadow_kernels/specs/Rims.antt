@@ -3,7 +3,7 @@ use Rattle.std.specs.Prelude.{◌≡◌, ℕ, zero, suc, ◌<◌, ◌+ℤ◌, Bo
 use Rattle.std.proofs.Common.{arith, sym, ap, ◌∙◌}
 use Rattle.std.proofs.lemmas.Int.{ints}
 use Rattle.mb_base.specs.declared.point.Corner.{Corner}
-use Rattle.rounding.specs.Corners.{corner_at}
+use Rattle.side_terms.specs.Corners.{corner_at}
 use Rattle.shadow_kernels.specs.declared.Meet.{Meet}
 use Rattle.shadow_kernels.specs.Spots.{Between}
 use Rattle.shadow_kernels.specs.Counts.{count_of, turned, lifted, bit}

@@ -1,7 +1,7 @@
 //! A vertex and an edge, and an edge and a vertex.
 
 ghost use Rattle.std.specs.Prelude.{◌≡◌};
-ghost use Rattle.rounding.specs.Corners.{IsFineCorner};
+ghost use Rattle.side_terms.specs.Corners.{IsFineCorner};
 ghost use Rattle.shadow_kernels.specs.Spots.{above_y};
 ghost use Rattle.shadow_kernels.specs.Shadows.{meet01, meet10};
 

@@ -2,7 +2,7 @@
 
 ghost use Rattle.std.specs.Prelude.{◌≡◌, ◌≢◌, ◌+◌, ◌<◌, ◌∷◌, [], ℕ, ℤ, true, false, pos, negsuc, ◌-ℤ◌, ◌+ℤ◌, ◌≤ℤ◌, Option, None, IfSome, List, length, swap};
 ghost use Rattle.std.proofs.Common.{arith};
-ghost use Rattle.rounding.specs.Corners.{corner_at, AllFine};
+ghost use Rattle.side_terms.specs.Corners.{corner_at, AllFine};
 ghost use Rattle.shadow_kernels.specs.Counts.{count_of, shadow_of};
 ghost use Rattle.shadow_kernels.specs.Shadows.{meet00, meet01, meet10, meet11, meet02, meet20};
 ghost use Rattle.shadow_kernels.specs.Rims.{reverse_two};

@@ -6,9 +6,10 @@
 
 ghost use Rattle.std.specs.Prelude.{◌≡◌, ◌≢◌, ◌+◌, ◌<◌, ◌∷◌, [], ℕ, ℤ, true, false, pos, negsuc, ◌-ℤ◌, ◌+ℤ◌, ◌≤ℤ◌, Option, None, IfSome, List, length, swap};
 ghost use Rattle.mb_base.specs.declared.point.Corner.{Corner};
-ghost use Rattle.rounding.specs.Corners.{AllFine};
+ghost use Rattle.side_terms.specs.Corners.{AllFine};
 ghost use Rattle.shadow_kernels.specs.declared.Meet.{Meet};
-ghost use Rattle.shadow_kernels.specs.Boxes.{AreApart, IsBelow, IsInHull};
+ghost use Rattle.side_terms.specs.Boxes.{AreApart, IsBelow};
+ghost use Rattle.shadow_kernels.specs.Boxes.{IsInHull};
 ghost use Rattle.shadow_kernels.specs.Counts.{count_of, shadow_of, turned};
 
 pub use grid::Grid;

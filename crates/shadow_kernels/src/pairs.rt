@@ -1,7 +1,7 @@
 //! The pairs whose answers are made from boundary pairs: two edges, a vertex and a face, a face and a vertex.
 
 ghost use Rattle.std.specs.Prelude.{◌≡◌};
-ghost use Rattle.rounding.specs.Corners.{IsFineCorner};
+ghost use Rattle.side_terms.specs.Corners.{IsFineCorner};
 ghost use Rattle.shadow_kernels.specs.Shadows.{boundary02, boundary11, boundary20, meet02, meet11, meet20};
 ghost use Rattle.shadow_kernels.specs.Sides.{HasSides, IsFineSides};
 

@@ -2,7 +2,7 @@
 //! the rounding only where the boxes of the two simplices leave the side open.
 
 ghost use Rattle.std.specs.Prelude.{◌≡◌, ◌↔◌, ◌≤◌, ◌≤ℤ◌, ◌<ℤ◌, pos, unsigned_abs, IsTrue, IfSome, if◌then◌else◌};
-ghost use Rattle.rounding.specs.Corners.{axis, IsFineCorner};
+ghost use Rattle.side_terms.specs.Corners.{axis, IsFineCorner};
 ghost use Rattle.shadow_kernels.specs.Counts.{shadow_of};
 ghost use Rattle.shadow_kernels.specs.Shadows.{meet01, meet10, meet11, meet02, meet20};
 ghost use Rattle.shadow_kernels.specs.Spots.{above_y, spot01, spot10};

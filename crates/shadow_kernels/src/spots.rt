@@ -1,8 +1,8 @@
 //! Spots, and the comparisons at them.
 
 ghost use Rattle.std.specs.Prelude.{◌≡◌, ◌≤ℤ◌, pos, ◌-ℤ◌};
-ghost use Rattle.rounding.specs.Fine.{IsFine, IsWeight};
-ghost use Rattle.rounding.specs.Corners.{axis, IsFineCorner};
+ghost use Rattle.side_terms.specs.Fine.{IsFine, IsWeight};
+ghost use Rattle.side_terms.specs.Corners.{axis, IsFineCorner};
 ghost use Rattle.shadow_kernels.specs.Spots.{beats, beyond, mark, marks, gap, spot00, spot01, spot10, spot_between};
 ghost use Rattle.shadow_kernels.specs.Bounds.{IsFineSpot};
 

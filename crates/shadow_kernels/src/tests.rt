@@ -1,5 +1,5 @@
 ghost use Rattle.std.specs.Prelude.{◌≡◌, ◌∷◌, [], ◌≤ℤ◌, pos, negsuc};
-ghost use Rattle.rounding.specs.Corners.{IsFineCorner, AllFine};
+ghost use Rattle.side_terms.specs.Corners.{IsFineCorner, AllFine};
 ghost use Rattle.shadow_kernels.specs.Counts.{count_of, shadow_of};
 
 use super::*;

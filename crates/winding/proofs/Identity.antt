@@ -5,22 +5,22 @@ use Rattle.std.proofs.lemmas.List.{get_or-map}
 use Rattle.std.specs.List.{All}
 use Rattle.chain_terms.specs.Chains.{all_edges}
 use Rattle.chain_terms.specs.Sums.{total}
-use Rattle.chain_laws.specs.Chains.{IsOdd}
+use Rattle.chain_terms.specs.Odd.{IsOdd}
 use Rattle.chain_laws.specs.Identities.{crossing}
-use Rattle.chain_laws.specs.Ranks.{start, finish}
+use Rattle.chain_terms.specs.Ranks.{start, finish}
 use Rattle.chain_laws.specs.Sums.{total-same}
 use Rattle.chain_laws.proofs.Identities.{edge_identity}
 use Rattle.chain_laws.proofs.Places.{total-places, total-upto_same}
-use Rattle.halfedge.specs.Halves.{next_half}
+use Rattle.mesh_terms.specs.Halves.{next_half}
 use Rattle.halfedge.proofs.Edges.{length-all_edges, next_below, next_starts}
 use Rattle.mb_base.specs.declared.point.Corner.{Corner}
 use Rattle.mb_base.specs.declared.results.Hit.{Hit}
 use Rattle.mesh_terms.specs.Meshes.{Triple, IsBelow}
-use Rattle.rounding.specs.Corners.{corner_at, blank_corner}
-use Rattle.lean.specs.Sides.{Side, IsSide}
+use Rattle.side_terms.specs.Corners.{corner_at, blank_corner}
+use Rattle.side_terms.specs.Sides.{Side, IsSide}
 use Rattle.lean.proofs.Triangles.{start_below}
 use Rattle.crossings.specs.Hits.{CrossTest, hits_of}
-use Rattle.crossings.specs.Identities.{half_number, EdgeIdentity}
+use Rattle.side_terms.specs.Conservation.{half_number, EdgeIdentity}
 use Rattle.crossings.proofs.Numbers.{edge_number, Turns, half_number_is}
 use Rattle.crossings.proofs.Rounds.{Lifts}
 

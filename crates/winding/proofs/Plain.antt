@@ -5,11 +5,11 @@ use Rattle.std.proofs.lemmas.List.{get_or-replicate, length-replicate}
 use Rattle.chain_laws.specs.Sums.{total-same_all}
 use Rattle.mesh_terms.specs.Meshes.{Mesh, Triple, IsBelow}
 use Rattle.mb_base.specs.declared.point.Corner.{Corner}
-use Rattle.rounding.specs.Corners.{corner_at}
+use Rattle.side_terms.specs.Corners.{corner_at}
 use Rattle.rounding.specs.Nearest.{nearest}
 use Rattle.shadow_kernels.specs.Shadows.{meet02}
 use Rattle.edge_face.specs.Crossings.{ShadowTest}
-use Rattle.lean.specs.Sides.{Side, corner_of, corners_of, face_of}
+use Rattle.side_terms.specs.Sides.{Side, corner_of, corners_of, face_of}
 use Rattle.lean.proofs.Corners.{corners_at}
 use Rattle.winding.specs.Windings.{face_shadow, winding, plain_corner, plain_shadow, winding_at}
 

@@ -2,13 +2,13 @@
 use Rattle.std.proofs.Common.{◌≡◌, ℤ, pos, negsuc, Bool, true, false, List, [], ◌∷◌, ◌++◌, refl}
 use Rattle.mb_base.specs.declared.point.Corner.{Corner}
 use Rattle.mesh_terms.specs.Meshes.{Triple}
-use Rattle.rounding.specs.Corners.{corner_at}
+use Rattle.side_terms.specs.Corners.{corner_at}
 use Rattle.rounding.specs.Nearest.{nearest}
 use Rattle.shadow_kernels.specs.Counts.{met, by_ends, joined, lifted}
 use Rattle.shadow_kernels.specs.Shadows.{meet01, meet10, meet02, meet20}
 use Rattle.shadow_kernels.specs.Spots.{spot01, spot10, spot_between}
 use Rattle.edge_face.specs.Crossings.{ShadowTest}
-use Rattle.lean.specs.Sides.{Side, corner_of, corners_of}
+use Rattle.side_terms.specs.Sides.{Side, corner_of, corners_of}
 use Rattle.winding.specs.Windings.{winding, winding_back, winding_at}
 use Rattle.winding.proofs.Plain.{no_marks, nearest_test}
 

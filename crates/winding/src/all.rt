@@ -3,7 +3,7 @@ ghost use Rattle.std.specs.Prelude.{◌≡◌, ◌≤◌, ◌+◌, pos, nat_abs,
 ghost use Rattle.std.specs.List.{All};
 ghost use Rattle.chain_terms.specs.Chains.{all_edges};
 ghost use Rattle.crossings.specs.Hits.{hits_of};
-ghost use Rattle.crossings.specs.Identities.{half_number, EdgeIdentity};
+ghost use Rattle.side_terms.specs.Conservation.{half_number, EdgeIdentity};
 ghost use Rattle.winding.specs.Windings.{winding, winding_back};
 
 use crate::sum::{winding_sum, winding_sum_back};

@@ -1,7 +1,7 @@
 // Vertices of either side against the faces of the other.
 ghost use Rattle.std.specs.Prelude.{◌≡◌, ◌∷◌, [], ℤ, ◌≤ℤ◌, pos, negsuc, List};
 ghost use Rattle.mb_base.specs.declared.point.Corner.{Corner};
-ghost use Rattle.rounding.specs.Corners.{AllFine, IsFineCorner};
+ghost use Rattle.side_terms.specs.Corners.{AllFine, IsFineCorner};
 ghost use Rattle.shadow_kernels.specs.Counts.{shadow_of};
 
 use mb_base::Corner;

@@ -1,8 +1,8 @@
 // The winding number of a corner of one side in the other.
 ghost use Rattle.std.specs.Prelude.{◌≡◌, ◌≤◌, ◌+◌, neg_ℤ, nat_abs, length};
 ghost use Rattle.chain_terms.specs.Sums.{total};
-ghost use Rattle.rounding.specs.Corners.{IsFineCorner};
-ghost use Rattle.lean.specs.Sides.{face_of};
+ghost use Rattle.side_terms.specs.Corners.{IsFineCorner};
+ghost use Rattle.side_terms.specs.Sides.{face_of};
 ghost use Rattle.winding.specs.Windings.{winding, winding_back};
 
 use crate::shadows::{PVertices, QVertices, VertexFace};

@@ -5,7 +5,7 @@ ghost use Rattle.std.proofs.Common.{arith, inl, inr};
 ghost use Rattle.std.proofs.lemmas.Bool.{cond_both};
 ghost use Rattle.std.proofs.lemmas.Bool.Decides.{Decides-int_eq};
 ghost use Rattle.std.proofs.lemmas.Int.{ints, by_lt_z};
-ghost use Rattle.rounding.specs.Fine.{IsFine, IsWeight, LiesBetween};
+ghost use Rattle.side_terms.specs.Fine.{IsFine, IsWeight, LiesBetween};
 ghost use Rattle.rounding.specs.Nearest.{settle_nearest};
 ghost use Rattle.rounding.specs.Lawful.{settle_monotone, settle_units};
 

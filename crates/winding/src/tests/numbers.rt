@@ -1,7 +1,7 @@
 // The hits and winding numbers of two sides.
 ghost use Rattle.std.specs.Prelude.{◌≡◌, ◌<◌, pos, IfOk, get_or, length};
 ghost use Rattle.chain_terms.specs.Chains.{all_edges};
-ghost use Rattle.crossings.specs.Identities.{half_number, PairIdentity, EdgeIdentity};
+ghost use Rattle.side_terms.specs.Conservation.{half_number, PairIdentity, EdgeIdentity};
 
 use crate::windings;
 use crossings::crossings;

@@ -1,7 +1,7 @@
 use Rattle.std.proofs.Common.{◌≡◌, ◌++◌, List, length, arith, ap, sym, ◌∙◌}
 use Rattle.std.proofs.lemmas.List.{length-map}
 use Rattle.chain_terms.specs.Chains.{all_edges}
-use Rattle.chain_laws.specs.Ranks.{twin}
+use Rattle.chain_terms.specs.Ranks.{twin}
 use Rattle.halfedge.proofs.Edges.{length-all_edges}
 use Rattle.mesh_terms.specs.Meshes.{Triple, triple_of}
 use Rattle.crossings.specs.Hits.{hits_along}

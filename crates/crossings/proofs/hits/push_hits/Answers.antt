@@ -4,7 +4,7 @@ use Rattle.std.proofs.lemmas.List.{length-map}
 use Rattle.std.specs.Int.{w8}
 use Rattle.mb_base.specs.declared.results.Hit.{Hit}
 use Rattle.mesh_terms.specs.Meshes.{triple_of}
-use Rattle.lean.specs.Sides.{edge_at, face_at}
+use Rattle.side_terms.specs.Sides.{edge_at, face_at}
 use Rattle.crossings.proofs.Rows.{hits_to, along_none, along_some, pushed}
 use Rattle.crossings.proofs.hits.push_hits.Goals as goal
 use Rattle.crossings.proofs.hits.push_hits.Goals.{in-Some+in_ok-push, in_default}

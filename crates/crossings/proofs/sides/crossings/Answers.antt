@@ -1,14 +1,15 @@
 use Rattle.std.proofs.Common.{ℕ, ℤ, ◌∷◌, [], List, length, get_or, refl, ap, sym, ◌∙◌, subst}
 use Rattle.chain_terms.specs.Chains.{all_edges}
-use Rattle.chain_laws.specs.Ranks.{start, finish}
+use Rattle.chain_terms.specs.Ranks.{start, finish}
 use Rattle.mb_base.specs.declared.results.Hit.{Hit}
 use Rattle.mesh_terms.specs.Meshes.{Triple}
-use Rattle.rounding.specs.Corners.{corner_at}
+use Rattle.side_terms.specs.Corners.{corner_at}
 use Rattle.shadow_kernels.specs.Counts.{shadow_of}
-use Rattle.lean.specs.Sides.{IsSide, edge_at, edge_of, face_at, face_of}
+use Rattle.side_terms.specs.Sides.{IsSide, edge_at, edge_of, face_at, face_of}
 use Rattle.lean.proofs.Corners.{edge_fine, face_fine}
-use Rattle.crossings.specs.Hits.{AreHits, CrossTest, hits_of}
-use Rattle.crossings.specs.Identities.{half_number, PairIdentity}
+use Rattle.side_terms.specs.Hits.{AreHits}
+use Rattle.crossings.specs.Hits.{CrossTest, hits_of}
+use Rattle.side_terms.specs.Conservation.{half_number, PairIdentity}
 use Rattle.crossings.proofs.Order.{AllListed, hits_in_order, listed_number}
 use Rattle.crossings.proofs.Rounds.{pairs_agree}
 use Rattle.crossings.proofs.sides.crossings.Goals as goal

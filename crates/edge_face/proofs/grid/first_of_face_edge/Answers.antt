@@ -1,5 +1,5 @@
 use Rattle.std.proofs.Common.{◌∙◌}
-use Rattle.rounding.specs.Corners.{corner_at}
+use Rattle.side_terms.specs.Corners.{corner_at}
 use Rattle.shadow_kernels.specs.EdgeLaws.{sized11}
 use Rattle.shadow_kernels.specs.FaceLaws.{sized20}
 use Rattle.shadow_kernels.specs.Shadows.{meet11, meet20}

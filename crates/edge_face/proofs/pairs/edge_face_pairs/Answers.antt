@@ -1,6 +1,6 @@
 use Rattle.std.proofs.Common.{rules, arith, ℤ, List, FitsSigned, ap, ◌∙◌}
 use Rattle.std.specs.Int.{w8}
-use Rattle.rounding.specs.Corners.{corner_at}
+use Rattle.side_terms.specs.Corners.{corner_at}
 use Rattle.shadow_kernels.specs.Counts.{count_of, shadow_of}
 use Rattle.shadow_kernels.specs.EdgeLaws.{lift11}
 use Rattle.shadow_kernels.specs.FaceLaws.{lift02}

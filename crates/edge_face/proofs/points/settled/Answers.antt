@@ -2,7 +2,7 @@ use Rattle.std.proofs.Common.{rules, arith, ◌≡◌, FitsSigned, refl, sym, su
 use Rattle.std.proofs.lemmas.Int.{ints}
 use Rattle.std.specs.Int.{w32, w64}
 use Rattle.mesh_terms.specs.Points.{IsOnGrid}
-use Rattle.rounding.specs.Fine.{IsFine}
+use Rattle.side_terms.specs.Fine.{IsFine}
 use Rattle.shadow_kernels.specs.Hulls.{StaysBetween}
 use Rattle.shadow_kernels.specs.Spots.{Between}
 use Rattle.shadow_kernels.proofs.Values.{kept_between}

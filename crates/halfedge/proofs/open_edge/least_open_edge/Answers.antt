@@ -1,7 +1,7 @@
 use Rattle.std.proofs.Common.{subst, ap, map, sym, ◌∙◌}
 use Rattle.std.specs.List.Sorted.{IsPermutation}
 use Rattle.chain_terms.specs.Chains.{all_edges}
-use Rattle.chain_laws.specs.Chains.{backward}
+use Rattle.chain_terms.specs.Odd.{backward}
 use Rattle.mesh_terms.specs.Meshes.{triples_of}
 use Rattle.halfedge.specs.Pairing.{numbered, turned}
 use Rattle.halfedge.proofs.NumberedHalves.{turned-numbered, open_found}

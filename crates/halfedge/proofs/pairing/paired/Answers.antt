@@ -5,7 +5,7 @@ use Rattle.std.proofs.lemmas.List.{length-map, get_or_default, with_items_is}
 use Rattle.std.proofs.lemmas.Nat.{mod_below}
 use Rattle.chain_terms.specs.Chains.{all_edges, IsClosed}
 use Rattle.chain_terms.specs.Sums.{upto}
-use Rattle.chain_laws.specs.Ranks.{twin}
+use Rattle.chain_terms.specs.Ranks.{twin}
 use Rattle.mesh_terms.specs.Meshes.{HasThree, triple_of, triples_of}
 use Rattle.counting_sort.specs.Buckets.{places_of}
 use Rattle.counting_sort.proofs.Upto.{length-map-upto}

@@ -2,7 +2,7 @@ use Rattle.std.proofs.Common.{arith, ◌≡◌, ◌*ℤ◌, ℤ, to_z, of_z, w32
 use Rattle.std.proofs.lemmas.Int.{ints}
 use Rattle.mb_base.specs.declared.TheConstants.{UNIT}
 use Rattle.mesh_terms.specs.Points.{IsOnGrid, coordinate_of}
-use Rattle.rounding.specs.Fine.{IsFine}
+use Rattle.side_terms.specs.Fine.{IsFine}
 use Rattle.lean.proofs.corner.corner_of.Goals as goal
 
 -- a coordinate on the grid is fine in fine steps

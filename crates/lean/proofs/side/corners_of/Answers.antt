@@ -2,7 +2,7 @@ use Rattle.std.proofs.Common.{rules, [], length, ◌∙◌, sym}
 use Rattle.std.proofs.lemmas.List.{length_push}
 use Rattle.std.proofs.lemmas.List.Elements.{All-push}
 use Rattle.std.proofs.lemmas.Slice.Zip.{zip_turn, zip_end}
-use Rattle.rounding.specs.Corners.{IsFineCorner}
+use Rattle.side_terms.specs.Corners.{IsFineCorner}
 use Rattle.lean.proofs.Corners.{corners_more, corners_all, corners_long}
 use Rattle.lean.proofs.side.corners_of.Goals as goal
 

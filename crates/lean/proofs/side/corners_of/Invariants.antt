@@ -1,7 +1,7 @@
 use Rattle.std.proofs.Common.{◌≡◌, length, take, map}
 use Rattle.std.specs.List.{zip}
-use Rattle.rounding.specs.Corners.{AllFine}
-use Rattle.lean.specs.Sides.{corner_of}
+use Rattle.side_terms.specs.Corners.{AllFine}
+use Rattle.side_terms.specs.Sides.{corner_of}
 use Rattle.lean.proofs.side.corners_of.Given as goal
 
 abbrev pub invariant-loop-point : goal.invariant-loop-point

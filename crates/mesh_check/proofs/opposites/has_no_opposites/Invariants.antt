@@ -1,6 +1,6 @@
 use Rattle.std.proofs.Common.{◌≢◌, ◌<◌, ◌*◌, ℕ}
 use Rattle.chain_terms.specs.Chains.{all_edges}
-use Rattle.chain_laws.specs.Ranks.{twin}
+use Rattle.chain_terms.specs.Ranks.{twin}
 use Rattle.mesh_check.specs.Opposites.{third_vertex}
 use Rattle.mesh_check.proofs.opposites.has_no_opposites.Given as goal
 

@@ -1,7 +1,7 @@
 use Rattle.std.proofs.Common.{◌<◌, ◌*◌, length, sym, ◌∙◌, ap, arith}
 use Rattle.std.proofs.lemmas.List.{length-map}
 use Rattle.chain_terms.specs.Chains.{all_edges}
-use Rattle.chain_laws.specs.Ranks.{start}
+use Rattle.chain_terms.specs.Ranks.{start}
 use Rattle.mesh_terms.specs.Meshes.{triple_of}
 use Rattle.mesh_check.proofs.Across.{start_at}
 use Rattle.mesh_check.proofs.opposites.start.Goals as goal

@@ -1,7 +1,7 @@
 use Rattle.std.proofs.Common.{arith, ◌≡◌, ℤ, pos, ◌+ℤ◌, ◌-ℤ◌, ◌*ℤ◌, ◌∙◌, sym}
 use Rattle.std.proofs.lemmas.Int.{ints}
 use Rattle.std.specs.Int.{Width, w64, w128, cast_signed, cast_unsigned}
-use Rattle.rounding.specs.Fine.{LiesBetween}
+use Rattle.side_terms.specs.Fine.{LiesBetween}
 use Rattle.rounding.specs.Nearest.{rounded}
 use Rattle.rounding.specs.Shares.{share_between}
 use Rattle.rounding.specs.Lawful.{nearest_still, nearest_moved}

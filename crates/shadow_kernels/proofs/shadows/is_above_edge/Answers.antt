@@ -1,7 +1,7 @@
 use Rattle.std.proofs.Common.{rules, arith, refl, ◌≡◌, ◌-ℤ◌, FitsSigned, sym, ◌∙◌}
 use Rattle.std.proofs.lemmas.Int.{ints}
 use Rattle.std.specs.Int.{w64}
-use Rattle.rounding.specs.Corners.{axis}
+use Rattle.side_terms.specs.Corners.{axis}
 use Rattle.shadow_kernels.specs.Hulls.{StaysBetween, distance_weight}
 use Rattle.shadow_kernels.specs.Order.{beats_greater, beats_smaller}
 use Rattle.shadow_kernels.specs.Spots.{Between, flag, spot01}

@@ -1,7 +1,7 @@
 use Rattle.std.proofs.Common.{rules, arith, ◌≡◌, ◌-ℤ◌, FitsSigned, ◌∙◌}
 use Rattle.std.proofs.lemmas.Int.{ints}
 use Rattle.std.specs.Int.{w64}
-use Rattle.rounding.specs.Corners.{axis}
+use Rattle.side_terms.specs.Corners.{axis}
 use Rattle.shadow_kernels.specs.Spots.{spot10, marks}
 use Rattle.shadow_kernels.proofs.Values.{seen, same_between, same_marks, same_spot}
 use Rattle.shadow_kernels.proofs.spots.edge_vertex_spot.Goals as goal

@@ -1,7 +1,7 @@
 use Rattle.std.proofs.Common.{rules, arith, refl, ◌≡◌, ◌-ℤ◌, FitsSigned, ◌∙◌}
 use Rattle.std.proofs.lemmas.Int.{ints}
 use Rattle.std.specs.Int.{w64}
-use Rattle.rounding.specs.Corners.{axis}
+use Rattle.side_terms.specs.Corners.{axis}
 use Rattle.shadow_kernels.specs.Spots.{spot01}
 use Rattle.shadow_kernels.proofs.Values.{seen, same_between, same_spot}
 use Rattle.shadow_kernels.proofs.spots.vertex_edge_spot.Goals as goal

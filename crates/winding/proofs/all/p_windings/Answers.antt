@@ -3,7 +3,7 @@ use Rattle.std.proofs.lemmas.Int.{ints}
 use Rattle.std.specs.List.{All}
 use Rattle.std.proofs.lemmas.List.Elements.{All-push}
 use Rattle.mb_base.specs.declared.point.Corner.{Corner}
-use Rattle.rounding.specs.Corners.{blank_corner}
+use Rattle.side_terms.specs.Corners.{blank_corner}
 use Rattle.winding.specs.Windings.{winding}
 use Rattle.winding.proofs.Steps.{map_all, map_more}
 use Rattle.winding.proofs.all.p_windings.Goals as goal

@@ -1,11 +1,11 @@
 use Rattle.std.proofs.Common.{ℕ, ℤ, pos, ◌∷◌, [], get_or, refl, arith, ap}
 use Rattle.std.proofs.lemmas.Int.{ints}
-use Rattle.chain_laws.specs.Chains.{IsOdd}
+use Rattle.chain_terms.specs.Odd.{IsOdd}
 use Rattle.mesh_terms.specs.Meshes.{Triple}
-use Rattle.rounding.specs.Corners.{corner_at}
+use Rattle.side_terms.specs.Corners.{corner_at}
 use Rattle.shadow_kernels.specs.Counts.{shadow_of}
 use Rattle.shadow_kernels.specs.Sizes.{turned_shadow}
-use Rattle.lean.specs.Sides.{IsSide, edge_of, face_of}
+use Rattle.side_terms.specs.Sides.{IsSide, edge_of, face_of}
 use Rattle.lean.proofs.Corners.{edge_fine, face_fine}
 use Rattle.crossings.specs.Hits.{CrossTest}
 use Rattle.winding.specs.Windings.{winding, winding_back}

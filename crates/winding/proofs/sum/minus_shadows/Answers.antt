@@ -2,7 +2,7 @@ use Rattle.std.proofs.Common.{arith, ◌≡◌, ◌-ℤ◌, ◌<◌, ℤ, get_or
 use Rattle.std.proofs.lemmas.Int.{ints}
 use Rattle.std.proofs.lemmas.List.{length-map}
 use Rattle.mesh_terms.specs.Meshes.{Triple, triple_of}
-use Rattle.lean.specs.Sides.{face_of}
+use Rattle.side_terms.specs.Sides.{face_of}
 use Rattle.winding.proofs.Steps.{one_more}
 use Rattle.winding.proofs.sum.minus_shadows.Goals as goal
 

@@ -1,6 +1,6 @@
 use Rattle.std.proofs.Common.{◌≡◌, take, pos, neg_ℤ, ◌≤ℤ◌}
 use Rattle.chain_terms.specs.Sums.{total}
-use Rattle.lean.specs.Sides.{face_of}
+use Rattle.side_terms.specs.Sides.{face_of}
 use Rattle.winding.proofs.sum.minus_shadows.Given as goal
 
 abbrev pub invariant-loop-face : goal.invariant-loop-face

@@ -1,6 +1,6 @@
 use Rattle.std.proofs.Common.{rules, arith, true, false, FitsSigned, [], ◌∷◌, sym, ◌∙◌}
 use Rattle.std.specs.Int.{w8}
-use Rattle.rounding.specs.Corners.{corner_at}
+use Rattle.side_terms.specs.Corners.{corner_at}
 use Rattle.shadow_kernels.specs.FinePairs.{fine_two, fine_three}
 use Rattle.shadow_kernels.specs.Hulls.{StaysBetween}
 use Rattle.shadow_kernels.specs.Shadows.{meet11, meet02}

@@ -1,7 +1,7 @@
 use Rattle.std.proofs.Common.{IsTrue, ◌↔◌, subst}
 use Rattle.chain_terms.specs.Chains.{all_edges}
 use Rattle.halfedge.specs.Laws.{AreSingle}
-use Rattle.halfedge.specs.Twins.{Twins}
+use Rattle.mesh_terms.specs.Twins.{Twins}
 use Rattle.halfedge.proofs.twins.Twins.are_single.Goals as goal
 
 pub returns : goal.returns

@@ -1,8 +1,8 @@
 use Rattle.std.proofs.Common.{◌≡◌, ◌-◌, ◌+◌, length, ap, ◌∙◌, arith}
 use Rattle.chain_terms.specs.Chains.{all_edges}
-use Rattle.chain_laws.specs.Ranks.{start}
-use Rattle.halfedge.specs.Halves.{next_half}
-use Rattle.halfedge.specs.Twins.{Twins}
+use Rattle.chain_terms.specs.Ranks.{start}
+use Rattle.mesh_terms.specs.Halves.{next_half}
+use Rattle.mesh_terms.specs.Twins.{Twins}
 use Rattle.halfedge.proofs.Edges.{length-all_edges, next_starts}
 use Rattle.halfedge.proofs.twins.Twins.next.Goals as goal
 

@@ -1,7 +1,7 @@
 use Rattle.std.proofs.Common.{◌≡◌, ◌≢◌, length, slice_set, sym, subst, ap, ◌∙◌, arith}
 use Rattle.chain_terms.specs.Chains.{all_edges}
-use Rattle.chain_laws.specs.Ranks.{twin}
-use Rattle.halfedge.specs.Halves.{next_half, prev_half, around}
+use Rattle.chain_terms.specs.Ranks.{twin}
+use Rattle.mesh_terms.specs.Halves.{next_half, prev_half, around}
 use Rattle.halfedge.specs.Numbering.{no_fan}
 use Rattle.halfedge.proofs.Around.{around_inverse}
 use Rattle.halfedge.proofs.Edges.{length-all_edges}

@@ -1,7 +1,7 @@
 use Rattle.std.proofs.Common.{length, ◌==◌}
 use Rattle.std.specs.Prelude.{count_by}
 use Rattle.chain_terms.specs.Chains.{all_edges}
-use Rattle.halfedge.specs.Halves.{around}
+use Rattle.mesh_terms.specs.Halves.{around}
 use Rattle.halfedge.specs.Numbering.{no_fan}
 use Rattle.halfedge.proofs.FanWalk.{IsWalked}
 use Rattle.halfedge.proofs.twins.Twins.number_fan.Given as goal

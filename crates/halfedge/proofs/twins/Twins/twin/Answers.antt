@@ -1,8 +1,8 @@
 use Rattle.std.proofs.Common.{length, get_or, sym, subst, ap, ◌∙◌, arith}
 use Rattle.chain_terms.specs.Chains.{all_edges}
-use Rattle.chain_laws.specs.Ranks.{RunsBack}
+use Rattle.chain_terms.specs.Ranks.{RunsBack}
 use Rattle.chain_laws.proofs.Twins.{twin_runs_back}
-use Rattle.halfedge.specs.Twins.{Twins, IsTwinned}
+use Rattle.mesh_terms.specs.Twins.{Twins, IsTwinned}
 use Rattle.halfedge.proofs.Edges.{length-all_edges}
 use Rattle.halfedge.proofs.Listed.{length-twins, twin_listed}
 use Rattle.halfedge.proofs.twins.Twins.twin.Goals as goal

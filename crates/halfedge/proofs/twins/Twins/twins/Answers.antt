@@ -1,5 +1,5 @@
 use Rattle.std.proofs.Common.{subst}
-use Rattle.halfedge.specs.Twins.{Twins, IsTwinned}
+use Rattle.mesh_terms.specs.Twins.{Twins, IsTwinned}
 use Rattle.halfedge.proofs.Around.{pair_up, go_around}
 use Rattle.halfedge.proofs.twins.Twins.twins.Goals as goal
 

@@ -1,7 +1,7 @@
 use Rattle.std.proofs.Common.{◌*◌, ◌<◌, List, length, arith, ap, sym, subst, ◌∙◌}
 use Rattle.std.proofs.lemmas.List.{length-map}
 use Rattle.chain_terms.specs.Chains.{all_edges}
-use Rattle.chain_laws.specs.Ranks.{start}
+use Rattle.chain_terms.specs.Ranks.{start}
 use Rattle.mesh_terms.specs.Meshes.{Triple, triple_of}
 use Rattle.lean.proofs.Triangles.{start_listed, start_below}
 use Rattle.lean.proofs.side.Side.start.Goals as goal

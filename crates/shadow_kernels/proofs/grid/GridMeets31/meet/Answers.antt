@@ -1,5 +1,5 @@
 use Rattle.std.proofs.Common.{ap, ◌∙◌}
-use Rattle.rounding.specs.Corners.{corner_at}
+use Rattle.side_terms.specs.Corners.{corner_at}
 use Rattle.shadow_kernels.specs.Counts.{count_of}
 use Rattle.shadow_kernels.specs.FaceLaws.{lift20}
 use Rattle.shadow_kernels.proofs.grid.GridMeets31.meet.Goals as goal

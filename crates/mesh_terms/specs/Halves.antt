@@ -1,7 +1,7 @@
 -- Half-edges of triangles: round the triangle, and round their start.
 use Rattle.std.specs.Prelude.{◌≡◌, ℕ, ◌+◌, ◌*◌, ◌/◌, ◌%◌, List}
-use Rattle.chain_laws.specs.Permutations.{times}
-use Rattle.chain_laws.specs.Ranks.{twin}
+use Rattle.chain_terms.specs.Permutations.{times}
+use Rattle.chain_terms.specs.Ranks.{twin}
 
 -- the next half-edge round the triangle
 abbrev pub next_half : ℕ → ℕ

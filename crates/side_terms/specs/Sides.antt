@@ -2,13 +2,13 @@
 use Rattle.std.specs.Prelude.{ℕ, ℤ, ◌*ℤ◌, Bool, List, [], ◌∷◌, get_or, length, map}
 use Rattle.std.specs.List.{zip}
 use Rattle.chain_terms.specs.Chains.{all_edges}
-use Rattle.chain_laws.specs.Ranks.{start, finish}
+use Rattle.chain_terms.specs.Ranks.{start, finish}
 use Rattle.mb_base.specs.declared.TheConstants.{UNIT}
 use Rattle.mb_base.specs.declared.point.Corner.{Corner}
-use Rattle.halfedge.specs.Twins.{IsTwinned}
+use Rattle.mesh_terms.specs.Twins.{IsTwinned, twins_of}
 use Rattle.mesh_terms.specs.Points.{coordinate_of}
-use Rattle.mesh_terms.specs.Meshes.{Triple, IsAccepted}
-use Rattle.rounding.specs.Corners.{corner_at, AllFine}
+use Rattle.mesh_terms.specs.Meshes.{Mesh, Triple, IsAccepted}
+use Rattle.side_terms.specs.Corners.{corner_at, AllFine, AllWhole}
 
 -- corners, triangles by the numbers of their corners, and the twin of each half-edge
 pub record Side : Type 0 where
@@ -41,8 +41,13 @@ edge_of corners a b = corner_at corners a ∷ corner_at corners b ∷ []
 abbrev pub edge_at : Side → ℕ → List Corner
 edge_at side h = let es = all_edges side.triples in edge_of side.corners (start es h) (finish es h)
 
--- what every side keeps: fine corners, triangles that are a closed mesh on them, and their twins
+-- the side of a mesh with the marks of its points
+abbrev pub side_of : Mesh → List (List Bool) → Side
+side_of mesh ups = record { corners = corners_of mesh.points ups; triples = mesh.triples; twins = twins_of mesh.triples }
+
+-- what every side keeps: corners at grid points, triangles that are a closed mesh on them, and their twins
 pub record IsSide (side : Side) : Type 0 where
   pub fine : AllFine side.corners
+  pub whole : AllWhole side.corners
   pub accepted : IsAccepted (length side.corners) side.triples
   pub twinned : IsTwinned side.triples side.twins

@@ -1,8 +1,9 @@
 -- Corners by their coordinates and marks.
-use Rattle.std.specs.Prelude.{ℕ, ℤ, pos, Bool, false, List, [], slice_index_or}
+use Rattle.std.specs.Prelude.{◌≡◌, ℕ, ℤ, pos, ◌*ℤ◌, Bool, false, List, [], slice_index_or}
 use Rattle.std.specs.List.{All}
+use Rattle.mb_base.specs.declared.TheConstants.{UNIT}
 use Rattle.mb_base.specs.declared.point.Corner.{Corner}
-use Rattle.rounding.specs.Fine.{IsFine}
+use Rattle.side_terms.specs.Fine.{IsFine}
 
 -- a corner with nothing in it
 abbrev pub blank_corner : Corner
@@ -29,3 +30,18 @@ pub record IsFineCorner (c : Corner) : Type 0 where
 -- all coordinates of all corners are fine
 abbrev pub AllFine : List Corner → Type 0
 AllFine cs = All IsFineCorner cs
+
+-- a whole number of grid steps
+pub record IsWhole (z : ℤ) : Type 0 where
+  pub steps : ℤ
+  pub value : z ≡ UNIT *ℤ steps
+
+-- the three coordinates are whole numbers of grid steps
+pub record IsWholeCorner (c : Corner) : Type 0 where
+  pub x : IsWhole (axis 0 c)
+  pub y : IsWhole (axis 1 c)
+  pub z : IsWhole (axis 2 c)
+
+-- all coordinates of all corners are
+abbrev pub AllWhole : List Corner → Type 0
+AllWhole cs = All IsWholeCorner cs

@@ -1,7 +1,7 @@
 -- Fans: the cycles of half-edges round a vertex, and their numbers.
 use Rattle.std.specs.Prelude.{◌≡◌, ℕ, ◌<◌, ◌≤◌, List, length, get_or}
-use Rattle.chain_laws.specs.Ranks.{start}
-use Rattle.halfedge.specs.Halves.{around, around_times, SameFan}
+use Rattle.chain_terms.specs.Ranks.{start}
+use Rattle.mesh_terms.specs.Halves.{around, around_times, SameFan}
 
 -- each half-edge's fan, and each fan's least half-edge; fans go by their start, then by their least half-edge
 pub record AreFans (es : List (ℕ × ℕ)) (of first : List ℕ) : Type 0 where

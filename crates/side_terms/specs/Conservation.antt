@@ -1,7 +1,7 @@
 -- Numbers of crossings by half-edge, and how they agree with each other and with winding numbers.
 use Rattle.std.specs.Prelude.{◌≡◌, ℕ, ◌+◌, ◌*◌, ◌<◌, ℤ, pos, neg_ℤ, ◌-ℤ◌, List, length, cond, if◌then◌else◌, nat_lt, ◌==◌, ◌&&◌}
 use Rattle.chain_terms.specs.Sums.{total, upto}
-use Rattle.chain_laws.specs.Ranks.{start, finish, twin}
+use Rattle.chain_terms.specs.Ranks.{start, finish, twin}
 use Rattle.mb_base.specs.declared.results.Hit.{Hit}
 
 -- the number that hits give an edge with a face: 0 where there is none
