@@ -6,8 +6,8 @@
 
 mod hits;
 mod pairs;
-mod sides;
+mod both;
 #[cfg(test)]
 mod tests;
 
-pub use sides::crossings;
+pub use both::crossings;

@@ -7,7 +7,7 @@
 mod fans;
 mod open_edge;
 mod pairing;
-mod sides;
+mod ways;
 mod surplus;
 #[cfg(test)]
 mod tests;

@@ -38,7 +38,7 @@ abbrev pub lies_in : (ℕ → ℕ) → ℕ → Half → Bool
 lies_in key k h = edge_lies_in key k (ends h)
 
 -- the half-edges of bucket k that run up, and those that run down, turned, each sorted
-pub record AreSides (es : List (ℕ × ℕ)) (key : ℕ → ℕ) (k : ℕ) (ups downs : List Half) : Type 0 where
+pub record AreWays (es : List (ℕ × ℕ)) (key : ℕ → ℕ) (k : ℕ) (ups downs : List Half) : Type 0 where
   pub ups_sorted : IsSortOf (filter (lies_in key k) (numbered 0 es)) ups
   pub downs_sorted : IsSortOf (filter (lies_in key k) (numbered 0 (backward es))) downs
 

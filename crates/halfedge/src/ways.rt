@@ -1,12 +1,13 @@
-// Half-edges in buckets by their lesser ends, and the two sides of a bucket: what runs up, from a
+// Half-edges in buckets by their lesser ends, and the two ways of a bucket: what runs up, from a
 // lesser vertex to a greater one, and what runs down.
 ghost use Rattle.std.specs.Prelude.{◌≡◌, ◌<◌, ◌≤◌, ◌*◌, List, IfOk, length, map};
 ghost use Rattle.std.specs.List.{All, filter};
 ghost use Rattle.chain_terms.specs.Chains.{all_edges};
 ghost use Rattle.chain_terms.specs.Ranks.{start, finish};
+ghost use Rattle.mesh_terms.specs.Limits.{most_triangles};
 ghost use Rattle.mesh_terms.specs.Meshes.{triples_of};
 ghost use Rattle.halfedge.specs.Pairing.{turned, IsSortOf};
-ghost use Rattle.halfedge.specs.Sides.{half_of, bucket_of, runs_up};
+ghost use Rattle.halfedge.specs.Ways.{half_of, bucket_of, runs_up};
 
 use mb_base::NoMemory;
 use std::alloc::Global;
@@ -17,7 +18,7 @@ pub type Half = (u32, u32, u32);
 
 /// The bucket of each half-edge: its lesser end, modulo the number of buckets.
 pub fn bucket_numbers(alloc: Global, triples: &[[u32; 3]], count: u32) -> Result<Vec<u32>, NoMemory>
-    requires few { length triples.now ≤ 100000000 }
+    requires few { length triples.now ≤ most_triangles }
     requires some { 0 < count }
     ensures { IfOk result (λ numbers. numbers.items ≡ map (bucket_of count) (all_edges (triples_of triples.now))) }
 {
@@ -46,12 +47,12 @@ fn bucket_number(a: u32, b: u32, count: u32) -> u32
 /// Of the half-edges of a bucket, given by their numbers, those that run up, each as its start, its end
 /// and its number, sorted; and those that run down, each as its end, its start and its number, sorted.
 /// The given lists are emptied and filled again, so that their memory serves all buckets.
-pub fn sides(
+pub fn ways(
     triples: &[[u32; 3]],
     bucket: &[u32],
     lists: (Vec<Half>, Vec<Half>),
 ) -> Result<(Vec<Half>, Vec<Half>), NoMemory>
-    requires few { length triples.now ≤ 100000000 }
+    requires few { length triples.now ≤ most_triangles }
     requires within { All (λ h. h < 3 * length triples.now) bucket.now }
     ensures ups { IfOk result (λ r. IsSortOf (filter runs_up (map (half_of (all_edges (triples_of triples.now))) bucket.now)) r.0.items) }
     ensures downs { IfOk result (λ r. IsSortOf (filter runs_up (map turned (map (half_of (all_edges (triples_of triples.now))) bucket.now))) r.1.items) }
@@ -68,7 +69,7 @@ fn split(
     bucket: &[u32],
     lists: (Vec<Half>, Vec<Half>),
 ) -> Result<(Vec<Half>, Vec<Half>), NoMemory>
-    requires few { length triples.now ≤ 100000000 }
+    requires few { length triples.now ≤ most_triangles }
     requires within { All (λ h. h < 3 * length triples.now) bucket.now }
     ensures ups { IfOk result (λ r. r.0.items ≡ filter runs_up (map (half_of (all_edges (triples_of triples.now))) bucket.now)) }
     ensures downs { IfOk result (λ r. r.1.items ≡ filter runs_up (map turned (map (half_of (all_edges (triples_of triples.now))) bucket.now))) }

@@ -1,48 +1,41 @@
 use Rattle.std.proofs.Common.{ℕ, ℤ, ◌∷◌, [], List, length, get_or, refl, ap, sym, ◌∙◌, subst}
 use Rattle.chain_terms.specs.Chains.{all_edges}
-use Rattle.chain_terms.specs.Ranks.{start, finish}
 use Rattle.mb_base.specs.declared.results.Hit.{Hit}
 use Rattle.mesh_terms.specs.Meshes.{Triple}
 use Rattle.side_terms.specs.Corners.{corner_at}
 use Rattle.shadow_kernels.specs.Counts.{shadow_of}
 use Rattle.side_terms.specs.Sides.{IsSide, edge_at, edge_of, face_at, face_of}
 use Rattle.lean.proofs.Corners.{edge_fine, face_fine}
-use Rattle.side_terms.specs.Hits.{AreHits}
+use Rattle.side_terms.specs.Hits.{AreHits, AllCross}
 use Rattle.crossings.specs.Hits.{CrossTest, hits_of}
 use Rattle.side_terms.specs.Conservation.{half_number, PairIdentity}
-use Rattle.crossings.proofs.Order.{AllListed, hits_in_order, listed_number}
+use Rattle.crossings.proofs.Order.{all_listed, hits_in_order}
 use Rattle.crossings.proofs.Rounds.{pairs_agree}
-use Rattle.crossings.proofs.sides.crossings.Goals as goal
+use Rattle.crossings.proofs.both.crossings.Goals as goal
 
 pub returns-clause-x12_listed : goal.returns-clause-x12_listed
 returns-clause-x12_listed g c =
-    let k = c.args.kernels.now in
     let p = c.args.p.now in
     let q = c.args.q.now in
-    let p_side : IsSide p = c.twins.ensures.side in
-    let q_side : IsSide q = c.twins-2.ensures.side in
-    let test : CrossTest = g.K.Crosses-1.cross_of k in
-    let listed : AllListed test p q =
-    λ h f.
-    let a = edge_fine p.corners p_side.fine (start (all_edges p.triples) h) (finish (all_edges p.triples) h) in
-    let b = face_fine q.corners q_side.fine (get_or q.triples f (0, 0, 0)) in
-    listed_number (test (edge_at p h) (face_at q f)) (g.met.K.Crosses-1.present k (edge_at p h) (face_at q f) refl refl a b) (g.met.K.Crosses-1.size k (edge_at p h) (face_at q f) refl refl a b) in
-    subst (AreHits (all_edges p.triples) (length q.triples)) (sym c.in_ok-x12.ensures) (hits_in_order test p q listed)
+    let test : CrossTest = g.K.Crosses-1.cross_of c.args.kernels.now in
+    subst (AreHits (all_edges p.triples) (length q.triples)) (sym c.in_ok-x12.ensures) (hits_in_order test p q (all_listed test c.args.p.now c.args.q.now c.twins.ensures.side.fine c.twins-2.ensures.side.fine (λ e f l m a b. (g.met.K.Crosses-1.present c.args.kernels.now e f l m a b, g.met.K.Crosses-1.size c.args.kernels.now e f l m a b)))).0
+
+pub returns-clause-x12_cross : goal.returns-clause-x12_cross
+returns-clause-x12_cross g c =
+    let test : CrossTest = g.K.Crosses-1.cross_of c.args.kernels.now in
+    subst AllCross (sym c.in_ok-x12.ensures) (hits_in_order test c.args.p.now c.args.q.now (all_listed test c.args.p.now c.args.q.now c.twins.ensures.side.fine c.twins-2.ensures.side.fine (λ e f l m a b. (g.met.K.Crosses-1.present c.args.kernels.now e f l m a b, g.met.K.Crosses-1.size c.args.kernels.now e f l m a b)))).1
 
 pub returns-clause-x21_listed : goal.returns-clause-x21_listed
 returns-clause-x21_listed g c =
-    let k = c.args.kernels.now in
     let p = c.args.p.now in
     let q = c.args.q.now in
-    let p_side : IsSide p = c.twins.ensures.side in
-    let q_side : IsSide q = c.twins-2.ensures.side in
-    let test : CrossTest = λ edge face. g.K.Crosses-2.cross_of k face edge in
-    let listed : AllListed test q p =
-    λ h f.
-    let a = edge_fine q.corners q_side.fine (start (all_edges q.triples) h) (finish (all_edges q.triples) h) in
-    let b = face_fine p.corners p_side.fine (get_or p.triples f (0, 0, 0)) in
-    listed_number (test (edge_at q h) (face_at p f)) (g.met.K.Crosses-2.present k (face_at p f) (edge_at q h) refl refl b a) (g.met.K.Crosses-2.size k (face_at p f) (edge_at q h) refl refl b a) in
-    subst (AreHits (all_edges q.triples) (length p.triples)) (sym c.in_ok-x21.ensures) (hits_in_order test q p listed)
+    let test : CrossTest = λ edge face. g.K.Crosses-2.cross_of c.args.kernels.now face edge in
+    subst (AreHits (all_edges q.triples) (length p.triples)) (sym c.in_ok-x21.ensures) (hits_in_order test q p (all_listed test c.args.q.now c.args.p.now c.twins-2.ensures.side.fine c.twins.ensures.side.fine (λ e f l m a b. (g.met.K.Crosses-2.present c.args.kernels.now f e m l b a, g.met.K.Crosses-2.size c.args.kernels.now f e m l b a)))).0
+
+pub returns-clause-x21_cross : goal.returns-clause-x21_cross
+returns-clause-x21_cross g c =
+    let test : CrossTest = λ edge face. g.K.Crosses-2.cross_of c.args.kernels.now face edge in
+    subst AllCross (sym c.in_ok-x21.ensures) (hits_in_order test c.args.q.now c.args.p.now (all_listed test c.args.q.now c.args.p.now c.twins-2.ensures.side.fine c.twins.ensures.side.fine (λ e f l m a b. (g.met.K.Crosses-2.present c.args.kernels.now f e m l b a, g.met.K.Crosses-2.size c.args.kernels.now f e m l b a)))).1
 
 pub returns-clause-pair_identity : goal.returns-clause-pair_identity
 returns-clause-pair_identity g c =

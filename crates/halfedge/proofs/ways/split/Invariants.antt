@@ -3,8 +3,8 @@ use Rattle.std.specs.List.{filter}
 use Rattle.chain_terms.specs.Chains.{all_edges}
 use Rattle.mesh_terms.specs.Meshes.{triples_of}
 use Rattle.halfedge.specs.Pairing.{turned}
-use Rattle.halfedge.specs.Sides.{half_of, runs_up}
-use Rattle.halfedge.proofs.sides.split.Given as goal
+use Rattle.halfedge.specs.Ways.{half_of, runs_up}
+use Rattle.halfedge.proofs.ways.split.Given as goal
 
 abbrev pub invariant-loop-half : goal.invariant-loop-half
 invariant-loop-half l = record {

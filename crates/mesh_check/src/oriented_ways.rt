@@ -1,9 +1,9 @@
-// Triangles in buckets by their least vertices, and the two sides of a bucket: read from the least
+// Triangles in buckets by their least vertices, and the two ways of a bucket: read from the least
 // vertex on, the triangles whose second vertex is below the third, and the rest, turned over.
 ghost use Rattle.std.specs.Prelude.{◌≡◌, ◌<◌, IfOk, length, map};
 ghost use Rattle.std.specs.List.{All, filter};
 ghost use Rattle.halfedge.specs.Pairing.{turned, IsSortOf};
-ghost use Rattle.halfedge.specs.Sides.{half_of, runs_up};
+ghost use Rattle.halfedge.specs.Ways.{half_of, runs_up};
 ghost use Rattle.mesh_terms.specs.Meshes.{triples_of};
 ghost use Rattle.mesh_check.specs.Cancelling.{vertices_of, halves_of, bucket_of_triple};
 ghost use Rattle.mesh_check.specs.Orientations.{orientation_edges, IsNarrow};
@@ -29,7 +29,7 @@ pub fn bucket_numbers(alloc: Global, triples: &[[u32; 3]], count: u32) -> Result
 /// whose second vertex is below the third, sorted; and those whose third is below the second, turned
 /// over, sorted. So opposite triangles have the same vertices in the two lists. The given lists are
 /// emptied and filled again, so that their memory serves all buckets.
-pub fn oriented_sides(
+pub fn oriented_ways(
     triples: &[[u32; 3]],
     bucket: &[u32],
     lists: (Vec<Oriented>, Vec<Oriented>),

@@ -1,7 +1,7 @@
 use Rattle.std.proofs.Common.{◌≡◌, ◌<◌, ◌*◌, ◌/◌, ◌%◌, ℕ, zero, suc, List, [], ◌∷◌, length, get_or, refl, sym, ◌∙◌, ap, arith}
 use Rattle.chain_terms.specs.Chains.{edges, all_edges}
 use Rattle.mesh_terms.specs.Meshes.{triple_of, triples_of}
-use Rattle.halfedge.proofs.sides.ends.Goals as goal
+use Rattle.halfedge.proofs.ways.ends.Goals as goal
 
 -- half-edge h is one of the three of its triangle
 edge_of_triangle : (ts : List (List ℕ)) (h : ℕ) → h < 3 * length ts → get_or (all_edges (triples_of ts)) h (0, 0) ≡ get_or (edges (triple_of (get_or ts (h / 3) []))) (h % 3) (0, 0)

@@ -1,7 +1,7 @@
 // All hits of two sides.
 ghost use Rattle.std.specs.Prelude.{◌≡◌, IfOk, length};
 ghost use Rattle.chain_terms.specs.Chains.{all_edges};
-ghost use Rattle.side_terms.specs.Hits.{AreHits};
+ghost use Rattle.side_terms.specs.Hits.{AllCross, AreHits};
 ghost use Rattle.crossings.specs.Hits.{hits_of};
 ghost use Rattle.side_terms.specs.Conservation.{half_number, PairIdentity};
 
@@ -24,9 +24,11 @@ pub fn crossings<K: Kernels>(
     ensures x12 { IfOk result (λ hits. hits.x12.items ≡ hits_of (⟦<K as Crosses<2, 3>>⟧.cross_of kernels.now) p.now q.now) }
     ensures x21 { IfOk result (λ hits. hits.x21.items ≡ hits_of (λ edge face. ⟦<K as Crosses<3, 2>>⟧.cross_of kernels.now face edge) q.now p.now) }
 
-    // Each is named by its lower half-edge, in order, with a number from -2 to 2 that is not 0.
+    // Each is named by its lower half-edge, in order, with a number from -2 to 2, which is not 0.
     ensures x12_listed { IfOk result (λ hits. AreHits (all_edges p.now.triples) (length q.now.triples) hits.x12.items) }
     ensures x21_listed { IfOk result (λ hits. AreHits (all_edges q.now.triples) (length p.now.triples) hits.x21.items) }
+    ensures x12_cross { IfOk result (λ hits. AllCross hits.x12.items) }
+    ensures x21_cross { IfOk result (λ hits. AllCross hits.x21.items) }
 
     // An upper half-edge has the number of its edge, turned. Round a face of p, the numbers with a face of q add up to
     // the same as round that face of q with this one.

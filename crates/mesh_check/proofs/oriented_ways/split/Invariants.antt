@@ -2,10 +2,10 @@ use Rattle.std.proofs.Common.{◌≡◌, take, map}
 use Rattle.std.specs.List.{All, filter}
 use Rattle.mesh_terms.specs.Meshes.{triples_of}
 use Rattle.halfedge.specs.Pairing.{turned}
-use Rattle.halfedge.specs.Sides.{half_of, runs_up}
+use Rattle.halfedge.specs.Ways.{half_of, runs_up}
 use Rattle.mesh_check.specs.Cancelling.{vertices_of, halves_of}
 use Rattle.mesh_check.specs.Orientations.{orientation_edges, IsNarrow}
-use Rattle.mesh_check.proofs.oriented_sides.split.Given as goal
+use Rattle.mesh_check.proofs.oriented_ways.split.Given as goal
 
 abbrev pub invariant-loop-place : goal.invariant-loop-place
 invariant-loop-place l = record {

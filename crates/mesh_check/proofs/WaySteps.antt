@@ -12,7 +12,7 @@ use Rattle.std.proofs.lemmas.List.Sorted.{IsPermutation-map, All-permutation}
 use Rattle.mesh_terms.specs.Meshes.{Triple, triple_of, triples_of}
 use Rattle.mesh_terms.specs.OpenEdges.{is_lesser}
 use Rattle.halfedge.specs.Pairing.{Half, half_cmp, IsSortOf}
-use Rattle.halfedge.specs.Sides.{half_of, runs_up}
+use Rattle.halfedge.specs.Ways.{half_of, runs_up}
 use Rattle.mesh_check.specs.declared.oriented.Oriented.{Oriented}
 use Rattle.mesh_check.specs.Cancelling.{vertices_of, as_half, halves_of, turned_over}
 use Rattle.mesh_check.specs.Orientations.{least_first, edge_of, orientation_edge, orientation_edges, IsNarrow}
@@ -36,15 +36,15 @@ edge_equal s t is =
     λ i. edge_of (a i, b i, c i)
 
 -- the order of oriented triangles
-abbrev pub side_cmp : Oriented → Oriented → Ordering
-side_cmp x y = ordering_then (nat_cmp x.least y.least) (ordering_then (nat_cmp x.second y.second) (ordering_then (nat_cmp x.third y.third) (nat_cmp x.place y.place)))
+abbrev pub way_cmp : Oriented → Oriented → Ordering
+way_cmp x y = ordering_then (nat_cmp x.least y.least) (ordering_then (nat_cmp x.second y.second) (ordering_then (nat_cmp x.third y.third) (nat_cmp x.place y.place)))
 
 -- is that of their half-edges
-half_before : (x y : Oriented) → IsNarrow (vertices_of x) → IsNarrow (vertices_of y) → is_lt (side_cmp x y) ≡ false → is_lt (half_cmp (as_half x) (as_half y)) ≡ false
+half_before : (x y : Oriented) → IsNarrow (vertices_of x) → IsNarrow (vertices_of y) → is_lt (way_cmp x y) ≡ false → is_lt (half_cmp (as_half x) (as_half y)) ≡ false
 half_before x y m n is = grind (arith, nat_tests, m.b, m.c, n.b, n.c, is)
 
 -- so sorted triangles are sorted half-edges
-halves_sorted : (xs : List Oriented) → All (λ o. IsNarrow (vertices_of o)) xs → IsSorted side_cmp xs → IsSorted half_cmp (halves_of xs)
+halves_sorted : (xs : List Oriented) → All (λ o. IsNarrow (vertices_of o)) xs → IsSorted way_cmp xs → IsSorted half_cmp (halves_of xs)
 halves_sorted xs narrow up k d low high =
     let none : Oriented = record { least = 0; second = 0; third = 0; place = 0 } in
     let within : k + 1 < length xs = omega (arith, high, length-map xs as_half) in
@@ -54,7 +54,7 @@ halves_sorted xs narrow up k d low high =
     (λ i. is_lt (half_cmp (next i) (here i))) ∙ half_before (get_or xs (k + 1) none) (get_or xs k none) (narrow (k + 1) none within) (narrow k none before) (up k none low within)
 
 -- narrow triangles, sorted, are their half-edges, sorted
-pub sort_of_halves : (hs : List Half) (os sorted : List Oriented) → halves_of os ≡ hs → All (λ o. IsNarrow (vertices_of o)) os → IsPermutation os sorted → IsSorted side_cmp sorted → IsSortOf hs (halves_of sorted)
+pub sort_of_halves : (hs : List Half) (os sorted : List Oriented) → halves_of os ≡ hs → All (λ o. IsNarrow (vertices_of o)) os → IsPermutation os sorted → IsSorted way_cmp sorted → IsSortOf hs (halves_of sorted)
 sort_of_halves hs os sorted known narrow moved up = record {
   moved = subst (λ l. IsPermutation l (halves_of sorted)) known (IsPermutation-map as_half os sorted moved);
   up = halves_sorted sorted (All-permutation (λ o. IsNarrow (vertices_of o)) os sorted moved narrow) up;

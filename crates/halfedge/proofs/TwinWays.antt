@@ -16,7 +16,7 @@ use Rattle.chain_terms.specs.Ranks.{rank, nth, start, finish, runs_as, runs_agai
 use Rattle.chain_laws.proofs.Ranks.{nth_rank}
 use Rattle.mesh_terms.specs.OpenEdges.{is_lesser}
 use Rattle.halfedge.specs.Pairing.{Half, numbered, half_at, half_cmp, ends, ends_of, IsSortOf}
-use Rattle.halfedge.specs.Sides.{edge_lies_in, lies_in, AreSides, ArePartners}
+use Rattle.halfedge.specs.Ways.{edge_lies_in, lies_in, AreWays, ArePartners}
 use Rattle.halfedge.proofs.Order.{same_edge}
 use Rattle.halfedge.proofs.Positions.{between, half_order, lesser_count, length-numbered, numbered_at, Holds}
 use Rattle.halfedge.proofs.NumberedHalves.{rank_suc, edge_at}
@@ -234,13 +234,13 @@ pub backward_at : (es : List (ℕ × ℕ)) (h : ℕ) → h < length es → edge_
 backward_at es h below = get_or-map turned_edge es h (0, 0) (0, 0) below
 
 -- at each place of the two lists the one half-edge runs back to the other
-runs_back_beside : (es : List (ℕ × ℕ)) (key : ℕ → ℕ) (k : ℕ) (ups downs : List Half) → AreSides es key k ups downs → ends_of ups ≡ ends_of downs → (i : ℕ) → i < length ups →
+runs_back_beside : (es : List (ℕ × ℕ)) (key : ℕ → ℕ) (k : ℕ) (ups downs : List Half) → AreWays es key k ups downs → ends_of ups ≡ ends_of downs → (i : ℕ) → i < length ups →
     RunsBack es (half_at ups i) (half_at downs i)
-runs_back_beside es key k ups downs sides same i below =
+runs_back_beside es key k ups downs ways same i below =
     let g = half_at ups i in
     let t = half_at downs i in
-    let p = placed_in es key k ups sides.ups_sorted i below in
-    let q = placed_in (backward es) key k downs sides.downs_sorted i (omega (arith, below, same_length ups downs same)) in
+    let p = placed_in es key k ups ways.ups_sorted i below in
+    let q = placed_in (backward es) key k downs ways.downs_sorted i (omega (arith, below, same_length ups downs same)) in
     let within : t < length es = omega (arith, q.within, length-map es turned_edge) in
     let runs = same_runs es (backward es) ups downs i g t same below p q in
     let turn = sym (backward_at es t within) ∙ runs in
@@ -254,19 +254,19 @@ runs_back_beside es key k ups downs sides same i below =
     }
 
 -- so at each place stand a half-edge and its twin
-pub twins_of_sides : (es : List (ℕ × ℕ)) (key : ℕ → ℕ) (k : ℕ) (ups downs : List Half) → AreSides es key k ups downs → ends_of ups ≡ ends_of downs → ArePartners (twin es) ups downs
-twins_of_sides es key k ups downs sides same = record {
-  there = λ i l. back_is_twin es (half_at ups i) (half_at downs i) (runs_back_beside es key k ups downs sides same i l);
+pub twins_of_sides : (es : List (ℕ × ℕ)) (key : ℕ → ℕ) (k : ℕ) (ups downs : List Half) → AreWays es key k ups downs → ends_of ups ≡ ends_of downs → ArePartners (twin es) ups downs
+twins_of_sides es key k ups downs ways same = record {
+  there = λ i l. back_is_twin es (half_at ups i) (half_at downs i) (runs_back_beside es key k ups downs ways same i l);
   back = λ i l. back_is_twin es (half_at downs i) (half_at ups i)
-      (runs_back-sym es (half_at ups i) (half_at downs i) (placed_in es key k ups sides.ups_sorted i l).within (runs_back_beside es key k ups downs sides same i l));
+      (runs_back-sym es (half_at ups i) (half_at downs i) (placed_in es key k ups ways.ups_sorted i l).within (runs_back_beside es key k ups downs ways same i l));
 }
 
 -- both lists hold half-edges of the chain
-pub halves_of_sides : (es : List (ℕ × ℕ)) (key : ℕ → ℕ) (k : ℕ) (ups downs : List Half) → AreSides es key k ups downs →
+pub halves_of_ways : (es : List (ℕ × ℕ)) (key : ℕ → ℕ) (k : ℕ) (ups downs : List Half) → AreWays es key k ups downs →
     ((i : ℕ) → i < length ups → half_at ups i < length es) × ((i : ℕ) → i < length downs → half_at downs i < length es)
-halves_of_sides es key k ups downs sides = (
-  (λ i l. (placed_in es key k ups sides.ups_sorted i l).within),
-  (λ i l. omega (arith, (placed_in (backward es) key k downs sides.downs_sorted i l).within, length-map es turned_edge)),
+halves_of_ways es key k ups downs ways = (
+  (λ i l. (placed_in es key k ups ways.ups_sorted i l).within),
+  (λ i l. omega (arith, (placed_in (backward es) key k downs ways.downs_sorted i l).within, length-map es turned_edge)),
 )
 
 -- a half-edge that lies in the bucket has a place in the sorted bucket
@@ -291,13 +291,13 @@ pub lies_from : (key : ℕ → ℕ) (k a b : ℕ) → a < b → key a ≡ k → 
 lies_from key k a b up keyed = and_from (nat_lt a b) (key a == k) (lt-ltb a b up) (eq-eqb (key a) k keyed)
 
 -- a half-edge that runs up has a place among those of its bucket
-pub up_placed : (es : List (ℕ × ℕ)) (key : ℕ → ℕ) (k : ℕ) (ups downs : List Half) → AreSides es key k ups downs → (h : ℕ) → h < length es → start es h < finish es h → key (start es h) ≡ k →
+pub up_placed : (es : List (ℕ × ℕ)) (key : ℕ → ℕ) (k : ℕ) (ups downs : List Half) → AreWays es key k ups downs → (h : ℕ) → h < length es → start es h < finish es h → key (start es h) ≡ k →
     (i : ℕ) × (i < length ups) × (half_at ups i ≡ h)
-up_placed es key k ups downs sides h below up keyed = place_in_bucket es key k ups sides.ups_sorted.moved h below (lies_from key k (start es h) (finish es h) up keyed)
+up_placed es key k ups downs ways h below up keyed = place_in_bucket es key k ups ways.ups_sorted.moved h below (lies_from key k (start es h) (finish es h) up keyed)
 
 -- and one that runs down among those that are turned
-pub down_placed : (es : List (ℕ × ℕ)) (key : ℕ → ℕ) (k : ℕ) (ups downs : List Half) → AreSides es key k ups downs → (h : ℕ) → h < length es → finish es h < start es h → key (finish es h) ≡ k →
+pub down_placed : (es : List (ℕ × ℕ)) (key : ℕ → ℕ) (k : ℕ) (ups downs : List Half) → AreWays es key k ups downs → (h : ℕ) → h < length es → finish es h < start es h → key (finish es h) ≡ k →
     (i : ℕ) × (i < length downs) × (half_at downs i ≡ h)
-down_placed es key k ups downs sides h below down keyed =
-    place_in_bucket (backward es) key k downs sides.downs_sorted.moved h (omega (arith, below, length-map es turned_edge))
+down_placed es key k ups downs ways h below down keyed =
+    place_in_bucket (backward es) key k downs ways.downs_sorted.moved h (omega (arith, below, length-map es turned_edge))
     (ap (edge_lies_in key k) (backward_at es h below) ∙ lies_from key k (finish es h) (start es h) down keyed)

@@ -4,13 +4,13 @@ use Rattle.std.proofs.lemmas.List.{take_all}
 use Rattle.std.proofs.lemmas.Simd.{map-map}
 use Rattle.mesh_terms.specs.Meshes.{triples_of}
 use Rattle.halfedge.specs.Pairing.{Half, turned}
-use Rattle.halfedge.specs.Sides.{half_of, runs_up}
+use Rattle.halfedge.specs.Ways.{half_of, runs_up}
 use Rattle.mesh_check.specs.declared.oriented.Oriented.{Oriented}
 use Rattle.mesh_check.specs.Cancelling.{vertices_of, as_half, turned_over}
 use Rattle.mesh_check.specs.Orientations.{orientation_edges, IsNarrow}
-use Rattle.mesh_check.proofs.SideSteps.{half_there, up_from_second, not_up, taken, left_out, all_narrow, other_narrow}
-use Rattle.mesh_check.proofs.oriented_sides.split.Goals as goal
-use Rattle.mesh_check.proofs.oriented_sides.split.Goals.{then-one+in_ok-push, else-one+then-one-2+in_ok-push-2, else-one+else-one-2}
+use Rattle.mesh_check.proofs.WaySteps.{half_there, up_from_second, not_up, taken, left_out, all_narrow, other_narrow}
+use Rattle.mesh_check.proofs.oriented_ways.split.Goals as goal
+use Rattle.mesh_check.proofs.oriented_ways.split.Goals.{then-one+in_ok-push, else-one+then-one-2+in_ok-push-2, else-one+else-one-2}
 
 pub loop-place-preserved : goal.loop-place-preserved
 loop-place-preserved c =
