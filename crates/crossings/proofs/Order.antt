@@ -125,10 +125,12 @@ hits_in_order test edges faces listed =
     λ h.
     let row = along_from (λ f. test (edge_at edges h) (face_at faces f)) (listed h) h 0 n in
     let end : 0 + n ≡ n = omega arith in (subst (λ e. All (IsAlong h 0 e) (hits_along test edges faces h)) end row.0, row.1) in
-    let all = of_from lower n (hits_along test edges faces) rows 0 (length es) in
-    (record {
-      on_edges = All-weaker (IsOf lower 0 (0 + length es) n) (λ x. (x.edge < length es) × (x.edge < twin es x.edge)) (λ x a. (omega (arith, a.below), ltb-true x.edge (twin es x.edge) a.passes)) hits all.0;
-      on_faces = All-weaker (IsOf lower 0 (0 + length es) n) (λ x. x.face < n) (λ x a. a.face) hits all.0;
-      numbers = All-weaker (IsOf lower 0 (0 + length es) n) (λ x. IsNumber x.number) (λ x a. a.listed.range) hits all.0;
-      ascending = all.1;
-    }, All-weaker (IsOf lower 0 (0 + length es) n) (λ x. x.number ≢ pos 0) (λ x a. a.listed.some) hits all.0)
+    let all = of_from lower n (hits_along test edges faces) rows 0 (length es) in (
+      record {
+        on_edges = All-weaker (IsOf lower 0 (0 + length es) n) (λ x. (x.edge < length es) × (x.edge < twin es x.edge)) (λ x a. (omega (arith, a.below), ltb-true x.edge (twin es x.edge) a.passes)) hits all.0;
+        on_faces = All-weaker (IsOf lower 0 (0 + length es) n) (λ x. x.face < n) (λ x a. a.face) hits all.0;
+        numbers = All-weaker (IsOf lower 0 (0 + length es) n) (λ x. IsNumber x.number) (λ x a. a.listed.range) hits all.0;
+        ascending = all.1;
+      },
+      All-weaker (IsOf lower 0 (0 + length es) n) (λ x. x.number ≢ pos 0) (λ x a. a.listed.some) hits all.0,
+    )

@@ -4,9 +4,9 @@
 //! inexact geometric computation" and the Manifold library.
 #![tactic(auto)]
 
+mod both;
 mod hits;
 mod pairs;
-mod both;
 #[cfg(test)]
 mod tests;
 

@@ -6,8 +6,8 @@ ghost use Rattle.mesh_terms.specs.Meshes.{triples_of};
 ghost use Rattle.mesh_terms.specs.OpenEdges.{open_pair};
 ghost use Rattle.halfedge.specs.Pairing.{numbered, turned};
 
-use crate::ways::Half;
 use crate::surplus::least_surplus;
+use crate::ways::Half;
 use mb_base::NoMemory;
 use std::alloc::Global;
 

@@ -47,18 +47,28 @@ mod tests {
     use super::*;
     use std::marker::Brand;
 
-    fn tick_twice<L: Ledger>(blank: Blank)
-        requires name { blank.name ≡ L.name }
-        requires parts { blank.parts ≡ L.parts }
-        requires some { 0 < blank.parts }
+    // A caller that counts through another one's counter.
+    fn tick_twice<L: Ledger>(steps: &mut Steps<L>)
+        ensures { steps.new ≡ steps.old + 2 }
     {
-        let mut steps = Steps::<L>::over(blank);
         steps.tick();
         steps.tick();
     }
 
+    // And one that makes its own.
+    fn count_two<L: Ledger>(blank: Blank) -> Steps<L>
+        requires name { blank.name ≡ L.name }
+        requires parts { blank.parts ≡ L.parts }
+        requires some { 0 < blank.parts }
+        ensures { result ≡ 2 }
+    {
+        let mut steps = Steps::<L>::over(blank);
+        tick_twice(&mut steps);
+        steps
+    }
+
     #[test]
     fn a_caller_counts_for_itself(rt: HostRuntime) {
-        tick_twice::<Brand>(Blank::new(1));
+        let _ = count_two::<Brand>(Blank::new(1));
     }
 }
