@@ -55,20 +55,18 @@ mod tests {
         steps.tick();
     }
 
-    // And one that makes its own.
-    fn count_two<L: Ledger>(blank: Blank) -> Steps<L>
+    // A caller that makes its own.
+    fn count_two<L: Ledger>(blank: Blank)
         requires name { blank.name ≡ L.name }
         requires parts { blank.parts ≡ L.parts }
         requires some { 0 < blank.parts }
-        ensures { result ≡ 2 }
     {
         let mut steps = Steps::<L>::over(blank);
         tick_twice(&mut steps);
-        steps
     }
 
     #[test]
     fn a_caller_counts_for_itself(rt: HostRuntime) {
-        let _ = count_two::<Brand>(Blank::new(1));
+        count_two::<Brand>(Blank::new(1));
     }
 }
