@@ -1,0 +1,4 @@
+pub mod Bridges
+pub mod Cones
+pub mod Holes
+pub mod Passes
