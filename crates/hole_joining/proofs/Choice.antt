@@ -141,12 +141,15 @@ head_first x xs up (Some d) none some b e = elim (cases_Bool (nat_lt d.length2 x
   where
     far : (l i j m k n p : ℕ) → l ≤ m → m ≤ p → Before i (suc j) k (suc n) → IsLater l i j p k n
     far l i j m k n p h g up = grind arith
+
     longer : (d c : Bridge) → (d ≡ c) ⊎ IsLater d.length2 d.ring d.place c.length2 c.ring c.place → d.length2 ≤ c.length2
     longer d c (inl h) = omega (arith, ap (λ (z : Bridge). z.length2) h)
     longer d c (inr h) = omega (arith, h)
+
     keep_rest : nat_lt d.length2 x.length2 ≡ true → (c : Bridge) → Member c (x ∷ xs) → (d ≡ c) ⊎ IsLater d.length2 d.ring d.place c.length2 c.ring c.place
     keep_rest y c (inl h) = inr (inl (subst (λ (z : Bridge). d.length2 < z.length2) (sym h) (ltb-true d.length2 x.length2 y)))
     keep_rest y c (inr m) = (some d refl).1 c m
+
     keep_head : nat_lt d.length2 x.length2 ≡ false → (c : Bridge) → Member c (x ∷ xs) → (x ≡ c) ⊎ IsLater x.length2 x.ring x.place c.length2 c.ring c.place
     keep_head n c (inl h) = inl (sym h)
     keep_head n c (inr m) = inr (far x.length2 x.ring x.place d.length2 c.ring c.place c.length2 (ltb-false d.length2 x.length2 n) (longer d c ((some d refl).1 c m)) (up c m))
@@ -172,6 +175,7 @@ is_shortest i j bs up b first = decide (shortest bs) refl
   where
     empty : (xs : List Bridge) → xs ≡ [] → Member b xs → ⊥
     empty xs e m = let h : Member b [] = subst (Member b) e m in elim h [ ]
+
     decide : (o : Option Bridge) → shortest bs ≡ o → o ≡ Some b
     decide None e = absurd (empty bs (shortest_none bs e) first.0)
     decide (Some d) e = let g = shortest_first i j bs up d e in ap Some (one_first d b (g.1 b first.0) (first.1 d g.0))
@@ -198,18 +202,21 @@ after_refused clear last i j bs up b e n c m = elim (cases_Bool (clear c)) as (�
   where
     first : IsFirst b (filter (is_after last) bs)
     first = shortest_first i j (filter (is_after last) bs) (ascending_kept (is_after last) i j bs up) b e
+
     here : Member b bs × (is_after last b ≡ true)
     here = kept (is_after last) bs b first.0
+
     then_later : is_after last c ≡ true → clear c ≡ true → is_after (Some b) c ≡ true
     then_later t y = elim (first.1 c (keeps (is_after last) bs c m t)) as (λ _. is_after (Some b) c ≡ true) [
       | inl same ↦ absurd (both_ways (clear c) (sym (ap clear same) ∙ n) y)
       | inr l ↦ (later_decides b.length2 b.ring b.place c.length2 c.ring c.place).1 l
     ]
+
     from_last : (o : Option Bridge) (b c : Bridge) → is_after o b ≡ true → is_after (Some b) c ≡ true → is_after o c ≡ true
     from_last None b c t u = refl
     from_last (Some a) b c t u =
         (later_decides a.length2 a.ring a.place c.length2 c.ring c.place).1 (later_chain a.length2 a.ring a.place b.length2 b.ring b.place c.length2 c.ring c.place
-          ((later_decides a.length2 a.ring a.place b.length2 b.ring b.place).0 t) ((later_decides b.length2 b.ring b.place c.length2 c.ring c.place).0 u))
+        ((later_decides a.length2 a.ring a.place b.length2 b.ring b.place).0 t) ((later_decides b.length2 b.ring b.place c.length2 c.ring c.place).0 u))
 
 -- no bridge up to the last refused one is clear, as far as the choice goes
 abbrev pub Refused : (Bridge → Bool) → List Bridge → Option Bridge → Type 0
@@ -242,6 +249,7 @@ next_none clear last bs e h = ap (λ o. or_any o (shortest bs)) (h ∙ ap shorte
       where
         none : (c : Bridge) → Member c [] → ⊥
         none c m = m
+
         empty : (ys : List Bridge) → ((c : Bridge) → Member c ys → ⊥) → ys ≡ []
         empty [] h = refl
         empty (y ∷ ys) h = absurd (h y (inl refl))

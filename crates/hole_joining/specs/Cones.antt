@@ -2,7 +2,7 @@
 use Rattle.std.specs.Prelude.{ℕ, ℤ, pos, List, Bool, cond, not, ◌&&◌, ◌||◌, ◌==◌, int_lt, int_le}
 use Rattle.std.specs.Int.{int_min, int_max}
 use Rattle.std.specs.List.{list_any}
-use Rattle.face_plane.specs.Planes.{Plane, orient}
+use Rattle.face_plane.specs.Planes.{Plane, turn, orient}
 use Rattle.face_plane.specs.Rings.{vertex_at, vertex_before, vertex_after}
 
 -- whether the segment from s towards t lies in the cone at s, between p before and n after it
@@ -20,12 +20,19 @@ overlap a b c d = int_le (int_min a b) (int_max c d) && int_le (int_min c d) (in
 abbrev pub on_both_sides : ℤ → ℤ → Bool
 on_both_sides s t = not (int_lt (pos 0) s && int_lt (pos 0) t) && not (int_lt s (pos 0) && int_lt t (pos 0))
 
+-- the boxes of two segments have a point in common
+abbrev pub boxes_meet : ℤ × ℤ → ℤ × ℤ → ℤ × ℤ → ℤ × ℤ → Bool
+boxes_meet a b c d = overlap a.0 b.0 c.0 d.0 && overlap a.1 b.1 c.1 d.1
+
+-- neither of two segments lies strictly on one side of the other's line
+abbrev pub lines_meet : ℤ × ℤ → ℤ × ℤ → ℤ × ℤ → ℤ × ℤ → Bool
+lines_meet a b c d = on_both_sides (turn a b c) (turn a b d) && on_both_sides (turn c d a) (turn c d b)
+
 -- the closed segments from a to b and from c to d have a point in common
 abbrev pub share_point : Plane → ℕ → ℕ → ℕ → ℕ → Bool
-share_point at a b c d =
-    overlap (at a).0 (at b).0 (at c).0 (at d).0 && overlap (at a).1 (at b).1 (at c).1 (at d).1
-    && on_both_sides (orient at a b c) (orient at a b d) && on_both_sides (orient at c d a) (orient at c d b)
+share_point at a b c d = boxes_meet (at a) (at b) (at c) (at d) && lines_meet (at a) (at b) (at c) (at d)
 
+-- the vertex is an end of the edge
 abbrev pub has_end : (ℕ × ℕ) → ℕ → Bool
 has_end e v = (e.0 == v) || (e.1 == v)
 

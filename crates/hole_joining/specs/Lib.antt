@@ -2,3 +2,4 @@ pub mod Bridges
 pub mod Cones
 pub mod Holes
 pub mod Passes
+pub mod Seen
