@@ -1,13 +1,15 @@
 -- The bridge that is taken: the first clear one in the order of length, ring and place.
-use Rattle.std.specs.Prelude.{◌≡◌, ℕ, suc, ◌+◌, ◌<◌, ◌≤◌, ◌⊎◌, List, [], ◌∷◌, ◌++◌, true, false, Bool, cond, not, ◌&&◌, ◌||◌, ◌==◌, nat_lt, filter, Option, Some, None}
+use Rattle.std.specs.Prelude.{◌≡◌, ℕ, zero, suc, ◌+◌, ◌<◌, ◌≤◌, ◌⊎◌, ℤ, pos, List, [], ◌∷◌, ◌++◌, true, false, Bool, cond, not, ◌&&◌, ◌||◌, ◌==◌, nat_lt, length, get_or, drop, filter, unsigned_abs, Option, Some, None}
 use Rattle.std.specs.Bool.{Decides}
+use Rattle.std.specs.Option.{option_or}
 use Rattle.std.proofs.Common.{arith, refl, sym, ap, subst, ◌∙◌, inl, inr}
 use Rattle.std.proofs.lemmas.Bool.{cases_Bool, cases_lt, cases_eq, ltb-true, ltb-false, lt-ltb, le-ltb, and_parts, and_from, and_right, both_ways, false_from_ne_true, cond-true, cond-false}
+use Rattle.std.proofs.lemmas.List.{at_drop_more}
 use Rattle.std.proofs.lemmas.Option.{same_Some, none-some}
 use Rattle.std.proofs.lemmas.Bool.Decides.{Decides-or, Decides-and, Decides-ltb, Decides-eqb}
 use Rattle.hole_joining.specs.declared.bridge.Bridge.{Bridge}
-use Rattle.face_plane.specs.Planes.{Plane}
-use Rattle.hole_joining.specs.Bridges.{bridges_to, all_bridges, shorter, shortest, or_any, chosen}
+use Rattle.face_plane.specs.Planes.{Plane, distance2}
+use Rattle.hole_joining.specs.Bridges.{bridges_to, all_bridges, shorter, shortest, chosen}
 use Rattle.hole_joining.specs.Passes.{is_later, is_after, is_nearer, better, best_of, passes}
 
 -- b stands in the list
@@ -238,11 +240,11 @@ refused_more clear last i j bs up b e n h = h ∙ ap shortest (filter_same (pass
 -- the next one is clear: it is taken
 pub next_clear : (clear : Bridge → Bool) (last : Option Bridge) (i j : ℕ) (bs : List Bridge) → Ascending i j bs → (b : Bridge) → shortest (filter (is_after last) bs) ≡ Some b → clear b ≡ true →
     Refused clear bs last → chosen clear bs ≡ Some b
-next_clear clear last i j bs up b e y h = ap (λ o. or_any o (shortest bs)) (h ∙ still_shortest (is_after last) clear i j bs up b e y)
+next_clear clear last i j bs up b e y h = ap (λ o. option_or o (shortest bs)) (h ∙ still_shortest (is_after last) clear i j bs up b e y)
 
 -- there is no next one: the shortest of all is taken
 pub next_none : (clear : Bridge → Bool) (last : Option Bridge) (bs : List Bridge) → shortest (filter (is_after last) bs) ≡ None → Refused clear bs last → chosen clear bs ≡ shortest bs
-next_none clear last bs e h = ap (λ o. or_any o (shortest bs)) (h ∙ ap shortest (less bs (shortest_none (filter (is_after last) bs) e)))
+next_none clear last bs e h = ap (λ o. option_or o (shortest bs)) (h ∙ ap shortest (less bs (shortest_none (filter (is_after last) bs) e)))
   where
     less : (xs : List Bridge) → filter (is_after last) xs ≡ [] → filter (passes clear true last) xs ≡ []
     less xs f = empty (filter (passes clear true last) xs) (λ c m. let r = kept (passes clear true last) xs c m in none c (subst (Member c) f (keeps (is_after last) xs c r.0 (and_parts (clear c) (is_after last c) r.1).1)))
@@ -255,8 +257,8 @@ next_none clear last bs e h = ap (λ o. or_any o (shortest bs)) (h ∙ ap shorte
         empty (y ∷ ys) h = absurd (h y (inl refl))
 
 -- the choice among those that come after the last refused one
-pub rest_chosen : (clear : Bridge → Bool) (last : Option Bridge) (bs : List Bridge) → Refused clear bs last → chosen clear bs ≡ or_any (shortest (filter (passes clear true last) bs)) (shortest bs)
-rest_chosen clear last bs h = ap (λ o. or_any o (shortest bs)) h
+pub rest_chosen : (clear : Bridge → Bool) (last : Option Bridge) (bs : List Bridge) → Refused clear bs last → chosen clear bs ≡ option_or (shortest (filter (passes clear true last) bs)) (shortest bs)
+rest_chosen clear last bs h = ap (λ o. option_or o (shortest bs)) h
 
 -- the best so far and the shortest of the rest
 abbrev pub with_best : Option Bridge → Option Bridge → Option Bridge
@@ -305,3 +307,96 @@ bridges_ascending at h k n (r ∷ rs) tail up i j b = (b, bridges_ascending at h
 pub all_ascending : (at : Plane) (h k : ℕ) (rings : List (List ℕ)) → Ascending k 0 (all_bridges at h k rings)
 all_ascending at h k [] = tt
 all_ascending at h k (ring ∷ rings) = bridges_ascending at h k 0 ring (all_bridges at h (suc k) rings) (all_ascending at h (suc k) rings) k 0 (inr (refl, omega arith))
+
+-- a pass over all that come after the last refused one
+pub pass_after : (clear : Bridge → Bool) (last : Option Bridge) (bs : List Bridge) → best_of (passes clear false last) None bs ≡ shortest (filter (is_after last) bs)
+pass_after clear last bs = best_of_is (passes clear false last) None bs
+
+-- a pass over all
+pub pass_all : (clear : Bridge → Bool) (bs : List Bridge) → best_of (passes clear false None) None bs ≡ shortest bs
+pass_all clear bs = pass_after clear None bs ∙ ap shortest (filter_all bs)
+
+-- a pass over the clear ones among these
+pub pass_clear : (clear : Bridge → Bool) (last : Option Bridge) (bs : List Bridge) → best_of (passes clear true last) None bs ≡ shortest (filter (passes clear true last) bs)
+pass_clear clear last bs = best_of_is (passes clear true last) None bs
+
+-- a pass over two lists
+best_of-append : (p : Bridge → Bool) (best : Option Bridge) (xs ys : List Bridge) → best_of p best (xs ++ ys) ≡ best_of p (best_of p best xs) ys
+best_of-append p best [] ys = refl
+best_of-append p best (x ∷ xs) ys = best_of-append p (better p best x) xs ys
+
+-- a pass over one place more
+pub best_of_place : (at : Plane) (h i j l : ℕ) (p : Bridge → Bool) (best now : Option Bridge) (rs : List ℕ) → j < length rs → pos l ≡ distance2 (at h) (at (get_or rs j 0)) → now ≡ better p best (record { ring = i; place = j; length2 = l }) →
+    best_of p now (bridges_to at h i (j + 1) (drop (j + 1) rs)) ≡ best_of p best (bridges_to at h i j (drop j rs))
+best_of_place at h i j l p best now rs within far e =
+    let next : Bridge = record { ring = i; place = j; length2 = unsigned_abs (distance2 (at h) (at (get_or rs j 0))) } in
+    let same : now ≡ better p best next = e ∙ ap (λ m. better p best (record { ring = i; place = j; length2 = m })) (ap unsigned_abs far) in
+    let one : j + 1 ≡ suc j = omega arith in
+    ap (λ o. best_of p o (bridges_to at h i (j + 1) (drop (j + 1) rs))) same ∙ ap (λ k. best_of p (better p best next) (bridges_to at h i k (drop (j + 1) rs))) one ∙ sym (at_drop_more (λ r. best_of p best (bridges_to at h i j r)) rs j 0 within)
+
+-- a pass over one ring more
+pub best_of_ring : (at : Plane) (h i : ℕ) (p : Bridge → Bool) (best now : Option Bridge) (rings : List (List ℕ)) → i < length rings → now ≡ best_of p best (bridges_to at h i 0 (get_or rings i [])) →
+    best_of p now (all_bridges at h (i + 1) (drop (i + 1) rings)) ≡ best_of p best (all_bridges at h i (drop i rings))
+best_of_ring at h i p best now rings within e =
+    let one : i + 1 ≡ suc i = omega arith in
+    ap (λ o. best_of p o (all_bridges at h (i + 1) (drop (i + 1) rings))) e ∙ ap (λ k. best_of p (best_of p best (bridges_to at h i 0 (get_or rings i []))) (all_bridges at h k (drop (i + 1) rings))) one
+    ∙ sym (best_of-append p best (bridges_to at h i 0 (get_or rings i [])) (all_bridges at h (suc i) (drop (i + 1) rings))) ∙ sym (at_drop_more (λ r. best_of p best (all_bridges at h i r)) rings i [] within)
+
+-- a member of two lists is in one of them
+member_cases : (b : Bridge) (xs ys : List Bridge) → Member b (xs ++ ys) → Member b xs ⊎ Member b ys
+member_cases b [] ys h = inr h
+member_cases b (x ∷ xs) ys (inl e) = inl (inl e)
+member_cases b (x ∷ xs) ys (inr m) = elim (member_cases b xs ys m) as (λ _. Member b (x ∷ xs) ⊎ Member b ys) [ inl l ↦ inl (inr l) | inr r ↦ inr r ]
+
+-- the bridges to one ring lead to its places
+bridges_within : (at : Plane) (h i j : ℕ) (rs : List ℕ) (b : Bridge) → Member b (bridges_to at h i j rs) → (b.ring ≡ i) × (b.place < j + length rs)
+bridges_within at h i j [] b m = elim m [ ]
+bridges_within at h i j (r ∷ rs) b (inl e) = (ap (λ (z : Bridge). z.ring) e, omega (arith, ap (λ (z : Bridge). z.place) e))
+bridges_within at h i j (r ∷ rs) b (inr m) = let p = bridges_within at h i (suc j) rs b m in (p.0, omega (arith, p.1))
+
+-- all bridges lead to places of rings
+all_within : (at : Plane) (h i : ℕ) (rings : List (List ℕ)) (b : Bridge) → Member b (all_bridges at h i rings) → (k : ℕ) × (b.ring ≡ i + k) × (k < length rings) × (b.place < length (get_or rings k []))
+all_within at h i [] b m = elim m [ ]
+all_within at h i (ring ∷ rings) b m = elim (member_cases b (bridges_to at h i 0 ring) (all_bridges at h (suc i) rings) m) as (λ _. (k : ℕ) × (b.ring ≡ i + k) × (k < suc (length rings)) × (b.place < length (get_or (ring ∷ rings) k []))) [
+  | inl l ↦ let p = bridges_within at h i 0 ring b l in (zero, omega (arith, p.0), omega arith, omega (arith, p.1))
+  | inr r ↦ let p = all_within at h (suc i) rings b r in (suc p.0, omega (arith, p.1), omega (arith, p.2), p.3)
+]
+
+-- a bridge to a place of one of the rings
+pub record LeadsTo (rings : List (List ℕ)) (b : Bridge) : Type 0 where
+  pub ring : b.ring < length rings
+  pub place : b.place < length (get_or rings b.ring [])
+
+pub leads_to : (at : Plane) (h : ℕ) (rings : List (List ℕ)) (b : Bridge) → Member b (all_bridges at h 0 rings) → LeadsTo rings b
+leads_to at h rings b m =
+    let p = all_within at h 0 rings b m in
+    let same : b.ring ≡ p.0 = omega (arith, p.1) in
+    record { ring = omega (arith, same, p.2); place = omega (arith, p.3, ap (λ k. length (get_or rings k [])) same) }
+
+-- the shortest that passes leads to a place
+pub shortest_leads : (at : Plane) (h : ℕ) (rings : List (List ℕ)) (p : Bridge → Bool) (b : Bridge) → shortest (filter p (all_bridges at h 0 rings)) ≡ Some b → LeadsTo rings b
+shortest_leads at h rings p b e =
+    let bs = all_bridges at h 0 rings in
+    leads_to at h rings b (kept p bs b (shortest_first 0 0 (filter p bs) (ascending_kept p 0 0 bs (all_ascending at h 0 rings)) b e).0).0
+
+-- so does the one that is chosen
+pub chosen_leads : (at : Plane) (h : ℕ) (rings : List (List ℕ)) (clear : Bridge → Bool) (b : Bridge) → chosen clear (all_bridges at h 0 rings) ≡ Some b → LeadsTo rings b
+chosen_leads at h rings clear b e = by_first (shortest (filter clear bs)) refl e
+  where
+    bs : List Bridge
+    bs = all_bridges at h 0 rings
+
+    by_first : (o : Option Bridge) → shortest (filter clear bs) ≡ o → option_or o (shortest bs) ≡ Some b → LeadsTo rings b
+    by_first None f e = leads_to at h rings b (shortest_first 0 0 bs (all_ascending at h 0 rings) b e).0
+    by_first (Some c) f e = shortest_leads at h rings clear b (f ∙ e)
+
+-- where there is a ring with a place, a bridge is chosen
+pub chosen_some : (clear : Bridge → Bool) (b : Bridge) (bs : List Bridge) → chosen clear (b ∷ bs) ≡ None → ⊥
+chosen_some clear b bs e = by_first (shortest (filter clear (b ∷ bs))) e
+  where
+    empty : (c : Bridge) (cs : List Bridge) → c ∷ cs ≡ [] → ⊥
+    empty c cs f = cc
+
+    by_first : (o : Option Bridge) → option_or o (shortest (b ∷ bs)) ≡ None → ⊥
+    by_first None e = empty b bs (shortest_none (b ∷ bs) e)
+    by_first (Some c) e = absurd (none-some c (sym e))

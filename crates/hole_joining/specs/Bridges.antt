@@ -1,6 +1,7 @@
 -- Bridges from a hole to the places of the rings, which of them is taken, and the rings after every hole was joined.
 use Rattle.std.specs.Prelude.{ℕ, suc, ◌+◌, List, [], ◌∷◌, ◌++◌, Bool, cond, nat_lt, get_or, take, drop, set, filter, unsigned_abs, Option, Some, None}
 use Rattle.std.specs.List.{flat_map}
+use Rattle.std.specs.Option.{option_or}
 use Rattle.chain_terms.specs.Paths.{round_edges}
 use Rattle.face_plane.specs.Planes.{Plane, distance2}
 use Rattle.face_plane.specs.Rings.{vertex_at}
@@ -28,13 +29,9 @@ abbrev pub shortest : List Bridge → Option Bridge
 shortest [] = None
 shortest (b ∷ bs) = shorter b (shortest bs)
 
-abbrev pub or_any : Option Bridge → Option Bridge → Option Bridge
-or_any None any = any
-or_any (Some b) any = Some b
-
 -- the shortest clear one, or where none is clear the shortest of all
 abbrev pub chosen : (Bridge → Bool) → List Bridge → Option Bridge
-chosen clear bs = or_any (shortest (filter clear bs)) (shortest bs)
+chosen clear bs = option_or (shortest (filter clear bs)) (shortest bs)
 
 -- the hole is put after place i of the ring, then its start and the place again: the bridge is used both ways
 abbrev pub join : List ℕ → ℕ → List ℕ → List ℕ

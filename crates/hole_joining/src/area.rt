@@ -19,8 +19,8 @@ fn edge_area(flat: &FlatPoints, from: u32, to: u32) -> i128
     i128::from(FlatPoint::wedge(flat.at(from), flat.at(to)))
 }
 
-/// The doubled area of a loop.
-pub fn loop_area(flat: &FlatPoints, ring: &[u32]) -> i128
+// The doubled area of a loop.
+fn loop_area(flat: &FlatPoints, ring: &[u32]) -> i128
     ensures value { result ≡ area (plane_at flat.now) ring.now }
     ensures small { IsWithin result (2 ^ 61 * length ring.now) }
 {
@@ -42,6 +42,20 @@ fn area_from(flat: &FlatPoints, first: u32, rest: &[u32]) -> i128
         last = *vertex;
     }
     sum + edge_area(flat, last, first)
+}
+
+/// Whether the loop is a ring: its doubled area is at least 0.
+pub fn is_ring(flat: &FlatPoints, ring: &[u32]) -> bool
+    ensures { result ≡ is_ring (plane_at flat.now) ring.now }
+{
+    loop_area(flat, ring) >= 0
+}
+
+/// Whether it is a hole.
+pub fn is_hole(flat: &FlatPoints, ring: &[u32]) -> bool
+    ensures { result ≡ is_hole (plane_at flat.now) ring.now }
+{
+    loop_area(flat, ring) < 0
 }
 
 /// The doubled areas of all loops, added up.

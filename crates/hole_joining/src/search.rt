@@ -1,7 +1,7 @@
 // The search for the bridge of a hole.
 ghost use Rattle.std.specs.Prelude.{◌≡◌, ◌<◌, length, get_or, [], IfSome};
 ghost use Rattle.hole_joining.specs.Seen.{plane_at, start_of, clear_of, bridges_of};
-ghost use Rattle.hole_joining.specs.Bridges.{bridges_to, chosen, or_any};
+ghost use Rattle.hole_joining.specs.Bridges.{bridges_to, chosen};
 ghost use Rattle.hole_joining.specs.Passes.{is_after, is_nearer, better, best_of, passes};
 
 use crate::bridge::Bridge;
@@ -37,6 +37,19 @@ fn is_nearer(best: Option<Bridge>, b: Bridge) -> bool
 }
 
 impl Joining<'_> {
+    // Whether b comes after the last refused bridge, and is clear where that is asked.
+    fn passes(&self, b: Bridge, asks: bool, refused: Option<Bridge>) -> bool
+        requires ring { b.ring < length self.now.rings.now }
+        requires place { b.place < length (get_or self.now.rings.now b.ring []) }
+        ensures { result ≡ passes (clear_of self.now) asks refused b }
+    {
+        if is_after(refused, b) {
+            !asks || self.is_clear(b)
+        } else {
+            false
+        }
+    }
+
     // The best so far, or b where it is shorter and passes.
     fn better(
         &self,
@@ -49,7 +62,7 @@ impl Joining<'_> {
         requires place { b.place < length (get_or self.now.rings.now b.ring []) }
         ensures { result ≡ better (passes (clear_of self.now) asks refused) best b }
     {
-        if is_nearer(best, b) && is_after(refused, b) && (!asks || self.is_clear(b)) {
+        if is_nearer(best, b) && self.passes(b, asks, refused) {
             Some(b)
         } else {
             best
