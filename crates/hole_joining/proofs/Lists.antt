@@ -1,11 +1,13 @@
 -- Lists taken one member after the other, and a list put among others.
-use Rattle.std.specs.Prelude.{◌≡◌, ℕ, zero, suc, ◌+◌, ◌<◌, ◌≤◌, List, [], ◌∷◌, ◌++◌, Bool, true, false, cond, not, length, get_or, take, drop, filter, map}
+use Rattle.std.specs.Prelude.{◌≡◌, ℕ, zero, suc, ◌+◌, ◌<◌, ◌≤◌, List, [], ◌∷◌, ◌++◌, Bool, true, false, cond, not, length, get_or, take, drop, set, filter, map, Option, Some, None}
 use Rattle.std.specs.List.{concat, insert, position_or_len}
 use Rattle.std.proofs.Common.{arith, refl, sym, ap, ◌∙◌, inl, inr, add-one}
 use Rattle.std.proofs.lemmas.Bool.{cond-true, cond-false}
 use Rattle.std.proofs.lemmas.List.{length-append, at_drop_more}
 use Rattle.face_plane.specs.Planes.{Plane}
 use Rattle.face_plane.specs.Rings.{vertex_at}
+use Rattle.hole_joining.specs.declared.bridge.Bridge.{Bridge}
+use Rattle.hole_joining.specs.Bridges.{join, bridged, chosen_bridge, joined_one, joined}
 use Rattle.hole_joining.specs.Holes.{comes_first, is_hole, from_start, put_hole, put_all}
 
 -- the vertices of one list more
@@ -52,3 +54,17 @@ put_rest_hole at loops sorted now i within hole e =
 pub put_rest_ring : (at : Plane) (loops sorted now : List (List ℕ)) (i : ℕ) → i < length loops → is_hole at (get_or loops i []) ≡ false → now ≡ sorted → put_rest at now (drop (i + 1) loops) ≡ put_rest at sorted (drop i loops)
 put_rest_ring at loops sorted now i within ring e =
     ap (λ l. put_rest at l (drop (i + 1) loops)) e ∙ sym (at_drop_more (put_rest at sorted) loops i [] within ∙ ap (λ l. put_all at sorted (map (from_start at) l)) (cond-false (is_hole at (get_or loops i [])) (get_or loops i [] ∷ filter (is_hole at) (drop (i + 1) loops)) (filter (is_hole at) (drop (i + 1) loops)) ring))
+
+-- one hole more is joined
+pub joined_more : (at : Plane) (rings now holes : List (List ℕ)) (k : ℕ) → k < length holes → now ≡ joined_one at rings (get_or holes k []) (drop (k + 1) holes) → joined at now (drop (k + 1) holes) ≡ joined at rings (drop k holes)
+joined_more at rings now holes k within e = ap (λ l. joined at l (drop (k + 1) holes)) e ∙ sym (at_drop_more (joined at rings) holes k [] within)
+
+-- a hole joined by the bridge that is chosen
+pub joined_by : (at : Plane) (rings seen later : List (List ℕ)) (hole read ring : List ℕ) (b : Bridge) → seen ≡ rings → Some b ≡ chosen_bridge at seen hole later → read ≡ get_or rings b.ring [] → ring ≡ join read b.place hole →
+    set rings b.ring ring ≡ joined_one at rings hole later
+joined_by at rings seen later hole read ring b same choice found e =
+    ap (set rings b.ring) (e ∙ ap (λ r. join r b.place hole) found) ∙ ap (bridged hole rings) (choice ∙ ap (λ s. chosen_bridge at s hole later) same)
+
+-- without a bridge nothing is joined
+pub joined_none : (at : Plane) (rings seen later : List (List ℕ)) (hole : List ℕ) → seen ≡ rings → None ≡ chosen_bridge at seen hole later → rings ≡ joined_one at rings hole later
+joined_none at rings seen later hole same choice = ap (bridged hole rings) (choice ∙ ap (λ s. chosen_bridge at s hole later) same)

@@ -5,7 +5,7 @@ ghost use Rattle.face_plane.specs.Planes.{is_turned, settled_plane, plane_of, po
 ghost use Rattle.hole_joining.specs.Seen.{plane_at};
 ghost use Rattle.hole_joining.specs.Bridges.{join, joined_one, joined, join_holes};
 
-use crate::area::total_area;
+use crate::area::is_turned;
 use crate::flat::FlatPoints;
 use crate::joining::Joining;
 use crate::start::{holes_of, rings_of};
@@ -94,7 +94,7 @@ pub fn join_holes(
         turned: false,
         points,
     };
-    let turned = total_area(&straight, loops) < 0;
+    let turned = is_turned(&straight, loops);
     let flat = FlatPoints {
         plane,
         turned,
