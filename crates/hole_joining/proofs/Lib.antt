@@ -1,3 +1,5 @@
 pub mod Choice
+pub mod Joins
 pub mod Lists
 pub mod Rounds
+pub mod Turning
