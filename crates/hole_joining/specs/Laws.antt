@@ -1,11 +1,15 @@
 -- Which loops can be filled, and what joining keeps.
-use Rattle.std.specs.Prelude.{◌≡◌, ◌≢◌, ℕ, ◌+◌, ◌*◌, ◌<◌, ◌≤◌, List, length, get_or, filter}
+use Rattle.std.specs.Prelude.{◌≡◌, ◌≢◌, ℕ, ◌+◌, ◌*◌, ◌<◌, ◌≤◌, ℤ, List, length, get_or, filter}
 use Rattle.std.specs.List.{All, concat, flat_map}
 use Rattle.chain_terms.specs.Odd.{SameChain}
 use Rattle.chain_terms.specs.Paths.{round_edges}
-use Rattle.face_plane.specs.Planes.{Plane}
+use Rattle.face_plane.specs.Planes.{Plane, settled_plane, plane_of, point_at}
 use Rattle.face_plane.specs.Rings.{Ringy}
 use Rattle.hole_joining.specs.Holes.{is_ring, is_hole}
+
+-- the plane that drops an axis, exchanged where the areas of the loops add up to less than 0
+abbrev pub settled_in : ℕ → List (List ℤ) → List (List ℕ) → Plane
+settled_in drop_axis points loops = settled_plane (plane_of drop_axis (point_at points)) loops
 
 -- no vertex stands at two places
 abbrev pub AreDifferent : List ℕ → Type 0

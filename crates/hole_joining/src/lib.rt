@@ -6,11 +6,11 @@ mod barred;
 mod bridge;
 mod clear;
 mod flat;
+mod joined;
 mod joining;
 mod search;
 mod splice;
 mod start;
 mod vertices;
 
-pub use bridge::Bridge;
-pub use splice::{Joined, join_holes};
+pub use joined::{Joined, join_holes};
