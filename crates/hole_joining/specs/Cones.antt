@@ -10,7 +10,7 @@ abbrev pub in_cone : Plane → ℕ → ℕ → ℕ → ℕ → Bool
 in_cone at p s n t =
     cond (int_le (pos 0) (orient at p s n))
     (int_lt (pos 0) (orient at s t p) && int_lt (pos 0) (orient at t s n))
-    (not (int_le (pos 0) (orient at s t n) && int_le (pos 0) (orient at s t p)))
+    (not (int_le (pos 0) (orient at s t n) && int_le (pos 0) (orient at t s p)))
 
 -- closed intervals, each between two numbers, with a number in common
 abbrev pub overlap : ℤ → ℤ → ℤ → ℤ → Bool

@@ -22,7 +22,7 @@ fn in_cone(flat: &FlatPoints, psn: [u32; 3], t: u32) -> bool
     if FlatPoint::keeps_left(p, s, n) {
         FlatPoint::turns_left(s, t, p) && FlatPoint::turns_left(t, s, n)
     } else {
-        !(FlatPoint::keeps_left(s, t, n) && FlatPoint::keeps_left(s, t, p))
+        !(FlatPoint::keeps_left(s, t, n) && FlatPoint::keeps_left(t, s, p))
     }
 }
 
