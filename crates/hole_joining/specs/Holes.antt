@@ -1,5 +1,5 @@
 -- Rings and holes among the loops of a face, and the order in which holes are taken.
-use Rattle.std.specs.Prelude.{ℕ, ℤ, pos, List, [], ◌∷◌, ◌++◌, Bool, cond, ◌&&◌, ◌||◌, ◌==◌, nat_lt, take, drop, map, filter, int_lt, int_le}
+use Rattle.std.specs.Prelude.{ℕ, pos, List, [], ◌∷◌, ◌++◌, Bool, cond, ◌&&◌, ◌||◌, ◌==◌, nat_lt, take, drop, map, filter, int_lt, int_le}
 use Rattle.std.specs.Ordering.{int_eq}
 use Rattle.std.specs.List.{position_or_len}
 use Rattle.face_plane.specs.Planes.{Plane, area}

@@ -1,4 +1,4 @@
-use Rattle.std.proofs.Common.{◌≡◌, ◌+◌, ◌*◌, [], length, get_or, drop, arith, ap, ◌∙◌}
+use Rattle.std.proofs.Common.{◌+◌, [], length, arith, ap, ◌∙◌}
 use Rattle.std.proofs.lemmas.Int.{ints}
 use Rattle.std.proofs.lemmas.List.{at_drop_more, get_or_default}
 use Rattle.chain_terms.specs.Sums.{total}
