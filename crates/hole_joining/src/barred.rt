@@ -1,0 +1,127 @@
+// Edges that bar a bridge.
+ghost use Rattle.std.specs.Prelude.{◌≡◌, ◌∷◌, int_le};
+ghost use Rattle.std.specs.List.{list_any};
+ghost use Rattle.std.specs.Int.{int_min, int_max};
+ghost use Rattle.chain_terms.specs.Paths.{round_edges};
+ghost use Rattle.hole_joining.specs.Seen.{plane_at, segment_of, is_end_of, bars_segment};
+ghost use Rattle.hole_joining.specs.Bridges.{edges_of};
+ghost use Rattle.hole_joining.specs.Cones.{overlap, on_both_sides, boxes_meet, lines_meet, segments_meet, bars};
+ghost use Rattle.face_plane.specs.Planes.{turn};
+
+use crate::flat::{FlatPoints, FlatVertex, Segment};
+use face_plane::{FlatPoint, Places};
+
+// Whether the least of a and b is at most the greatest of c and d.
+fn reaches(a: i64, b: i64, c: i64, d: i64) -> bool
+    ensures { result ≡ int_le (int_min a b) (int_max c d) }
+{
+    let low = a.min(b);
+    let high = c.max(d);
+    low <= high
+}
+
+// Whether two closed intervals have a number in common.
+fn overlap(a: i64, b: i64, c: i64, d: i64) -> bool
+    ensures { result ≡ overlap a b c d }
+{
+    reaches(a, b, c, d) && reaches(c, d, a, b)
+}
+
+// Whether c and d don't both lie left of the line from a to b, nor both right of it.
+fn on_both_sides(a: FlatPoint, b: FlatPoint, c: FlatPoint, d: FlatPoint) -> bool
+    ensures { result ≡ on_both_sides (turn a b c) (turn a b d) }
+{
+    !(FlatPoint::turns_left(a, b, c) && FlatPoint::turns_left(a, b, d))
+        && !(FlatPoint::turns_right(a, b, c) && FlatPoint::turns_right(a, b, d))
+}
+
+// Whether two segments have a u in common.
+fn overlap_u(a: FlatPoint, b: FlatPoint, c: FlatPoint, d: FlatPoint) -> bool
+    ensures { result ≡ overlap a.0 b.0 c.0 d.0 }
+{
+    overlap(a.u(), b.u(), c.u(), d.u())
+}
+
+// Whether they have a v in common.
+fn overlap_v(a: FlatPoint, b: FlatPoint, c: FlatPoint, d: FlatPoint) -> bool
+    ensures { result ≡ overlap a.1 b.1 c.1 d.1 }
+{
+    overlap(a.v(), b.v(), c.v(), d.v())
+}
+
+// Whether the boxes of two segments have a point in common.
+fn boxes_meet(a: FlatPoint, b: FlatPoint, c: FlatPoint, d: FlatPoint) -> bool
+    ensures { result ≡ boxes_meet a b c d }
+{
+    overlap_u(a, b, c, d) && overlap_v(a, b, c, d)
+}
+
+// Whether neither segment lies strictly on one side of the other's line.
+fn lines_meet(a: FlatPoint, b: FlatPoint, c: FlatPoint, d: FlatPoint) -> bool
+    ensures { result ≡ lines_meet a b c d }
+{
+    on_both_sides(a, b, c, d) && on_both_sides(c, d, a, b)
+}
+
+// Whether two closed segments have a point in common.
+fn segments_meet(a: FlatPoint, b: FlatPoint, c: FlatPoint, d: FlatPoint) -> bool
+    ensures { result ≡ segments_meet a b c d }
+{
+    boxes_meet(a, b, c, d) && lines_meet(a, b, c, d)
+}
+
+// Whether the vertex is an end of the edge from c to d.
+fn is_end_of(v: &FlatVertex, c: &FlatVertex, d: &FlatVertex) -> bool
+    ensures { result ≡ is_end_of v.now c.now d.now }
+{
+    c.vertex == v.vertex || d.vertex == v.vertex
+}
+
+// Whether the edge from c to d bars the segment: they meet, and neither end of the segment is one of the edge.
+fn bars(segment: &Segment, c: &FlatVertex, d: &FlatVertex) -> bool
+    ensures { result ≡ bars_segment segment.now c.now d.now }
+{
+    let ended = is_end_of(&segment.from, c, d) || is_end_of(&segment.to, c, d);
+    !ended && segments_meet(segment.from.at, segment.to.at, c.at, d.at)
+}
+
+/// Whether an edge once round the loop bars the segment between two vertices.
+pub fn round_bars(flat: &FlatPoints, segment: &Segment, ring: &[u32]) -> bool
+    requires { segment.now ≡ segment_of (plane_at flat.now) segment.now.from.vertex segment.now.to.vertex }
+    ensures { result ≡ list_any (bars (plane_at flat.now) segment.now.from.vertex segment.now.to.vertex) (round_edges ring.now) }
+{
+    match ring.split_first() {
+        None => false,
+        Some((first, rest)) => round_bars_from(flat, segment, *first, rest),
+    }
+}
+
+// The same for a loop of a first vertex and others.
+fn round_bars_from(flat: &FlatPoints, segment: &Segment, first: u32, rest: &[u32]) -> bool
+    requires { segment.now ≡ segment_of (plane_at flat.now) segment.now.from.vertex segment.now.to.vertex }
+    ensures { result ≡ list_any (bars (plane_at flat.now) segment.now.from.vertex segment.now.to.vertex) (round_edges (first ∷ rest.now)) }
+{
+    let start = flat.vertex(first);
+    let mut last = start;
+    for vertex in rest {
+        let next = flat.vertex(*vertex);
+        if bars(segment, &last, &next) {
+            return true;
+        }
+        last = next;
+    }
+    bars(segment, &last, &start)
+}
+
+/// Whether an edge of one of the loops bars it.
+pub fn any_bars(flat: &FlatPoints, segment: &Segment, loops: &[Places]) -> bool
+    requires { segment.now ≡ segment_of (plane_at flat.now) segment.now.from.vertex segment.now.to.vertex }
+    ensures { result ≡ list_any (bars (plane_at flat.now) segment.now.from.vertex segment.now.to.vertex) (edges_of loops.now) }
+{
+    for ring in loops {
+        if round_bars(flat, segment, &ring.places) {
+            return true;
+        }
+    }
+    false
+}
