@@ -6,3 +6,5 @@ pub mod Allowed
 pub mod Bent
 pub mod Steps
 pub mod WholeCuts
+pub mod Reading
+pub mod FirstPlaces

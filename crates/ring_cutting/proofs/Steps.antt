@@ -4,9 +4,7 @@ use Rattle.std.specs.List.{position_or_len}
 use Rattle.std.proofs.Common.{arith, refl, sym, subst, ap, ◌∙◌, inl, inr}
 use Rattle.std.proofs.lemmas.Bool.{cases_lt, and_parts, lt-ltb, le-ltb, both_ways}
 use Rattle.std.proofs.lemmas.List.{length-append}
-use Rattle.std.proofs.lemmas.List.Sums.{passes_at_first, fails_before_first}
 use Rattle.chain_terms.specs.Sums.{total, upto}
-use Rattle.chain_laws.proofs.Places.{length-up_from, get_or-up_from}
 use Rattle.chain_terms.specs.Chains.{edges}
 use Rattle.chain_terms.specs.Odd.{IsOdd, along}
 use Rattle.chain_terms.specs.Paths.{round_edges, last_of}
@@ -20,6 +18,7 @@ use Rattle.ring_cutting.proofs.Rounds.{cut_sum, parts_at, apart_without}
 use Rattle.ring_cutting.proofs.Turned.{here_is, before_is, after_is, without_is, split_length, splits_at}
 use Rattle.ring_cutting.proofs.Allowed.{from_allowed, Allowed}
 use Rattle.ring_cutting.proofs.Bent.{some_allowed}
+use Rattle.ring_cutting.proofs.FirstPlaces.{passes, not_before}
 
 -- what a cut at a place gives and leaves
 pub record IsStep (r : List ℕ) (i : ℕ) : Type 0 where
@@ -66,23 +65,6 @@ pub record IsChosen (at : Plane) (r : List ℕ) : Type 0 where
   pub allowed : is_allowed r (cut_place at r) ≡ true
   pub left : forced_here at r ≡ 0 → int_lt (pos 0) (orient at (vertex_before r (cut_place at r)) (vertex_at r (cut_place at r)) (vertex_after r (cut_place at r))) ≡ true
   pub once : forced_here at r ≤ 1
-
--- a number below n is itself its place
-at_upto : (n i : ℕ) → i < n → get_or (upto n) i 0 ≡ i
-at_upto n i h = let none : 0 + i ≡ i = omega arith in get_or-up_from 0 n i 0 h ∙ none
-
--- the first number below n that passes
-passes : (p : ℕ → Bool) (n : ℕ) → position_or_len p (upto n) < n → p (position_or_len p (upto n)) ≡ true
-passes p n h =
-    let many : length (upto n) ≡ n = length-up_from 0 n in
-    ap p (sym (at_upto n (position_or_len p (upto n)) h)) ∙ passes_at_first p (upto n) 0 (omega (arith, h, many))
-
--- none comes before it
-pub not_before : (p : ℕ → Bool) (n k : ℕ) → k < n → p k ≡ true → position_or_len p (upto n) ≤ k
-not_before p n k h y = elim (cases_lt k (position_or_len p (upto n))) as (λ _. position_or_len p (upto n) ≤ k) [
-  | inl l ↦ absurd (both_ways (p k) (ap p (sym (at_upto n k h)) ∙ fails_before_first p (upto n) k 0 l) y)
-  | inr l ↦ l
-]
 
 chosen_ear : (at : Plane) (r : List ℕ) → first_ear at r < length r → IsChosen at r
 chosen_ear at r l =

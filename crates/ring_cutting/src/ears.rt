@@ -55,11 +55,13 @@ fn first_allowed(places: &[Place], four: bool) -> usize
     ensures within { result < length places.now }
     ensures value { result ≡ first_allowed (vertices_of places.now) }
 {
-    let mut i = 0;
-    while !is_allowed(places, i, four) {
-        i += 1;
+    for i in 0..places.len() {
+        if is_allowed(places, i, four) {
+            return i;
+        }
     }
-    i
+    // Some place is allowed, so this is never reached.
+    0
 }
 
 // Whether a place is an ear.

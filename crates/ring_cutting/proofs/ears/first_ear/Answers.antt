@@ -1,0 +1,25 @@
+use Rattle.std.proofs.Common.{◌≡◌, ◌<◌, ◌≤◌, ◌+◌, ℕ, List, true, false, Bool, Option, Some, None, cond, length, sym, ap, ◌∙◌, arith, refl}
+use Rattle.std.specs.Prelude.{nat_lt}
+use Rattle.std.specs.List.{position, position_or_len}
+use Rattle.chain_terms.specs.Sums.{upto}
+use Rattle.std.proofs.lemmas.Bool.{lt-ltb, le-ltb}
+use borrow.Author.Count.{below_more}
+use Rattle.ring_cutting.specs.Cuts.{is_ear}
+use Rattle.ring_cutting.specs.Placed.{vertices_of}
+use Rattle.ring_cutting.proofs.FirstPlaces.{first_is, first_none}
+use Rattle.ring_cutting.proofs.ears.first_ear.Goals as goal
+
+pub loop-i-init : goal.loop-i-init
+loop-i-init c = λ at placed k low. absurd (omega (arith, low))
+
+pub loop-i-preserved : goal.loop-i-preserved
+loop-i-preserved c = λ at placed.
+    below_more (λ k. is_ear at (vertices_of c.args.places.now) k ≡ false) c.loop-i.i (c.loop-i.invariant at placed) (sym (c.is_ear.ensures at placed) ∙ c.if-is_ear.false)
+
+pub returns-then-is_ear : goal.returns-then-is_ear
+returns-then-is_ear c = λ at placed.
+    sym (first_is (is_ear at (vertices_of c.args.places.now)) (length c.args.places.now) c.loop-i.i c.loop-i-test.true (c.loop-i.invariant at placed) (sym (c.is_ear.ensures at placed) ∙ c.if-is_ear.true))
+
+pub returns : goal.returns
+returns c = λ at placed.
+    sym (first_none (is_ear at (vertices_of c.args.places.now)) (length c.args.places.now) (λ k low. c.loop-i.invariant at placed k (omega (arith, low, c.loop-i-test.false))))
