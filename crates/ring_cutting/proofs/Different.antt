@@ -9,11 +9,17 @@ use Rattle.ring_cutting.proofs.Members.{in_as, in_or_not, in_front, in_back, in_
 abbrev pub new_in : ℕ → List ℕ → ℕ
 new_in v r = cond (in_list v r) 0 1
 
+pub new_in-true : (v : ℕ) (r : List ℕ) → in_list v r ≡ true → new_in v r ≡ 0
+new_in-true v r h = ap (λ b. cond b 0 1) h
+
+pub new_in-false : (v : ℕ) (r : List ℕ) → in_list v r ≡ false → new_in v r ≡ 1
+new_in-false v r h = ap (λ b. cond b 0 1) h
+
 pub new_in-old : (v : ℕ) (r : List ℕ) → In v r → new_in v r ≡ 0
-new_in-old v r h = ap (λ b. cond b 0 1) (in_list-true v r h)
+new_in-old v r h = new_in-true v r (in_list-true v r h)
 
 pub new_in-new : (v : ℕ) (r : List ℕ) → (In v r → ⊥) → new_in v r ≡ 1
-new_in-new v r h = ap (λ b. cond b 0 1) (in_list-false v r h)
+new_in-new v r h = new_in-false v r (in_list-false v r h)
 
 -- a vertex that stands in the list behind another
 pub in_rest : (v x : ℕ) (r : List ℕ) → In v (x ∷ r) → v ≢ x → In v r

@@ -45,3 +45,22 @@ pub first_none : (p : ℕ → Bool) (n : ℕ) → ((k : ℕ) → k < n → p k �
 first_none p n none =
     let e = no_place p n none in
     ap (λ j. cond (nat_lt j (length (upto n))) (Some j) None) e ∙ ap (λ b. cond b (Some n) None) (le-ltb n (length (upto n)) (omega (arith, many n)))
+
+-- what such an option says
+pub some_first : (p : ℕ → Bool) (n i : ℕ) → Some i ≡ position p (upto n) → (position_or_len p (upto n) < n) × (i ≡ position_or_len p (upto n))
+some_first p n i h = elim (cases_lt (position_or_len p (upto n)) (length (upto n))) as (λ _. (position_or_len p (upto n) < n) × (i ≡ position_or_len p (upto n))) [
+  | inl l ↦
+      let e : Some i ≡ Some (position_or_len p (upto n)) = h ∙ ap (λ b. cond b (Some (position_or_len p (upto n))) None) (lt-ltb (position_or_len p (upto n)) (length (upto n)) l) in
+      (omega (arith, l, many n), cc)
+  | inr l ↦
+      let e : ◌≡◌ {A = Option ℕ} (Some i) None = h ∙ ap (λ b. cond b (Some (position_or_len p (upto n))) None) (le-ltb (position_or_len p (upto n)) (length (upto n)) l) in
+      cc
+]
+
+pub none_first : (p : ℕ → Bool) (n : ℕ) → ◌≡◌ {A = Option ℕ} None (position p (upto n)) → n ≤ position_or_len p (upto n)
+none_first p n h = elim (cases_lt (position_or_len p (upto n)) (length (upto n))) as (λ _. n ≤ position_or_len p (upto n)) [
+  | inl l ↦
+      let e : ◌≡◌ {A = Option ℕ} None (Some (position_or_len p (upto n))) = h ∙ ap (λ b. cond b (Some (position_or_len p (upto n))) None) (lt-ltb (position_or_len p (upto n)) (length (upto n)) l) in
+      cc
+  | inr l ↦ omega (arith, l, many n)
+]

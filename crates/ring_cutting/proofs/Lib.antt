@@ -8,3 +8,4 @@ pub mod Steps
 pub mod WholeCuts
 pub mod Reading
 pub mod FirstPlaces
+pub mod Seen

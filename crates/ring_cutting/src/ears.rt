@@ -1,5 +1,5 @@
 // The place that is cut next.
-ghost use Rattle.std.specs.Prelude.{◌≡◌, ◌<◌, ◌≤◌, ◌+◌, ◌==◌, nat_lt, length, cond, List, ℕ, true};
+ghost use Rattle.std.specs.Prelude.{◌≡◌, ◌<◌, ◌≤◌, ◌+◌, ◌==◌, nat_lt, length, cond, IfSome};
 ghost use Rattle.std.specs.List.{position};
 ghost use Rattle.chain_terms.specs.Sums.{upto};
 ghost use Rattle.face_plane.specs.Planes.{Plane};
@@ -37,7 +37,8 @@ pub(crate) fn choose(places: &[Place]) -> Choice
 fn first_ear(places: &[Place], four: bool) -> Option<usize>
     requires three { 2 < different (vertices_of places.now) }
     requires four { four ≡ nat_lt 3 (different (vertices_of places.now)) }
-    ensures { (at : Plane) → IsPlaced at places.now → result ≡ position (is_ear at (vertices_of places.now)) (upto (length places.now)) }
+    ensures within { IfSome result (λ i. i < length places.now) }
+    ensures value { (at : Plane) → IsPlaced at places.now → result ≡ position (is_ear at (vertices_of places.now)) (upto (length places.now)) }
 {
     for i in 0..places.len() {
         if is_ear(places, i, four) {

@@ -16,10 +16,10 @@ pub loop-i-preserved : goal.loop-i-preserved
 loop-i-preserved c = λ at placed.
     below_more (λ k. is_ear at (vertices_of c.args.places.now) k ≡ false) c.loop-i.i (c.loop-i.invariant at placed) (sym (c.is_ear.ensures at placed) ∙ c.if-is_ear.false)
 
-pub returns-then-is_ear : goal.returns-then-is_ear
-returns-then-is_ear c = λ at placed.
+pub returns-then-is_ear-clause-value : goal.returns-then-is_ear-clause-value
+returns-then-is_ear-clause-value c = λ at placed.
     sym (first_is (is_ear at (vertices_of c.args.places.now)) (length c.args.places.now) c.loop-i.i c.loop-i-test.true (c.loop-i.invariant at placed) (sym (c.is_ear.ensures at placed) ∙ c.if-is_ear.true))
 
-pub returns : goal.returns
-returns c = λ at placed.
+pub returns-clause-value : goal.returns-clause-value
+returns-clause-value c = λ at placed.
     sym (first_none (is_ear at (vertices_of c.args.places.now)) (length c.args.places.now) (λ k low. c.loop-i.invariant at placed k (omega (arith, low, c.loop-i-test.false))))
