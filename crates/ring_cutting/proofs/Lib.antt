@@ -9,3 +9,4 @@ pub mod WholeCuts
 pub mod Reading
 pub mod FirstPlaces
 pub mod Seen
+pub mod UnderWay

@@ -80,7 +80,3 @@ cutting_of at (suc n) r ringy long =
 -- the cutting of every ring keeps what it promises
 pub cutting : (at : Plane) (r : List ℕ) → Ringy r → IsCutting at r (cut_ring at r)
 cutting at r ringy = cutting_of at (length r - 3) r ringy (omega (arith, ringy.long))
-
--- triangles that were cut before, with how many of them were forced
-abbrev pub after : List Triple → ℕ → Cut → Cut
-after ts n c = record { triples = ts ++ c.triples; forced = n + c.forced }

@@ -45,7 +45,16 @@ pub fn cut_ring(
     ensures below { IfOk result (λ f. All (IsBelow (length points.now)) f.triples) }
     ensures left { IfOk result (λ f. f.forced ≡ 0 → All (λ t. pos 0 <ℤ orient (face_plane plane.drop turned points.now) t.0 t.1 t.2) f.triples) }
 {
-    let mut places = placed(alloc, plane, turned, &ring.places, points)?;
+    let places = placed(alloc, plane, turned, &ring.places, points)?;
+    cut_down(alloc, places)
+}
+
+// Cuts the places of a ring, one after the other.
+fn cut_down(alloc: Global, mut places: Vec<Place>) -> Result<Filled, NoMemory>
+    requires ringy { Ringy (vertices_of places.items) }
+    requires few { length places.items ≤ 100000000 }
+    ensures { (at : Plane) → IsPlaced at places.items → IfOk result (λ f. f ≡ cut_ring at (vertices_of places.items)) }
+{
     let mut triples = Vec::with_capacity(alloc, places.len() - 2)?;
     let mut forced = 0;
     while places.len() > 3 {

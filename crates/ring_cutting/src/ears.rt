@@ -1,5 +1,5 @@
 // The place that is cut next.
-ghost use Rattle.std.specs.Prelude.{◌≡◌, ◌<◌, ◌≤◌, ◌+◌, ◌==◌, nat_lt, length, cond, IfSome};
+ghost use Rattle.std.specs.Prelude.{◌≡◌, ◌<◌, ◌≤◌, ◌+◌, ◌==◌, nat_lt, length, cond, IfSome, IsTrue};
 ghost use Rattle.std.specs.List.{position};
 ghost use Rattle.chain_terms.specs.Sums.{upto};
 ghost use Rattle.face_plane.specs.Planes.{Plane};
@@ -23,6 +23,7 @@ pub(crate) fn choose(places: &[Place]) -> Choice
     requires ringy { Ringy (vertices_of places.now) }
     requires more { 4 ≤ length places.now }
     ensures within { result.place < length places.now }
+    ensures allowed { IsTrue (is_allowed (vertices_of places.now) result.place) }
     ensures place { (at : Plane) → IsPlaced at places.now → result.place ≡ cut_place at (vertices_of places.now) }
     ensures forced { (at : Plane) → IsPlaced at places.now → cond result.forced 1 0 ≡ forced_here at (vertices_of places.now) }
 {
@@ -38,6 +39,7 @@ fn first_ear(places: &[Place], four: bool) -> Option<usize>
     requires three { 2 < different (vertices_of places.now) }
     requires four { four ≡ nat_lt 3 (different (vertices_of places.now)) }
     ensures within { IfSome result (λ i. i < length places.now) }
+    ensures allowed { IfSome result (λ i. IsTrue (is_allowed (vertices_of places.now) i)) }
     ensures value { (at : Plane) → IsPlaced at places.now → result ≡ position (is_ear at (vertices_of places.now)) (upto (length places.now)) }
 {
     for i in 0..places.len() {
@@ -54,6 +56,7 @@ fn first_allowed(places: &[Place], four: bool) -> usize
     requires more { 4 ≤ length places.now }
     requires four { four ≡ nat_lt 3 (different (vertices_of places.now)) }
     ensures within { result < length places.now }
+    ensures allowed { IsTrue (is_allowed (vertices_of places.now) result) }
     ensures value { result ≡ first_allowed (vertices_of places.now) }
 {
     for i in 0..places.len() {
@@ -70,7 +73,8 @@ fn is_ear(places: &[Place], i: usize, four: bool) -> bool
     requires within { i < length places.now }
     requires three { 2 < different (vertices_of places.now) }
     requires four { four ≡ nat_lt 3 (different (vertices_of places.now)) }
-    ensures { (at : Plane) → IsPlaced at places.now → result ≡ is_ear at (vertices_of places.now) i }
+    ensures allowed { IsTrue result → IsTrue (is_allowed (vertices_of places.now) i) }
+    ensures value { (at : Plane) → IsPlaced at places.now → result ≡ is_ear at (vertices_of places.now) i }
 {
     let (p, x, n) = (before(places, i), here(places, i), after(places, i));
     FlatPoint::turns_left(p.at, x.at, n.at)

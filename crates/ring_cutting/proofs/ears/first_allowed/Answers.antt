@@ -43,5 +43,8 @@ returns-then-is_allowed-clause-value c =
 pub returns-clause-within : goal.returns-clause-within
 returns-clause-within c = absurd (never c)
 
+pub returns-clause-allowed : goal.returns-clause-allowed
+returns-clause-allowed c = absurd (never c)
+
 pub returns-clause-value : goal.returns-clause-value
 returns-clause-value c = absurd (never c)

@@ -30,8 +30,8 @@ left_read : (at : Plane) (ps : List Place) (i : ℕ) (p x n : Place) → IsPlace
     int_lt (pos 0) (turn p.at x.at n.at) ≡ left_at at (vertices_of ps) i
 left_read at ps i p x n placed rp rx rn = rw (rp.at at placed, rx.at at placed, rn.at at placed) refl
 
-pub returns-then-is_allowed : goal.returns-then-is_allowed
-returns-then-is_allowed c = λ at placed.
+pub returns-then-is_allowed-clause-value : goal.returns-then-is_allowed-clause-value
+returns-then-is_allowed-clause-value c = λ at placed.
     let ps = c.args.places.now in
     let r = vertices_of ps in
     let i = c.args.i in
@@ -50,8 +50,8 @@ returns-then-is_allowed c = λ at placed.
       | else-turns_left w ↦ absurd (cc)
     ]
 
-pub returns-else-is_allowed : goal.returns-else-is_allowed
-returns-else-is_allowed c = λ at placed.
+pub returns-else-is_allowed-clause-value : goal.returns-else-is_allowed-clause-value
+returns-else-is_allowed-clause-value c = λ at placed.
     let ps = c.args.places.now in
     let r = vertices_of ps in
     let i = c.args.i in
