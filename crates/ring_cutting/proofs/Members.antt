@@ -1,7 +1,9 @@
 -- Vertices that stand in a list.
 use Rattle.std.specs.Prelude.{◌≡◌, ◌≢◌, ℕ, List, [], ◌∷◌, ◌++◌, true, false, Bool, ◌==◌, ◌||◌, ◌⊎◌}
+use Rattle.std.specs.List.{All}
 use Rattle.std.proofs.Common.{refl, sym, subst, ap, ◌∙◌, inl, inr}
 use Rattle.std.proofs.lemmas.Bool.{cases_eq, eqb-true, eq-eqb, or_cases, or_left, or_right, false_from_ne_true}
+use Rattle.std.proofs.lemmas.List.Elements.{All-head, All-tail}
 use Rattle.chain_terms.specs.Paths.{last_of}
 use Rattle.face_plane.specs.Rings.{In, in_list, Three}
 
@@ -99,3 +101,9 @@ in_list-same v xs ys f g = elim (in_or_not v xs) as (λ _. in_list v xs ≡ in_l
 -- three different vertices stand in every list that has all of them
 pub three_within : (r s : List ℕ) → ((v : ℕ) → In v r → In v s) → Three r → Three s
 three_within r s f t = record { a = t.a; b = t.b; c = t.c; a_in = f t.a t.a_in; b_in = f t.b t.b_in; c_in = f t.c t.c_in; ab = t.ab; bc = t.bc; ca = t.ca }
+
+-- what holds of each member of a list holds of a vertex that stands there
+pub all_in : (P : ℕ → Type 0) (v : ℕ) (xs : List ℕ) → All P xs → In v xs → P v
+all_in P v [] all h = elim h [ ]
+all_in P v (x ∷ xs) all (inl e) = subst P (sym e) (All-head P x xs all)
+all_in P v (x ∷ xs) all (inr h) = all_in P v xs (All-tail P x xs all) h

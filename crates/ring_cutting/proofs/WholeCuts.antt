@@ -10,11 +10,12 @@ use Rattle.chain_laws.specs.Sums.{total-append}
 use Rattle.chain_terms.specs.Chains.{edges, all_edges}
 use Rattle.chain_terms.specs.Odd.{IsOdd, along}
 use Rattle.chain_terms.specs.Paths.{round_edges}
-use Rattle.mesh_terms.specs.Meshes.{Triple, HasThree}
+use Rattle.mesh_terms.specs.Meshes.{Triple, HasThree, IsBelow}
 use Rattle.face_plane.specs.Planes.{Plane, orient}
 use Rattle.face_plane.specs.Rings.{In, Ringy, without_place}
 use Rattle.ring_cutting.specs.Cuts.{Cut, cut_place, forced_here, triple_at, last_triple, with_triple, cut_of, cut_ring}
 use Rattle.ring_cutting.specs.Laws.{TurnsLeft, IsOf, IsCutting}
+use Rattle.ring_cutting.proofs.Members.{all_in}
 use Rattle.ring_cutting.proofs.Steps.{IsStep, step, IsChosen, chosen}
 
 -- the test of a turn
@@ -80,3 +81,9 @@ cutting_of at (suc n) r ringy long =
 -- the cutting of every ring keeps what it promises
 pub cutting : (at : Plane) (r : List ℕ) → Ringy r → IsCutting at r (cut_ring at r)
 cutting at r ringy = cutting_of at (length r - 3) r ringy (omega (arith, ringy.long))
+
+-- the triangles' vertices are as those of the ring
+pub below_of : (n : ℕ) (r : List ℕ) (ts : List Triple) → All (λ v. v < n) r → All (IsOf r) ts → All (IsBelow n) ts
+below_of n r ts below of =
+    let P : ℕ → Type 0 = λ v. v < n in
+    All-weaker (IsOf r) (IsBelow n) (λ t h. record { a = all_in P t.0 r below h.0; b = all_in P t.1 r below h.1; c = all_in P t.2 r below h.2 }) ts of
