@@ -1,11 +1,11 @@
 -- A ring of four or more places has a place that may be cut.
-use Rattle.std.specs.Prelude.{◌≡◌, ◌≢◌, ℕ, suc, ◌+◌, ◌<◌, ◌≤◌, List, [], ◌∷◌, ◌++◌, true, false, Bool, not, ◌&&◌, ◌==◌, nat_lt, length, ◌⊎◌}
+use Rattle.std.specs.Prelude.{◌≡◌, ◌≢◌, ℕ, ◌<◌, List, [], ◌∷◌, ◌++◌, true, not, ◌==◌, nat_lt, length, ◌⊎◌}
 use Rattle.std.proofs.Common.{arith, refl, sym, subst, ap, ◌∙◌, inl, inr}
-use Rattle.std.proofs.lemmas.Bool.{cases_eq, eqb-false, ne_eqb, and_parts, and_from, not-true, lt-ltb, ltb-true}
+use Rattle.std.proofs.lemmas.Bool.{eqb-false, ne_eqb, and_parts, and_from, not-true, lt-ltb, ltb-true}
 use Rattle.std.proofs.lemmas.List.{append_assoc, append-nil, length-append}
 use Rattle.chain_terms.specs.Paths.{last_of}
 use Rattle.chain_laws.proofs.Paths.{last_of-append}
-use Rattle.face_plane.specs.Rings.{In, Three, different, without_place, vertex_before, vertex_after}
+use Rattle.face_plane.specs.Rings.{In, Three, different}
 use Rattle.ring_cutting.specs.Cuts.{is_allowed}
 use Rattle.ring_cutting.proofs.Members.{head_or, in_as, in_or_not, in_front, in_back, in_either, in_moved, three_within}
 use Rattle.ring_cutting.proofs.Different.{three_are, are_three}

@@ -1,13 +1,13 @@
 -- Never stuck: every ring of four or more places has an allowed place.
-use Rattle.std.specs.Prelude.{◌≡◌, ◌≢◌, ℕ, suc, ◌+◌, ◌<◌, ◌≤◌, List, [], ◌∷◌, ◌++◌, length, ◌⊎◌}
+use Rattle.std.specs.Prelude.{◌≡◌, ◌≢◌, ℕ, ◌<◌, ◌≤◌, List, [], ◌∷◌, ◌++◌, length, ◌⊎◌}
 use Rattle.std.proofs.Common.{arith, refl, sym, subst, ap, ◌∙◌, inl, inr}
 use Rattle.std.proofs.lemmas.Bool.{cases_eq}
-use Rattle.std.proofs.lemmas.List.{append_assoc, length-append}
+use Rattle.std.proofs.lemmas.List.{append_assoc}
 use Rattle.chain_terms.specs.Paths.{round_edges}
 use Rattle.face_plane.specs.Rings.{In, Three, Ringy}
 use Rattle.ring_cutting.proofs.Members.{head_or, in_front, in_back, in_either, three_within}
 use Rattle.ring_cutting.proofs.Rounds.{Apart, parts_at}
-use Rattle.ring_cutting.proofs.Allowed.{MayCut, Cuts, three_steps, Allowed, middle_cut, next_cut, behind_cut, front_cut}
+use Rattle.ring_cutting.proofs.Allowed.{Cuts, three_steps, Allowed, middle_cut, next_cut, behind_cut, front_cut}
 
 -- a place whose neighbours differ, not at the ends of the list
 pub record Bent (r : List ℕ) : Type 0 where

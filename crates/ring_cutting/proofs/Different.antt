@@ -1,7 +1,7 @@
 -- How many different vertices stand in a list.
-use Rattle.std.specs.Prelude.{◌≡◌, ◌≢◌, ℕ, ◌+◌, ◌<◌, ◌≤◌, List, [], ◌∷◌, ◌++◌, true, false, Bool, cond, ◌==◌, ◌||◌, nat_lt, ◌⊎◌}
-use Rattle.std.proofs.Common.{arith, refl, sym, subst, ap, ◌∙◌, inl, inr}
-use Rattle.std.proofs.lemmas.Bool.{cases_eq, lt-ltb, le-ltb, ltb-true}
+use Rattle.std.specs.Prelude.{◌≡◌, ◌≢◌, ℕ, ◌+◌, ◌<◌, List, [], ◌∷◌, ◌++◌, true, false, cond}
+use Rattle.std.proofs.Common.{arith, refl, sym, ap, ◌∙◌, inl, inr}
+use Rattle.std.proofs.lemmas.Bool.{cases_eq}
 use Rattle.face_plane.specs.Rings.{In, in_list, different, Three}
 use Rattle.ring_cutting.proofs.Members.{in_as, in_or_not, in_front, in_back, in_either, in_list-true, in_list-false, in_list-same, in_wider, in_middle}
 

@@ -1,7 +1,7 @@
 -- Vertices that stand in a list.
-use Rattle.std.specs.Prelude.{◌≡◌, ◌≢◌, ℕ, List, [], ◌∷◌, ◌++◌, true, false, Bool, ◌==◌, ◌||◌, ◌⊎◌}
+use Rattle.std.specs.Prelude.{◌≡◌, ℕ, List, [], ◌∷◌, ◌++◌, true, false, ◌==◌, ◌⊎◌}
 use Rattle.std.specs.List.{All}
-use Rattle.std.proofs.Common.{refl, sym, subst, ap, ◌∙◌, inl, inr}
+use Rattle.std.proofs.Common.{refl, sym, subst, ◌∙◌, inl, inr}
 use Rattle.std.proofs.lemmas.Bool.{cases_eq, eqb-true, eq-eqb, or_cases, or_left, or_right, false_from_ne_true}
 use Rattle.std.proofs.lemmas.List.Elements.{All-head, All-tail}
 use Rattle.chain_terms.specs.Paths.{last_of}

@@ -1,16 +1,16 @@
 -- What is read of the places of a ring.
-use Rattle.std.specs.Prelude.{◌≡◌, ℕ, suc, ◌+◌, ◌-◌, ◌<◌, ◌≤◌, List, [], ◌∷◌, ◌++◌, true, false, Bool, cond, not, ◌&&◌, ◌||◌, ◌==◌, nat_lt, length, get_or, map, take, drop}
-use Rattle.std.specs.List.{All, list_any, remove}
+use Rattle.std.specs.Prelude.{◌≡◌, ℕ, suc, ◌+◌, ◌-◌, ◌<◌, List, [], ◌∷◌, ◌++◌, true, false, Bool, cond, ◌||◌, nat_lt, length, get_or, map, take, drop}
+use Rattle.std.specs.List.{list_any, remove}
 use Rattle.std.proofs.Common.{arith, refl, sym, subst, ap, ◌∙◌, inl, inr}
-use Rattle.std.proofs.lemmas.Bool.{cases_Bool, cases_lt, lt-ltb, le-ltb, or_right}
-use Rattle.std.proofs.lemmas.List.{get_or-map, length-map, map-append, take-map, drop-map, length-append}
+use Rattle.std.proofs.lemmas.Bool.{cases_lt, lt-ltb, le-ltb, or_right}
+use Rattle.std.proofs.lemmas.List.{get_or-map, length-map, map-append, take-map, drop-map}
 use Rattle.std.proofs.lemmas.List.Elements.{All-append, All-take, All-drop}
 use Rattle.face_plane.specs.Planes.{Plane}
 use Rattle.face_plane.specs.Rings.{in_list, different, vertex_at, vertex_before, vertex_after, without_place}
 use Rattle.ring_cutting.specs.declared.place.Place.{Place}
 use Rattle.ring_cutting.specs.Cuts.{blocks}
 use Rattle.ring_cutting.specs.Placed.{vertices_of, IsPlaced, place_blocks}
-use Rattle.ring_cutting.proofs.Different.{new_in, different_middle}
+use Rattle.ring_cutting.proofs.Different.{different_middle}
 use Rattle.ring_cutting.proofs.Turned.{at_within, at_round, here_is, without_is, splits_at}
 
 -- a place that was read has a vertex, and in each plane that vertex's point

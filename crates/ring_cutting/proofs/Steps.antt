@@ -1,10 +1,9 @@
 -- One cut: what the triangle has and what the rest keeps.
-use Rattle.std.specs.Prelude.{◌≡◌, ◌≢◌, ℕ, suc, ◌+◌, ◌<◌, ◌≤◌, ℤ, pos, ◌+ℤ◌, List, [], ◌∷◌, ◌++◌, true, false, Bool, cond, not, ◌&&◌, length, get_or, nat_lt, int_lt, ◌⊎◌}
-use Rattle.std.specs.List.{position_or_len}
-use Rattle.std.proofs.Common.{arith, refl, sym, subst, ap, ◌∙◌, inl, inr}
-use Rattle.std.proofs.lemmas.Bool.{cases_lt, and_parts, lt-ltb, le-ltb, both_ways}
+use Rattle.std.specs.Prelude.{◌≡◌, ℕ, suc, ◌<◌, ◌≤◌, ℤ, pos, ◌+ℤ◌, List, ◌∷◌, ◌++◌, true, false, ◌&&◌, length, nat_lt, int_lt}
+use Rattle.std.proofs.Common.{arith, sym, subst, inl, inr}
+use Rattle.std.proofs.lemmas.Bool.{cases_lt, and_parts, lt-ltb, le-ltb}
 use Rattle.std.proofs.lemmas.List.{length-append}
-use Rattle.chain_terms.specs.Sums.{total, upto}
+use Rattle.chain_terms.specs.Sums.{total}
 use Rattle.chain_terms.specs.Chains.{edges}
 use Rattle.chain_terms.specs.Odd.{IsOdd, along}
 use Rattle.chain_terms.specs.Paths.{round_edges, last_of}
@@ -16,7 +15,7 @@ use Rattle.ring_cutting.specs.Laws.{IsOf}
 use Rattle.ring_cutting.proofs.Members.{head_or, in_wider, in_middle, in_moved, last_in, head_in}
 use Rattle.ring_cutting.proofs.Rounds.{cut_sum, parts_at, apart_without}
 use Rattle.ring_cutting.proofs.Turned.{here_is, before_is, after_is, without_is, split_length, splits_at}
-use Rattle.ring_cutting.proofs.Allowed.{from_allowed, Allowed}
+use Rattle.ring_cutting.proofs.Allowed.{from_allowed}
 use Rattle.ring_cutting.proofs.Bent.{some_allowed}
 use Rattle.ring_cutting.proofs.FirstPlaces.{passes, not_before}
 

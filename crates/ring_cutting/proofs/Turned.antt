@@ -1,8 +1,8 @@
 -- The neighbours of a place, by the ring that begins there.
-use Rattle.std.specs.Prelude.{◌≡◌, ℕ, zero, suc, ◌+◌, ◌-◌, ◌*◌, ◌%◌, ◌<◌, ◌≤◌, List, [], ◌∷◌, ◌++◌, length, get_or, take, drop}
-use Rattle.std.proofs.Common.{arith, refl, sym, subst, ap, ◌∙◌}
-use Rattle.std.proofs.lemmas.List.{append-nil, length-append, length-take-le, get_or_at, get_or_append_left, get_or-append-add, take_at, drop_at, take-append-drop, drop_more}
-use Rattle.std.proofs.Math.Nat.{mod-eq_of_lt, mod_self, add-mul-mod_self_right}
+use Rattle.std.specs.Prelude.{◌≡◌, ℕ, suc, ◌+◌, ◌-◌, ◌*◌, ◌%◌, ◌<◌, List, [], ◌∷◌, ◌++◌, length, get_or, take, drop}
+use Rattle.std.proofs.Common.{arith, refl, sym, ap, ◌∙◌}
+use Rattle.std.proofs.lemmas.List.{append-nil, length-append, length-take-le, get_or_at, get_or_append_left, get_or-append-add, take_at, take-append-drop, drop_more}
+use Rattle.std.proofs.Math.Nat.{mod-eq_of_lt, add-mul-mod_self_right}
 use Rattle.chain_terms.specs.Paths.{last_of}
 use Rattle.chain_laws.proofs.Paths.{last_of-append}
 use Rattle.face_plane.specs.Rings.{vertex_at, vertex_before, vertex_after, without_place}

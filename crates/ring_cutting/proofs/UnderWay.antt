@@ -1,10 +1,10 @@
 -- A cutting under way: the triangles so far, and the places that are left.
-use Rattle.std.specs.Prelude.{◌≡◌, ℕ, suc, ◌+◌, ◌-◌, ◌<◌, ◌≤◌, pos, List, [], ◌∷◌, ◌++◌, Bool, true, false, cond, int_lt, length}
+use Rattle.std.specs.Prelude.{◌≡◌, ℕ, suc, ◌+◌, ◌-◌, ◌<◌, ◌≤◌, pos, List, [], ◌∷◌, ◌++◌, Bool, cond, int_lt, length}
 use Rattle.std.specs.List.{remove}
 use Rattle.std.proofs.Common.{arith, refl, sym, subst, ap, ◌∙◌}
 use Rattle.std.proofs.lemmas.List.{append_assoc}
 use Rattle.std.proofs.lemmas.List.Edits.{length-remove}
-use Rattle.mesh_terms.specs.Meshes.{Triple, HasThree, IsBelow}
+use Rattle.mesh_terms.specs.Meshes.{Triple}
 use Rattle.face_plane.specs.Planes.{Plane, orient}
 use Rattle.face_plane.specs.Rings.{vertex_at, vertex_before, vertex_after, without_place}
 use Rattle.ring_cutting.specs.declared.place.Place.{Place}

@@ -1,22 +1,19 @@
 -- The cutting of a ring.
-use Rattle.std.specs.Prelude.{◌≡◌, ◌≢◌, ℕ, zero, suc, ◌+◌, ◌-◌, ◌<◌, ◌≤◌, ℤ, pos, ◌<ℤ◌, ◌+ℤ◌, List, [], ◌∷◌, ◌++◌, true, false, Bool, cond, length, int_lt}
+use Rattle.std.specs.Prelude.{◌≡◌, ◌≢◌, ℕ, zero, suc, ◌+◌, ◌-◌, ◌<◌, ◌≤◌, ℤ, pos, ◌<ℤ◌, List, [], ◌∷◌, true, false, Bool, cond, length, int_lt}
 use Rattle.std.specs.List.{All}
-use Rattle.std.proofs.Common.{arith, refl, sym, subst, ap, ◌∙◌, inl, inr}
+use Rattle.std.proofs.Common.{arith, refl, inl, inr}
 use Rattle.std.proofs.lemmas.Int.{ints}
-use Rattle.std.proofs.lemmas.Bool.{cases_Bool}
 use Rattle.std.proofs.lemmas.List.Elements.{All-cons, All-nil, All-head, All-tail, All-weaker}
-use Rattle.chain_terms.specs.Sums.{total}
 use Rattle.chain_laws.specs.Sums.{total-append}
 use Rattle.chain_terms.specs.Chains.{edges, all_edges}
-use Rattle.chain_terms.specs.Odd.{IsOdd, along}
-use Rattle.chain_terms.specs.Paths.{round_edges}
+use Rattle.chain_terms.specs.Odd.{along}
 use Rattle.mesh_terms.specs.Meshes.{Triple, HasThree, IsBelow}
 use Rattle.face_plane.specs.Planes.{Plane, orient}
-use Rattle.face_plane.specs.Rings.{In, Ringy, without_place}
+use Rattle.face_plane.specs.Rings.{Ringy, without_place}
 use Rattle.ring_cutting.specs.Cuts.{Cut, cut_place, forced_here, triple_at, last_triple, with_triple, cut_of, cut_ring}
 use Rattle.ring_cutting.specs.Laws.{TurnsLeft, IsOf, IsCutting}
 use Rattle.ring_cutting.proofs.Members.{all_in}
-use Rattle.ring_cutting.proofs.Steps.{IsStep, step, IsChosen, chosen}
+use Rattle.ring_cutting.proofs.Steps.{IsStep, step, chosen}
 
 -- the test of a turn
 pub left_of : (z : ℤ) → int_lt (pos 0) z ≡ true → pos 0 <ℤ z

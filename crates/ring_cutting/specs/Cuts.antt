@@ -1,5 +1,5 @@
 -- Cutting a ring into triangles, place by place.
-use Rattle.std.specs.Prelude.{ℕ, zero, suc, ◌+◌, ◌-◌, ℤ, pos, List, [], ◌∷◌, ◌++◌, Bool, cond, not, ◌&&◌, ◌==◌, nat_lt, length, int_lt, int_le}
+use Rattle.std.specs.Prelude.{ℕ, zero, suc, ◌+◌, ◌-◌, ℤ, pos, List, [], ◌∷◌, Bool, cond, not, ◌&&◌, ◌==◌, nat_lt, length, int_lt, int_le}
 use Rattle.std.specs.List.{list_any, position_or_len}
 use Rattle.chain_terms.specs.Sums.{upto}
 use Rattle.mesh_terms.specs.Meshes.{Triple}

@@ -12,7 +12,7 @@ ghost use Rattle.ring_cutting.specs.Placed.{vertices_of, IsPlaced};
 
 use crate::Filled;
 use crate::ears::choose;
-use crate::place::{after, before, here, placed, Place};
+use crate::place::{Place, after, before, here, placed};
 use face_plane::{FacePlane, FlatPoint, Places};
 use mb_base::{NoMemory, Point};
 use std::alloc::Global;

@@ -7,7 +7,7 @@ ghost use Rattle.face_plane.specs.Rings.{different, in_list, vertex_at, without_
 ghost use Rattle.ring_cutting.specs.Cuts.{is_allowed, is_ear, first_allowed, cut_place, forced_here};
 ghost use Rattle.ring_cutting.specs.Placed.{vertices_of, IsPlaced};
 
-use crate::place::{after, before, here, Place};
+use crate::place::{Place, after, before, here};
 use crate::triangle::is_blocked;
 use face_plane::FlatPoint;
 
@@ -29,8 +29,14 @@ pub(crate) fn choose(places: &[Place]) -> Choice
 {
     let four = has_four(places);
     match first_ear(places, four) {
-        Some(place) => Choice { place, forced: false },
-        None => Choice { place: first_allowed(places, four), forced: true },
+        Some(place) => Choice {
+            place,
+            forced: false,
+        },
+        None => Choice {
+            place: first_allowed(places, four),
+            forced: true,
+        },
     }
 }
 

@@ -31,7 +31,10 @@ pub(crate) fn placed(
     let mut places = Vec::with_capacity(alloc, ring.len())?;
     for vertex in ring {
         let at = plane.flat(turned, points[*vertex as usize]);
-        places.push(Place { vertex: *vertex, at })?;
+        places.push(Place {
+            vertex: *vertex,
+            at,
+        })?;
     }
     Ok(places)
 }

@@ -12,7 +12,9 @@ use face_plane::FlatPoint;
 fn covers(a: FlatPoint, b: FlatPoint, c: FlatPoint, x: FlatPoint) -> bool
     ensures { result ≡ covers a b c x }
 {
-    FlatPoint::keeps_left(a, b, x) && FlatPoint::keeps_left(b, c, x) && FlatPoint::keeps_left(c, a, x)
+    FlatPoint::keeps_left(a, b, x)
+        && FlatPoint::keeps_left(b, c, x)
+        && FlatPoint::keeps_left(c, a, x)
 }
 
 // Whether a place has another vertex than the three, with its point in their triangle.

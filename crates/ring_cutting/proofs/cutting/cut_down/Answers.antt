@@ -1,4 +1,4 @@
-use Rattle.std.proofs.Common.{◌≡◌, ◌+◌, ◌-◌, ◌<◌, ◌≤◌, ℕ, List, [], ◌∷◌, ◌++◌, true, false, Bool, cond, length, sym, ap, subst, ◌∙◌, arith, refl}
+use Rattle.std.proofs.Common.{◌≡◌, ◌+◌, ◌<◌, ◌≤◌, ℕ, List, [], ◌∷◌, ◌++◌, true, false, Bool, cond, length, sym, ap, subst, ◌∙◌, arith}
 use Rattle.std.specs.List.{remove}
 use Rattle.std.proofs.lemmas.List.{map_push}
 use Rattle.std.proofs.lemmas.List.Edits.{length-remove}
@@ -7,7 +7,7 @@ use Rattle.std.specs.Prelude.{int_lt, pos}
 use Rattle.face_plane.specs.Planes.{Plane, orient}
 use Rattle.face_plane.specs.Rings.{Ringy, vertex_at, vertex_before, vertex_after}
 use Rattle.ring_cutting.specs.declared.place.Place.{Place}
-use Rattle.ring_cutting.specs.Cuts.{is_allowed, triple_at, cut_place, forced_here, cut_ring}
+use Rattle.ring_cutting.specs.Cuts.{is_allowed, triple_at, cut_place, forced_here}
 use Rattle.ring_cutting.specs.Placed.{vertices_of, IsPlaced}
 use Rattle.ring_cutting.proofs.Reading.{length-vertices, without_vertices}
 use Rattle.ring_cutting.proofs.Steps.{step}
@@ -116,9 +116,9 @@ returns c = λ at placed.
     let triple : t ≡ triple_at (vertices_of ps) 1 = c.triple_at-2.ensures ∙ ap (λ (qs : List Place). triple_at (vertices_of qs) 1) same in
     let turns : c.turns_left.result ≡ left_of_places at ps = subst (λ (qs : List Place). IsPlaced at qs → c.turns_left.result ≡ left_of_places at qs) again (c.turns_left.ensures at) h.placed in
     let count : c.if-not-turns_left.forced ≡ c.loop-places.forced + one_unless c.turns_left.result =
-        elim c.if-not-turns_left.branch as (λ _. c.if-not-turns_left.forced ≡ c.loop-places.forced + one_unless c.turns_left.result) [
-          | then-not-turns_left w ↦ turned_true c.loop-places.forced c.if-not-turns_left.forced c.turns_left.result w.if-not-turns_left.true w.forced-is
-          | else-not-turns_left w ↦ turned_false c.loop-places.forced c.if-not-turns_left.forced c.turns_left.result w.if-not-turns_left.false w.forced-is
-        ] in
+    elim c.if-not-turns_left.branch as (λ _. c.if-not-turns_left.forced ≡ c.loop-places.forced + one_unless c.turns_left.result) [
+      | then-not-turns_left w ↦ turned_true c.loop-places.forced c.if-not-turns_left.forced c.turns_left.result w.if-not-turns_left.true w.forced-is
+      | else-not-turns_left w ↦ turned_false c.loop-places.forced c.if-not-turns_left.forced c.turns_left.result w.if-not-turns_left.false w.forced-is
+    ] in
     cut_last at (vertices_of c.args.places.items) ps (triples_of c.loop-places.triples.items) (triples_of c.push-2.new.self.items) c.loop-places.forced c.if-not-turns_left.forced t c.turns_left.result
     h three triple turns (triples_more c.loop-places.triples.items c.push-2.new.self.items c.triple_at-2.result c.in_ok-push-2.ensures.items) count

@@ -1,5 +1,5 @@
-use Rattle.std.proofs.Common.{◌≡◌, ◌<◌, ◌≤◌, ℕ, List, true, false, Bool, Option, Some, None, length, sym, ap, ◌∙◌, arith, refl}
-use Rattle.std.specs.Prelude.{nat_lt, cond}
+use Rattle.std.proofs.Common.{◌≡◌, ℕ, List, true, false, Option, Some, None, length, sym, ap, ◌∙◌, refl}
+use Rattle.std.specs.Prelude.{nat_lt}
 use Rattle.std.specs.List.{position}
 use Rattle.std.proofs.lemmas.Bool.{lt-ltb, le-ltb}
 use Rattle.chain_terms.specs.Sums.{upto}

@@ -1,9 +1,9 @@
-use Rattle.std.proofs.Common.{◌≡◌, ◌<◌, ◌≤◌, ℕ, List, true, false, Bool, length, sym, ap, ◌∙◌, arith, refl, inl, inr}
+use Rattle.std.proofs.Common.{◌≡◌, ◌<◌, ◌≤◌, ℕ, List, false, length, sym, ◌∙◌, arith, inl, inr}
 use Rattle.std.proofs.lemmas.Bool.{cases_lt, both_ways}
 use borrow.Author.Count.{below_more}
 use Rattle.face_plane.specs.Rings.{Ringy}
 use Rattle.ring_cutting.specs.declared.place.Place.{Place}
-use Rattle.ring_cutting.specs.Cuts.{is_allowed, first_allowed}
+use Rattle.ring_cutting.specs.Cuts.{is_allowed}
 use Rattle.ring_cutting.specs.Placed.{vertices_of}
 use Rattle.ring_cutting.proofs.Different.{three_are}
 use Rattle.ring_cutting.proofs.Bent.{some_allowed}

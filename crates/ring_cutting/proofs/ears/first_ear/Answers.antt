@@ -1,8 +1,4 @@
-use Rattle.std.proofs.Common.{◌≡◌, ◌<◌, ◌≤◌, ◌+◌, ℕ, List, true, false, Bool, Option, Some, None, cond, length, sym, ap, ◌∙◌, arith, refl}
-use Rattle.std.specs.Prelude.{nat_lt}
-use Rattle.std.specs.List.{position, position_or_len}
-use Rattle.chain_terms.specs.Sums.{upto}
-use Rattle.std.proofs.lemmas.Bool.{lt-ltb, le-ltb}
+use Rattle.std.proofs.Common.{◌≡◌, false, length, sym, ◌∙◌, arith}
 use borrow.Author.Count.{below_more}
 use Rattle.ring_cutting.specs.Cuts.{is_ear}
 use Rattle.ring_cutting.specs.Placed.{vertices_of}

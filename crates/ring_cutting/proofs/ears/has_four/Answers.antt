@@ -1,5 +1,5 @@
-use Rattle.std.proofs.Common.{◌≡◌, ◌<◌, ◌≤◌, ◌+◌, ℕ, List, [], ◌∷◌, ◌++◌, true, false, Bool, length, get_or, take, set, sym, ap, subst, ◌∙◌, arith, refl, min}
-use Rattle.std.specs.Prelude.{◌==◌, nat_lt}
+use Rattle.std.proofs.Common.{◌≡◌, ◌<◌, ◌≤◌, ◌+◌, ℕ, List, [], ◌∷◌, ◌++◌, true, false, Bool, length, get_or, take, sym, ap, subst, ◌∙◌, arith, refl}
+use Rattle.std.specs.Prelude.{◌==◌}
 use Rattle.std.specs.List.{list_any}
 use Rattle.std.proofs.lemmas.Bool.{lt-ltb, le-ltb}
 use Rattle.std.proofs.lemmas.List.{length-take, take_more_set, take_all}
@@ -50,7 +50,6 @@ loop-place-preserved c =
     let r = vertices_of (take k ps) in
     let n = c.loop-place.count in
     let seen = take n c.loop-place.seen in
-
     let more : vertices_of (take (k + 1) ps) ≡ r ++ p.vertex ∷ [] = vertices_more ps k p c.loop-place-test.true c.place-item.is in
     elim c.if-not-contains.branch as (λ _. HasSeen (vertices_of (take (k + 1) ps)) (take c.if-not-contains.count c.if-not-contains.seen) c.if-not-contains.count) [
       | then-not-contains+else-count-eq3 w ↦

@@ -1,11 +1,11 @@
-use Rattle.std.proofs.Common.{◌≡◌, ◌<◌, ℕ, pos, List, true, false, Bool, length, sym, ap, ◌∙◌, refl}
+use Rattle.std.proofs.Common.{◌≡◌, ℕ, pos, List, true, false, Bool, sym, ◌∙◌, refl}
 use Rattle.std.specs.Prelude.{◌&&◌, not, int_lt}
 use Rattle.std.specs.List.{list_any}
 use Rattle.face_plane.specs.Planes.{Plane, orient, turn}
 use Rattle.face_plane.specs.Rings.{vertex_at, vertex_before, vertex_after}
 use Rattle.ring_cutting.specs.declared.place.Place.{Place}
 use Rattle.ring_cutting.specs.Cuts.{is_allowed, is_ear, blocks}
-use Rattle.ring_cutting.specs.Placed.{vertices_of, IsPlaced, place_blocks}
+use Rattle.ring_cutting.specs.Placed.{vertices_of, IsPlaced}
 use Rattle.ring_cutting.proofs.Reading.{IsRead, blocks_of}
 use Rattle.ring_cutting.proofs.ears.is_ear.Goals.{then-turns_left, else-turns_left}
 use Rattle.ring_cutting.proofs.ears.is_ear.Goals as goal

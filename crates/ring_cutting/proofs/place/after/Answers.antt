@@ -1,4 +1,4 @@
-use Rattle.std.proofs.Common.{◌≡◌, ◌<◌, ◌+◌, ℕ, length, get_or, subst, sym, ap, ◌∙◌, arith}
+use Rattle.std.proofs.Common.{◌<◌, ℕ, length, get_or, ap, ◌∙◌, arith}
 use Rattle.face_plane.specs.Rings.{vertex_after}
 use Rattle.ring_cutting.specs.Placed.{vertices_of}
 use Rattle.ring_cutting.proofs.Reading.{IsRead, read_as, after_last, after_other}

@@ -1,4 +1,4 @@
-use Rattle.std.proofs.Common.{◌≡◌, ◌<◌, ◌+◌, ℕ, ℤ, List, [], ◌∷◌, ◌++◌, Bool, length, get_or, take, sym, ap, subst, ◌∙◌, arith, refl, map}
+use Rattle.std.proofs.Common.{◌≡◌, ◌<◌, ◌+◌, ℕ, List, [], ◌∷◌, ◌++◌, length, get_or, take, sym, ap, subst, ◌∙◌, refl}
 use Rattle.std.proofs.lemmas.List.{take_more, take_all, map_push, get_or_default}
 use Rattle.std.proofs.lemmas.List.Elements.{All-push, All-nil}
 use Rattle.face_plane.specs.Planes.{Plane, face_plane, flat_at}
@@ -33,7 +33,7 @@ loop-vertex-preserved c =
     let low : v < length points = c.requires i 0 within in
     let more : c.push.new.self.items ≡ c.loop-vertex.places.items ++ p ∷ [] = c.in_ok-push.ensures.items in
     let flat : p.at ≡ face_plane c.args.plane.drop c.args.turned points v =
-        c.flat-at.ensures ∙ ap (flat_at c.args.plane.drop c.args.turned) (c.index-points-vertex.is ∙ get_or_default points v c.index-points-vertex.result [] low) in
+    c.flat-at.ensures ∙ ap (flat_at c.args.plane.drop c.args.turned) (c.index-points-vertex.is ∙ get_or_default points v c.index-points-vertex.result [] low) in
     record {
       vertices = vertices_more ring c.loop-vertex.places.items c.push.new.self.items i p within refl more c.loop-vertex.invariant.vertices;
       at = placed_more (face_plane c.args.plane.drop c.args.turned points) c.loop-vertex.places.items c.push.new.self.items p flat more c.loop-vertex.invariant.at;

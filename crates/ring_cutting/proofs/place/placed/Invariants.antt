@@ -1,4 +1,4 @@
-use Rattle.std.proofs.Common.{◌≡◌, List, ℕ, take}
+use Rattle.std.proofs.Common.{◌≡◌, take}
 use Rattle.face_plane.specs.Planes.{face_plane}
 use Rattle.ring_cutting.specs.Placed.{vertices_of, IsPlaced}
 use Rattle.ring_cutting.proofs.place.placed.Given as goal
