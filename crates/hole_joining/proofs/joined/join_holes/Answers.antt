@@ -1,0 +1,49 @@
+use Rattle.std.proofs.Common.{◌≡◌, ℕ, ℤ, List, Bool, true, false, cond, length, refl, ap, sym, subst, ◌∙◌}
+use Rattle.face_plane.specs.Planes.{Plane, exchanged, plane_of, point_at, face_plane, is_turned}
+use Rattle.hole_joining.specs.Holes.{ring_list, hole_list}
+use Rattle.hole_joining.specs.Bridges.{joined, join_holes}
+use Rattle.hole_joining.specs.Laws.{AreFillable, IsJoining, settled_in}
+use Rattle.hole_joining.proofs.Keeps.{is_joining}
+use Rattle.hole_joining.proofs.joined.join_holes.Goals as goal
+
+-- the plane that is exchanged or not
+settled : (drop_axis : ℕ) (points : List (List ℤ)) (t : Bool) → face_plane drop_axis t points ≡ cond t (exchanged (plane_of drop_axis (point_at points))) (plane_of drop_axis (point_at points))
+settled drop_axis points true = refl
+settled drop_axis points false = refl
+
+-- rings and holes of the settled plane, joined
+all_joined : (at : Plane) (loops rings holes now : List (List ℕ)) → rings ≡ ring_list at loops → holes ≡ hole_list at loops → now ≡ joined at rings holes → now ≡ join_holes at loops
+all_joined at loops rings holes now e f g = g ∙ ap (λ r. joined at r holes) e ∙ ap (joined at (ring_list at loops)) f
+
+-- the rings that were made
+made : (drop_axis : ℕ) (points : List (List ℤ)) (loops rings holes now : List (List ℕ)) (t : Bool) → t ≡ is_turned (plane_of drop_axis (point_at points)) loops → rings ≡ ring_list (face_plane drop_axis t points) loops →
+    holes ≡ hole_list (face_plane drop_axis t points) loops → now ≡ joined (face_plane drop_axis t points) rings holes → now ≡ join_holes (settled_in drop_axis points loops) loops
+made drop_axis points loops rings holes now t turned e f g =
+    let straight = plane_of drop_axis (point_at points) in
+    let same = settled drop_axis points t ∙ ap (λ t. cond t (exchanged straight) straight) turned in
+    all_joined (face_plane drop_axis t points) loops rings holes now e f g ∙ ap (λ p. join_holes p loops) same
+
+-- what is kept of them
+kept : (drop_axis : ℕ) (points : List (List ℤ)) (loops now : List (List ℕ)) → AreFillable loops (length points) → now ≡ join_holes (settled_in drop_axis points loops) loops → IsJoining (settled_in drop_axis points loops) loops now (length points)
+kept drop_axis points loops now fits e =
+    subst (λ (r : List (List ℕ)). IsJoining (settled_in drop_axis points loops) loops r (length points)) (sym e) (is_joining (plane_of drop_axis (point_at points)) loops (length points) fits)
+
+pub returns-clause-rings : goal.returns-clause-rings
+returns-clause-rings c =
+    made c.args.plane.drop c.args.points.now c.args.loops.now c.in_ok-rings.rings.items c.deref.result.now c.join_all.new.rings.items c.is_turned-turned.result c.is_turned-turned.ensures c.in_ok-rings.ensures
+    (c.deref.ensures.value ∙ c.in_ok-holes.ensures) c.in_ok-join_all.ensures
+
+pub returns-clause-count : goal.returns-clause-count
+returns-clause-count c = (kept c.args.plane.drop c.args.points.now c.args.loops.now c.join_all.new.rings.items c.requires.loops (returns-clause-rings c)).count
+
+pub returns-clause-places : goal.returns-clause-places
+returns-clause-places c = (kept c.args.plane.drop c.args.points.now c.args.loops.now c.join_all.new.rings.items c.requires.loops (returns-clause-rings c)).places
+
+pub returns-clause-ringy : goal.returns-clause-ringy
+returns-clause-ringy c = (kept c.args.plane.drop c.args.points.now c.args.loops.now c.join_all.new.rings.items c.requires.loops (returns-clause-rings c)).ringy
+
+pub returns-clause-below : goal.returns-clause-below
+returns-clause-below c = (kept c.args.plane.drop c.args.points.now c.args.loops.now c.join_all.new.rings.items c.requires.loops (returns-clause-rings c)).below
+
+pub returns-clause-chain : goal.returns-clause-chain
+returns-clause-chain c = (kept c.args.plane.drop c.args.points.now c.args.loops.now c.join_all.new.rings.items c.requires.loops (returns-clause-rings c)).chain

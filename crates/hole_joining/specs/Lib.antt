@@ -1,0 +1,6 @@
+pub mod Bridges
+pub mod Cones
+pub mod Holes
+pub mod Laws
+pub mod Passes
+pub mod Seen

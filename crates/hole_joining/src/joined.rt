@@ -1,0 +1,79 @@
+// Every hole of a face joined.
+ghost use Rattle.std.specs.Prelude.{◌≡◌, ◌+◌, ◌*◌, ◌<◌, IfOk, length, filter};
+ghost use Rattle.std.specs.List.{All, concat, flat_map};
+ghost use Rattle.chain_terms.specs.Odd.{SameChain};
+ghost use Rattle.chain_terms.specs.Paths.{round_edges};
+ghost use Rattle.face_plane.specs.Planes.{is_turned, plane_of, point_at};
+ghost use Rattle.face_plane.specs.Rings.{Ringy};
+ghost use Rattle.hole_joining.specs.Bridges.{join_holes};
+ghost use Rattle.hole_joining.specs.Holes.{is_ring, is_hole};
+ghost use Rattle.hole_joining.specs.Laws.{AreFillable, settled_in};
+
+use crate::area::is_turned;
+use crate::flat::FlatPoints;
+use crate::splice::join_all;
+use crate::start::{holes_of, rings_of};
+use face_loops::Loop;
+use face_plane::{FacePlane, Places};
+use mb_base::{NoMemory, Point};
+use std::alloc::Global;
+
+/// The rings of a face after every hole was joined to one.
+#[derive(Debug, Drop)]
+pub struct Joined {
+    /// The rings, in the order of the loops that they come from.
+    pub rings: Vec<Places>,
+    /// Whether u and v are exchanged.
+    pub turned: bool,
+}
+
+/// The rings of a face: its loops in the plane that drops an axis, with every hole joined to a ring.
+///
+/// Each loop has three vertices or more, all vertices of all loops are different, each has a point, and there are at most
+/// 60,000,000. Where the doubled areas of all loops add up to less than 0, u and v are exchanged. Then a loop of area at
+/// least 0 is a ring, and one of area below 0 is a hole. A hole's start is its vertex of greatest u, then greatest v, then
+/// least number, and holes are joined in this order of their starts. A bridge leads from the start to a place of a ring: the
+/// shortest that lies in the cones at both its ends and meets no edge of the rings and of the holes not yet joined, but at
+/// its ends; of equal ones the first by ring, then by place; where there is none, the shortest of all by the same rule.
+/// After that place come the hole from its start, the start again, and the place's vertex again.
+///
+/// Each hole costs a pass over all places and one over all edges, nearly always. `NoMemory` may come for any loops. The
+/// rule is this project's own.
+pub fn join_holes(
+    alloc: Global,
+    plane: FacePlane,
+    loops: &[Loop],
+    points: &[Point],
+) -> Result<Joined, NoMemory>
+    requires loops { AreFillable loops.now (length points.now) }
+    requires drop { plane.drop < 3 }
+    ensures rings { IfOk result (λ j. j.rings.items ≡ join_holes (settled_in plane.drop points.now loops.now) loops.now) }
+    ensures turned { IfOk result (λ j. j.turned ≡ is_turned (plane_of plane.drop (point_at points.now)) loops.now) }
+
+    // One ring for each loop of area at least 0, and two places for each hole beside the vertices of the loops.
+    ensures count { IfOk result (λ j. length j.rings.items ≡ length (filter (is_ring (settled_in plane.drop points.now loops.now)) loops.now)) }
+    ensures places { IfOk result (λ j. length (concat j.rings.items) ≡ length (concat loops.now) + 2 * length (filter (is_hole (settled_in plane.drop points.now loops.now)) loops.now)) }
+
+    // Each ring has different neighbours and three different vertices, each with a point.
+    ensures ringy { IfOk result (λ j. All Ringy j.rings.items) }
+    ensures below { IfOk result (λ j. All (λ ring. All (λ v. v < length points.now) ring) j.rings.items) }
+
+    // Every odd function has the same sum round the rings as round the loops, so boundary and areas are the same.
+    ensures chain { IfOk result (λ j. SameChain (flat_map round_edges j.rings.items) (flat_map round_edges loops.now)) }
+{
+    let straight = FlatPoints {
+        plane,
+        turned: false,
+        points,
+    };
+    let turned = is_turned(&straight, loops);
+    let flat = FlatPoints {
+        plane,
+        turned,
+        points,
+    };
+    let mut rings = rings_of(alloc, &flat, loops)?;
+    let holes = holes_of(alloc, &flat, loops)?;
+    join_all(alloc, &flat, &mut rings, &holes)?;
+    Ok(Joined { rings, turned })
+}
