@@ -43,6 +43,7 @@ pub fn cut_ring(
     ensures chain { IfOk result (λ f. SameChain (all_edges f.triples) (round_edges ring)) }
     ensures three { IfOk result (λ f. All HasThree f.triples) }
     ensures below { IfOk result (λ f. All (IsBelow (length points.now)) f.triples) }
+    ensures most { IfOk result (λ f. f.forced ≤ length f.triples) }
     ensures left { IfOk result (λ f. f.forced ≡ 0 → All (λ t. pos 0 <ℤ orient (face_plane plane.drop turned points.now) t.0 t.1 t.2) f.triples) }
 {
     let places = placed(alloc, plane, turned, &ring.places, points)?;

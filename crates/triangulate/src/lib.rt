@@ -1,13 +1,13 @@
-// A library with one function.
+//! Loops of a face are filled with triangles: loops of area at least 0 are rings, the others are holes, which are joined to
+//! rings by bridges, and the rings are cut into triangles. However the loops lie, no triangle repeats a vertex, and the
+//! triangles have the boundary of the loops.
 #![tactic(auto)]
 
-ghost use Rattle.std.specs.Prelude.{◌≡◌};
-ghost use Rattle.triangulate.specs.Echo.{echo_of};
+mod filling;
 
-// The `ensures` clause is the contract: what `echo` returns is `echo_of` of its argument, a definition
-// in `specs/Echo.antt`, which a caller's clause can cite too.
-pub fn echo(x: usize) -> usize
-    ensures { result ≡ echo_of x }
-{
-    x
-}
+
+
+pub use face_plane::{FacePlane, Places};
+pub use filling::fill;
+pub use hole_joining::{Joined, join_holes};
+pub use ring_cutting::{Filled, cut_ring};

@@ -1,4 +1,4 @@
-use Rattle.std.proofs.Common.{◌≡◌, ◌+◌, ℕ, List, Result, Ok, Err, length, sym, subst, ◌∙◌}
+use Rattle.std.proofs.Common.{◌≡◌, ◌+◌, ◌≤◌, ℕ, List, Result, Ok, Err, length, sym, subst, ◌∙◌}
 use Rattle.std.specs.Prelude.{IfOk}
 use Rattle.std.specs.List.{All}
 use Rattle.chain_terms.specs.Chains.{all_edges}
@@ -45,6 +45,9 @@ pub returns-clause-below : goal.returns-clause-below
 returns-clause-below c =
     let whole = cut_ring (plane_at c) c.args.ring in
     of_made whole (λ f. All (IsBelow (length c.args.points.now)) f.triples) c.cut_down.result (below_of (length c.args.points.now) c.args.ring whole.triples c.requires.below (laws c).of) (made c)
+
+pub returns-clause-most : goal.returns-clause-most
+returns-clause-most c = of_made (cut_ring (plane_at c) c.args.ring) (λ f. f.forced ≤ length f.triples) c.cut_down.result (laws c).few (made c)
 
 pub returns-clause-left : goal.returns-clause-left
 returns-clause-left c = of_made (cut_ring (plane_at c) c.args.ring) (λ f. f.forced ≡ 0 → All (TurnsLeft (plane_at c)) f.triples) c.cut_down.result (laws c).left (made c)
