@@ -1,0 +1,12 @@
+pub mod Allowed
+pub mod Bent
+pub mod Different
+pub mod FirstPlaces
+pub mod Members
+pub mod Reading
+pub mod Rounds
+pub mod Seen
+pub mod Steps
+pub mod Turned
+pub mod UnderWay
+pub mod WholeCuts

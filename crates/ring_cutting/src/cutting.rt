@@ -1,0 +1,98 @@
+// A ring is cut into triangles.
+ghost use Rattle.std.specs.Prelude.{◌≡◌, ◌<◌, ◌≤◌, ◌+◌, length, IfOk, pos, ◌<ℤ◌, int_lt};
+ghost use Rattle.std.specs.List.{All};
+ghost use Rattle.chain_terms.specs.Chains.{all_edges};
+ghost use Rattle.chain_terms.specs.Odd.{SameChain};
+ghost use Rattle.chain_terms.specs.Paths.{round_edges};
+ghost use Rattle.mesh_terms.specs.Meshes.{HasThree, IsBelow, triple_of};
+ghost use Rattle.face_plane.specs.Planes.{Plane, face_plane, orient};
+ghost use Rattle.face_plane.specs.Rings.{Ringy, vertex_at, vertex_before, vertex_after};
+ghost use Rattle.ring_cutting.specs.Cuts.{cut_ring, triple_at};
+ghost use Rattle.ring_cutting.specs.Placed.{vertices_of, IsPlaced};
+
+use crate::Filled;
+use crate::ears::choose;
+use crate::place::{Place, after, before, here, placed};
+use face_plane::{FacePlane, FlatPoint, Places};
+use mb_base::{NoMemory, Point};
+use std::alloc::Global;
+
+/// Cuts a ring of vertices, numbers of points, into triangles in the plane of its face; u and v of the plane are exchanged
+/// where it is turned.
+///
+/// A place may be cut where its two neighbours have different vertices and the places that stay have at least three
+/// different ones. It is an ear where it may be cut, turns left, and no vertex but those three lies in their triangle,
+/// rim included. Each time the least ear is cut, and where there is none the least place that may be cut, which counts as
+/// forced; the last three places are the last triangle, forced where it does not turn left. There always is a place that
+/// may be cut. Time is quadratic in the places of rings as they come, cubic at worst.
+///
+/// Ear cutting as in the Manifold library, with a rule for rings that are not simple.
+pub fn cut_ring(
+    alloc: Global,
+    plane: FacePlane,
+    turned: bool,
+    ring: Places,
+    points: &[Point],
+) -> Result<Filled, NoMemory>
+    requires ringy { Ringy ring }
+    requires few { length ring ≤ 100000000 }
+    requires below { All (λ v. v < length points.now) ring }
+    requires axis { plane.drop < 3 }
+    ensures value { IfOk result (λ f. f ≡ cut_ring (face_plane plane.drop turned points.now) ring) }
+    ensures count { IfOk result (λ f. length f.triples + 2 ≡ length ring) }
+    ensures chain { IfOk result (λ f. SameChain (all_edges f.triples) (round_edges ring)) }
+    ensures three { IfOk result (λ f. All HasThree f.triples) }
+    ensures below { IfOk result (λ f. All (IsBelow (length points.now)) f.triples) }
+    ensures most { IfOk result (λ f. f.forced ≤ length f.triples) }
+    ensures left { IfOk result (λ f. f.forced ≡ 0 → All (λ t. pos 0 <ℤ orient (face_plane plane.drop turned points.now) t.0 t.1 t.2) f.triples) }
+{
+    let places = placed(alloc, plane, turned, &ring.places, points)?;
+    cut_down(alloc, places)
+}
+
+// Cuts the places of a ring, one after the other.
+fn cut_down(alloc: Global, mut places: Vec<Place>) -> Result<Filled, NoMemory>
+    requires ringy { Ringy (vertices_of places.items) }
+    requires few { length places.items ≤ 100000000 }
+    ensures { (at : Plane) → IsPlaced at places.items → IfOk result (λ f. f ≡ cut_ring at (vertices_of places.items)) }
+{
+    let mut triples = Vec::with_capacity(alloc, places.len() - 2)?;
+    let mut forced = 0;
+    while places.len() > 3 {
+        let next = choose(&places);
+        triples.push(triple_at(&places, next.place))?;
+        if next.forced {
+            forced += 1;
+        }
+        places.remove(next.place);
+    }
+    triples.push(triple_at(&places, 1))?;
+    if !turns_left(&places, 1) {
+        forced += 1;
+    }
+    Ok(Filled { triples, forced })
+}
+
+// The triangle of a place and its neighbours.
+fn triple_at(places: &[Place], i: usize) -> [u32; 3]
+    requires { i < length places.now }
+    ensures { triple_of result ≡ triple_at (vertices_of places.now) i }
+{
+    [
+        before(places, i).vertex,
+        here(places, i).vertex,
+        after(places, i).vertex,
+    ]
+}
+
+// Whether a place and its neighbours turn left.
+fn turns_left(places: &[Place], i: usize) -> bool
+    requires { i < length places.now }
+    ensures { (at : Plane) → IsPlaced at places.now → result ≡ int_lt (pos 0) (orient at (vertex_before (vertices_of places.now) i) (vertex_at (vertices_of places.now) i) (vertex_after (vertices_of places.now) i)) }
+{
+    FlatPoint::turns_left(
+        before(places, i).at,
+        here(places, i).at,
+        after(places, i).at,
+    )
+}

@@ -1,0 +1,15 @@
+//! A ring of vertices in the plane of a face is cut into triangles, place by place: the least ear is cut, and where there
+//! is none the least place that may be cut at all. However the ring lies, it never gets stuck: there are two triangles
+//! fewer than places, no triangle repeats a vertex, and the triangles have the ring's boundary.
+#![tactic(auto)]
+
+mod cutting;
+mod ears;
+mod filled;
+mod place;
+#[cfg(test)]
+mod tests;
+mod triangle;
+
+pub use cutting::cut_ring;
+pub use filled::Filled;

@@ -1,0 +1,69 @@
+// Places of a ring beside the points of their vertices.
+ghost use Rattle.std.specs.Prelude.{◌≡◌, ◌<◌, ◌≤◌, ◌^◌, IfOk, List, ℕ, length};
+ghost use Rattle.std.specs.List.{All};
+ghost use Rattle.face_plane.specs.Planes.{Plane, face_plane};
+ghost use Rattle.face_plane.specs.Rings.{vertex_at, vertex_before, vertex_after};
+ghost use Rattle.ring_cutting.specs.Placed.{vertices_of, IsPlaced};
+
+use face_plane::{FacePlane, FlatPoint, Places};
+use mb_base::{NoMemory, Point};
+use std::alloc::Global;
+
+// A place of a ring: its vertex, and the point of the vertex in the plane.
+#[derive(Clone, Copy, Debug, Drop)]
+pub struct Place {
+    pub vertex: u32,
+    pub at: FlatPoint,
+}
+
+// The places of a ring in a plane.
+pub(crate) fn placed(
+    alloc: Global,
+    plane: FacePlane,
+    turned: bool,
+    ring: &[u32],
+    points: &[Point],
+) -> Result<Vec<Place>, NoMemory>
+    requires { All (λ v. v < length points.now) ring.now }
+    ensures vertices { IfOk result (λ ps. vertices_of ps.items ≡ ring.now) }
+    ensures at { IfOk result (λ ps. IsPlaced (face_plane plane.drop turned points.now) ps.items) }
+{
+    let mut places = Vec::with_capacity(alloc, ring.len())?;
+    for vertex in ring {
+        let at = plane.flat(turned, points[*vertex as usize]);
+        places.push(Place {
+            vertex: *vertex,
+            at,
+        })?;
+    }
+    Ok(places)
+}
+
+// The place at an index.
+pub(crate) fn here(places: &[Place], i: usize) -> Place
+    requires { i < length places.now }
+    ensures vertex { result.vertex ≡ vertex_at (vertices_of places.now) i }
+    ensures at { (at : Plane) → IsPlaced at places.now → result.at ≡ at (vertex_at (vertices_of places.now) i) }
+{
+    places[i]
+}
+
+// The place before it, round the ring.
+pub(crate) fn before(places: &[Place], i: usize) -> Place
+    requires { i < length places.now }
+    ensures vertex { result.vertex ≡ vertex_before (vertices_of places.now) i }
+    ensures at { (at : Plane) → IsPlaced at places.now → result.at ≡ at (vertex_before (vertices_of places.now) i) }
+{
+    let at = if i == 0 { places.len() - 1 } else { i - 1 };
+    places[at]
+}
+
+// The place after it.
+pub(crate) fn after(places: &[Place], i: usize) -> Place
+    requires { i < length places.now }
+    ensures vertex { result.vertex ≡ vertex_after (vertices_of places.now) i }
+    ensures at { (at : Plane) → IsPlaced at places.now → result.at ≡ at (vertex_after (vertices_of places.now) i) }
+{
+    let at = if i + 1 == places.len() { 0 } else { i + 1 };
+    places[at]
+}

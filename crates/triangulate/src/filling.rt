@@ -1,0 +1,76 @@
+// Loops are filled with triangles.
+ghost use Rattle.std.specs.Prelude.{◌≡◌, ◌+◌, ◌*◌, ◌<◌, ◌≤◌, pos, ◌<ℤ◌, IfOk, filter, length};
+ghost use Rattle.std.specs.List.{All, concat, flat_map};
+ghost use Rattle.chain_terms.specs.Chains.{all_edges};
+ghost use Rattle.chain_terms.specs.Odd.{SameChain};
+ghost use Rattle.chain_terms.specs.Paths.{round_edges};
+ghost use Rattle.mesh_terms.specs.Meshes.{HasThree, IsBelow};
+ghost use Rattle.face_plane.specs.Planes.{face_plane, orient};
+ghost use Rattle.face_plane.specs.Rings.{Ringy};
+ghost use Rattle.hole_joining.specs.Holes.{is_ring, is_hole};
+ghost use Rattle.hole_joining.specs.Laws.{AreFillable, settled_in};
+ghost use Rattle.triangulate.specs.Fills.{cuts, fill_of};
+
+use face_loops::Loop;
+use face_plane::{FacePlane, Places};
+use hole_joining::join_holes;
+use mb_base::{NoMemory, Point};
+use ring_cutting::{Filled, cut_ring};
+use std::alloc::Global;
+
+/// Fills the loops of a face with triangles, in the plane of the face.
+///
+/// Each loop has three vertices or more, all vertices of all loops are different numbers of points, and there are at most
+/// 60,000,000. The holes are joined to the rings as `join_holes` says, and then the rings are cut as `cut_ring` says, one
+/// after the other. For n vertices there are n triangles and two for each hole, less two for each ring. None repeats a
+/// vertex, and for every two vertices as many run from the first to the second, less those back, as round the loops. Where
+/// none was forced every triangle turns left.
+///
+/// The rule is this project's own; the Manifold library fills its faces in a similar way.
+pub fn fill(
+    alloc: Global,
+    plane: FacePlane,
+    loops: &[Loop],
+    points: &[Point],
+) -> Result<Filled, NoMemory>
+    requires loops { AreFillable loops.now (length points.now) }
+    requires axis { plane.drop < 3 }
+    ensures value { IfOk result (λ f. f ≡ fill_of plane.drop points.now loops.now) }
+
+    // n + 2 holes - 2 rings
+    ensures count { IfOk result (λ f. length f.triples + 2 * length (filter (is_ring (settled_in plane.drop points.now loops.now)) loops.now) ≡ length (concat loops.now) + 2 * length (filter (is_hole (settled_in plane.drop points.now loops.now)) loops.now)) }
+
+    // Every odd function has the same sum over the triangles as round the loops: so have the boundary and the areas.
+    ensures chain { IfOk result (λ f. SameChain (all_edges f.triples) (flat_map round_edges loops.now)) }
+    ensures three { IfOk result (λ f. All HasThree f.triples) }
+    ensures below { IfOk result (λ f. All (IsBelow (length points.now)) f.triples) }
+    ensures most { IfOk result (λ f. f.forced ≤ length f.triples) }
+    ensures left { IfOk result (λ f. f.forced ≡ 0 → All (λ t. pos 0 <ℤ orient (settled_in plane.drop points.now loops.now) t.0 t.1 t.2) f.triples) }
+{
+    let joined = join_holes(alloc, plane, loops, points)?;
+    cut_all(alloc, plane, joined.turned, joined.rings, points)
+}
+
+// Cuts rings, one after the other.
+fn cut_all(
+    alloc: Global,
+    plane: FacePlane,
+    turned: bool,
+    rings: Vec<Places>,
+    points: &[Point],
+) -> Result<Filled, NoMemory>
+    requires ringy { All Ringy rings.items }
+    requires few { All (λ r. length r ≤ 100000000) rings.items }
+    requires below { All (λ r. All (λ v. v < length points.now) r) rings.items }
+    requires axis { plane.drop < 3 }
+    ensures { IfOk result (λ f. f ≡ cuts (face_plane plane.drop turned points.now) rings.items) }
+{
+    let mut triples = Vec::new(alloc);
+    let mut forced = 0;
+    for ring in rings {
+        let part = cut_ring(alloc, plane, turned, ring, points)?;
+        triples.extend_from_slice(&part.triples)?;
+        forced += part.forced;
+    }
+    Ok(Filled { triples, forced })
+}
