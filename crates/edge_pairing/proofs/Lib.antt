@@ -1,0 +1,9 @@
+pub mod Spreads
+pub mod Ordered
+pub mod Zips
+pub mod Listed
+pub mod Products
+pub mod Spreading
+pub mod Paired
+pub mod Keying
+pub mod Across
