@@ -1,5 +1,5 @@
 -- Following edges and cutting a list into cycles, step by step; more steps than edges change nothing.
-use Rattle.std.proofs.Common.{◌≡◌, ◌≤◌, ◌<◌, ℕ, zero, suc, List, [], ◌∷◌, length, refl, sym, ap, subst, ◌∙◌, arith, Option, Some, None}
+use Rattle.std.proofs.Common.{◌≡◌, ◌≤◌, ℕ, zero, suc, List, [], ◌∷◌, length, refl, ap, subst, ◌∙◌, arith, Option, Some, None}
 use Rattle.std.proofs.lemmas.List.Sorted.{length_permutation}
 use Rattle.chain_terms.specs.Cycles.{end_from, without_from, on_end, put_first, follow, cycles_within, cycles}
 use Rattle.chain_laws.proofs.Cycles.{Found, found}

@@ -1,9 +1,9 @@
 -- The edges without a mark, as marks are set.
-use Rattle.std.proofs.Common.{◌≡◌, ◌≢◌, ◌+◌, ◌≤◌, ◌<◌, ℕ, zero, suc, List, [], ◌∷◌, Bool, true, false, cond, ◌==◌, length, get_or, set, replicate, refl, ap, subst, sym, ◌∙◌, arith, inl, inr, Some, None}
+use Rattle.std.proofs.Common.{◌≡◌, ◌≤◌, ◌<◌, ℕ, zero, suc, List, [], ◌∷◌, Bool, true, false, ◌==◌, length, get_or, set, replicate, refl, ap, subst, arith, inl, inr, None}
 use Rattle.std.proofs.lemmas.Bool.{eq-eqb, false_from_ne_true, eqb-true, cases_Bool, both_ways}
 use Rattle.std.proofs.lemmas.List.Elements.{Contains-get_or}
-use Rattle.chain_terms.specs.Cycles.{out, end_from, without_from}
-use Rattle.chain_terms.specs.Ranks.{start, finish}
+use Rattle.chain_terms.specs.Cycles.{out, end_from}
+use Rattle.chain_terms.specs.Ranks.{start}
 use Rattle.chain_laws.specs.Counts.{count_by-cons, one_if-true}
 use Rattle.chain_laws.specs.Firsts.{counted}
 use Rattle.face_loops.specs.Trails.{left, GoesOn}

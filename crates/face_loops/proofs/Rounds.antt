@@ -1,8 +1,8 @@
 -- The loops so far, and those of the edges that have no mark.
-use Rattle.std.proofs.Common.{◌≡◌, ◌+◌, ◌<◌, ◌≤◌, ℕ, List, [], ◌∷◌, ◌++◌, Bool, true, false, length, get_or, set, replicate, refl, sym, ap, ◌∙◌, arith, append_assoc, append-nil, below_more}
+use Rattle.std.proofs.Common.{◌≡◌, ◌+◌, ◌<◌, ◌≤◌, ℕ, List, [], ◌∷◌, ◌++◌, Bool, true, false, length, get_or, set, replicate, sym, ap, ◌∙◌, arith, append_assoc, append-nil, below_more}
 use Rattle.std.proofs.lemmas.List.{length-replicate}
 use Rattle.chain_terms.specs.Cycles.{cycles}
-use Rattle.chain_terms.specs.Ranks.{start, finish}
+use Rattle.chain_terms.specs.Ranks.{finish}
 use Rattle.face_loops.specs.Trails.{left, followed, IsLoopFrom}
 use Rattle.face_loops.proofs.Following.{cycles-cons}
 use Rattle.face_loops.proofs.Marks.{left-none, left-all, left-first}

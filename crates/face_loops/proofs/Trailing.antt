@@ -1,10 +1,9 @@
 -- A loop that is followed so far.
-use Rattle.std.proofs.Common.{◌≡◌, ◌+◌, ◌<◌, ℕ, zero, suc, List, [], ◌∷◌, ◌++◌, Bool, true, false, length, get_or, set, refl, sym, ap, ◌∙◌, arith, append_assoc, append-nil, Option, Some, None}
+use Rattle.std.proofs.Common.{◌≡◌, ◌<◌, ℕ, zero, suc, List, [], ◌∷◌, ◌++◌, Bool, true, false, length, get_or, set, refl, sym, ap, ◌∙◌, arith, append_assoc, append-nil, None}
 use Rattle.std.proofs.lemmas.List.{get_or-set_same}
-use Rattle.std.proofs.lemmas.Bool.{cases_eq}
-use Rattle.chain_terms.specs.Cycles.{end_from, without_from, put_first}
+use Rattle.chain_terms.specs.Cycles.{end_from, put_first}
 use Rattle.chain_terms.specs.Ranks.{start, finish}
-use Rattle.face_loops.specs.Trails.{left, followed, GoesOn, IsNext, IsLoopFrom}
+use Rattle.face_loops.specs.Trails.{left, followed, GoesOn, IsLoopFrom}
 use Rattle.face_loops.proofs.Following.{shorter, followed-on, followed-end}
 
 -- the rest of the loop from the edge at a place, and what it leaves
@@ -35,7 +34,7 @@ pub trail_goes_on : (es : List (ℕ × ℕ)) (first : ℕ) (old used : List Bool
     IsOnTrail es first old (set used next true) (finish es next) (vertices ++ v ∷ [])
 trail_goes_on es first old used v vertices next t g =
     let step : followed v (left es used) ≡ put_first v (followed (finish es next) (left es (set used next true))) =
-        followed-on v (finish es next) (left es used) g.goes ∙ ap (λ l. put_first v (followed (finish es next) l)) g.rest in
+    followed-on v (finish es next) (left es used) g.goes ∙ ap (λ l. put_first v (followed (finish es next) l)) g.rest in
     record {
       value = append_assoc vertices (v ∷ []) (followed (finish es next) (left es (set used next true))).0 ∙ ap (λ r. vertices ++ r.0) (sym step) ∙ t.value;
       rest = ap (λ r. r.1) (sym step) ∙ t.rest;

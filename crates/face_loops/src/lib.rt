@@ -14,12 +14,11 @@ mod starts;
 mod trail;
 mod vertex_loop;
 
-pub use vertex_loop::Loop;
-
 use mb_base::{NoMemory, Segment};
 use starts::index_of;
 use std::alloc::Global;
 use trail::loop_from;
+pub use vertex_loop::Loop;
 
 /// The loops of the segments, of which each vertex that occurs starts one and ends one. Each segment is
 /// in one loop. A loop begins with the first segment that no loop before it has, and goes on with the

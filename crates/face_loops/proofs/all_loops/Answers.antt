@@ -1,7 +1,5 @@
-use Rattle.std.proofs.Common.{◌≡◌, ◌+◌, ◌<◌, ◌≤◌, ◌∷◌, ◌++◌, [], true, false, ℕ, List, length, get_or, ap, sym, subst, ◌∙◌, arith}
-use Rattle.std.proofs.lemmas.List.{get_or_default}
+use Rattle.std.proofs.Common.{◌≡◌, ◌<◌, ◌∷◌, ◌++◌, [], length, ap, sym, subst, ◌∙◌, arith}
 use Rattle.face_loops.specs.Segments.{edges_of}
-use Rattle.face_loops.specs.Trails.{IsLoopFrom}
 use Rattle.face_loops.proofs.Reading.{length-edges_of}
 use Rattle.face_loops.proofs.Rounds.{AreLoopsSoFar, loops_begin, loops_pass, loops_more, loops_end}
 use Rattle.face_loops.proofs.all_loops.Goals as goal

@@ -1,4 +1,3 @@
-use Rattle.std.proofs.Common.{length}
 use Rattle.face_loops.specs.Segments.{edges_of}
 use Rattle.face_loops.proofs.Rounds.{AreLoopsSoFar}
 use Rattle.face_loops.proofs.all_loops.Given as goal

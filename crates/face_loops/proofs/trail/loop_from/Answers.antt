@@ -1,4 +1,4 @@
-use Rattle.std.proofs.Common.{arith, ◌≡◌, ◌<◌, ℕ, List, ◌∷◌, ◌++◌, [], length, true, set, get_or, ap, sym, subst, ◌∙◌}
+use Rattle.std.proofs.Common.{arith, ◌≡◌, ◌<◌, ◌∷◌, ◌++◌, [], length, true, set, get_or, ap, sym, subst, ◌∙◌}
 use Rattle.chain_terms.specs.Ranks.{start, finish}
 use Rattle.face_loops.specs.Segments.{edges_of}
 use Rattle.face_loops.specs.Trails.{IsLoopFrom}
@@ -14,10 +14,10 @@ loop-next-init c =
     let es = edges_of c.args.segments.now in
     let marked = set c.args.used.now c.args.first true in
     let one : c.push.new.self.items ≡ start es c.args.first ∷ [] =
-        c.in_ok-push.ensures.items ∙ ap (λ l. l ++ (get_or c.args.segments.now c.args.first no_segment).from ∷ []) c.new-vertices.ensures.items ∙ ap (λ v. v ∷ []) (sym (start_at c.args.segments.now c.args.first c.requires.within)) in
+    c.in_ok-push.ensures.items ∙ ap (λ l. l ++ (get_or c.args.segments.now c.args.first no_segment).from ∷ []) c.new-vertices.ensures.items ∙ ap (λ v. v ∷ []) (sym (start_at c.args.segments.now c.args.first c.requires.within)) in
     subst (λ v. IsOnTrail es c.args.first c.args.used.now marked v c.push.new.self.items) (finish_at c.args.segments.now c.args.first c.requires.within)
     (subst (λ l. IsOnTrail es c.args.first c.args.used.now marked (finish es c.args.first) l) (sym one)
-      (trail_begins es c.args.first c.args.used.now (omega (arith, c.requires.within, c.requires.full))))
+    (trail_begins es c.args.first c.args.used.now (omega (arith, c.requires.within, c.requires.full))))
 
 pub loop-next-preserved : goal.loop-next-preserved
 loop-next-preserved c =
@@ -27,7 +27,7 @@ loop-next-preserved c =
     let below : next < length c.args.segments.now = omega (arith, c.in-Some.ensures.within, length-edges_of c.args.segments.now) in
     subst (λ v. IsOnTrail es c.args.first c.args.used.now marked v c.push-in-Some.new.self.items) (finish_at c.args.segments.now next below)
     (subst (λ l. IsOnTrail es c.args.first c.args.used.now marked (finish es next) l) (sym c.in_ok-push-2.ensures.items)
-      (trail_goes_on es c.args.first c.args.used.now c.loop-next.used c.loop-next.end c.loop-next.vertices.items next c.loop-next.invariant c.in-Some.ensures))
+    (trail_goes_on es c.args.first c.args.used.now c.loop-next.used c.loop-next.end c.loop-next.vertices.items next c.loop-next.invariant c.in-Some.ensures))
 
 pub returns : goal.returns
 returns c =
