@@ -1,7 +1,8 @@
 pub mod Following
-pub mod Marks
 pub mod Listing
-pub mod Vertices
-pub mod Trailing
+pub mod Marks
 pub mod Reading
 pub mod Rounds
+pub mod Tested
+pub mod Trailing
+pub mod Vertices

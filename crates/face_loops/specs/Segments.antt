@@ -1,5 +1,5 @@
 -- Segments as directed edges, and when they form loops that share no vertex.
-use Rattle.std.specs.Prelude.{◌≢◌, ℕ, ◌<◌, ◌≤◌, List, map, length, get_or}
+use Rattle.std.specs.Prelude.{◌≢◌, ℕ, ◌<◌, ◌≤◌, ◌==◌, ◌&&◌, Bool, List, count_by, map, length, get_or}
 use Rattle.chain_terms.specs.Cycles.{Balanced, out}
 use Rattle.mb_base.specs.declared.results.Segment.{Segment}
 
@@ -15,6 +15,10 @@ edges_of segments = map edge_of segments
 pub record IsOneToOne (es : List (ℕ × ℕ)) : Type 0 where
   pub balanced : Balanced es
   pub once : (x : ℕ) → out es x ≤ 1
+
+-- a vertex starts one of the segments and ends one, as a test that computes
+abbrev pub is_once : List Segment → ℕ → Bool
+is_once segments v = count_by (λ s. s.from == v) segments == 1 && count_by (λ s. s.to == v) segments == 1
 
 -- no vertex stands at two places
 abbrev pub AreDifferent : List ℕ → Type 0

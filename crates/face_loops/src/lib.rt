@@ -18,6 +18,10 @@ use mb_base::{NoMemory, Segment};
 use starts::index_of;
 use std::alloc::Global;
 use trail::loop_from;
+
+#[cfg(test)]
+mod tests;
+
 pub use vertex_loop::Loop;
 
 /// The loops of the segments, of which each vertex that occurs starts one and ends one. Each segment is
