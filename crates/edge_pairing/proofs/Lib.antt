@@ -1,9 +1,9 @@
-pub mod Spreads
-pub mod Ordered
-pub mod Zips
+pub mod Across
+pub mod Keying
 pub mod Listed
+pub mod Ordered
+pub mod Paired
 pub mod Products
 pub mod Spreading
-pub mod Paired
-pub mod Keying
-pub mod Across
+pub mod Spreads
+pub mod Zips

@@ -1,10 +1,12 @@
 -- Starts and ends among the entries.
-use Rattle.std.proofs.Common.{◌≡◌, ◌+◌, ◌<◌, ℕ, ℤ, true, false, Bool, cond, not, List, [], ◌∷◌, ◌++◌, length, map, take, get_or, append-nil, refl, ap, ◌∙◌, subst, arith}
+use Rattle.std.proofs.Common.{◌≡◌, ◌+◌, ◌-◌, ◌<◌, ℕ, ℤ, true, false, Bool, cond, not, List, [], ◌∷◌, ◌++◌, length, map, take, get_or, append-nil, refl, ap, ◌∙◌, subst, arith}
+use Rattle.std.specs.Prelude.{count_by}
 use Rattle.std.specs.List.{filter}
 use Rattle.std.specs.List.Sorted.{IsPermutation}
 use Rattle.std.proofs.lemmas.List.{length-append, length-map, map-append}
 use Rattle.std.proofs.lemmas.List.Elements.{filter_more}
 use Rattle.std.proofs.lemmas.List.Sorted.{IsPermutation-map, IsPermutation-filter_both, length_permutation}
+use Rattle.std.proofs.lemmas.List.Sums.{length-filter}
 use Rattle.std.proofs.lemmas.Simd.{map-map}
 use Rattle.mb_base.specs.declared.results.Entry.{Entry}
 use mathlib.Core.Bool.{beq}
@@ -56,3 +58,8 @@ chosen_more start entries i below in_it =
 pub chosen_same : (start : Bool) (entries : List Entry) (i : ℕ) → i < length entries → is_chosen start (get_or entries i none) ≡ false → chosen start (take (i + 1) entries) ≡ chosen start (take i entries)
 chosen_same start entries i below out_of_it =
     ap (map (λ e. e.vertex)) (filter_more (is_chosen start) entries i none below ∙ ap (λ b. filter (is_chosen start) (take i entries) ++ cond b (get_or entries i none ∷ []) []) out_of_it ∙ append-nil (filter (is_chosen start) (take i entries)))
+
+-- as many starts as ends, where the starts are as many as the other entries
+pub balanced_from_count : (entries : List Entry) (count : ℕ) → count ≡ count_by (λ e. e.start) entries → length entries - count ≡ count → length (starts_of entries) ≡ length (ends_of entries)
+balanced_from_count entries count is half =
+    omega (arith, is, half, both_counted entries, length-map (filter (is_chosen true) entries) (λ (e : Entry). e.vertex), length-filter (λ (e : Entry). e.start) entries)
