@@ -1,6 +1,64 @@
-//! Loops of vertices.
+//! The loops that the segments of a face form: from each segment to the one that starts where it ends,
+//! until the first one is reached again.
 #![tactic(auto)]
 
-mod loops;
+ghost use Rattle.std.specs.Prelude.{◌≡◌, ◌<◌, ℕ, false, replicate, IfOk, length};
+ghost use Rattle.std.specs.List.{All, concat, flat_map};
+ghost use Rattle.chain_terms.specs.Chains.{dir};
+ghost use Rattle.chain_terms.specs.Cycles.{cycles};
+ghost use Rattle.chain_terms.specs.Paths.{round_edges};
+ghost use Rattle.face_loops.specs.Segments.{edges_of, IsOneToOne, AreDifferent};
+ghost use Rattle.face_loops.specs.Starts.{IsIndex};
 
-pub use loops::Loop;
+mod starts;
+mod trail;
+mod vertex_loop;
+
+use mb_base::{NoMemory, Segment};
+use starts::index_of;
+use std::alloc::Global;
+use trail::loop_from;
+
+#[cfg(test)]
+mod tests;
+
+pub use vertex_loop::Loop;
+
+/// The loops of the segments, of which each vertex that occurs starts one and ends one. Each segment is
+/// in one loop. A loop begins with the first segment that no loop before it has, and goes on with the
+/// segment that starts where the last one ended.
+///
+/// It takes memory for the loops, a mark for each segment and, for more than a dozen segments, a sorted
+/// list of their starts, whose sort sets the time. `NoMemory` may come for any segments.
+pub fn loops(alloc: Global, segments: &[Segment]) -> Result<Vec<Loop>, NoMemory>
+    requires { IsOneToOne (edges_of segments.now) }
+    ensures value { IfOk result (λ loops. loops.items ≡ cycles (edges_of segments.now)) }
+    ensures edges { IfOk result (λ loops. (a b : ℕ) → dir (flat_map round_edges loops.items) a b ≡ dir (edges_of segments.now) a b) }
+    ensures different { IfOk result (λ loops. AreDifferent (concat loops.items)) }
+    ensures not_empty { IfOk result (λ loops. All (λ vertices. 0 < length vertices) loops.items) }
+{
+    let index = index_of(alloc, segments)?;
+    let mut used = vec![in alloc; false; segments.len()]?;
+    all_loops(alloc, segments, &index, &mut used)
+}
+
+// The loops of all segments, of which none has a mark yet.
+fn all_loops(
+    alloc: Global,
+    segments: &[Segment],
+    index: &[(u32, usize)],
+    used: &mut [bool],
+) -> Result<Vec<Loop>, NoMemory>
+    requires one_to_one { IsOneToOne (edges_of segments.now) }
+    requires index { IsIndex (edges_of segments.now) index.now }
+    requires unused { used.old ≡ replicate (length segments.now) false }
+    ensures { IfOk result (λ loops. loops.items ≡ cycles (edges_of segments.now)) }
+{
+    let mut loops = Vec::new(alloc);
+    for first in 0..segments.len() {
+        if !used[first] {
+            loops.push(loop_from(alloc, segments, index, used, first)?)?;
+        }
+    }
+    Ok(loops)
+}

@@ -1,0 +1,9 @@
+pub mod Across
+pub mod Keying
+pub mod Listed
+pub mod Ordered
+pub mod Paired
+pub mod Products
+pub mod Spreading
+pub mod Spreads
+pub mod Zips

@@ -1,0 +1,5 @@
+pub mod Directions
+pub mod Entries
+pub mod Keys
+pub mod Laws
+pub mod Pairing

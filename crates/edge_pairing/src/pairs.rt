@@ -1,0 +1,116 @@
+// Starts and ends in their order, and the segments from the ones to the others.
+ghost use Rattle.std.specs.Prelude.{◌≡◌, ◌<◌, Bool, IfOk, length, map};
+ghost use Rattle.std.specs.List.{All, zip};
+ghost use Rattle.chain_laws.specs.Sorting.{sorted_by};
+ghost use Rattle.edge_pairing.specs.Directions.{IsShort};
+ghost use Rattle.edge_pairing.specs.Entries.{edge_of, starts_of, ends_of, chosen, place_in};
+ghost use Rattle.edge_pairing.specs.Keys.{keyed_by, key_along};
+ghost use Rattle.edge_pairing.specs.Pairing.{pair_up, comes_before};
+
+use crate::direction::key;
+use mb_base::{Entry, NoMemory, Point, Segment};
+use smallvec::SmallVec;
+use std::alloc::Global;
+
+/// A vertex with how far along it lies. Such values compare by how far, and then by vertex.
+#[derive(Clone, Copy, Debug, PartialEq, Eq, PartialOrd, Ord, Drop)]
+pub struct Keyed {
+    pub key: i64,
+    pub vertex: u32,
+}
+
+/// The segment from the only start to the only end. It takes no memory.
+pub fn only_segment(alloc: Global, entries: &[Entry]) -> SmallVec<Segment, 4>
+    requires two { length entries.now ≡ 2 }
+    requires balanced { length (starts_of entries.now) ≡ length (ends_of entries.now) }
+    ensures { map edge_of result.items ≡ zip (starts_of entries.now) (ends_of entries.now) }
+{
+    let mut segments = SmallVec::new(alloc);
+    let (one, other) = (entries[0].vertex, entries[1].vertex);
+    segments.push_reserved(if entries[0].start {
+        Segment {
+            from: one,
+            to: other,
+        }
+    } else {
+        Segment {
+            from: other,
+            to: one,
+        }
+    });
+    segments
+}
+
+/// The segments from the k-th start to the k-th end, ordered by how far along a direction they lie.
+pub fn in_turn(
+    alloc: Global,
+    along: &[i64; 3],
+    entries: &[Entry],
+    points: &[Point],
+) -> Result<SmallVec<Segment, 4>, NoMemory>
+    requires short { IsShort along.now }
+    requires below { All (λ e. e.vertex < length points.now) entries.now }
+    requires balanced { length (starts_of entries.now) ≡ length (ends_of entries.now) }
+    ensures { IfOk result (λ s. map edge_of s.items ≡ pair_up (key_along along.now (place_in points.now)) (starts_of entries.now) (ends_of entries.now)) }
+{
+    let starts = in_order(alloc, along, entries, points, true)?;
+    let ends = in_order(alloc, along, entries, points, false)?;
+    joined(alloc, &starts, &ends)
+}
+
+// The starts, or the ends, by how far along they lie.
+fn in_order(
+    alloc: Global,
+    along: &[i64; 3],
+    entries: &[Entry],
+    points: &[Point],
+    start: bool,
+) -> Result<Vec<Keyed>, NoMemory>
+    requires short { IsShort along.now }
+    requires below { All (λ e. e.vertex < length points.now) entries.now }
+    ensures { IfOk result (λ order. map (λ k. k.vertex) order.items ≡ sorted_by (comes_before (key_along along.now (place_in points.now))) (chosen start entries.now)) }
+{
+    let mut order = with_keys(alloc, along, entries, points, start)?;
+    order.sort_unstable();
+    Ok(order)
+}
+
+// The starts, or the ends, each with how far along it lies.
+fn with_keys(
+    alloc: Global,
+    along: &[i64; 3],
+    entries: &[Entry],
+    points: &[Point],
+    start: bool,
+) -> Result<Vec<Keyed>, NoMemory>
+    requires short { IsShort along.now }
+    requires below { All (λ e. e.vertex < length points.now) entries.now }
+    ensures { IfOk result (λ keyed. keyed.items ≡ map (keyed_by (key_along along.now (place_in points.now))) (chosen start entries.now)) }
+{
+    let mut keyed = Vec::new(alloc);
+    for entry in entries {
+        if entry.start == start {
+            let vertex = entry.vertex;
+            keyed.push(Keyed {
+                key: key(points[vertex as usize], along),
+                vertex,
+            })?;
+        }
+    }
+    Ok(keyed)
+}
+
+// The segments from each start to the end at its place.
+fn joined(alloc: Global, starts: &[Keyed], ends: &[Keyed]) -> Result<SmallVec<Segment, 4>, NoMemory>
+    requires { length starts.now ≡ length ends.now }
+    ensures { IfOk result (λ s. map edge_of s.items ≡ zip (map (λ k. k.vertex) starts.now) (map (λ k. k.vertex) ends.now)) }
+{
+    let mut segments = SmallVec::new(alloc);
+    for (i, start) in starts.iter().enumerate() {
+        segments.push(Segment {
+            from: start.vertex,
+            to: ends[i].vertex,
+        })?;
+    }
+    Ok(segments)
+}

@@ -1,0 +1,3 @@
+pub mod Segments
+pub mod Starts
+pub mod Trails
