@@ -1,0 +1,4 @@
+pub mod Lists
+pub mod PointLaws
+pub mod Points
+pub mod Prescribed
