@@ -40,24 +40,24 @@ pub record Included : Type 0 where
   pub point : List ℤ
 
 -- the first n vertices with their winding numbers and points
-abbrev pub vertices : (ℕ → Origin) → (ℤ → ℤ) → List ℤ → List (List ℤ) → ℕ → List Included
-vertices origin number ws points n = map (λ v. record { origin = origin v; number = number (get_or ws v (pos 0)); point = get_or points v [] }) (upto n)
+abbrev pub included_vertices : (ℕ → Origin) → (ℤ → ℤ) → List ℤ → List (List ℤ) → ℕ → List Included
+included_vertices origin number ws points n = map (λ v. record { origin = origin v; number = number (get_or ws v (pos 0)); point = get_or points v [] }) (upto n)
 
 -- hits in their order
-abbrev pub hits : (ℕ → ℕ → Origin) → (ℤ → ℤ) → List Hit → List Included
-hits origin number hs = map (λ h. record { origin = origin h.edge h.face; number = number h.number; point = h.at }) hs
+abbrev pub included_hits : (ℕ → ℕ → Origin) → (ℤ → ℤ) → List Hit → List Included
+included_hits origin number hs = map (λ h. record { origin = origin h.edge h.face; number = number h.number; point = h.at }) hs
 
 abbrev pub p_vertices : Op → Side → Numbers → List Included
-p_vertices op p n = vertices PVertex (p_number op) n.w03 (points_of p.corners) (length p.corners)
+p_vertices op p n = included_vertices PVertex (p_number op) n.w03 (points_of p.corners) (length p.corners)
 
 abbrev pub q_vertices : Op → Side → Numbers → List Included
-q_vertices op q n = vertices QVertex (q_number op) n.w30 (points_of q.corners) (length q.corners)
+q_vertices op q n = included_vertices QVertex (q_number op) n.w30 (points_of q.corners) (length q.corners)
 
 abbrev pub p_hits : Op → Numbers → List Included
-p_hits op n = hits PEdge (hit_number_of op) n.x12
+p_hits op n = included_hits PEdge (hit_number_of op) n.x12
 
 abbrev pub q_hits : Op → Numbers → List Included
-q_hits op n = hits QEdge (hit_number_of op) n.x21
+q_hits op n = included_hits QEdge (hit_number_of op) n.x21
 
 -- one of the copies
 abbrev pub copy_of : Included → Copy
