@@ -1,1 +1,4 @@
-
+pub mod Growth
+pub mod Corners
+pub mod Bounds
+pub mod Fits

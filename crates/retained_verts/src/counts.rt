@@ -34,11 +34,13 @@ pub fn count(op: Op, p: &Side, q: &Side, windings: &Windings, hits: &Hits) -> Co
     ensures halfedges { result.halfedges ≡ prescribed_halfedges op p.now q.now (numbers windings.now hits.now) }
     ensures fits { p_kept op (numbers windings.now hits.now) + q_kept op (numbers windings.now hits.now) + crossing_count op (numbers windings.now hits.now) < 2 ^ 63 }
 {
+    let p_triples = p.triples();
+    let q_triples = q.triples();
     let p_kept = kept(op, Operand::P, &windings.w03);
     let q_kept = kept(op, Operand::Q, &windings.w30);
     let crossings = hit_count(op, &hits.x12) + hit_count(op, &hits.x21);
-    let p_halfedges = halfedges(op, Operand::P, &windings.w03, p.triples());
-    let q_halfedges = halfedges(op, Operand::Q, &windings.w30, q.triples());
+    let p_halfedges = halfedges(op, Operand::P, &windings.w03, p_triples);
+    let q_halfedges = halfedges(op, Operand::Q, &windings.w30, q_triples);
     Counts {
         kept: [p_kept, q_kept],
         crossings,
