@@ -2,3 +2,4 @@ pub mod Lists
 pub mod PointLaws
 pub mod Points
 pub mod Prescribed
+pub mod Standing

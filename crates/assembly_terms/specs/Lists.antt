@@ -1,5 +1,5 @@
 -- The lists of a source face, and how the copies of prescribed vertices stand in them.
-use Rattle.std.specs.Prelude.{ℕ, ◌+◌, ◌*◌, ◌<◌, ℤ, pos, neg_ℤ, ◌-ℤ◌, List, [], ◌∷◌, Bool, false, cond, map, filter, ◌==◌, length, get_or, int_lt}
+use Rattle.std.specs.Prelude.{ℕ, ◌+◌, ◌*◌, ◌<◌, ℤ, pos, neg_ℤ, ◌-ℤ◌, List, [], ◌++◌, Bool, false, cond, map, filter, ◌==◌, length, get_or, int_lt}
 use Rattle.chain_terms.specs.Ranks.{start, finish, twin}
 use Rattle.chain_terms.specs.Sums.{total, upto}
 use Rattle.mb_base.specs.declared.results.Origin.{Origin}
@@ -70,11 +70,11 @@ standing p q name c = cond c.negative (neg_ℤ (incidence p q name c.origin)) (i
 
 -- of a face of P: its three half-edges, then its pairs with all faces of Q
 abbrev pub lists_of_p : ℕ → ℕ → List ListName
-lists_of_p q_faces f = HalfP (3 * f) ∷ HalfP (3 * f + 1) ∷ HalfP (3 * f + 2) ∷ map (PairP f) (upto q_faces)
+lists_of_p q_faces f = map (λ i. HalfP (3 * f + i)) (upto 3) ++ map (PairP f) (upto q_faces)
 
 -- and of a face of Q
 abbrev pub lists_of_q : ℕ → ℕ → List ListName
-lists_of_q p_faces g = HalfQ (3 * g) ∷ HalfQ (3 * g + 1) ∷ HalfQ (3 * g + 2) ∷ map (PairQ g) (upto p_faces)
+lists_of_q p_faces g = map (λ i. HalfQ (3 * g + i)) (upto 3) ++ map (PairQ g) (upto p_faces)
 
 -- the list is one of sides with so many faces
 abbrev pub IsListOf : (p_faces q_faces : ℕ) → ListName → Type 0

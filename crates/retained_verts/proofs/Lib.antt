@@ -1,4 +1,9 @@
-pub mod Growth
-pub mod Corners
 pub mod Bounds
+pub mod Corners
 pub mod Fits
+pub mod Growth
+pub mod Units
+pub mod Ways
+pub mod Faces
+pub mod Origins
+pub mod TwoLists

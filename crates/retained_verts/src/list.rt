@@ -2,6 +2,7 @@
 ghost use Rattle.std.specs.Prelude.{◌≡◌, ◌≤◌, ◌∷◌, [], length, map, nat_abs, IfErr, IfOk};
 ghost use Rattle.std.specs.List.{All};
 ghost use Rattle.assembly_terms.specs.Prescribed.{crossing_count, p_kept, prescribed, prescribed_halfedges, q_kept};
+ghost use Rattle.assembly_terms.specs.Standing.{StandInLists};
 ghost use Rattle.chain_terms.specs.Chains.{all_edges};
 ghost use Rattle.retained_verts.specs.Faults.{IsFaultAt};
 ghost use Rattle.retained_verts.specs.Operands.{numbers};
@@ -77,6 +78,7 @@ pub fn prescribe(
     ensures halfedges { IfOk result (λ r. r.halfedges ≡ prescribed_halfedges op p.now q.now (numbers windings.now hits.now)) }
     ensures within { IfOk result (λ r. r.halfedges ≤ limits.now.halfedges) }
     ensures too_large { IfErr result (IsFaultAt limits.now.halfedges (prescribed_halfedges op p.now q.now (numbers windings.now hits.now))) }
+    ensures two_lists { IfOk result (λ _. StandInLists p.now q.now (prescribed op p.now q.now (numbers windings.now hits.now))) }
 {
     let counts = count(op, p, q, windings, hits);
     if counts.halfedges > u64::from(limits.halfedges()) {

@@ -7,6 +7,7 @@ use Rattle.assembly_terms.specs.Prescribed.{Included, copies_of, prescribed, hit
 use Rattle.mb_base.specs.declared.results.Origin.TheVariants.{PVertex, QVertex, PEdge, QEdge}
 use Rattle.retained_verts.specs.Operands.{numbers}
 use Rattle.retained_verts.proofs.Growth.{in_order}
+use Rattle.retained_verts.proofs.TwoLists.{stand_in_lists}
 use Rattle.retained_verts.proofs.list.prescribe.Goals as goal
 
 -- a field of all copies, from what the four steps added
@@ -40,3 +41,6 @@ pub returns-clause-points : goal.returns-clause-points
 returns-clause-points c =
     listed c (λ k. k.point) c.in_ok-copies.copies.points.items c.push_vertices.new.self.points.items c.push_vertices-2.new.self.points.items c.push_hits.new.self.points.items c.push_hits-2.new.self.points.items
     c.in_ok-copies.ensures.points c.in_ok-push_vertices.ensures.points c.in_ok-push_vertices-2.ensures.points c.in_ok-push_hits.ensures.points c.in_ok-push_hits-2.ensures.points
+
+pub returns-clause-two_lists : goal.returns-clause-two_lists
+returns-clause-two_lists c = stand_in_lists c.args.op c.args.p.now c.args.q.now (numbers c.args.windings.now c.args.hits.now) c.corners.ensures.side c.corners-2.ensures.side c.requires.x12 c.requires.x21
