@@ -7,3 +7,6 @@ pub mod Ways
 pub mod Faces
 pub mod Origins
 pub mod TwoLists
+pub mod Halves
+pub mod Weights
+pub mod Balance
