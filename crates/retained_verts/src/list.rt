@@ -2,7 +2,7 @@
 ghost use Rattle.std.specs.Prelude.{◌≡◌, ◌≤◌, ◌∷◌, [], length, map, nat_abs, IfErr, IfOk};
 ghost use Rattle.std.specs.List.{All};
 ghost use Rattle.assembly_terms.specs.Prescribed.{crossing_count, p_kept, prescribed, prescribed_halfedges, q_kept};
-ghost use Rattle.assembly_terms.specs.Standing.{StandInLists};
+ghost use Rattle.assembly_terms.specs.Standing.{AreConserved, IsBalanced, StandInLists};
 ghost use Rattle.chain_terms.specs.Chains.{all_edges};
 ghost use Rattle.retained_verts.specs.Faults.{IsFaultAt};
 ghost use Rattle.retained_verts.specs.Operands.{numbers};
@@ -79,6 +79,7 @@ pub fn prescribe(
     ensures within { IfOk result (λ r. r.halfedges ≤ limits.now.halfedges) }
     ensures too_large { IfErr result (IsFaultAt limits.now.halfedges (prescribed_halfedges op p.now q.now (numbers windings.now hits.now))) }
     ensures two_lists { IfOk result (λ _. StandInLists p.now q.now (prescribed op p.now q.now (numbers windings.now hits.now))) }
+    ensures balance { AreConserved p.now q.now (numbers windings.now hits.now) → IfOk result (λ _. IsBalanced p.now q.now (prescribed op p.now q.now (numbers windings.now hits.now))) }
 {
     let counts = count(op, p, q, windings, hits);
     if counts.halfedges > u64::from(limits.halfedges()) {

@@ -6,6 +6,7 @@ use Rattle.assembly_terms.specs.Points.{points_of}
 use Rattle.assembly_terms.specs.Prescribed.{Included, copies_of, prescribed, hit_number_of, included_hits, included_vertices, p_hits, p_number, p_vertices, q_hits, q_number, q_vertices}
 use Rattle.mb_base.specs.declared.results.Origin.TheVariants.{PVertex, QVertex, PEdge, QEdge}
 use Rattle.retained_verts.specs.Operands.{numbers}
+use Rattle.retained_verts.proofs.Balance.{balanced}
 use Rattle.retained_verts.proofs.Growth.{in_order}
 use Rattle.retained_verts.proofs.TwoLists.{stand_in_lists}
 use Rattle.retained_verts.proofs.list.prescribe.Goals as goal
@@ -44,3 +45,6 @@ returns-clause-points c =
 
 pub returns-clause-two_lists : goal.returns-clause-two_lists
 returns-clause-two_lists c = stand_in_lists c.args.op c.args.p.now c.args.q.now (numbers c.args.windings.now c.args.hits.now) c.corners.ensures.side c.corners-2.ensures.side c.requires.x12 c.requires.x21
+
+pub returns-clause-balance : goal.returns-clause-balance
+returns-clause-balance c kept = balanced c.args.op c.args.p.now c.args.q.now (numbers c.args.windings.now c.args.hits.now) c.corners.ensures.side c.corners-2.ensures.side c.requires.x12 c.requires.x21 kept
