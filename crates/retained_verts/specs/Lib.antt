@@ -1,3 +1,4 @@
 pub mod Faults
-pub mod Operands
+pub mod Handed
+pub mod Parts
 pub mod Small

@@ -1,10 +1,8 @@
 // The lists of the prescribed vertices as they grow.
-ghost use Rattle.std.specs.Prelude.{◌≡◌, ◌≤◌, ◌++◌, length, map, nat_abs, replicate, OnOk, IfOk, []};
-ghost use Rattle.std.specs.List.{All, flat_map};
-ghost use Rattle.assembly_terms.specs.Points.{points_of};
-ghost use Rattle.assembly_terms.specs.Prescribed.{copies_of, hit_number_of, included_hits, included_vertices};
+ghost use Rattle.std.specs.Prelude.{◌≡◌, ◌≤◌, ◌++◌, [], length, replicate, IfOk, OnOk};
+ghost use Rattle.std.specs.List.{All};
 ghost use Rattle.mesh_terms.specs.Limits.{most_points};
-ghost use Rattle.retained_verts.specs.Operands.{edge_origin, vertex_number, vertex_origin};
+ghost use Rattle.retained_verts.specs.Parts.{crossings_of, origins_of, places_of, vertices_of};
 ghost use Rattle.retained_verts.specs.Small.{AreSmallWindings};
 ghost use Rattle.side_terms.specs.Corners.{AllFine};
 ghost use Rattle.side_terms.specs.Hits.{IsNumber};
@@ -44,8 +42,8 @@ impl Copies {
         requires few { length corners.now ≤ most_points }
         requires long { length windings.now ≡ length corners.now }
         requires small { AreSmallWindings windings.now }
-        ensures origins { OnOk result (self.new.origins.items ≡ self.old.origins.items ++ map (λ c. c.origin) (flat_map copies_of (included_vertices (vertex_origin operand) (vertex_number op operand) windings.now (points_of corners.now) (length corners.now)))) }
-        ensures points { OnOk result (self.new.points.items ≡ self.old.points.items ++ map (λ c. c.point) (flat_map copies_of (included_vertices (vertex_origin operand) (vertex_number op operand) windings.now (points_of corners.now) (length corners.now)))) }
+        ensures origins { OnOk result (self.new.origins.items ≡ self.old.origins.items ++ origins_of (vertices_of op operand corners.now windings.now)) }
+        ensures points { OnOk result (self.new.points.items ≡ self.old.points.items ++ places_of (vertices_of op operand corners.now windings.now)) }
     {
         for vertex in 0..corners.len() as u32 {
             let number = operand.number(op, windings[vertex as usize]);
@@ -58,8 +56,8 @@ impl Copies {
     /// Adds the crossings of a mesh's edges.
     pub fn push_hits(&mut self, op: Op, operand: Operand, hits: &[Hit]) -> Result<(), NoMemory>
         requires { All (λ h. IsNumber h.number) hits.now }
-        ensures origins { OnOk result (self.new.origins.items ≡ self.old.origins.items ++ map (λ c. c.origin) (flat_map copies_of (included_hits (edge_origin operand) (hit_number_of op) hits.now))) }
-        ensures points { OnOk result (self.new.points.items ≡ self.old.points.items ++ map (λ c. c.point) (flat_map copies_of (included_hits (edge_origin operand) (hit_number_of op) hits.now))) }
+        ensures origins { OnOk result (self.new.origins.items ≡ self.old.origins.items ++ origins_of (crossings_of op operand hits.now)) }
+        ensures points { OnOk result (self.new.points.items ≡ self.old.points.items ++ places_of (crossings_of op operand hits.now)) }
     {
         for hit in hits {
             let number = hit_number(op, hit.number);

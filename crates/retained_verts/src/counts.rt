@@ -5,7 +5,8 @@ ghost use Rattle.assembly_terms.specs.Prescribed.{crossing_count, hit_count, p_k
 ghost use Rattle.chain_terms.specs.Chains.{all_edges};
 ghost use Rattle.mesh_terms.specs.Limits.{most_points, most_triangles};
 ghost use Rattle.mesh_terms.specs.Meshes.{HasThree, IsBelow, triples_of};
-ghost use Rattle.retained_verts.specs.Operands.{numbers, vertex_number};
+ghost use Rattle.retained_verts.specs.Handed.{numbers};
+ghost use Rattle.retained_verts.specs.Parts.{vertex_number};
 ghost use Rattle.retained_verts.specs.Small.{AreSmallWindings, most_hits};
 ghost use Rattle.side_terms.specs.Hits.{AreHits, IsNumber};
 
@@ -32,7 +33,9 @@ pub fn count(op: Op, p: &Side, q: &Side, windings: &Windings, hits: &Hits) -> Co
     ensures kept { result.kept ≡ p_kept op (numbers windings.now hits.now) ∷ q_kept op (numbers windings.now hits.now) ∷ [] }
     ensures crossings { result.crossings ≡ crossing_count op (numbers windings.now hits.now) }
     ensures halfedges { result.halfedges ≡ prescribed_halfedges op p.now q.now (numbers windings.now hits.now) }
-    ensures fits { p_kept op (numbers windings.now hits.now) + q_kept op (numbers windings.now hits.now) + crossing_count op (numbers windings.now hits.now) < 2 ^ 63 }
+    ensures p_few { p_kept op (numbers windings.now hits.now) ≤ 100000001 * most_points }
+    ensures q_few { q_kept op (numbers windings.now hits.now) ≤ 100000001 * most_points }
+    ensures crossings_few { crossing_count op (numbers windings.now hits.now) ≤ 4 * most_hits }
 {
     let p_triples = p.triples();
     let q_triples = q.triples();

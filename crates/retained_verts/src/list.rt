@@ -1,11 +1,10 @@
 // The prescribed vertices of an operation.
-ghost use Rattle.std.specs.Prelude.{◌≡◌, ◌≤◌, ◌∷◌, [], length, map, nat_abs, IfErr, IfOk};
-ghost use Rattle.std.specs.List.{All};
-ghost use Rattle.assembly_terms.specs.Prescribed.{crossing_count, p_kept, prescribed, prescribed_halfedges, q_kept};
+ghost use Rattle.std.specs.Prelude.{◌≡◌, ◌≤◌, ◌+◌, ◌∷◌, [], length, map, slice_index, IfErr, IfOk};
+ghost use Rattle.assembly_terms.specs.Prescribed.{crossing_count, p_kept, prescribed_halfedges, q_kept};
 ghost use Rattle.assembly_terms.specs.Standing.{AreConserved, IsBalanced, StandInLists};
 ghost use Rattle.chain_terms.specs.Chains.{all_edges};
 ghost use Rattle.retained_verts.specs.Faults.{IsFaultAt};
-ghost use Rattle.retained_verts.specs.Operands.{numbers};
+ghost use Rattle.retained_verts.specs.Handed.{copies, numbers};
 ghost use Rattle.retained_verts.specs.Small.{AreSmallWindings};
 ghost use Rattle.side_terms.specs.Hits.{AreHits};
 
@@ -71,15 +70,23 @@ pub fn prescribe(
     requires w30_small { AreSmallWindings windings.now.w30.items }
     requires x12 { AreHits (all_edges p.now.triples) (length q.now.triples) hits.now.x12.items }
     requires x21 { AreHits (all_edges q.now.triples) (length p.now.triples) hits.now.x21.items }
-    ensures origins { IfOk result (λ r. r.origins.items ≡ map (λ c. c.origin) (prescribed op p.now q.now (numbers windings.now hits.now))) }
-    ensures points { IfOk result (λ r. r.points.items ≡ map (λ c. c.point) (prescribed op p.now q.now (numbers windings.now hits.now))) }
+
+    // The vertices in order, and how many of each kind there are.
+    ensures origins { IfOk result (λ r. r.origins.items ≡ map (λ c. c.origin) (copies op p.now q.now windings.now hits.now)) }
+    ensures points { IfOk result (λ r. r.points.items ≡ map (λ c. c.point) (copies op p.now q.now windings.now hits.now)) }
     ensures kept { IfOk result (λ r. r.kept ≡ p_kept op (numbers windings.now hits.now) ∷ q_kept op (numbers windings.now hits.now) ∷ []) }
     ensures crossings { IfOk result (λ r. r.crossings ≡ crossing_count op (numbers windings.now hits.now)) }
+    ensures all { IfOk result (λ r. length r.origins.items ≡ slice_index r.kept 0 + slice_index r.kept 1 + r.crossings) }
+
+    // The half-edges, and their limit.
     ensures halfedges { IfOk result (λ r. r.halfedges ≡ prescribed_halfedges op p.now q.now (numbers windings.now hits.now)) }
+    ensures few { IfOk result (λ r. length r.origins.items ≤ r.halfedges) }
     ensures within { IfOk result (λ r. r.halfedges ≤ limits.now.halfedges) }
     ensures too_large { IfErr result (IsFaultAt limits.now.halfedges (prescribed_halfedges op p.now q.now (numbers windings.now hits.now))) }
-    ensures two_lists { IfOk result (λ _. StandInLists p.now q.now (prescribed op p.now q.now (numbers windings.now hits.now))) }
-    ensures balance { AreConserved p.now q.now (numbers windings.now hits.now) → IfOk result (λ _. IsBalanced p.now q.now (prescribed op p.now q.now (numbers windings.now hits.now))) }
+
+    // How the copies stand in the lists of the faces, and where these have as many starts as ends.
+    ensures two_lists { IfOk result (λ _. StandInLists p.now q.now (copies op p.now q.now windings.now hits.now)) }
+    ensures balance { AreConserved p.now q.now (numbers windings.now hits.now) → IfOk result (λ _. IsBalanced p.now q.now (copies op p.now q.now windings.now hits.now)) }
 {
     let counts = count(op, p, q, windings, hits);
     if counts.halfedges > u64::from(limits.halfedges()) {

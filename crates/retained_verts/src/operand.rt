@@ -2,7 +2,7 @@
 ghost use Rattle.std.specs.Prelude.{◌≡◌, ◌≤◌, nat_abs};
 ghost use Rattle.assembly_terms.specs.Prescribed.{hit_number_of};
 ghost use Rattle.side_terms.specs.Hits.{IsNumber};
-ghost use Rattle.retained_verts.specs.Operands.{edge_origin, vertex_number, vertex_origin};
+ghost use Rattle.retained_verts.specs.Parts.{edge_origin, vertex_number, vertex_origin};
 
 use mb_base::{Op, Origin};
 

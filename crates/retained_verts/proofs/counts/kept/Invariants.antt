@@ -1,6 +1,6 @@
 use Rattle.std.proofs.Common.{◌≡◌, ◌≤◌, ◌*◌, take}
 use Rattle.assembly_terms.specs.Prescribed.{vertex_count}
-use Rattle.retained_verts.specs.Operands.{vertex_number}
+use Rattle.retained_verts.specs.Parts.{vertex_number}
 use Rattle.retained_verts.proofs.counts.kept.Given as goal
 
 abbrev pub invariant-loop-winding : goal.invariant-loop-winding

@@ -1,13 +1,16 @@
-use Rattle.std.proofs.Common.{◌≡◌, ◌++◌, ℤ, List, [], length, map, ap, sym, ◌∙◌}
+use Rattle.std.proofs.Common.{◌≡◌, ◌+◌, ◌++◌, ℤ, List, [], length, map, arith, ap, sym, ◌∙◌}
+use Rattle.std.specs.Prelude.{slice_index}
+use Rattle.std.proofs.lemmas.List.{length-map}
 use Rattle.std.specs.List.{flat_map}
 use Rattle.mb_base.specs.declared.point.Corner.{Corner}
 use Rattle.assembly_terms.specs.Lists.{Copy}
 use Rattle.assembly_terms.specs.Points.{points_of}
-use Rattle.assembly_terms.specs.Prescribed.{Included, copies_of, prescribed, hit_number_of, included_hits, included_vertices, p_hits, p_number, p_vertices, q_hits, q_number, q_vertices}
+use Rattle.assembly_terms.specs.Prescribed.{Included, copies_of, hit_number_of, included_hits, included_vertices, crossing_count, p_hits, p_kept, p_number, p_vertices, q_hits, q_kept, q_number, q_vertices}
 use Rattle.mb_base.specs.declared.results.Origin.TheVariants.{PVertex, QVertex, PEdge, QEdge}
-use Rattle.retained_verts.specs.Operands.{numbers}
+use Rattle.retained_verts.specs.Handed.{copies, numbers}
 use Rattle.retained_verts.proofs.Balance.{balanced}
 use Rattle.retained_verts.proofs.Growth.{in_order}
+use Rattle.retained_verts.proofs.Lengths.{all_copies_counted, few_copies}
 use Rattle.retained_verts.proofs.TwoLists.{stand_in_lists}
 use Rattle.retained_verts.proofs.list.prescribe.Goals as goal
 
@@ -17,7 +20,7 @@ listed : {A : Type 0} (c : goal.After-result-1) (field : Copy → A) (a b c' d e
     c' ≡ b ++ map field (flat_map copies_of (included_vertices QVertex (q_number c.args.op) c.deref-2.result.now (points_of c.corners-2.result.now) (length c.corners-2.result.now))) →
     d ≡ c' ++ map field (flat_map copies_of (included_hits PEdge (hit_number_of c.args.op) c.deref-3.result.now)) →
     e ≡ d ++ map field (flat_map copies_of (included_hits QEdge (hit_number_of c.args.op) c.deref-4.result.now)) →
-    e ≡ map field (prescribed c.args.op c.args.p.now c.args.q.now (numbers c.args.windings.now c.args.hits.now))
+    e ≡ map field (copies c.args.op c.args.p.now c.args.q.now c.args.windings.now c.args.hits.now)
 listed c field a b c' d e none first second third fourth =
     let op = c.args.op in
     let n = numbers c.args.windings.now c.args.hits.now in
@@ -48,3 +51,19 @@ returns-clause-two_lists c = stand_in_lists c.args.op c.args.p.now c.args.q.now 
 
 pub returns-clause-balance : goal.returns-clause-balance
 returns-clause-balance c kept = balanced c.args.op c.args.p.now c.args.q.now (numbers c.args.windings.now c.args.hits.now) c.corners.ensures.side c.corners-2.ensures.side c.requires.x12 c.requires.x21 kept
+
+-- how many origins there are
+counted : (c : goal.After-result-1) → length c.push_hits-2.new.self.origins.items ≡ p_kept c.args.op (numbers c.args.windings.now c.args.hits.now) + q_kept c.args.op (numbers c.args.windings.now c.args.hits.now) + crossing_count c.args.op (numbers c.args.windings.now c.args.hits.now)
+counted c =
+    let all = copies c.args.op c.args.p.now c.args.q.now c.args.windings.now c.args.hits.now in
+    ap length (returns-clause-origins c) ∙ length-map all (λ k. k.origin) ∙ all_copies_counted c.args.op c.args.p.now c.args.q.now (numbers c.args.windings.now c.args.hits.now) c.requires.w03 c.requires.w30
+
+pub returns-clause-all : goal.returns-clause-all
+returns-clause-all c =
+    let kept = c.count-counts.ensures.kept in
+    omega (arith, counted c, ap (λ k. slice_index k 0) kept, ap (λ k. slice_index k 1) kept, c.count-counts.ensures.crossings)
+
+pub returns-clause-few : goal.returns-clause-few
+returns-clause-few c =
+    let few = few_copies c.args.op c.args.p.now c.args.q.now (numbers c.args.windings.now c.args.hits.now) c.corners.ensures.side c.corners-2.ensures.side c.requires.w03 c.requires.w30 in
+    omega (arith, counted c, few, c.count-counts.ensures.halfedges)

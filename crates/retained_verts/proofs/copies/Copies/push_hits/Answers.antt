@@ -3,7 +3,7 @@ use Rattle.std.proofs.lemmas.Int.{ints}
 use Rattle.mb_base.specs.declared.results.Hit.{Hit}
 use Rattle.assembly_terms.specs.Lists.{Copy}
 use Rattle.assembly_terms.specs.Prescribed.{Included, hit_number_of, included_hits}
-use Rattle.retained_verts.specs.Operands.{edge_origin}
+use Rattle.retained_verts.specs.Parts.{edge_origin}
 use Rattle.side_terms.specs.Hits.{IsNumber}
 use Rattle.retained_verts.proofs.Fits.{kept_8, kept_64}
 use Rattle.retained_verts.proofs.Growth.{grown, hits_more}

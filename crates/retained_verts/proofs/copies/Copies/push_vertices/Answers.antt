@@ -5,7 +5,7 @@ use Rattle.side_terms.specs.Corners.{blank_corner}
 use Rattle.assembly_terms.specs.Lists.{Copy}
 use Rattle.assembly_terms.specs.Points.{point_of, points_of}
 use Rattle.assembly_terms.specs.Prescribed.{Included, included_vertices}
-use Rattle.retained_verts.specs.Operands.{vertex_number, vertex_origin}
+use Rattle.retained_verts.specs.Parts.{vertex_number, vertex_origin}
 use Rattle.retained_verts.proofs.Fits.{kept_64}
 use Rattle.retained_verts.proofs.Growth.{grown, vertices_more}
 use Rattle.retained_verts.proofs.copies.Copies.push_vertices.Goals as goal
