@@ -3,14 +3,28 @@ mod handed;
 mod table;
 mod text;
 
-use crate::PrescribeFault;
+use crate::{PrescribeFault, Prescribed};
 use handed::prescribed;
-use mb_base::Limits;
+use lean::Side;
+use mb_base::{Limits, Op};
 use std::alloc::Global;
 use std::process::Abort;
 use std::test::Fail;
 use table::PAIRS;
-use text::{read_pair, text_of};
+use text::{read_numbers, read_op, read_sides, text_of};
+
+// What the numbers of a line prescribe for two sides.
+fn answer(
+    alloc: Global,
+    op: Op,
+    p: &Side,
+    q: &Side,
+    numbers: &str,
+    limits: &Limits,
+) -> Result<Result<Prescribed, PrescribeFault>, Fail> {
+    let (windings, hits) = read_numbers(alloc, numbers)?;
+    prescribed(alloc, op, p, q, &windings, &hits, limits)
+}
 
 // Compares what a pair prescribes with the line of a table.
 fn expect_line(
@@ -20,9 +34,11 @@ fn expect_line(
     numbers: &str,
     expected: &str,
 ) -> Result<(), Fail> {
-    let pair = read_pair(alloc, meshes, numbers)?;
-    let answer = prescribed(alloc, &pair, &Limits::program())?;
-    let text = text_of(alloc, &answer?)?;
+    let (op, sides) = meshes.split_once(" ").ok_or("no word")?;
+    let op = read_op(op)?;
+    let (p, q) = read_sides(alloc, sides)?;
+    let all = answer(alloc, op, &p, &q, numbers, &Limits::program())??;
+    let text = text_of(alloc, &all)?;
     assert_eq!(rt; text.as_str(), expected, "{meshes}");
     Ok(())
 }
@@ -44,12 +60,11 @@ fn agrees_with_the_table(rt: HostRuntime) -> Result<(), Fail> {
 const BOXES: &str = "000a000a0aa000aa0a0aaaaa 031023457476014154137175326367046062 34564537567534k64k37k67k 031023457476014154137175326367046062";
 const NUMBERS: &str = "00000000 11110000 84144a 86-166a | d2154a e3-134a f2164a j3167a k2-165a p3137a q3-157a w3-135a";
 
-// What the boxes prescribe for an operation, with as many half-edges at most.
-fn boxes(alloc: Global, op: &str, halfedges: u32) -> Result<[u64; 4], Fail> {
-    let meshes = format!(in alloc; "{op} {BOXES}")?;
-    let pair = read_pair(alloc, meshes.as_str(), NUMBERS)?;
-    let limits = Limits::of(1 << 30, 15_000_000, 10_000_000, halfedges);
-    match prescribed(alloc, &pair, &limits.ok_or("no limits")?)? {
+// What the boxes prescribe for an operation, with as many half-edges at most: the counts.
+fn boxes(alloc: Global, op: Op, halfedges: u32) -> Result<[u64; 4], Fail> {
+    let limits = Limits::of(1 << 30, 15_000_000, 10_000_000, halfedges).ok_or("no limits")?;
+    let (p, q) = read_sides(alloc, BOXES)?;
+    match answer(alloc, op, &p, &q, NUMBERS, &limits)? {
         Ok(all) => Ok([all.kept[0], all.kept[1], all.crossings, all.halfedges]),
         Err(PrescribeFault::TooLarge { seen }) => Ok([0, 0, 0, seen]),
         Err(PrescribeFault::NoMemory) => Err("no memory".into()),
@@ -58,17 +73,17 @@ fn boxes(alloc: Global, op: &str, halfedges: u32) -> Result<[u64; 4], Fail> {
 
 #[test]
 fn the_corner_of_a_post_in_a_box(rt: HostRuntime) -> Result<(), Fail> {
-    assert_eq!(rt; boxes(rt.alloc(), "union", 84)?, [8, 4, 10, 84]);
-    assert_eq!(rt; boxes(rt.alloc(), "intersect", 48)?, [0, 4, 10, 48]);
-    assert_eq!(rt; boxes(rt.alloc(), "subtract", 84)?, [8, 4, 10, 84]);
+    assert_eq!(rt; boxes(rt.alloc(), Op::Union, 84)?, [8, 4, 10, 84]);
+    assert_eq!(rt; boxes(rt.alloc(), Op::Intersect, 48)?, [0, 4, 10, 48]);
+    assert_eq!(rt; boxes(rt.alloc(), Op::Subtract, 84)?, [8, 4, 10, 84]);
     Ok(())
 }
 
 #[test]
 fn too_many_half_edges_are_counted(rt: HostRuntime) -> Result<(), Fail> {
-    assert_eq!(rt; boxes(rt.alloc(), "union", 83)?, [0, 0, 0, 84]);
-    assert_eq!(rt; boxes(rt.alloc(), "intersect", 47)?, [0, 0, 0, 48]);
-    assert_eq!(rt; boxes(rt.alloc(), "subtract", 0)?, [0, 0, 0, 84]);
+    assert_eq!(rt; boxes(rt.alloc(), Op::Union, 83)?, [0, 0, 0, 84]);
+    assert_eq!(rt; boxes(rt.alloc(), Op::Intersect, 47)?, [0, 0, 0, 48]);
+    assert_eq!(rt; boxes(rt.alloc(), Op::Subtract, 0)?, [0, 0, 0, 84]);
     Ok(())
 }
 

@@ -12,30 +12,23 @@ use mb_base::{Hit, Hits, Limits, Op, Windings};
 use std::alloc::Global;
 use std::test::Fail;
 
-/// An operation on two sides, with numbers.
-#[derive(Drop)]
-pub struct Pair {
-    pub op: Op,
-    pub p: Side,
-    pub q: Side,
-    pub windings: Windings,
-    pub hits: Hits,
-}
-
-/// What the numbers prescribe. It fails where they are not of the sides.
+/// What numbers prescribe for two sides. It fails where they are not of the sides.
 pub fn prescribed(
     alloc: Global,
-    pair: &Pair,
+    op: Op,
+    p: &Side,
+    q: &Side,
+    windings: &Windings,
+    hits: &Hits,
     limits: &Limits,
 ) -> Result<Result<Prescribed, PrescribeFault>, Fail> {
-    let (p, q) = (&pair.p, &pair.q);
-    if !are_windings(p, &pair.windings.w03) || !are_windings(q, &pair.windings.w30) {
+    if !are_windings(p, &windings.w03) || !are_windings(q, &windings.w30) {
         return Err("other windings".into());
     }
-    if !are_hits(p, q, &pair.hits.x12) || !are_hits(q, p, &pair.hits.x21) {
+    if !are_hits(p, q, &hits.x12) || !are_hits(q, p, &hits.x21) {
         return Err("other hits".into());
     }
-    Ok(prescribe(alloc, pair.op, p, q, &pair.windings, &pair.hits, limits))
+    Ok(prescribe(alloc, op, p, q, windings, hits, limits))
 }
 
 // Whether there is a small number for each corner.

@@ -1,7 +1,6 @@
 // The lines of the table: pairs with numbers, and what they prescribe.
 ghost use Rattle.std.specs.Prelude.{◌≤◌, IfSome};
 
-use super::handed::Pair;
 use crate::Prescribed;
 use lean::Side;
 use mb_base::{Hit, Hits, Op, Origin, Point, Soup, Windings};
@@ -69,7 +68,8 @@ fn read_mesh(alloc: Global, coordinates: &str, vertices: &str) -> Result<Mesh, F
     Ok(Mesh::check(alloc, Soup::of(points, triples, 0))?)
 }
 
-fn read_op(word: &str) -> Result<Op, Fail> {
+/// The operation of a word.
+pub fn read_op(word: &str) -> Result<Op, Fail> {
     if word == "union" {
         return Ok(Op::Union);
     }
@@ -111,40 +111,38 @@ fn read_hits(alloc: Global, words: &str) -> Result<Vec<Hit>, Fail> {
     Ok(hits)
 }
 
-// The numbers of a line: windings, and hits before and after a bar.
-fn read_numbers(alloc: Global, line: &str) -> Result<(Windings, Hits), Fail> {
+fn windings_of(alloc: Global, p: &str, q: &str) -> Result<Windings, Fail> {
+    let w03 = read_windings(alloc, p)?;
+    let w30 = read_windings(alloc, q)?;
+    Ok(Windings { w03, w30 })
+}
+
+fn hits_of(alloc: Global, p: &str, q: &str) -> Result<Hits, Fail> {
+    let x12 = read_hits(alloc, p)?;
+    let x21 = read_hits(alloc, q)?;
+    Ok(Hits { x12, x21 })
+}
+
+/// The numbers of a line: windings, and hits before and after a bar.
+pub fn read_numbers(alloc: Global, line: &str) -> Result<(Windings, Hits), Fail> {
     let (front, back) = line.split_once("|").ok_or("no bar")?;
     let (w03, rest) = front.split_once(" ").ok_or("no windings")?;
     let (w30, edges) = rest.split_once(" ").ok_or("no windings")?;
-    let windings = Windings {
-        w03: read_windings(alloc, w03)?,
-        w30: read_windings(alloc, w30)?,
-    };
-    let hits = Hits {
-        x12: read_hits(alloc, edges)?,
-        x21: read_hits(alloc, back)?,
-    };
+    let windings = windings_of(alloc, w03, w30)?;
+    let hits = hits_of(alloc, edges, back)?;
     Ok((windings, hits))
 }
 
-/// The pair of a line of meshes and one of numbers.
-pub fn read_pair(alloc: Global, meshes: &str, numbers: &str) -> Result<Pair, Fail> {
-    let mut words = meshes.split_whitespace();
-    let op = read_op(words.next().ok_or("no word")?)?;
+/// The sides of a line of points and triangles.
+pub fn read_sides(alloc: Global, line: &str) -> Result<(Side, Side), Fail> {
+    let mut words = line.split_whitespace();
     let points = words.next().ok_or("no word")?;
     let triples = words.next().ok_or("no word")?;
     let p = read_side(alloc, points, triples)?;
     let points = words.next().ok_or("no word")?;
     let triples = words.next().ok_or("no word")?;
     let q = read_side(alloc, points, triples)?;
-    let (windings, hits) = read_numbers(alloc, numbers)?;
-    Ok(Pair {
-        op,
-        p,
-        q,
-        windings,
-        hits,
-    })
+    Ok((p, q))
 }
 
 const DIGITS: &[u8; 36] = b"0123456789abcdefghijklmnopqrstuvwxyz";
