@@ -1,0 +1,5 @@
+pub mod Lists
+pub mod PointLaws
+pub mod Points
+pub mod Prescribed
+pub mod Standing

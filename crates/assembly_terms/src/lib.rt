@@ -1,0 +1,10 @@
+//! Definitions of what the parts of a result are assembled from: the vertices that numbers prescribe, in order, and the
+//! lists of each source face in which their copies stand.
+#![tactic(auto)]
+
+ghost use Rattle.assembly_terms.specs.PointLaws.{CornersGivePoints};
+
+/// The corners of points lie at those points.
+pub fn corners_give_points()
+    ensures { CornersGivePoints }
+{}

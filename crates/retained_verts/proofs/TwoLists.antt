@@ -1,0 +1,208 @@
+-- Each copy stands in none or two of the lists of each source face, and in two of some face.
+use Rattle.std.proofs.Common.{◌≡◌, ◌≢◌, ℕ, zero, suc, ◌+◌, ◌*◌, ◌/◌, ◌<◌, ◌≤◌, ◌⊎◌, inl, inr, Bool, true, false, cond, ◌==◌, ◌||◌, ℤ, pos, neg_ℤ, List, [], ◌∷◌, ◌++◌, map, length, get_or, int_lt, count_by, refl, arith, ap, sym, ◌∙◌, subst}
+use Rattle.std.specs.List.{All}
+use Rattle.std.proofs.lemmas.Int.{ints}
+use Rattle.std.proofs.lemmas.Bool.{cases_eq, eq-eqb, ne_eqb, eqb-true, or_cases}
+use Rattle.std.proofs.lemmas.List.Elements.{All-get_or, All-weaker}
+use Rattle.chain_terms.specs.Chains.{all_edges, one_if}
+use Rattle.chain_terms.specs.Ranks.{twin}
+use Rattle.chain_terms.specs.Sums.{total, upto}
+use Rattle.chain_laws.specs.Counts.{total-count_by}
+use Rattle.chain_laws.specs.Sums.{total-same}
+use Rattle.halfedge.proofs.Around.{pair_up}
+use Rattle.halfedge.proofs.Edges.{length-all_edges}
+use Rattle.mesh_terms.specs.Meshes.{Triple, HasThree, has}
+use Rattle.mb_base.specs.declared.op.Op.{Op}
+use Rattle.mb_base.specs.declared.results.Origin.{Origin}
+use Rattle.mb_base.specs.declared.results.Origin.TheVariants.{PVertex, QVertex, PEdge, QEdge}
+use Rattle.side_terms.specs.Hits.{AreHits}
+use Rattle.side_terms.specs.Sides.{Side, IsSide}
+use Rattle.assembly_terms.specs.Lists.{Copy, ListName, HalfP, HalfQ, PairP, PairQ, at_end, incidence, lists_of_p, lists_of_q, standing, way, way_round}
+use Rattle.assembly_terms.specs.Prescribed.{Numbers, prescribed}
+use Rattle.assembly_terms.specs.Standing.{StandInLists, StandsInNone, StandsInTwo, StandsSomewhere, end_count, start_count}
+use Rattle.retained_verts.proofs.Faces.{CountsTo, at_most_one, counted_none, edge_counts, face_counts, vertex_counts}
+use Rattle.retained_verts.proofs.Origins.{IsFrom, Passes, all_from, passes}
+use Rattle.retained_verts.proofs.Units.{above_neg, below_neg}
+use Rattle.retained_verts.proofs.Ways.{not_both, same, same_few, same_yes}
+
+-- tests that agree have one count
+count_alike : {X : Type 0} (s t : X → Bool) → ((x : X) → s x ≡ t x) → (xs : List X) → count_by s xs ≡ count_by t xs
+count_alike s t h xs = omega (arith, ints, total-same (λ x. pos (one_if (s x))) (λ x. pos (one_if (t x))) (λ x. ap (λ b. pos (one_if b)) (h x)) xs, total-count_by s xs, total-count_by t xs)
+
+-- in how many of the lists a copy's origin stands either way
+abbrev Counts : Side → Side → List ListName → Origin → ℕ → Type 0
+Counts p q names x s = CountsTo (λ name. incidence (all_edges p.triples) (all_edges q.triples) name x) names s
+
+-- so stands the copy, whatever its sign
+signed : (value : ListName → ℤ) (names : List ListName) (s : ℕ) → CountsTo value names s → (b : Bool) →
+    (count_by (λ name. int_lt (pos 0) (cond b (neg_ℤ (value name)) (value name))) names ≡ s) × (count_by (λ name. int_lt (cond b (neg_ℤ (value name)) (value name)) (pos 0)) names ≡ s)
+signed value names s known true = (
+  count_alike (λ name. int_lt (pos 0) (neg_ℤ (value name))) (λ name. int_lt (value name) (pos 0)) (λ name. above_neg (value name)) names ∙ known.downs,
+  count_alike (λ name. int_lt (neg_ℤ (value name)) (pos 0)) (λ name. int_lt (pos 0) (value name)) (λ name. below_neg (value name)) names ∙ known.ups,
+)
+signed value names s known false = (known.ups, known.downs)
+
+in_two : (p q : Side) (names : List ListName) (c : Copy) → Counts p q names c.origin 1 → StandsInTwo p q names c
+in_two p q names c known = let both = signed (λ name. incidence (all_edges p.triples) (all_edges q.triples) name c.origin) names 1 known c.negative in record { one_start = both.0; one_end = both.1 }
+
+in_none : (p q : Side) (names : List ListName) (c : Copy) → Counts p q names c.origin 0 → StandsInNone p q names c
+in_none p q names c known = let both = signed (λ name. incidence (all_edges p.triples) (all_edges q.triples) name c.origin) names 0 known c.negative in record { no_start = both.0; no_end = both.1 }
+
+-- a count of at most 1
+record CountsFew (p q : Side) (names : List ListName) (x : Origin) : Type 0 where
+  count : ℕ
+  few : count ≤ 1
+  counts : Counts p q names x count
+
+none_or_two : (p q : Side) (names : List ListName) (c : Copy) → CountsFew p q names c.origin → StandsInNone p q names c ⊎ StandsInTwo p q names c
+none_or_two p q names c known = elim (cases_eq known.count 0) as (λ _. StandsInNone p q names c ⊎ StandsInTwo p q names c) [
+  | inl e ↦ inl (in_none p q names c (subst (λ (s : ℕ). Counts p q names c.origin s) e known.counts))
+  | inr d ↦ let one : known.count ≡ 1 = omega (arith, d, known.few) in inr (in_two p q names c (subst (λ (s : ℕ). Counts p q names c.origin s) one known.counts))
+]
+
+-- the triangle of a face has three different vertices
+three_at : (side : Side) (f : ℕ) → IsSide side → f < length side.triples → HasThree (get_or side.triples f (0, 0, 0))
+three_at side f known below = known.accepted.mesh.three f (0, 0, 0) below
+
+-- the two faces of an edge are different faces of the side
+record TwoFaces (side : Side) (e : ℕ) : Type 0 where
+  apart : e / 3 ≡ twin (all_edges side.triples) e / 3 → ⊥
+  one : e / 3 < length side.triples
+  other : twin (all_edges side.triples) e / 3 < length side.triples
+
+two_faces : (side : Side) (e : ℕ) → IsSide side → e < length (all_edges side.triples) → TwoFaces side e
+two_faces side e known below =
+    let pairs = pair_up side.triples known.accepted.mesh.three known.accepted.closed in
+    let back = (pairs.run_back e below).within in
+    let long = length-all_edges side.triples in
+    record { apart = λ same. pairs.other e below (sym same); one = omega (arith, below, long); other = omega (arith, back, long) }
+
+-- in the lists of a face of P
+in_p_face : (p q : Side) → IsSide p → IsSide q → (x : Origin) → IsFrom p q x → (f : ℕ) → f < length p.triples → CountsFew p q (lists_of_p (length q.triples) f) x
+in_p_face p q p_known q_known (PVertex v) from f below = record {
+  count = _;
+  few = at_most_one (get_or p.triples f (0, 0, 0)) v (three_at p f p_known below);
+  counts = vertex_counts (λ name. incidence (all_edges p.triples) (all_edges q.triples) name (PVertex v)) (λ i. HalfP (3 * f + i)) (PairP f) (length q.triples) p.triples f v below (three_at p f p_known below) (λ i. refl) (λ k. refl);
+}
+in_p_face p q p_known q_known (QVertex v) from f below = record {
+  count = 0;
+  few = omega arith;
+  counts = counted_none (λ name. incidence (all_edges p.triples) (all_edges q.triples) name (QVertex v)) (λ i. HalfP (3 * f + i)) (PairP f) (length q.triples) (λ i. refl) (λ k. refl);
+}
+in_p_face p q p_known q_known (PEdge e g) from f below =
+    let es = all_edges p.triples in
+    let faces = two_faces p e p_known from.0 in
+    record {
+      count = same f (e / 3) + same f (twin es e / 3);
+      few = not_both f (e / 3) (twin es e / 3) faces.apart;
+      counts = edge_counts (λ name. incidence es (all_edges q.triples) name (PEdge e g)) (λ i. HalfP (3 * f + i)) (PairP f) (length q.triples) es f e g from.1 faces.apart (λ i. refl) (λ k. refl);
+    }
+in_p_face p q p_known q_known (QEdge e g) from f below =
+    let es = all_edges q.triples in
+    let faces = two_faces q e q_known from.0 in
+    let value : ListName → ℤ = λ name. incidence (all_edges p.triples) es name (QEdge e g) in
+    elim (cases_eq g f) as (λ _. CountsFew p q (lists_of_p (length q.triples) f) (QEdge e g)) [
+      | inl y ↦ record {
+        count = 1;
+        few = omega arith;
+        counts = face_counts value (λ i. HalfP (3 * f + i)) (PairP f) (length q.triples) es e faces.one faces.other faces.apart (λ i. refl) (λ k. ap (λ t. cond t (neg_ℤ (way_round es k e)) (pos 0)) (eq-eqb g f y));
+      }
+      | inr n ↦ record {
+        count = 0;
+        few = omega arith;
+        counts = counted_none value (λ i. HalfP (3 * f + i)) (PairP f) (length q.triples) (λ i. refl) (λ k. ap (λ t. cond t (neg_ℤ (way_round es k e)) (pos 0)) (ne_eqb g f n));
+      }
+    ]
+
+-- twice a minus
+minus_twice : (t : Bool) (w : ℤ) → neg_ℤ (cond t (neg_ℤ w) (pos 0)) ≡ cond t w (pos 0)
+minus_twice true w = omega (arith, ints)
+minus_twice false w = refl
+
+-- in the lists of a face of Q
+in_q_face : (p q : Side) → IsSide p → IsSide q → (x : Origin) → IsFrom p q x → (g : ℕ) → g < length q.triples → CountsFew p q (lists_of_q (length p.triples) g) x
+in_q_face p q p_known q_known (PVertex v) from g below = record {
+  count = 0;
+  few = omega arith;
+  counts = counted_none (λ name. incidence (all_edges p.triples) (all_edges q.triples) name (PVertex v)) (λ i. HalfQ (3 * g + i)) (PairQ g) (length p.triples) (λ i. refl) (λ k. refl);
+}
+in_q_face p q p_known q_known (QVertex v) from g below = record {
+  count = _;
+  few = at_most_one (get_or q.triples g (0, 0, 0)) v (three_at q g q_known below);
+  counts = vertex_counts (λ name. incidence (all_edges p.triples) (all_edges q.triples) name (QVertex v)) (λ i. HalfQ (3 * g + i)) (PairQ g) (length p.triples) q.triples g v below (three_at q g q_known below) (λ i. refl) (λ k. refl);
+}
+in_q_face p q p_known q_known (PEdge e face) from g below =
+    let es = all_edges p.triples in
+    let faces = two_faces p e p_known from.0 in
+    let value : ListName → ℤ = λ name. incidence es (all_edges q.triples) name (PEdge e face) in
+    elim (cases_eq face g) as (λ _. CountsFew p q (lists_of_q (length p.triples) g) (PEdge e face)) [
+      | inl y ↦ record {
+        count = 1;
+        few = omega arith;
+        counts = face_counts value (λ i. HalfQ (3 * g + i)) (PairQ g) (length p.triples) es e faces.one faces.other faces.apart (λ i. refl) (λ k. ap (λ t. neg_ℤ (cond t (way_round es k e) (pos 0))) (eq-eqb face g y));
+      }
+      | inr n ↦ record {
+        count = 0;
+        few = omega arith;
+        counts = counted_none value (λ i. HalfQ (3 * g + i)) (PairQ g) (length p.triples) (λ i. refl) (λ k. ap (λ t. neg_ℤ (cond t (way_round es k e) (pos 0))) (ne_eqb face g n));
+      }
+    ]
+in_q_face p q p_known q_known (QEdge e face) from g below =
+    let es = all_edges q.triples in
+    let faces = two_faces q e q_known from.0 in
+    record {
+      count = same g (e / 3) + same g (twin es e / 3);
+      few = not_both g (e / 3) (twin es e / 3) faces.apart;
+      counts = edge_counts (λ name. incidence (all_edges p.triples) es name (QEdge e face)) (λ i. HalfQ (3 * g + i)) (PairQ g) (length p.triples) es g e face from.1 faces.apart (λ i. refl) (λ k. minus_twice (face == k) (way_round es g e));
+    }
+
+-- a triangle that has a vertex
+pub corner_count : (t : Triple) (v : ℕ) → HasThree t → has t v ≡ true → same t.0 v + (same t.1 v + same t.2 v) ≡ 1
+corner_count t v three h =
+    let few = at_most_one t v three in
+    elim (or_cases ((t.0 == v) || (t.1 == v)) (t.2 == v) h) as (λ _. same t.0 v + (same t.1 v + same t.2 v) ≡ 1) [
+      | inl r ↦ elim (or_cases (t.0 == v) (t.1 == v) r) as (λ _. same t.0 v + (same t.1 v + same t.2 v) ≡ 1) [
+        | inl a ↦ omega (arith, few, same_yes t.0 v (eqb-true t.0 v a))
+        | inr b ↦ omega (arith, few, same_yes t.1 v (eqb-true t.1 v b))
+      ]
+      | inr c ↦ omega (arith, few, same_yes t.2 v (eqb-true t.2 v c))
+    ]
+
+-- a copy of anything of the sides stands in two lists of some face
+somewhere : (p q : Side) → IsSide p → IsSide q → (c : Copy) (x : Origin) → c.origin ≡ x → IsFrom p q x → StandsSomewhere p q c
+somewhere p q p_known q_known c (PVertex v) e from =
+    let found = passes (λ t. has t v) p.triples (0, 0, 0) (p_known.accepted.mesh.used v from) in
+    let f = found.place in
+    let three = three_at p f p_known found.within in
+    let counts = vertex_counts (λ name. incidence (all_edges p.triples) (all_edges q.triples) name (PVertex v)) (λ i. HalfP (3 * f + i)) (PairP f) (length q.triples) p.triples f v found.within three (λ i. refl) (λ k. refl) in
+    let one = corner_count (get_or p.triples f (0, 0, 0)) v three found.holds in
+    inl (f, found.within, (in_two p q (lists_of_p (length q.triples) f) c (rw e (subst (λ (s : ℕ). Counts p q (lists_of_p (length q.triples) f) (PVertex v) s) one counts))))
+somewhere p q p_known q_known c (QVertex v) e from =
+    let found = passes (λ t. has t v) q.triples (0, 0, 0) (q_known.accepted.mesh.used v from) in
+    let g = found.place in
+    let three = three_at q g q_known found.within in
+    let counts = vertex_counts (λ name. incidence (all_edges p.triples) (all_edges q.triples) name (QVertex v)) (λ i. HalfQ (3 * g + i)) (PairQ g) (length p.triples) q.triples g v found.within three (λ i. refl) (λ k. refl) in
+    let one = corner_count (get_or q.triples g (0, 0, 0)) v three found.holds in
+    inr (g, found.within, (in_two p q (lists_of_q (length p.triples) g) c (rw e (subst (λ (s : ℕ). Counts p q (lists_of_q (length p.triples) g) (QVertex v) s) one counts))))
+somewhere p q p_known q_known c (PEdge edge g) e from =
+    let es = all_edges p.triples in
+    let faces = two_faces p edge p_known from.0 in
+    let counts = face_counts (λ name. incidence es (all_edges q.triples) name (PEdge edge g)) (λ i. HalfQ (3 * g + i)) (PairQ g) (length p.triples) es edge faces.one faces.other faces.apart (λ i. refl) (λ k. ap (λ t. neg_ℤ (cond t (way_round es k edge) (pos 0))) (eq-eqb g g refl)) in
+    inr (g, from.1, (in_two p q (lists_of_q (length p.triples) g) c (rw e counts)))
+somewhere p q p_known q_known c (QEdge edge f) e from =
+    let es = all_edges q.triples in
+    let faces = two_faces q edge q_known from.0 in
+    let counts = face_counts (λ name. incidence (all_edges p.triples) es name (QEdge edge f)) (λ i. HalfP (3 * f + i)) (PairP f) (length q.triples) es edge faces.one faces.other faces.apart (λ i. refl) (λ k. ap (λ t. cond t (neg_ℤ (way_round es k edge)) (pos 0)) (eq-eqb f f refl)) in
+    inl (f, from.1, (in_two p q (lists_of_p (length q.triples) f) c (rw e counts)))
+
+-- so do all prescribed copies
+pub stand_in_lists : (op : Op) (p q : Side) (n : Numbers) → IsSide p → IsSide q → AreHits (all_edges p.triples) (length q.triples) n.x12 → AreHits (all_edges q.triples) (length p.triples) n.x21 →
+    StandInLists p q (prescribed op p q n)
+stand_in_lists op p q n p_known q_known x12 x21 =
+    let cs = prescribed op p q n in
+    let from = all_from op p q n x12 x21 in
+    record {
+      p_faces = λ f below. let names = lists_of_p (length q.triples) f in All-weaker (λ c. IsFrom p q c.origin) (λ c. StandsInNone p q names c ⊎ StandsInTwo p q names c) (λ c h. none_or_two p q names c (in_p_face p q p_known q_known c.origin h f below)) cs from;
+      q_faces = λ g below. let names = lists_of_q (length p.triples) g in All-weaker (λ c. IsFrom p q c.origin) (λ c. StandsInNone p q names c ⊎ StandsInTwo p q names c) (λ c h. none_or_two p q names c (in_q_face p q p_known q_known c.origin h g below)) cs from;
+      somewhere = All-weaker (λ c. IsFrom p q c.origin) (StandsSomewhere p q) (λ c h. somewhere p q p_known q_known c c.origin refl h) cs from;
+    }

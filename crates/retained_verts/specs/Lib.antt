@@ -1,0 +1,4 @@
+pub mod Faults
+pub mod Handed
+pub mod Parts
+pub mod Small

@@ -1,0 +1,110 @@
+// How many vertices, crossings and half-edges are prescribed.
+ghost use Rattle.std.specs.Prelude.{◌≡◌, ◌≤◌, ◌<◌, ◌+◌, ◌*◌, ◌^◌, ◌∷◌, [], length, pos, nat_abs, get_or};
+ghost use Rattle.std.specs.List.{All};
+ghost use Rattle.assembly_terms.specs.Prescribed.{crossing_count, hit_count, p_kept, q_kept, prescribed_halfedges, vertex_count, vertex_halfedges};
+ghost use Rattle.chain_terms.specs.Chains.{all_edges};
+ghost use Rattle.mesh_terms.specs.Limits.{most_points, most_triangles};
+ghost use Rattle.mesh_terms.specs.Meshes.{HasThree, IsBelow, triples_of};
+ghost use Rattle.retained_verts.specs.Handed.{numbers};
+ghost use Rattle.retained_verts.specs.Parts.{vertex_number};
+ghost use Rattle.retained_verts.specs.Small.{AreSmallWindings, most_hits};
+ghost use Rattle.side_terms.specs.Hits.{AreHits, IsNumber};
+
+use crate::operand::{Operand, hit_number};
+use lean::Side;
+use mb_base::{Hit, Hits, Op, Windings};
+
+/// How many vertices are kept of each mesh, how many are crossings, and the half-edges at all of them.
+#[derive(Clone, Copy, Drop)]
+pub struct Counts {
+    pub kept: [u64; 2],
+    pub crossings: u64,
+    pub halfedges: u64,
+}
+
+/// The counts of what is prescribed. It takes no memory.
+pub fn count(op: Op, p: &Side, q: &Side, windings: &Windings, hits: &Hits) -> Counts
+    requires w03 { length windings.now.w03.items ≡ length p.now.corners }
+    requires w30 { length windings.now.w30.items ≡ length q.now.corners }
+    requires w03_small { AreSmallWindings windings.now.w03.items }
+    requires w30_small { AreSmallWindings windings.now.w30.items }
+    requires x12 { AreHits (all_edges p.now.triples) (length q.now.triples) hits.now.x12.items }
+    requires x21 { AreHits (all_edges q.now.triples) (length p.now.triples) hits.now.x21.items }
+    ensures kept { result.kept ≡ p_kept op (numbers windings.now hits.now) ∷ q_kept op (numbers windings.now hits.now) ∷ [] }
+    ensures crossings { result.crossings ≡ crossing_count op (numbers windings.now hits.now) }
+    ensures halfedges { result.halfedges ≡ prescribed_halfedges op p.now q.now (numbers windings.now hits.now) }
+    ensures p_few { p_kept op (numbers windings.now hits.now) ≤ 100000001 * most_points }
+    ensures q_few { q_kept op (numbers windings.now hits.now) ≤ 100000001 * most_points }
+    ensures crossings_few { crossing_count op (numbers windings.now hits.now) ≤ 4 * most_hits }
+{
+    let p_triples = p.triples();
+    let q_triples = q.triples();
+    let p_kept = kept(op, Operand::P, &windings.w03);
+    let q_kept = kept(op, Operand::Q, &windings.w30);
+    let crossings = hit_count(op, &hits.x12) + hit_count(op, &hits.x21);
+    let p_halfedges = halfedges(op, Operand::P, &windings.w03, p_triples);
+    let q_halfedges = halfedges(op, Operand::Q, &windings.w30, q_triples);
+    Counts {
+        kept: [p_kept, q_kept],
+        crossings,
+        halfedges: p_halfedges + q_halfedges + 3 * crossings,
+    }
+}
+
+// How many vertices of a mesh are kept.
+fn kept(op: Op, operand: Operand, windings: &[i64]) -> u64
+    requires small { AreSmallWindings windings.now }
+    requires few { length windings.now ≤ most_points }
+    ensures value { result ≡ vertex_count (vertex_number op operand) windings.now }
+    ensures small { result ≤ 100000001 * most_points }
+{
+    let mut kept = 0;
+    for winding in windings {
+        kept += operand.number(op, *winding).unsigned_abs();
+    }
+    kept
+}
+
+// How many vertices are crossings of one mesh's edges.
+fn hit_count(op: Op, hits: &[Hit]) -> u64
+    requires numbers { All (λ h. IsNumber h.number) hits.now }
+    requires few { length hits.now ≤ most_hits }
+    ensures value { result ≡ hit_count op hits.now }
+    ensures small { result ≤ 2 * most_hits }
+{
+    let mut count = 0;
+    for hit in hits {
+        count += hit_number(op, hit.number).unsigned_abs();
+    }
+    count
+}
+
+// The half-edges at the kept vertices of a mesh.
+fn halfedges(op: Op, operand: Operand, windings: &[i64], triples: &[[u32; 3]]) -> u64
+    requires small { AreSmallWindings windings.now }
+    requires below { All (IsBelow (length windings.now)) (triples_of triples.now) }
+    requires three { All HasThree (triples_of triples.now) }
+    requires few { length triples.now ≤ most_triangles }
+    ensures value { result ≡ vertex_halfedges (vertex_number op operand) windings.now (triples_of triples.now) }
+    ensures small { result ≤ 300000003 * most_triangles }
+{
+    let mut halfedges = 0;
+    for [a, b, c] in triples {
+        halfedges += kept_at(op, operand, windings, *a)
+            + kept_at(op, operand, windings, *b)
+            + kept_at(op, operand, windings, *c);
+    }
+    halfedges
+}
+
+// How often a vertex is kept.
+fn kept_at(op: Op, operand: Operand, windings: &[i64], vertex: u32) -> u64
+    requires small { AreSmallWindings windings.now }
+    requires below { vertex < length windings.now }
+    ensures value { result ≡ nat_abs (vertex_number op operand (get_or windings.now vertex (pos 0))) }
+    ensures small { result ≤ 100000001 }
+{
+    operand
+        .number(op, windings[vertex as usize])
+        .unsigned_abs()
+}

@@ -1,0 +1,111 @@
+// The prescribed vertices of an operation.
+ghost use Rattle.std.specs.Prelude.{◌≡◌, ◌≤◌, ◌+◌, ◌∷◌, [], length, map, slice_index, IfErr, IfOk};
+ghost use Rattle.assembly_terms.specs.Prescribed.{crossing_count, p_kept, prescribed_halfedges, q_kept};
+ghost use Rattle.assembly_terms.specs.Standing.{AreConserved, IsBalanced, StandInLists};
+ghost use Rattle.chain_terms.specs.Chains.{all_edges};
+ghost use Rattle.retained_verts.specs.Faults.{IsFaultAt};
+ghost use Rattle.retained_verts.specs.Handed.{copies, numbers};
+ghost use Rattle.retained_verts.specs.Small.{AreSmallWindings};
+ghost use Rattle.side_terms.specs.Hits.{AreHits};
+
+use crate::copies::Copies;
+use crate::counts::count;
+use crate::operand::Operand;
+use lean::Side;
+use mb_base::{Hits, Limits, NoMemory, Op, Origin, Point, Windings};
+use std::alloc::{AllocError, Global};
+
+/// The prescribed vertices in order, each with its origin and its point. `kept` counts those that are vertices of the
+/// first mesh and of the second, `crossings` the others, and `halfedges` the half-edges at all of them: as many for a
+/// vertex as triangles have it, three for a crossing.
+#[derive(Debug, Drop)]
+pub struct Prescribed {
+    pub origins: Vec<Origin>,
+    pub points: Vec<Point>,
+    pub kept: [u64; 2],
+    pub crossings: u64,
+    pub halfedges: u64,
+}
+
+/// Why no vertices are prescribed: more half-edges than the limit, with their number, or want of memory.
+#[derive(Clone, Copy, Debug, PartialEq, Eq, Drop)]
+pub enum PrescribeFault {
+    TooLarge { seen: u64 },
+    NoMemory,
+}
+
+impl From<NoMemory> for PrescribeFault {
+    ghost use Rattle.retained_verts.specs.declared.list.PrescribeFault.TheVariants.{NoMemory as Wanting};
+
+    ghost from_gives = { λ _ e. e ≡ Wanting };
+
+    fn from(_: NoMemory) -> Self {
+        PrescribeFault::NoMemory
+    }
+}
+
+/// The vertices that winding numbers and crossings prescribe for an operation on two sides.
+///
+/// A vertex of P is included `c1 + c3 * w` times, one of Q `c2 + c3 * w` times, w being its winding number in the other
+/// mesh, and a crossing `c3` times its number, with the operation's constants. Each is listed as often as the size of that:
+/// the vertices of P, those of Q, the hits of P's edges, those of Q's edges, in their order, copies next to each other.
+///
+/// The windings are one for each corner and at most 100,000,000 in size. The hits name edges by their lower half-edges and
+/// faces of the other side, ascend by edge, then by face, with no pair twice, and have numbers from -2 to 2. `TooLarge`
+/// comes exactly where the half-edges exceed `limits.halfedges()`. It is decided before a list grows, so no memory is taken
+/// then. `NoMemory` may come for any numbers within the limit. It takes time in proportion to the corners, triangles and
+/// hits, and memory in proportion to the vertices that it lists.
+pub fn prescribe(
+    alloc: Global,
+    op: Op,
+    p: &Side,
+    q: &Side,
+    windings: &Windings,
+    hits: &Hits,
+    limits: &Limits,
+) -> Result<Prescribed, PrescribeFault>
+    requires w03 { length windings.now.w03.items ≡ length p.now.corners }
+    requires w30 { length windings.now.w30.items ≡ length q.now.corners }
+    requires w03_small { AreSmallWindings windings.now.w03.items }
+    requires w30_small { AreSmallWindings windings.now.w30.items }
+    requires x12 { AreHits (all_edges p.now.triples) (length q.now.triples) hits.now.x12.items }
+    requires x21 { AreHits (all_edges q.now.triples) (length p.now.triples) hits.now.x21.items }
+
+    // The vertices in order, and how many of each kind there are.
+    ensures origins { IfOk result (λ r. r.origins.items ≡ map (λ c. c.origin) (copies op p.now q.now windings.now hits.now)) }
+    ensures points { IfOk result (λ r. r.points.items ≡ map (λ c. c.point) (copies op p.now q.now windings.now hits.now)) }
+    ensures kept { IfOk result (λ r. r.kept ≡ p_kept op (numbers windings.now hits.now) ∷ q_kept op (numbers windings.now hits.now) ∷ []) }
+    ensures crossings { IfOk result (λ r. r.crossings ≡ crossing_count op (numbers windings.now hits.now)) }
+    ensures all { IfOk result (λ r. length r.origins.items ≡ slice_index r.kept 0 + slice_index r.kept 1 + r.crossings) }
+
+    // The half-edges, and their limit.
+    ensures halfedges { IfOk result (λ r. r.halfedges ≡ prescribed_halfedges op p.now q.now (numbers windings.now hits.now)) }
+    ensures few { IfOk result (λ r. length r.origins.items ≤ r.halfedges) }
+    ensures within { IfOk result (λ r. r.halfedges ≤ limits.now.halfedges) }
+    ensures too_large { IfErr result (IsFaultAt limits.now.halfedges (prescribed_halfedges op p.now q.now (numbers windings.now hits.now))) }
+
+    // How the copies stand in the lists of the faces, and where these have as many starts as ends.
+    ensures two_lists { IfOk result (λ _. StandInLists p.now q.now (copies op p.now q.now windings.now hits.now)) }
+    ensures balance { AreConserved p.now q.now (numbers windings.now hits.now) → IfOk result (λ _. IsBalanced p.now q.now (copies op p.now q.now windings.now hits.now)) }
+{
+    let counts = count(op, p, q, windings, hits);
+    if counts.halfedges > u64::from(limits.halfedges()) {
+        return Err(PrescribeFault::TooLarge {
+            seen: counts.halfedges,
+        });
+    }
+    let [p_kept, q_kept] = counts.kept;
+    let mut copies = Copies::with_capacity(alloc, (p_kept + q_kept + counts.crossings) as usize)?;
+    copies.push_vertices(op, Operand::P, p.corners(), &windings.w03)?;
+    copies.push_vertices(op, Operand::Q, q.corners(), &windings.w30)?;
+    copies.push_hits(op, Operand::P, &hits.x12)?;
+    copies.push_hits(op, Operand::Q, &hits.x21)?;
+    let Copies { origins, points } = copies;
+    Ok(Prescribed {
+        origins,
+        points,
+        kept: counts.kept,
+        crossings: counts.crossings,
+        halfedges: counts.halfedges,
+    })
+}

@@ -1,0 +1,98 @@
+// What numbers prescribe, on boxes and on pairs of small meshes.
+mod handed;
+mod table;
+mod text;
+
+use crate::{PrescribeFault, Prescribed};
+use handed::prescribed;
+use lean::Side;
+use mb_base::{Limits, Op};
+use std::alloc::Global;
+use std::process::Abort;
+use std::test::Fail;
+use table::PAIRS;
+use text::{read_numbers, read_op, read_sides, text_of};
+
+// What the numbers of a line prescribe for two sides.
+fn answer(
+    alloc: Global,
+    op: Op,
+    p: &Side,
+    q: &Side,
+    numbers: &str,
+    limits: &Limits,
+) -> Result<Result<Prescribed, PrescribeFault>, Fail> {
+    let (windings, hits) = read_numbers(alloc, numbers)?;
+    prescribed(alloc, op, p, q, &windings, &hits, limits)
+}
+
+// Compares what a pair prescribes with the line of a table.
+fn expect_line(
+    rt: &impl Abort,
+    alloc: Global,
+    meshes: &str,
+    numbers: &str,
+    expected: &str,
+) -> Result<(), Fail> {
+    let (op, sides) = meshes.split_once(" ").ok_or("no word")?;
+    let op = read_op(op)?;
+    let (p, q) = read_sides(alloc, sides)?;
+    let all = answer(alloc, op, &p, &q, numbers, &Limits::program())??;
+    let text = text_of(alloc, &all)?;
+    assert_eq!(rt; text.as_str(), expected, "{meshes}");
+    Ok(())
+}
+
+#[test]
+fn agrees_with_the_table(rt: HostRuntime) -> Result<(), Fail> {
+    let mut lines = PAIRS.lines();
+    for _ in 0..60 {
+        let meshes = lines.next().ok_or("no meshes")?;
+        let numbers = lines.next().ok_or("no numbers")?;
+        let expected = lines.next().ok_or("no answer")?;
+        expect_line(&rt, rt.alloc(), meshes, numbers, expected)?;
+    }
+    assert!(rt; lines.next().is_none());
+    Ok(())
+}
+
+// The boxes from (0,0,0) to (10,10,10) and from (3,4,5) to (6,7,20), and their numbers.
+const BOXES: &str = "000a000a0aa000aa0a0aaaaa 031023457476014154137175326367046062 34564537567534k64k37k67k 031023457476014154137175326367046062";
+const NUMBERS: &str = "00000000 11110000 84144a 86-166a | d2154a e3-134a f2164a j3167a k2-165a p3137a q3-157a w3-135a";
+
+// What the boxes prescribe for an operation, with as many half-edges at most: the counts.
+fn boxes(alloc: Global, op: Op, halfedges: u32) -> Result<[u64; 4], Fail> {
+    let limits = Limits::of(1 << 30, 15_000_000, 10_000_000, halfedges).ok_or("no limits")?;
+    let (p, q) = read_sides(alloc, BOXES)?;
+    match answer(alloc, op, &p, &q, NUMBERS, &limits)? {
+        Ok(all) => Ok([all.kept[0], all.kept[1], all.crossings, all.halfedges]),
+        Err(PrescribeFault::TooLarge { seen }) => Ok([0, 0, 0, seen]),
+        Err(PrescribeFault::NoMemory) => Err("no memory".into()),
+    }
+}
+
+#[test]
+fn the_corner_of_a_post_in_a_box(rt: HostRuntime) -> Result<(), Fail> {
+    assert_eq!(rt; boxes(rt.alloc(), Op::Union, 84)?, [8, 4, 10, 84]);
+    assert_eq!(rt; boxes(rt.alloc(), Op::Intersect, 48)?, [0, 4, 10, 48]);
+    assert_eq!(rt; boxes(rt.alloc(), Op::Subtract, 84)?, [8, 4, 10, 84]);
+    Ok(())
+}
+
+#[test]
+fn too_many_half_edges_are_counted(rt: HostRuntime) -> Result<(), Fail> {
+    assert_eq!(rt; boxes(rt.alloc(), Op::Union, 83)?, [0, 0, 0, 84]);
+    assert_eq!(rt; boxes(rt.alloc(), Op::Intersect, 47)?, [0, 0, 0, 48]);
+    assert_eq!(rt; boxes(rt.alloc(), Op::Subtract, 0)?, [0, 0, 0, 84]);
+    Ok(())
+}
+
+// All vertices of both boxes once, then the crossing.
+const TWICE: &str = "8 8 2 78 p0000 p1a00 p20a0 p3aa0 p400a p5a0a p60aa p7aaa q0345 q1645 q2375 q3675 q434k q564k q637k q767k e00123 e00123";
+
+#[test]
+fn a_crossing_of_number_2_is_listed_twice(rt: HostRuntime) -> Result<(), Fail> {
+    let meshes = format!(in rt.alloc(); "union {BOXES}")?;
+    let numbers = "00000000 00000000 002123 |";
+    expect_line(&rt, rt.alloc(), meshes.as_str(), numbers, TWICE)
+}
