@@ -1,13 +1,13 @@
-// A library with one function.
+//! One vertex for each fan: `split` gives a closed mesh in which the half-edges round each vertex form one
+//! fan, and in which each half-edge has the twin that it had. A vertex at which parts of a surface
+//! touch without sharing an edge becomes as many vertices as it has fans, all at its point.
 #![tactic(auto)]
 
-ghost use Rattle.std.specs.Prelude.{◌≡◌};
-ghost use Rattle.pinch_split.specs.Echo.{echo_of};
+mod lists;
+mod result;
+mod splitting;
+#[cfg(test)]
+mod tests;
 
-// The `ensures` clause is the contract: what `echo` returns is `echo_of` of its argument, a definition
-// in `specs/Echo.antt`, which a caller's clause can cite too.
-pub fn echo(x: usize) -> usize
-    ensures { result ≡ echo_of x }
-{
-    x
-}
+pub use result::Split;
+pub use splitting::split;
