@@ -1,2 +1,5 @@
 pub mod Anew
+pub mod Clean
 pub mod Corners
+pub mod RankSums
+pub mod TwinsStay
