@@ -3,3 +3,4 @@ pub mod Clean
 pub mod Corners
 pub mod RankSums
 pub mod TwinsStay
+pub mod Whole
