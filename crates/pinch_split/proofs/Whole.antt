@@ -29,7 +29,7 @@ firsts_below ts of first known k d low =
     subst (λ h. h < 3 * length ts) (get_or_default first k 0 d low) (omega (arith, (known.fans.first_in k low).0, length-all_edges ts))
 
 -- a half-edge starts at a point
-start_below : (n : ℕ) (ts : List Triple) → All (IsBelow n) ts → (h : ℕ) → h < length (all_edges ts) → start (all_edges ts) h < n
+pub start_below : (n : ℕ) (ts : List Triple) → All (IsBelow n) ts → (h : ℕ) → h < length (all_edges ts) → start (all_edges ts) h < n
 start_below n [] below h low = absurd (omega (arith, low))
 start_below n (t ∷ ts) below zero low = (All-head (IsBelow n) t ts below).a
 start_below n (t ∷ ts) below (suc zero) low = (All-head (IsBelow n) t ts below).b

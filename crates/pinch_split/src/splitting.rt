@@ -55,6 +55,7 @@ fn split_by(alloc: Global, points: &[Point], twins: Twins, fans: Fans) -> Result
     ensures points { IfOk result (λ s. s.mesh.points ≡ points_of points.now (starts_of twins.triples fans.first.items)) }
     ensures triples { IfOk result (λ s. s.mesh.triples ≡ corners fans.of.items (length twins.triples)) }
     ensures from { IfOk result (λ s. s.from.items ≡ starts_of twins.triples fans.first.items) }
+    ensures few { IfOk result (λ s. 2 * length s.mesh.points ≤ 3 * length s.mesh.triples) }
 {
     let from = starts(alloc, twins.triples(), &fans.first)?;
     let points = points_at(alloc, points, &from)?;

@@ -63,3 +63,6 @@ of_twins-requires c =
     ap length c.in_ok-points.ensures ∙ length-map from (λ v. get_or c.args.points.now v []) ∙ ap length (from_is c.in_ok-from.from.items c.deref-2.result.now c.args.fans.first.items c.deref.result.now c.triples.result.now ts c.deref-2.ensures.value c.in_ok-from.ensures c.triples.ensures.value c.deref.ensures.value) ∙ length-map first (start (all_edges ts)) in
     subst (λ n. IsMesh n c.in_ok-twins.twins.triples) (sym as_many)
     (subst (λ l. IsMesh (length first) l) (sym (c.in_ok-twins.ensures.triples ∙ triples_are c.in_ok-triples.triples.items c.triples-2.result.now c.args.fans.of.items c.deref-3.result.now ts c.in_ok-triples.ensures c.triples-2.ensures.value c.deref-3.ensures.value)) (mesh_anew (length c.args.points.now) ts c.args.fans.of.items first c.requires.accepted known))
+
+pub returns-clause-few : goal.returns-clause-few
+returns-clause-few c = ?
