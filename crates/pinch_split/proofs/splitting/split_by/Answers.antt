@@ -1,4 +1,4 @@
-use Rattle.std.proofs.Common.{◌≡◌, ◌<◌, ◌*◌, ℕ, List, [], length, get_or, sym, ◌∙◌, ap, subst}
+use Rattle.std.proofs.Common.{◌≡◌, ◌<◌, ◌*◌, ℕ, List, [], length, get_or, sym, ◌∙◌, ap, subst, arith}
 use Rattle.std.specs.List.{All}
 use Rattle.std.proofs.lemmas.List.{length-map}
 use Rattle.chain_terms.specs.Chains.{all_edges}
@@ -6,7 +6,10 @@ use Rattle.chain_terms.specs.Ranks.{start}
 use Rattle.mesh_terms.specs.Meshes.{triple_of, triples_of, IsMesh}
 use Rattle.mesh_terms.specs.Twins.{IsTwinned}
 use Rattle.halfedge.specs.Laws.{AreSingle}
+use Rattle.halfedge.proofs.Edges.{length-all_edges}
 use Rattle.pinch_split.specs.Given.{corners, starts_of}
+use Rattle.pinch_split.proofs.Clean.{few_fans}
+use Rattle.pinch_split.proofs.Corners.{length-corners}
 use Rattle.pinch_split.proofs.Whole.{has_fans, firsts_below, starts_below, as_many_fans, twinned_anew, mesh_anew, single_anew}
 use Rattle.pinch_split.proofs.splitting.split_by.Goals as goal
 
@@ -65,4 +68,17 @@ of_twins-requires c =
     (subst (λ l. IsMesh (length first) l) (sym (c.in_ok-twins.ensures.triples ∙ triples_are c.in_ok-triples.triples.items c.triples-2.result.now c.args.fans.of.items c.deref-3.result.now ts c.in_ok-triples.ensures c.triples-2.ensures.value c.deref-3.ensures.value)) (mesh_anew (length c.args.points.now) ts c.args.fans.of.items first c.requires.accepted known))
 
 pub returns-clause-few : goal.returns-clause-few
-returns-clause-few c = ?
+returns-clause-few c =
+    let ts = c.args.twins.triples in
+    let of = c.args.fans.of.items in
+    let first = c.args.fans.first.items in
+    let known = has_fans (length c.args.points.now) ts of first c.requires.accepted c.requires.fans in
+    let from = c.deref-2.result.now in
+    let points : length c.of_twins.result.points ≡ length first =
+    ap length (c.of_twins.ensures.points ∙ c.in_ok-points.ensures) ∙ length-map from (λ v. get_or c.args.points.now v [])
+    ∙ ap length (from_is c.in_ok-from.from.items c.deref-2.result.now first c.deref.result.now c.triples.result.now ts c.deref-2.ensures.value c.in_ok-from.ensures c.triples.ensures.value c.deref.ensures.value)
+    ∙ length-map first (start (all_edges ts)) in
+    let triples : length c.of_twins.result.triples ≡ length ts =
+    ap length (c.of_twins.ensures.triples ∙ c.in_ok-twins.ensures.triples ∙ triples_are c.in_ok-triples.triples.items c.triples-2.result.now of c.deref-3.result.now ts c.in_ok-triples.ensures c.triples-2.ensures.value c.deref-3.ensures.value)
+    ∙ length-corners (λ h. get_or of h 0) (length ts) in
+    omega (arith, points, triples, few_fans ts of first known, length-all_edges ts)
