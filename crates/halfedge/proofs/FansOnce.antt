@@ -12,12 +12,12 @@ use Rattle.mesh_terms.specs.Fans.{AreFans}
 use Rattle.halfedge.proofs.FanSteps.{same_in_fan}
 
 -- by the start, then by the number
-record IsBefore (es : List (ℕ × ℕ)) (x y : ℕ) : Type 0 where
-  starts : start es x ≤ start es y
-  halves : start es x ≡ start es y → x < y
+pub record IsBefore (es : List (ℕ × ℕ)) (x y : ℕ) : Type 0 where
+  pub starts : start es x ≤ start es y
+  pub halves : start es x ≡ start es y → x < y
 
 -- each is before all later ones
-abbrev Rises : List (ℕ × ℕ) → List ℕ → Type 0
+abbrev pub Rises : List (ℕ × ℕ) → List ℕ → Type 0
 Rises es xs = (j k : ℕ) → j < k → k < length xs → IsBefore es (get_or xs j 0) (get_or xs k 0)
 
 -- nothing is before what is before it
@@ -43,7 +43,7 @@ same_head es x y xs ys up vp (suc i, l, e) (suc j, m, d) =
     absurd (one_way es x y (head_before es x xs up y (j, omega (arith, m), d)) (head_before es y ys vp x (i, omega (arith, l), e)))
 
 -- rising lists with the same members are one
-rising_same : (es : List (ℕ × ℕ)) (xs ys : List ℕ) → Rises es xs → Rises es ys → ((z : ℕ) → Contains xs z ↔ Contains ys z) → xs ≡ ys
+pub rising_same : (es : List (ℕ × ℕ)) (xs ys : List ℕ) → Rises es xs → Rises es ys → ((z : ℕ) → Contains xs z ↔ Contains ys z) → xs ≡ ys
 rising_same es [] [] up vp same = refl
 rising_same es [] (y ∷ ys) up vp same = let c = (same y).1 (0, omega arith, refl) in absurd (omega (arith, c.1))
 rising_same es (x ∷ xs) [] up vp same = let c = (same x).0 (0, omega arith, refl) in absurd (omega (arith, c.1))
@@ -57,7 +57,7 @@ rising_same es (x ∷ xs) (y ∷ ys) up vp same =
     ap (λ z. z ∷ xs) e ∙ ap (λ l. y ∷ l) rest
 
 -- first half-edges rise
-firsts_rise : (es : List (ℕ × ℕ)) (of first : List ℕ) → AreFans es of first → Rises es first
+pub firsts_rise : (es : List (ℕ × ℕ)) (of first : List ℕ) → AreFans es of first → Rises es first
 firsts_rise es of first fans j k less below = record { starts = fans.by_start j k less below; halves = fans.by_half j k less below }
 
 -- a half-edge's fan has the same least half-edge in both numberings

@@ -11,6 +11,8 @@ ghost use Rattle.mesh_terms.specs.Halves.{next_half};
 ghost use Rattle.halfedge.specs.Laws.{PairUp, GoAround, AreSingle};
 ghost use Rattle.mesh_terms.specs.Twins.{IsTwinned};
 
+mod renamed;
+
 use crate::open_edge::least_open_edge;
 use crate::pairing::paired;
 use mb_base::NoMemory;

@@ -5,6 +5,8 @@ ghost use Rattle.mesh_terms.specs.Twins.{IsTwinned};
 ghost use Rattle.mesh_terms.specs.Meshes.{IsAccepted, triples_of};
 ghost use Rattle.mesh_terms.specs.OpenEdges.{open_pair};
 
+mod kept;
+
 use halfedge::{TwinFault, Twins};
 use mb_base::{NoMemory, Point, Soup};
 use std::alloc::{AllocError, Global};

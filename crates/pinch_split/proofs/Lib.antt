@@ -1,0 +1,8 @@
+pub mod Anew
+pub mod Clean
+pub mod Corners
+pub mod FanLists
+pub mod LeastHalves
+pub mod RankSums
+pub mod TwinsStay
+pub mod Whole

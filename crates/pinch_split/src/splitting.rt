@@ -1,0 +1,68 @@
+// A mesh with one vertex for each fan.
+ghost use Rattle.std.specs.Prelude.{◌≡◌, ◌≤◌, ◌*◌, IfOk, length};
+ghost use Rattle.std.specs.List.{All};
+ghost use Rattle.chain_terms.specs.Chains.{all_edges, IsClosed};
+ghost use Rattle.mesh_terms.specs.Fans.{AreFans};
+ghost use Rattle.mesh_terms.specs.Limits.{most_triangles};
+ghost use Rattle.mesh_terms.specs.Meshes.{HasThree, IsAccepted, triples_of};
+ghost use Rattle.mesh_terms.specs.Twins.{twins_of};
+ghost use Rattle.pinch_split.specs.Split.{split_from, split_points, split_triples, IsClean};
+ghost use Rattle.pinch_split.specs.Given.{corners, starts_of, points_of};
+
+use crate::lists::{corners, points_at, starts};
+use crate::result::Split;
+use halfedge::{Fans, TwinFault, Twins};
+use mb_base::{NoMemory, Point};
+use mesh_check::Mesh;
+use std::alloc::Global;
+
+/// The closed mesh of these points and triangles with one vertex for each fan, which has the point of its
+/// old vertex. The new vertices go by their old vertex, and at one vertex by the least half-edge of the
+/// fan. The triangles keep their order, and each half-edge its twin. `NoMemory` may come for any mesh.
+/// Beside finding the twins and the fans it takes time linear in the triangles.
+pub fn split(alloc: Global, points: &[Point], triples: &[[u32; 3]]) -> Result<Split, NoMemory>
+    requires { IsAccepted (length points.now) (triples_of triples.now) }
+    ensures points { IfOk result (λ s. s.mesh.points ≡ split_points points.now (triples_of triples.now)) }
+    ensures triples { IfOk result (λ s. s.mesh.triples ≡ split_triples (length points.now) (triples_of triples.now)) }
+    ensures from { IfOk result (λ s. s.from.items ≡ split_from (length points.now) (triples_of triples.now)) }
+    ensures clean { IfOk result (λ s. IsClean s.mesh.triples) }
+    ensures twins { IfOk result (λ s. twins_of s.mesh.triples ≡ twins_of (triples_of triples.now)) }
+    ensures few { IfOk result (λ s. 2 * length s.mesh.points ≤ 3 * length s.mesh.triples) }
+{
+    let twins = closed_twins(alloc, triples)?;
+    let fans = twins.fans(alloc)?;
+    split_by(alloc, points, twins, fans)
+}
+
+// The twins of closed triangles.
+fn closed_twins(alloc: Global, triples: &[[u32; 3]]) -> Result<Twins, NoMemory>
+    requires three { All HasThree (triples_of triples.now) }
+    requires few { length triples.now ≤ most_triangles }
+    requires closed { IsClosed (all_edges (triples_of triples.now)) }
+    ensures { IfOk result (λ twins. twins.triples ≡ triples_of triples.now) }
+{
+    match Twins::of(alloc, triples) {
+        Ok(twins) => Ok(twins),
+        Err(TwinFault::NoMemory) => Err(NoMemory),
+        Err(TwinFault::Open { .. }) => unreachable!(),
+    }
+}
+
+// The mesh with one vertex for each of these fans.
+fn split_by(alloc: Global, points: &[Point], twins: Twins, fans: Fans) -> Result<Split, NoMemory>
+    requires accepted { IsAccepted (length points.now) twins.triples }
+    requires fans { AreFans (all_edges twins.triples) fans.of.items fans.first.items }
+    ensures points { IfOk result (λ s. s.mesh.points ≡ points_of points.now (starts_of twins.triples fans.first.items)) }
+    ensures triples { IfOk result (λ s. s.mesh.triples ≡ corners fans.of.items (length twins.triples)) }
+    ensures from { IfOk result (λ s. s.from.items ≡ starts_of twins.triples fans.first.items) }
+    ensures few { IfOk result (λ s. 2 * length s.mesh.points ≤ 3 * length s.mesh.triples) }
+{
+    let from = starts(alloc, twins.triples(), &fans.first)?;
+    let points = points_at(alloc, points, &from)?;
+    let triples = corners(alloc, &fans.of, twins.triples().len())?;
+    let twins = twins.renamed(alloc, triples)?;
+    Ok(Split {
+        mesh: Mesh::of_twins(points, twins),
+        from,
+    })
+}
