@@ -1,11 +1,11 @@
 -- A hole joined to a ring: sums once round, lengths, vertices, neighbours.
-use Rattle.std.specs.Prelude.{◌≡◌, ◌≢◌, ℕ, zero, suc, ◌+◌, ◌%◌, ◌<◌, ◌≤◌, ℤ, pos, ◌+ℤ◌, ◌≤ℤ◌, List, [], ◌∷◌, ◌++◌, Bool, true, false, ◌==◌, length, get_or, take, drop}
+use Rattle.std.specs.Prelude.{◌≡◌, ◌≢◌, ℕ, ◌+◌, ◌<◌, ℤ, pos, ◌+ℤ◌, ◌≤ℤ◌, List, [], ◌∷◌, ◌++◌, ◌==◌, length, get_or, take, drop}
 use Rattle.std.specs.List.{All}
-use Rattle.std.proofs.Common.{arith, refl, sym, ap, subst, ◌∙◌, inl, inr, append_assoc}
+use Rattle.std.proofs.Common.{arith, refl, sym, ap, ◌∙◌, append_assoc}
 use Rattle.std.proofs.Math.Nat.{mod-eq_of_lt}
 use Rattle.std.proofs.lemmas.Int.{ints}
-use Rattle.std.proofs.lemmas.Bool.{cases_eq, eq-eqb, ne_eqb}
-use Rattle.std.proofs.lemmas.List.{append-nil, length-append, take-append-drop, take_more, drop_more}
+use Rattle.std.proofs.lemmas.Bool.{eq-eqb, ne_eqb}
+use Rattle.std.proofs.lemmas.List.{length-append, take-append-drop, take_more, drop_more}
 use Rattle.std.proofs.lemmas.List.Elements.{All-cons, All-head, All-tail, All-nil}
 use Rattle.chain_terms.specs.Chains.{one_if}
 use Rattle.chain_terms.specs.Sums.{total}
@@ -16,7 +16,7 @@ use Rattle.chain_laws.proofs.Paths.{last_of-append, path-append, total-round_edg
 use Rattle.face_plane.specs.Rings.{In, Three, Ringy, vertex_at}
 use Rattle.hole_joining.specs.Bridges.{join}
 use Rattle.hole_joining.specs.Holes.{turned_to}
-use Rattle.hole_joining.proofs.Turning.{once_round, round_later, round_turned, length-turned, often, often-append, often-cons, often-turned, in_more}
+use Rattle.hole_joining.proofs.Turning.{once_round, round_later, round_turned, length-turned, often, often-append, often-turned, in_more}
 
 -- a hole h, k joined at r0 by a bridge that is used both ways: the sum once round is that of both, and both ways of the bridge
 bridge_total : (g : (ℕ × ℕ) → ℤ) (r0 : ℕ) (b : List ℕ) (h : ℕ) (k : List ℕ) →

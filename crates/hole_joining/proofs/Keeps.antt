@@ -1,22 +1,22 @@
 -- What rings keep while holes are joined to them, one after the other.
-use Rattle.std.specs.Prelude.{◌≡◌, ◌≢◌, ℕ, zero, suc, ◌+◌, ◌*◌, ◌<◌, ◌≤◌, ◌⊎◌, ℤ, pos, ◌+ℤ◌, ◌≤ℤ◌, List, [], ◌∷◌, ◌++◌, ◌==◌, Bool, length, get_or, set, take, drop, filter, Option, Some, None}
-use Rattle.std.specs.List.{All, concat, flat_map}
+use Rattle.std.specs.Prelude.{◌≡◌, ◌≢◌, ℕ, zero, suc, ◌+◌, ◌*◌, ◌<◌, ◌⊎◌, ℤ, pos, ◌+ℤ◌, ◌≤ℤ◌, List, [], ◌∷◌, ◌++◌, ◌==◌, Bool, length, get_or, set, take, drop, Option, Some, None}
+use Rattle.std.specs.List.{All, concat}
 use Rattle.std.proofs.Common.{arith, refl, sym, ap, subst, ◌∙◌, inl, inr}
 use Rattle.std.proofs.lemmas.Int.{ints}
-use Rattle.std.proofs.lemmas.Bool.{cases_eq, cases_lt, eq-eqb, ne_eqb}
-use Rattle.std.proofs.lemmas.List.{length-append, length-set, take_at, drop_at}
+use Rattle.std.proofs.lemmas.Bool.{cases_eq, cases_lt, ne_eqb}
+use Rattle.std.proofs.lemmas.List.{length-set, take_at, drop_at}
 use Rattle.std.proofs.lemmas.List.Elements.{All-cons, All-head, All-tail, All-nil, All-set, All-get_or, All-same, All-append, All-take, All-drop}
 use Rattle.chain_terms.specs.Chains.{one_if}
-use Rattle.chain_terms.specs.Odd.{IsOdd, along, SameChain}
+use Rattle.chain_terms.specs.Odd.{IsOdd, along}
 use Rattle.chain_terms.specs.Sums.{total}
 use Rattle.chain_terms.specs.Paths.{round_edges}
-use Rattle.chain_laws.specs.Counts.{one_if-true, one_if-false}
+use Rattle.chain_laws.specs.Counts.{one_if-false}
 use Rattle.chain_laws.specs.Sums.{total-flat_map}
-use Rattle.face_plane.specs.Planes.{Plane, area, settled_plane}
+use Rattle.face_plane.specs.Planes.{Plane, settled_plane}
 use Rattle.face_plane.specs.Rings.{In, Ringy, vertex_at}
 use Rattle.hole_joining.specs.declared.bridge.Bridge.{Bridge}
-use Rattle.hole_joining.specs.Bridges.{all_bridges, chosen, is_clear_bridge, chosen_bridge, join, bridged, joined_one, joined, join_holes}
-use Rattle.hole_joining.specs.Holes.{is_ring, is_hole, from_start, ring_list, hole_list}
+use Rattle.hole_joining.specs.Bridges.{all_bridges, chosen, is_clear_bridge, chosen_bridge, join, bridged, joined, join_holes}
+use Rattle.hole_joining.specs.Holes.{is_ring, ring_list, hole_list}
 use Rattle.hole_joining.specs.Laws.{AreFillable, IsJoining}
 use Rattle.hole_joining.proofs.Choice.{LeadsTo, chosen_leads, chosen_some}
 use Rattle.hole_joining.proofs.Turning.{once_round, round_turned, length-turned, often, often-cons, often-turned, in_often}

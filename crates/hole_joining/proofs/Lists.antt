@@ -1,9 +1,10 @@
 -- Lists taken one member after the other, and a list put among others.
-use Rattle.std.specs.Prelude.{◌≡◌, ℕ, zero, suc, ◌+◌, ◌<◌, ◌≤◌, List, [], ◌∷◌, ◌++◌, Bool, true, false, cond, not, length, get_or, take, drop, set, filter, map, Option, Some, None}
+use Rattle.std.specs.Prelude.{◌≡◌, ℕ, zero, suc, ◌+◌, ◌<◌, ◌≤◌, List, [], ◌∷◌, ◌++◌, Bool, true, false, cond, not, length, get_or, take, drop, set, filter, map, Some, None}
 use Rattle.std.specs.List.{concat, insert, position_or_len}
-use Rattle.std.proofs.Common.{arith, refl, sym, ap, ◌∙◌, inl, inr, add-one}
+use Rattle.std.proofs.Common.{arith, refl, sym, ap, ◌∙◌}
 use Rattle.std.proofs.lemmas.Bool.{cond-true, cond-false}
-use Rattle.std.proofs.lemmas.List.{length-append, at_drop_more}
+use Rattle.std.proofs.lemmas.List.{append-nil, length-append, take_more, at_drop_more}
+use Rattle.std.proofs.lemmas.List.Folds.{concat-append}
 use Rattle.face_plane.specs.Planes.{Plane}
 use Rattle.face_plane.specs.Rings.{vertex_at}
 use Rattle.hole_joining.specs.declared.bridge.Bridge.{Bridge}
@@ -11,13 +12,12 @@ use Rattle.hole_joining.specs.Bridges.{join, bridged, chosen_bridge, joined_one,
 use Rattle.hole_joining.specs.Holes.{comes_first, is_hole, from_start, put_hole, put_all}
 
 -- the vertices of one list more
-concat_take_suc : (xs : List (List ℕ)) (i : ℕ) → i < length xs → length (concat (take (suc i) xs)) ≡ length (concat (take i xs)) + length (get_or xs i [])
-concat_take_suc [] i h = absurd (omega (arith, h))
-concat_take_suc (x ∷ xs) zero h = omega (arith, length-append x [])
-concat_take_suc (x ∷ xs) (suc i) h = omega (arith, length-append x (concat (take (suc i) xs)), length-append x (concat (take i xs)), concat_take_suc xs i (omega (arith, h)))
+pub concat_more : (xs : List (List ℕ)) (i : ℕ) → i < length xs → concat (take (i + 1) xs) ≡ concat (take i xs) ++ get_or xs i []
+concat_more xs i h = ap concat (take_more xs i [] h) ∙ concat-append (take i xs) (get_or xs i [] ∷ []) ∙ ap (λ l. concat (take i xs) ++ l) (append-nil (get_or xs i []))
 
-pub concat_more : (xs : List (List ℕ)) (i : ℕ) → i < length xs → length (concat (take (i + 1) xs)) ≡ length (concat (take i xs)) + length (get_or xs i [])
-concat_more xs i h = rw add-one (concat_take_suc xs i h)
+-- and how many they are
+pub length_more : (xs : List (List ℕ)) (i : ℕ) → i < length xs → length (concat (take (i + 1) xs)) ≡ length (concat (take i xs)) + length (get_or xs i [])
+length_more xs i h = ap length (concat_more xs i h) ∙ length-append (concat (take i xs)) (get_or xs i [])
 
 -- the first lists have no more vertices than all
 pub concat_take_le : (xs : List (List ℕ)) (i : ℕ) → length (concat (take i xs)) ≤ length (concat xs)

@@ -1,23 +1,22 @@
 -- Loops that can be filled, told into rings and holes.
-use Rattle.std.specs.Prelude.{◌≡◌, ◌≢◌, ℕ, zero, suc, ◌+◌, ◌<◌, ◌≤◌, ◌⊎◌, ℤ, pos, negsuc, neg_ℤ, ◌+ℤ◌, ◌-ℤ◌, ◌*ℤ◌, ◌≤ℤ◌, ◌<ℤ◌, int_lt, int_le, List, [], ◌∷◌, ◌++◌, Bool, true, false, cond, ◌==◌, length, get_or, filter, map}
+use Rattle.std.specs.Prelude.{◌≡◌, ◌≢◌, ℕ, suc, ◌<◌, ◌≤◌, ◌⊎◌, ℤ, pos, negsuc, neg_ℤ, ◌+ℤ◌, ◌-ℤ◌, ◌*ℤ◌, ◌≤ℤ◌, ◌<ℤ◌, int_lt, int_le, List, [], ◌∷◌, ◌++◌, Bool, true, false, cond, ◌==◌, length, get_or, filter, map}
 use Rattle.std.specs.List.{All, concat}
-use Rattle.std.proofs.Common.{arith, refl, sym, ap, subst, ◌∙◌, inl, inr}
+use Rattle.std.proofs.Common.{arith, refl, sym, ap, ◌∙◌, inl, inr}
 use Rattle.std.proofs.Math.IntN.{*ℤ_comm}
 use Rattle.std.proofs.lemmas.Int.{ints}
-use Rattle.std.proofs.lemmas.Bool.{cases_Bool, cases_eq, cases_lt, eq-eqb, ne_eqb, le-ltb, le-leb, cond_both}
+use Rattle.std.proofs.lemmas.Bool.{cases_eq, cases_lt, eq-eqb, ne_eqb, le-ltb, le-leb, cond_both}
 use Rattle.std.proofs.lemmas.List.{length-append, nil_from_length}
 use Rattle.std.proofs.lemmas.List.Elements.{All-cons, All-head, All-tail, All-nil}
-use Rattle.chain_terms.specs.Chains.{one_if}
 use Rattle.chain_terms.specs.Sums.{total}
 use Rattle.chain_terms.specs.Paths.{path, last_of, round_edges}
 use Rattle.chain_laws.specs.Counts.{one_if-true, one_if-false}
 use Rattle.chain_laws.specs.Sums.{total-append, total-map, total-same, total-neg}
 use Rattle.face_plane.specs.Planes.{Plane, across, area, exchanged, settled_plane, is_turned}
-use Rattle.face_plane.specs.Rings.{In, Three, Ringy, vertex_at}
+use Rattle.face_plane.specs.Rings.{In, Ringy, vertex_at}
 use Rattle.hole_joining.specs.Holes.{comes_first, from_start, is_ring, is_hole, ring_list, put_hole, put_all, hole_list}
 use Rattle.hole_joining.specs.Laws.{AreDifferent}
 use Rattle.hole_joining.proofs.Turning.{often, often-append, often-cons, often_in, in_often}
-use Rattle.hole_joining.proofs.Joins.{stutter, apart_from_none, ringy_turned}
+use Rattle.hole_joining.proofs.Joins.{stutter, apart_from_none}
 
 -- where a vertex of the list stands
 in_place : (v : ℕ) (xs : List ℕ) → In v xs → (k : ℕ) × (k < length xs) × (get_or xs k 0 ≡ v)

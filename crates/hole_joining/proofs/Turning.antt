@@ -1,14 +1,13 @@
 -- Lists turned: what does not change when a list begins at another place.
-use Rattle.std.specs.Prelude.{◌≡◌, ℕ, zero, suc, ◌+◌, ◌<◌, ◌≤◌, ◌⊎◌, ℤ, pos, ◌+ℤ◌, List, [], ◌∷◌, ◌++◌, Bool, true, false, ◌==◌, cond, length, take, drop, count_by}
-use Rattle.std.proofs.Common.{arith, refl, sym, ap, ◌∙◌, inl, inr, append_assoc}
-use Rattle.std.proofs.lemmas.Int.{ints}
+use Rattle.std.specs.Prelude.{◌≡◌, ℕ, ◌+◌, ◌<◌, ◌≤◌, ℤ, List, [], ◌∷◌, ◌++◌, ◌==◌, cond, length, take, drop, count_by}
+use Rattle.std.proofs.Common.{arith, sym, ap, ◌∙◌, inl, inr, append_assoc}
 use Rattle.std.proofs.lemmas.Bool.{cases_eq, eq-eqb, ne_eqb}
 use Rattle.std.proofs.lemmas.List.{append-nil, length-append, take-append-drop}
 use Rattle.std.proofs.lemmas.List.Sums.{sum_by-append}
 use Rattle.chain_terms.specs.Chains.{one_if}
 use Rattle.chain_terms.specs.Sums.{total}
-use Rattle.chain_terms.specs.Paths.{path, last_of, round_edges}
-use Rattle.chain_laws.specs.Sums.{total-append, total-permutation}
+use Rattle.chain_terms.specs.Paths.{round_edges}
+use Rattle.chain_laws.specs.Sums.{total-permutation}
 use Rattle.chain_laws.specs.Counts.{count_by-cons, one_if-true, one_if-false}
 use Rattle.chain_laws.proofs.Paths.{round_edges-turned}
 use Rattle.face_plane.specs.Rings.{In}

@@ -29,8 +29,12 @@ abbrev pub lines_meet : ℤ × ℤ → ℤ × ℤ → ℤ × ℤ → ℤ × ℤ 
 lines_meet a b c d = on_both_sides (turn a b c) (turn a b d) && on_both_sides (turn c d a) (turn c d b)
 
 -- the closed segments from a to b and from c to d have a point in common
+abbrev pub segments_meet : ℤ × ℤ → ℤ × ℤ → ℤ × ℤ → ℤ × ℤ → Bool
+segments_meet a b c d = boxes_meet a b c d && lines_meet a b c d
+
+-- the same of vertices
 abbrev pub share_point : Plane → ℕ → ℕ → ℕ → ℕ → Bool
-share_point at a b c d = boxes_meet (at a) (at b) (at c) (at d) && lines_meet (at a) (at b) (at c) (at d)
+share_point at a b c d = segments_meet (at a) (at b) (at c) (at d)
 
 -- the vertex is an end of the edge
 abbrev pub has_end : (ℕ × ℕ) → ℕ → Bool

@@ -3,12 +3,12 @@ ghost use Rattle.std.specs.Prelude.{◌≡◌, ◌∷◌, int_le};
 ghost use Rattle.std.specs.List.{list_any};
 ghost use Rattle.std.specs.Int.{int_min, int_max};
 ghost use Rattle.chain_terms.specs.Paths.{round_edges};
-ghost use Rattle.hole_joining.specs.Seen.{plane_at};
+ghost use Rattle.hole_joining.specs.Seen.{plane_at, segment_of, is_end_of, bars_segment};
 ghost use Rattle.hole_joining.specs.Bridges.{edges_of};
-ghost use Rattle.hole_joining.specs.Cones.{overlap, on_both_sides, boxes_meet, lines_meet, share_point, bars};
+ghost use Rattle.hole_joining.specs.Cones.{overlap, on_both_sides, boxes_meet, lines_meet, segments_meet, bars};
 ghost use Rattle.face_plane.specs.Planes.{turn};
 
-use crate::flat::FlatPoints;
+use crate::flat::{FlatPoints, FlatVertex, Segment};
 use face_plane::{FlatPoint, Places};
 
 // Whether the least of a and b is at most the greatest of c and d.
@@ -64,53 +64,62 @@ fn lines_meet(a: FlatPoint, b: FlatPoint, c: FlatPoint, d: FlatPoint) -> bool
 }
 
 // Whether two closed segments have a point in common.
-fn share_point(flat: &FlatPoints, ab: (u32, u32), cd: (u32, u32)) -> bool
-    ensures { result ≡ share_point (plane_at flat.now) ab.0 ab.1 cd.0 cd.1 }
+fn segments_meet(a: FlatPoint, b: FlatPoint, c: FlatPoint, d: FlatPoint) -> bool
+    ensures { result ≡ segments_meet a b c d }
 {
-    let (a, b) = (flat.at(ab.0), flat.at(ab.1));
-    let (c, d) = (flat.at(cd.0), flat.at(cd.1));
     boxes_meet(a, b, c, d) && lines_meet(a, b, c, d)
 }
 
-// Whether an edge bars the bridge from h to r.
-fn bars(flat: &FlatPoints, hr: (u32, u32), edge: (u32, u32)) -> bool
-    ensures { result ≡ bars (plane_at flat.now) hr.0 hr.1 edge }
+// Whether the vertex is an end of the edge from c to d.
+fn is_end_of(v: &FlatVertex, c: &FlatVertex, d: &FlatVertex) -> bool
+    ensures { result ≡ is_end_of v.now c.now d.now }
 {
-    let (h, r) = hr;
-    let apart = !(edge.0 == h || edge.1 == h) && !(edge.0 == r || edge.1 == r);
-    apart && share_point(flat, hr, edge)
+    c.vertex == v.vertex || d.vertex == v.vertex
 }
 
-/// Whether an edge once round the loop bars it.
-pub fn round_bars(flat: &FlatPoints, hr: (u32, u32), ring: &[u32]) -> bool
-    ensures { result ≡ list_any (bars (plane_at flat.now) hr.0 hr.1) (round_edges ring.now) }
+// Whether the edge from c to d bars the segment: they meet, and neither end of the segment is one of the edge.
+fn bars(segment: &Segment, c: &FlatVertex, d: &FlatVertex) -> bool
+    ensures { result ≡ bars_segment segment.now c.now d.now }
+{
+    let ended = is_end_of(&segment.from, c, d) || is_end_of(&segment.to, c, d);
+    !ended && segments_meet(segment.from.at, segment.to.at, c.at, d.at)
+}
+
+/// Whether an edge once round the loop bars the segment between two vertices.
+pub fn round_bars(flat: &FlatPoints, segment: &Segment, ring: &[u32]) -> bool
+    requires { segment.now ≡ segment_of (plane_at flat.now) segment.now.from.vertex segment.now.to.vertex }
+    ensures { result ≡ list_any (bars (plane_at flat.now) segment.now.from.vertex segment.now.to.vertex) (round_edges ring.now) }
 {
     match ring.split_first() {
         None => false,
-        Some((first, rest)) => round_bars_from(flat, hr, *first, rest),
+        Some((first, rest)) => round_bars_from(flat, segment, *first, rest),
     }
 }
 
 // The same for a loop of a first vertex and others.
-fn round_bars_from(flat: &FlatPoints, hr: (u32, u32), first: u32, rest: &[u32]) -> bool
-    ensures { result ≡ list_any (bars (plane_at flat.now) hr.0 hr.1) (round_edges (first ∷ rest.now)) }
+fn round_bars_from(flat: &FlatPoints, segment: &Segment, first: u32, rest: &[u32]) -> bool
+    requires { segment.now ≡ segment_of (plane_at flat.now) segment.now.from.vertex segment.now.to.vertex }
+    ensures { result ≡ list_any (bars (plane_at flat.now) segment.now.from.vertex segment.now.to.vertex) (round_edges (first ∷ rest.now)) }
 {
-    let mut last = first;
+    let start = flat.vertex(first);
+    let mut last = start;
     for vertex in rest {
-        if bars(flat, hr, (last, *vertex)) {
+        let next = flat.vertex(*vertex);
+        if bars(segment, &last, &next) {
             return true;
         }
-        last = *vertex;
+        last = next;
     }
-    bars(flat, hr, (last, first))
+    bars(segment, &last, &start)
 }
 
 /// Whether an edge of one of the loops bars it.
-pub fn any_bars(flat: &FlatPoints, hr: (u32, u32), loops: &[Places]) -> bool
-    ensures { result ≡ list_any (bars (plane_at flat.now) hr.0 hr.1) (edges_of loops.now) }
+pub fn any_bars(flat: &FlatPoints, segment: &Segment, loops: &[Places]) -> bool
+    requires { segment.now ≡ segment_of (plane_at flat.now) segment.now.from.vertex segment.now.to.vertex }
+    ensures { result ≡ list_any (bars (plane_at flat.now) segment.now.from.vertex segment.now.to.vertex) (edges_of loops.now) }
 {
     for ring in loops {
-        if round_bars(flat, hr, &ring.places) {
+        if round_bars(flat, segment, &ring.places) {
             return true;
         }
     }

@@ -1,8 +1,7 @@
 // Clear bridges.
-ghost use Rattle.std.specs.Prelude.{◌≡◌, ◌∷◌, ◌++◌, ◌+◌, ◌<◌, length, get_or, []};
+ghost use Rattle.std.specs.Prelude.{◌≡◌, ◌∷◌, ◌+◌, ◌<◌, length, get_or, []};
 ghost use Rattle.std.specs.List.{list_any};
-ghost use Rattle.hole_joining.specs.Seen.{plane_at, clear_of};
-ghost use Rattle.hole_joining.specs.Bridges.{edges_of};
+ghost use Rattle.hole_joining.specs.Seen.{plane_at, clear_of, asked_edges};
 ghost use Rattle.face_plane.specs.Rings.{vertex_at, vertex_before, vertex_after};
 ghost use Rattle.hole_joining.specs.Cones.{in_cone, bars};
 
@@ -39,13 +38,14 @@ fn corner(ring: &[u32], place: usize) -> [u32; 3]
 }
 
 impl Joining<'_> {
-    // Whether an edge of the rings, the hole or a later hole bars the bridge.
-    fn is_barred(&self, hr: (u32, u32)) -> bool
-        ensures { result ≡ list_any (bars (plane_at self.now.flat) hr.0 hr.1) (edges_of (self.now.rings.now ++ self.now.hole.now ∷ self.now.later.now)) }
+    // Whether an edge of the rings, the hole or a later hole bars the segment between two vertices.
+    fn is_barred(&self, h: u32, r: u32) -> bool
+        ensures { result ≡ list_any (bars (plane_at self.now.flat) h r) (asked_edges self.now) }
     {
-        any_bars(&self.flat, hr, self.rings)
-            || round_bars(&self.flat, hr, self.hole)
-            || any_bars(&self.flat, hr, self.later)
+        let segment = self.flat.segment(h, r);
+        any_bars(&self.flat, &segment, self.rings)
+            || round_bars(&self.flat, &segment, self.hole)
+            || any_bars(&self.flat, &segment, self.later)
     }
 
     /// Whether the bridge lies in the cones at both its ends, and no edge bars it.
@@ -61,6 +61,6 @@ impl Joining<'_> {
         let r = vertex_at(ring, bridge.place);
         in_cone(&self.flat, corner(self.hole, 0), r)
             && in_cone(&self.flat, corner(ring, bridge.place), h)
-            && !self.is_barred((h, r))
+            && !self.is_barred(h, r)
     }
 }

@@ -16,7 +16,7 @@ fn join(alloc: Global, ring: &[u32], place: usize, hole: &[u32]) -> Result<Place
     ensures { IfOk result (λ places. places ≡ join ring.now place hole.now) }
 {
     let (front, back) = ring.split_at(place + 1);
-    let mut places = Vec::new(alloc);
+    let mut places = Vec::with_capacity(alloc, ring.len() + hole.len() + 2)?;
     places.extend_from_slice(front)?;
     places.extend_from_slice(hole)?;
     places.extend_from_slice(&[vertex_at(hole, 0), vertex_at(ring, place)])?;

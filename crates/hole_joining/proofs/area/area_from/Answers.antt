@@ -1,8 +1,7 @@
-use Rattle.std.proofs.Common.{◌≡◌, ◌+◌, ◌*◌, ◌^◌, ◌∷◌, [], length, get_or, drop, arith, ap}
+use Rattle.std.proofs.Common.{arith, ap}
 use Rattle.std.proofs.lemmas.Int.{ints}
 use Rattle.std.proofs.lemmas.List.{at_drop_more, drop_all}
 use Rattle.chain_terms.specs.Sums.{total}
-use Rattle.chain_laws.specs.Sums.{IsWithin}
 use Rattle.face_plane.specs.Planes.{across}
 use Rattle.hole_joining.specs.Seen.{plane_at}
 use Rattle.hole_joining.proofs.Rounds.{round_from}

@@ -1,10 +1,10 @@
-use Rattle.std.proofs.Common.{◌≡◌, ◌+◌, ◌*◌, [], length, get_or, drop, arith, ap, ◌∙◌}
+use Rattle.std.proofs.Common.{◌+◌, [], length, arith, ap, ◌∙◌}
 use Rattle.std.proofs.lemmas.Int.{ints}
 use Rattle.std.proofs.lemmas.List.{at_drop_more, get_or_default}
 use Rattle.chain_terms.specs.Sums.{total}
 use Rattle.face_plane.specs.Planes.{area}
 use Rattle.hole_joining.specs.Seen.{plane_at}
-use Rattle.hole_joining.proofs.Lists.{concat_more, concat_take_le}
+use Rattle.hole_joining.proofs.Lists.{length_more, concat_take_le}
 use Rattle.hole_joining.proofs.area.total_area.Goals as goal
 
 pub overflow_add-sum : goal.overflow_add-sum
@@ -12,7 +12,7 @@ overflow_add-sum c =
     let loops = c.args.loops.now in
     let i = c.loop-one.one-index in
     let item = c.vertices.ensures ∙ c.one-item.is ∙ get_or_default loops i c.one-item.result [] c.loop-one-test.true in
-    omega (arith, ints, c.loop-one.invariant.small.low, c.loop-one.invariant.small.high, c.loop_area-sum.ensures.small.low, c.loop_area-sum.ensures.small.high, concat_more loops i c.loop-one-test.true, concat_take_le loops (i + 1), ap length item, c.requires)
+    omega (arith, ints, c.loop-one.invariant.small.low, c.loop-one.invariant.small.high, c.loop_area-sum.ensures.small.low, c.loop_area-sum.ensures.small.high, length_more loops i c.loop-one-test.true, concat_take_le loops (i + 1), ap length item, c.requires)
 
 pub loop-one-preserved : goal.loop-one-preserved
 loop-one-preserved c =
@@ -23,7 +23,7 @@ loop-one-preserved c =
     let more = at_drop_more (total (area at)) loops i [] c.loop-one-test.true in
     let small = c.loop-one.invariant.small in
     let added = c.loop_area-sum.ensures.small in
-    let longer = concat_more loops i c.loop-one-test.true in
+    let longer = length_more loops i c.loop-one-test.true in
     let few = concat_take_le loops (i + 1) in
     record {
       value = omega (arith, ints, c.loop-one.invariant.value, more, c.loop_area-sum.ensures.value, ap (area at) item, small.low, small.high, added.low, added.high, longer, few, ap length item, c.requires);

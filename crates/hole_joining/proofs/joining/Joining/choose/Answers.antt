@@ -1,11 +1,10 @@
-use Rattle.std.proofs.Common.{◌≡◌, sym, subst, ap, ◌∙◌}
-use Rattle.std.specs.Prelude.{None, Some, Option, filter, true, false}
+use Rattle.std.proofs.Common.{◌≡◌, sym, ap, ◌∙◌}
+use Rattle.std.specs.Prelude.{None, Some, filter, true, false}
 use Rattle.std.specs.Option.{option_or}
-use Rattle.hole_joining.specs.declared.bridge.Bridge.{Bridge}
 use Rattle.hole_joining.specs.Seen.{plane_at, start_of, clear_of, bridges_of}
 use Rattle.hole_joining.specs.Bridges.{shortest}
 use Rattle.hole_joining.specs.Passes.{is_after, passes, best_of}
-use Rattle.hole_joining.proofs.Choice.{Refused, refused_none, refused_more, next_clear, next_none, rest_chosen, pass_after, pass_all, pass_clear, all_ascending, shortest_leads}
+use Rattle.hole_joining.proofs.Choice.{refused_none, refused_more, next_clear, next_none, rest_chosen, pass_after, pass_all, pass_clear, all_ascending, shortest_leads}
 use Rattle.hole_joining.proofs.joining.Joining.choose.Goals as goal
 
 pub loop-init : goal.loop-init
