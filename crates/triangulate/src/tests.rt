@@ -106,12 +106,20 @@ fn loops_of(alloc: Global, text: &str) -> Result<Vec<Loop>, Fail> {
     Ok(loops)
 }
 
-// Whether the triangles are those of the letters.
-fn are_triples(triples: &[[u32; 3]], letters: &[u8]) -> bool {
-    let same = triples.iter().zip(letters.chunks_exact(3)).all(|(t, at)| {
-        t[0] == vertex(at[0]) && t[1] == vertex(at[1]) && t[2] == vertex(at[2])
-    });
-    same && triples.len() == letters.len() / 3
+// The corners of triangles, one triangle after the other.
+fn corners(alloc: Global, triples: &[[u32; 3]]) -> Result<Vec<u32>, Fail> {
+    let mut corners = Vec::new(alloc);
+    for triple in triples {
+        corners.extend_from_slice(triple)?;
+    }
+    Ok(corners)
+}
+
+// Whether a filling has the triangles of the letters, and as many forced.
+fn is_filling(alloc: Global, filled: &Filled, letters: &str, forced: u64) -> Result<bool, Fail> {
+    let wanted = vertices_of(alloc, letters.as_bytes())?;
+    let corners = corners(alloc, &filled.triples)?;
+    Ok(corners.as_slice() == wanted.as_slice() && filled.forced == forced)
 }
 
 // The five parts of a line.
@@ -130,7 +138,7 @@ fn agrees(alloc: Global, line: &str) -> Result<bool, Fail> {
     let points = points_of(alloc, points)?;
     let loops = loops_of(alloc, loops)?;
     let filled = filled(alloc, drop, &loops, &points)?;
-    Ok(are_triples(&filled.triples, triples.as_bytes()) && filled.forced == forced)
+    is_filling(alloc, &filled, triples, forced)
 }
 
 #[test]
@@ -160,13 +168,18 @@ fn joined_and_cut(alloc: Global) -> Result<bool, Fail> {
         return Ok(false);
     }
     let joined = join_holes(alloc, plane, &loops, &points)?;
-    let mut same = !joined.turned && joined.rings.len() == 1;
+    let mut count = 0;
     for ring in joined.rings {
-        same = same && ring.places.as_slice() == [0, 1, 5, 3, 4, 5, 1, 2].as_slice();
+        if ring.places.len() != 8 || ring.places.as_slice() != [0, 1, 5, 3, 4, 5, 1, 2].as_slice() {
+            return Ok(false);
+        }
         let filled = cut_ring(alloc, plane, joined.turned, ring, &points)?;
-        same = same && are_triples(&filled.triples, b"abfafdadecaeceffbc") && filled.forced == 0;
+        if !is_filling(alloc, &filled, "abfafdadecaeceffbc", 0)? {
+            return Ok(false);
+        }
+        count = 1;
     }
-    Ok(same)
+    Ok(count == 1 && !joined.turned)
 }
 
 #[test]
