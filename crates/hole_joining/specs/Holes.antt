@@ -1,5 +1,5 @@
 -- Rings and holes among the loops of a face, and the order in which holes are taken.
-use Rattle.std.specs.Prelude.{ℕ, pos, List, [], ◌∷◌, ◌++◌, Bool, cond, ◌&&◌, ◌||◌, ◌==◌, nat_lt, take, drop, map, filter, int_lt, int_le}
+use Rattle.std.specs.Prelude.{ℕ, pos, List, [], ◌∷◌, ◌++◌, Bool, cond, ◌&&◌, ◌||◌, ◌==◌, nat_lt, length, take, drop, map, filter, int_lt, int_le}
 use Rattle.std.specs.Ordering.{int_eq}
 use Rattle.std.specs.List.{position_or_len}
 use Rattle.face_plane.specs.Planes.{Plane, area}
@@ -38,6 +38,13 @@ is_ring at loop = int_le (pos 0) (area at loop)
 
 abbrev pub is_hole : Plane → List ℕ → Bool
 is_hole at loop = int_lt (area at loop) (pos 0)
+
+-- how many loops are rings, and how many are holes
+abbrev pub ring_count : Plane → List (List ℕ) → ℕ
+ring_count at loops = length (filter (is_ring at) loops)
+
+abbrev pub hole_count : Plane → List (List ℕ) → ℕ
+hole_count at loops = length (filter (is_hole at) loops)
 
 -- the rings in the order of the loops
 abbrev pub ring_list : Plane → List (List ℕ) → List (List ℕ)

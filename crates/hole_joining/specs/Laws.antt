@@ -1,11 +1,11 @@
 -- Which loops can be filled, and what joining keeps.
-use Rattle.std.specs.Prelude.{◌≡◌, ◌≢◌, ℕ, ◌+◌, ◌*◌, ◌<◌, ◌≤◌, ℤ, List, length, get_or, filter}
+use Rattle.std.specs.Prelude.{◌≡◌, ◌≢◌, ℕ, ◌+◌, ◌*◌, ◌<◌, ◌≤◌, ℤ, List, length, get_or}
 use Rattle.std.specs.List.{All, concat, flat_map}
 use Rattle.chain_terms.specs.Odd.{SameChain}
 use Rattle.chain_terms.specs.Paths.{round_edges}
 use Rattle.face_plane.specs.Planes.{Plane, settled_plane, plane_of, point_at}
 use Rattle.face_plane.specs.Rings.{Ringy}
-use Rattle.hole_joining.specs.Holes.{is_ring, is_hole}
+use Rattle.hole_joining.specs.Holes.{ring_count, hole_count}
 
 -- the plane that drops an axis, exchanged where the areas of the loops add up to less than 0
 abbrev pub settled_in : ℕ → List (List ℤ) → List (List ℕ) → Plane
@@ -27,8 +27,8 @@ pub record AreFillable (loops : List (List ℕ)) (points : ℕ) : Type 0 where
 -- different vertices, each of which has a point; two places for each hole beside those of the loops; the same sums of
 -- every odd function, so the boundary and the area of the loops
 pub record IsJoining (at : Plane) (loops rings : List (List ℕ)) (points : ℕ) : Type 0 where
-  pub count : length rings ≡ length (filter (is_ring at) loops)
+  pub count : length rings ≡ ring_count at loops
   pub ringy : All Ringy rings
   pub below : All (λ ring. All (λ v. v < points) ring) rings
-  pub places : length (concat rings) ≡ length (concat loops) + 2 * length (filter (is_hole at) loops)
+  pub places : length (concat rings) ≡ length (concat loops) + 2 * hole_count at loops
   pub chain : SameChain (flat_map round_edges rings) (flat_map round_edges loops)

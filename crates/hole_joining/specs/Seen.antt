@@ -1,5 +1,5 @@
 -- What the code of this crate looks at: the points of the vertices in a plane, and a hole in hand among rings and later holes.
-use Rattle.std.specs.Prelude.{ℕ, List, Bool, not, ◌&&◌, ◌||◌, ◌==◌}
+use Rattle.std.specs.Prelude.{ℕ, List, [], ◌∷◌, ◌++◌, get_or, Bool, not, ◌&&◌, ◌||◌, ◌==◌}
 use Rattle.face_plane.specs.Planes.{Plane, face_plane}
 use Rattle.face_plane.specs.Rings.{vertex_at}
 use Rattle.hole_joining.specs.declared.flat.FlatPoints.{FlatPoints}
@@ -8,7 +8,7 @@ use Rattle.hole_joining.specs.declared.flat.Segment.{Segment}
 use Rattle.hole_joining.specs.Cones.{segments_meet}
 use Rattle.hole_joining.specs.declared.joining.Joining.{Joining}
 use Rattle.hole_joining.specs.declared.bridge.Bridge.{Bridge}
-use Rattle.hole_joining.specs.Bridges.{is_clear_bridge, all_bridges}
+use Rattle.hole_joining.specs.Bridges.{is_clear_bridge, edges_of, bridges_to, all_bridges}
 
 -- the plane of these points
 abbrev pub plane_at : FlatPoints → Plane
@@ -37,6 +37,14 @@ start_of j = vertex_at j.hole.now 0
 -- whether a bridge of it is clear
 abbrev pub clear_of : Joining → Bridge → Bool
 clear_of j b = is_clear_bridge (plane_at j.flat) j.rings.now j.hole.now j.later.now b
+
+-- its bridges to one ring
+abbrev pub bridges_in : Joining → ℕ → List Bridge
+bridges_in j i = bridges_to (plane_at j.flat) (start_of j) i 0 (get_or j.rings.now i [])
+
+-- the edges that are asked
+abbrev pub asked_edges : Joining → List (ℕ × ℕ)
+asked_edges j = edges_of (j.rings.now ++ j.hole.now ∷ j.later.now)
 
 -- all its bridges
 abbrev pub bridges_of : Joining → List Bridge

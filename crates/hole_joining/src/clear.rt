@@ -1,8 +1,7 @@
 // Clear bridges.
-ghost use Rattle.std.specs.Prelude.{◌≡◌, ◌∷◌, ◌++◌, ◌+◌, ◌<◌, length, get_or, []};
+ghost use Rattle.std.specs.Prelude.{◌≡◌, ◌∷◌, ◌+◌, ◌<◌, length, get_or, []};
 ghost use Rattle.std.specs.List.{list_any};
-ghost use Rattle.hole_joining.specs.Seen.{plane_at, clear_of};
-ghost use Rattle.hole_joining.specs.Bridges.{edges_of};
+ghost use Rattle.hole_joining.specs.Seen.{plane_at, clear_of, asked_edges};
 ghost use Rattle.face_plane.specs.Rings.{vertex_at, vertex_before, vertex_after};
 ghost use Rattle.hole_joining.specs.Cones.{in_cone, bars};
 
@@ -41,7 +40,7 @@ fn corner(ring: &[u32], place: usize) -> [u32; 3]
 impl Joining<'_> {
     // Whether an edge of the rings, the hole or a later hole bars the segment between two vertices.
     fn is_barred(&self, h: u32, r: u32) -> bool
-        ensures { result ≡ list_any (bars (plane_at self.now.flat) h r) (edges_of (self.now.rings.now ++ self.now.hole.now ∷ self.now.later.now)) }
+        ensures { result ≡ list_any (bars (plane_at self.now.flat) h r) (asked_edges self.now) }
     {
         let segment = self.flat.segment(h, r);
         any_bars(&self.flat, &segment, self.rings)

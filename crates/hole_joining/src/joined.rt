@@ -1,12 +1,12 @@
 // Every hole of a face joined.
-ghost use Rattle.std.specs.Prelude.{◌≡◌, ◌+◌, ◌*◌, ◌<◌, IfOk, length, filter};
+ghost use Rattle.std.specs.Prelude.{◌≡◌, ◌+◌, ◌*◌, ◌<◌, IfOk, length};
 ghost use Rattle.std.specs.List.{All, concat, flat_map};
 ghost use Rattle.chain_terms.specs.Odd.{SameChain};
 ghost use Rattle.chain_terms.specs.Paths.{round_edges};
 ghost use Rattle.face_plane.specs.Planes.{is_turned, plane_of, point_at};
 ghost use Rattle.face_plane.specs.Rings.{Ringy};
 ghost use Rattle.hole_joining.specs.Bridges.{join_holes};
-ghost use Rattle.hole_joining.specs.Holes.{is_ring, is_hole};
+ghost use Rattle.hole_joining.specs.Holes.{ring_count, hole_count};
 ghost use Rattle.hole_joining.specs.Laws.{AreFillable, settled_in};
 
 use crate::area::is_turned;
@@ -51,8 +51,8 @@ pub fn join_holes(
     ensures turned { IfOk result (λ j. j.turned ≡ is_turned (plane_of plane.drop (point_at points.now)) loops.now) }
 
     // One ring for each loop of area at least 0, and two places for each hole beside the vertices of the loops.
-    ensures count { IfOk result (λ j. length j.rings.items ≡ length (filter (is_ring (settled_in plane.drop points.now loops.now)) loops.now)) }
-    ensures places { IfOk result (λ j. length (concat j.rings.items) ≡ length (concat loops.now) + 2 * length (filter (is_hole (settled_in plane.drop points.now loops.now)) loops.now)) }
+    ensures count { IfOk result (λ j. length j.rings.items ≡ ring_count (settled_in plane.drop points.now loops.now) loops.now) }
+    ensures places { IfOk result (λ j. length (concat j.rings.items) ≡ length (concat loops.now) + 2 * hole_count (settled_in plane.drop points.now loops.now) loops.now) }
 
     // Each ring has different neighbours and three different vertices, each with a point.
     ensures ringy { IfOk result (λ j. All Ringy j.rings.items) }

@@ -2,7 +2,7 @@
 use crate::flat::FlatPoints;
 use face_plane::Places;
 
-/// The hole that is joined next, with all that its bridge must keep clear of.
+/// The hole that is joined next, with the rings and the later holes, past which its bridge must run.
 #[derive(Clone, Copy, Drop)]
 pub struct Joining<'a> {
     /// The points of the vertices.

@@ -1,7 +1,7 @@
 // The search for the bridge of a hole.
-ghost use Rattle.std.specs.Prelude.{◌≡◌, ◌<◌, length, get_or, [], IfSome};
-ghost use Rattle.hole_joining.specs.Seen.{plane_at, start_of, clear_of, bridges_of};
-ghost use Rattle.hole_joining.specs.Bridges.{bridges_to, chosen};
+ghost use Rattle.std.specs.Prelude.{◌≡◌, ◌<◌, length, get_or, []};
+ghost use Rattle.hole_joining.specs.Seen.{clear_of, bridges_in, bridges_of};
+ghost use Rattle.hole_joining.specs.Bridges.{chosen};
 ghost use Rattle.hole_joining.specs.Passes.{is_after, is_nearer, better, best_of, passes};
 
 use crate::bridge::Bridge;
@@ -9,7 +9,7 @@ use crate::joining::Joining;
 use crate::vertices::vertex_at;
 use face_plane::FlatPoint;
 
-/// How many bridges are refused, a pass over all places for each, before the rest is asked in one pass.
+// How many bridges are refused, a pass over all places for each, before the rest is asked in one pass.
 const REFUSALS: usize = 16;
 
 // Whether b comes after the last bridge that was refused.
@@ -78,7 +78,7 @@ impl Joining<'_> {
         refused: Option<Bridge>,
     ) -> Option<Bridge>
         requires { ring < length self.now.rings.now }
-        ensures { result ≡ best_of (passes (clear_of self.now) asks refused) best (bridges_to (plane_at self.now.flat) (start_of self.now) ring 0 (get_or self.now.rings.now ring [])) }
+        ensures { result ≡ best_of (passes (clear_of self.now) asks refused) best (bridges_in self.now ring) }
     {
         let start = self.flat.at(vertex_at(self.hole, 0));
         let rings = self.rings;

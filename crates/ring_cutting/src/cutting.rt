@@ -24,9 +24,10 @@ use std::alloc::Global;
 /// different ones. It is an ear where it may be cut, turns left, and no vertex but those three lies in their triangle,
 /// rim included. Each time the least ear is cut, and where there is none the least place that may be cut, which counts as
 /// forced; the last three places are the last triangle, forced where it does not turn left. There always is a place that
-/// may be cut. Time is quadratic in the places of rings as they come, cubic at worst.
+/// may be cut. Time grows with the square of the places of rings as they come, with the cube at worst. `NoMemory` may come
+/// for any ring.
 ///
-/// Ear cutting as in the Manifold library, with a rule for rings that are not simple.
+/// The rule is this project's own; the Manifold library cuts ears too.
 pub fn cut_ring(
     alloc: Global,
     plane: FacePlane,

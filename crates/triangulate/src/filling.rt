@@ -24,9 +24,9 @@ use std::alloc::Global;
 /// 60,000,000. The holes are joined to the rings as `join_holes` says, and then the rings are cut as `cut_ring` says, one
 /// after the other. For n vertices there are n triangles and two for each hole, less two for each ring. None repeats a
 /// vertex, and for every two vertices as many run from the first to the second, less those back, as round the loops. Where
-/// none was forced every triangle turns left.
+/// none was forced every triangle turns left. Cost is that of `join_holes` and `cut_ring`. `NoMemory` may come for any loops.
 ///
-/// The rule is this project's own; the Manifold library fills its faces in a similar way.
+/// The rule is this project's own; the Manifold library fills its faces by bridges and ears too.
 pub fn fill(
     alloc: Global,
     plane: FacePlane,
@@ -69,8 +69,12 @@ fn cut_all(
     let mut forced = 0;
     for ring in rings {
         let part = cut_ring(alloc, plane, turned, ring, points)?;
-        triples.extend_from_slice(&part.triples)?;
         forced += part.forced;
+        if triples.is_empty() {
+            triples = part.triples;
+        } else {
+            triples.extend_from_slice(&part.triples)?;
+        }
     }
     Ok(Filled { triples, forced })
 }

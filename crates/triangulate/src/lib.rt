@@ -4,8 +4,10 @@
 #![tactic(auto)]
 
 mod filling;
-
-
+#[cfg(test)]
+mod rows;
+#[cfg(test)]
+mod tests;
 
 pub use face_plane::{FacePlane, Places};
 pub use filling::fill;

@@ -43,7 +43,7 @@ made c =
     let loops = c.args.loops.now in
     let turned = c.in_ok-joined.ensures.turned in
     let plane : ◌≡◌ {A = Plane} (face_plane drop_axis c.in_ok-joined.joined.turned points) (plane_at c) =
-        ap {B = Plane} (λ b. face_plane drop_axis b points) turned ∙ settled drop_axis points loops in
+    ap {B = Plane} (λ b. face_plane drop_axis b points) turned ∙ settled drop_axis points loops in
     subst (λ (at : Plane). IfOk c.cut_all.result (λ f. f ≡ cuts at (rings_of c))) plane c.cut_all.ensures
 
 laws : (c : goal.After-cut_all) → AreCuttings (plane_at c) (length c.args.points.now) (rings_of c) (cuts (plane_at c) (rings_of c))
