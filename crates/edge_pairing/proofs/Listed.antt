@@ -45,19 +45,19 @@ chosen_as true e = as_true e.start
 chosen_as false e = as_false e.start
 
 -- the entry that is read where there is none
-abbrev pub none : Entry
-none = record { vertex = 0; start = false }
+abbrev pub no_entry : Entry
+no_entry = record { vertex = 0; start = false }
 
 -- one entry more, where it is chosen
-pub chosen_more : (start : Bool) (entries : List Entry) (i : ℕ) → i < length entries → is_chosen start (get_or entries i none) ≡ true → chosen start (take (i + 1) entries) ≡ chosen start (take i entries) ++ (get_or entries i none).vertex ∷ []
+pub chosen_more : (start : Bool) (entries : List Entry) (i : ℕ) → i < length entries → is_chosen start (get_or entries i no_entry) ≡ true → chosen start (take (i + 1) entries) ≡ chosen start (take i entries) ++ (get_or entries i no_entry).vertex ∷ []
 chosen_more start entries i below in_it =
-    ap (map (λ e. e.vertex)) (filter_more (is_chosen start) entries i none below ∙ ap (λ b. filter (is_chosen start) (take i entries) ++ cond b (get_or entries i none ∷ []) []) in_it)
-    ∙ map-append (λ (e : Entry). e.vertex) (filter (is_chosen start) (take i entries)) (get_or entries i none ∷ [])
+    ap (map (λ e. e.vertex)) (filter_more (is_chosen start) entries i no_entry below ∙ ap (λ b. filter (is_chosen start) (take i entries) ++ cond b (get_or entries i no_entry ∷ []) []) in_it)
+    ∙ map-append (λ (e : Entry). e.vertex) (filter (is_chosen start) (take i entries)) (get_or entries i no_entry ∷ [])
 
 -- and where it is not
-pub chosen_same : (start : Bool) (entries : List Entry) (i : ℕ) → i < length entries → is_chosen start (get_or entries i none) ≡ false → chosen start (take (i + 1) entries) ≡ chosen start (take i entries)
+pub chosen_same : (start : Bool) (entries : List Entry) (i : ℕ) → i < length entries → is_chosen start (get_or entries i no_entry) ≡ false → chosen start (take (i + 1) entries) ≡ chosen start (take i entries)
 chosen_same start entries i below out_of_it =
-    ap (map (λ e. e.vertex)) (filter_more (is_chosen start) entries i none below ∙ ap (λ b. filter (is_chosen start) (take i entries) ++ cond b (get_or entries i none ∷ []) []) out_of_it ∙ append-nil (filter (is_chosen start) (take i entries)))
+    ap (map (λ e. e.vertex)) (filter_more (is_chosen start) entries i no_entry below ∙ ap (λ b. filter (is_chosen start) (take i entries) ++ cond b (get_or entries i no_entry ∷ []) []) out_of_it ∙ append-nil (filter (is_chosen start) (take i entries)))
 
 -- as many starts as ends, where the starts are as many as the other entries
 pub balanced_from_count : (entries : List Entry) (count : ℕ) → count ≡ count_by (λ e. e.start) entries → length entries - count ≡ count → length (starts_of entries) ≡ length (ends_of entries)

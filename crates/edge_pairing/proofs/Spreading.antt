@@ -10,10 +10,7 @@ use Rattle.mb_base.specs.declared.results.Entry.{Entry}
 use Rattle.mesh_terms.specs.Points.{IsOnGrid, coordinate_of}
 use Rattle.edge_pairing.specs.Entries.{place_in, places_of}
 use Rattle.edge_pairing.specs.Pairing.{spread}
-
--- the entry that is read where there is none
-abbrev pub no_entry : Entry
-no_entry = record { vertex = 0; start = false }
+use Rattle.edge_pairing.proofs.Listed.{no_entry}
 
 -- the coordinate of an entry on an axis
 abbrev pub coordinate_at : ℕ → List (List ℤ) → Entry → ℤ

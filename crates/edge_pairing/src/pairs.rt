@@ -1,11 +1,10 @@
 // Starts and ends in their order, and the segments from the ones to the others.
 ghost use Rattle.std.specs.Prelude.{◌≡◌, ◌<◌, Bool, IfOk, length, map};
 ghost use Rattle.std.specs.List.{All, zip};
-ghost use Rattle.chain_laws.specs.Sorting.{sorted_by};
 ghost use Rattle.edge_pairing.specs.Directions.{IsShort};
 ghost use Rattle.edge_pairing.specs.Entries.{edge_of, starts_of, ends_of, chosen, place_in};
-ghost use Rattle.edge_pairing.specs.Keys.{keyed_by, key_along};
-ghost use Rattle.edge_pairing.specs.Pairing.{pair_up, comes_before};
+ghost use Rattle.edge_pairing.specs.Keys.{keyed_by, key_along, sorted_along};
+ghost use Rattle.edge_pairing.specs.Pairing.{pair_up};
 
 use crate::direction::key;
 use mb_base::{Entry, NoMemory, Point, Segment};
@@ -68,7 +67,7 @@ fn in_order(
 ) -> Result<Vec<Keyed>, NoMemory>
     requires short { IsShort along.now }
     requires below { All (λ e. e.vertex < length points.now) entries.now }
-    ensures { IfOk result (λ order. map (λ k. k.vertex) order.items ≡ sorted_by (comes_before (key_along along.now (place_in points.now))) (chosen start entries.now)) }
+    ensures { IfOk result (λ order. map (λ k. k.vertex) order.items ≡ sorted_along along.now (place_in points.now) (chosen start entries.now)) }
 {
     let mut order = with_keys(alloc, along, entries, points, start)?;
     order.sort_unstable();

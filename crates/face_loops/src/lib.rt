@@ -11,6 +11,8 @@ ghost use Rattle.face_loops.specs.Segments.{edges_of, IsOneToOne, AreDifferent};
 ghost use Rattle.face_loops.specs.Starts.{IsIndex};
 
 mod starts;
+#[cfg(test)]
+mod tests;
 mod trail;
 mod vertex_loop;
 
@@ -18,10 +20,6 @@ use mb_base::{NoMemory, Segment};
 use starts::index_of;
 use std::alloc::Global;
 use trail::loop_from;
-
-#[cfg(test)]
-mod tests;
-
 pub use vertex_loop::Loop;
 
 /// The loops of the segments, of which each vertex that occurs starts one and ends one. Each segment is

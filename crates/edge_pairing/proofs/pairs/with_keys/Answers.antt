@@ -5,7 +5,7 @@ use Rattle.edge_pairing.specs.Pairing.{scalar_product}
 use Rattle.edge_pairing.specs.Entries.{place_in}
 use Rattle.edge_pairing.specs.Keys.{key_along}
 use Rattle.edge_pairing.proofs.Keying.{keyed_more, keyed_same}
-use Rattle.edge_pairing.proofs.Listed.{none}
+use Rattle.edge_pairing.proofs.Listed.{no_entry}
 use Rattle.edge_pairing.proofs.Spreading.{read_place}
 use Rattle.edge_pairing.proofs.pairs.with_keys.Goals as goal
 use Rattle.edge_pairing.proofs.pairs.with_keys.Goals.{then-entry-start+in_ok-push, else-entry-start}
@@ -16,10 +16,10 @@ loop-entry-preserved c =
     let entries = c.args.entries.now in
     let i = c.loop-entry.entry-index in
     let below : i < length entries = c.loop-entry-test.true in
-    let v = (get_or entries i none).vertex in
+    let v = (get_or entries i no_entry).vertex in
     elim c.if-entry-start.branch [
       | then-entry-start+in_ok-push w ↦
-          let point = read_place c.args.points.now v w.index-points-vertex.result (c.requires.below i none below) w.index-points-vertex.is in
+          let point = read_place c.args.points.now v w.index-points-vertex.result (c.requires.below i no_entry below) w.index-points-vertex.is in
           let fits : SFits w64 w.key.result = search rules in
           let kept : to_z w64 (of_z w64 w.key.result) ≡ key v = to_z-of_z w64 w.key.result fits ∙ w.key.ensures ∙ ap (scalar_product c.args.along.now) point in
           ap (λ l. l.items) w.keyed-is ∙ w.in_ok-push.ensures.items ∙ ap (λ k. c.loop-entry.keyed.items ++ record { key = k; vertex = v } ∷ []) kept

@@ -3,7 +3,8 @@ use Rattle.std.specs.Int.{int_min, int_max}
 use Rattle.std.proofs.lemmas.Bool.Decides.{nat_tests}
 use Rattle.std.proofs.lemmas.Int.{ints}
 use Rattle.mesh_terms.specs.Points.{coordinate_of}
-use Rattle.edge_pairing.proofs.Spreading.{no_entry, lower_kept, higher_kept, spread_more, spread_whole, read_place}
+use Rattle.edge_pairing.proofs.Listed.{no_entry}
+use Rattle.edge_pairing.proofs.Spreading.{lower_kept, higher_kept, spread_more, spread_whole, read_place}
 use Rattle.edge_pairing.proofs.spread.spread_on.Goals as goal
 
 pub loop-entry-preserved : goal.loop-entry-preserved
