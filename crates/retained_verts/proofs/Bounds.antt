@@ -48,7 +48,7 @@ few_from edges faces low (h ∷ hs) room from on_edges on_faces order =
 pub few_hits : (es : List (ℕ × ℕ)) (faces : ℕ) (hs : List Hit) → AreHits es faces hs → length hs ≤ length es * faces
 few_hits es faces hs known =
     let all = few_from (length es) faces 0 hs (omega arith) (λ i d l. omega arith)
-        (All-weaker (λ h. (h.edge < length es) × (h.edge < twin es h.edge)) (λ h. h.edge < length es) (λ h a. a.0) hs known.on_edges) known.on_faces known.ascending in
+    (All-weaker (λ h. (h.edge < length es) × (h.edge < twin es h.edge)) (λ h. h.edge < length es) (λ h a. a.0) hs known.on_edges) known.on_faces known.ascending in
     omega (arith, all)
 
 -- a product of bounded numbers

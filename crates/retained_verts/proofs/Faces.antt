@@ -119,7 +119,7 @@ edge_counts value half pair n es f e other inside apart halves pairs =
     let at : (i : ℕ) → value (half i) ≡ neg_ℤ (pos (same (3 * f + i) e) -ℤ pos (same (3 * f + i) t)) = λ i. halves i ∙ ap neg_ℤ (way_is es (3 * f + i) e) in
     let whole : w ≡ pos (same (3 * f + 0) e + (same (3 * f + 1) e + same (3 * f + 2) e)) -ℤ pos (same (3 * f + 0) t + (same (3 * f + 1) t + same (3 * f + 2) t)) = omega (arith, ints, way_round_is es f e, first, second) in
     let sides = three_and_sum (same (3 * f + 0) e) (same (3 * f + 1) e) (same (3 * f + 2) e) (same (3 * f + 0) t) (same (3 * f + 1) t) (same (3 * f + 2) t) (value (half 0)) (value (half 1)) (value (half 2)) w
-        (omega (arith, first, second, few)) (at 0) (at 1) (at 2) whole in
+    (omega (arith, first, second, few)) (at 0) (at 1) (at 2) whole in
     counted value half pair n (above w) (below w) (same f (e / 3) + same f (t / 3))
     (count_one (λ k. int_lt (pos 0) (value (pair k))) (int_lt (pos 0) w) other n inside (λ k. ap (int_lt (pos 0)) (pairs k) ∙ test_above (other == k) w))
     (count_one (λ k. int_lt (value (pair k)) (pos 0)) (int_lt w (pos 0)) other n inside (λ k. ap (λ z. int_lt z (pos 0)) (pairs k) ∙ test_below (other == k) w))

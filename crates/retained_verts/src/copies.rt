@@ -61,7 +61,8 @@ impl Copies {
     {
         for hit in hits {
             let number = hit_number(op, hit.number);
-            self.push(operand.edge(hit.edge, hit.face), hit.at, number.unsigned_abs())?;
+            let origin = operand.edge(hit.edge, hit.face);
+            self.push(origin, hit.at, number.unsigned_abs())?;
         }
         Ok(())
     }

@@ -104,7 +104,5 @@ fn kept_at(op: Op, operand: Operand, windings: &[i64], vertex: u32) -> u64
     ensures value { result ≡ nat_abs (vertex_number op operand (get_or windings.now vertex (pos 0))) }
     ensures small { result ≤ 100000001 }
 {
-    operand
-        .number(op, windings[vertex as usize])
-        .unsigned_abs()
+    operand.number(op, windings[vertex as usize]).unsigned_abs()
 }

@@ -57,8 +57,11 @@ fn agrees_with_the_table(rt: HostRuntime) -> Result<(), Fail> {
 }
 
 // The boxes from (0,0,0) to (10,10,10) and from (3,4,5) to (6,7,20), and their numbers.
-const BOXES: &str = "000a000a0aa000aa0a0aaaaa 031023457476014154137175326367046062 34564537567534k64k37k67k 031023457476014154137175326367046062";
-const NUMBERS: &str = "00000000 11110000 84144a 86-166a | d2154a e3-134a f2164a j3167a k2-165a p3137a q3-157a w3-135a";
+const BOXES: &str =
+    "000a000a0aa000aa0a0aaaaa 031023457476014154137175326367046062 34564537567534k64k37k67k 031023457476014154137175326367046062";
+
+const NUMBERS: &str =
+    "00000000 11110000 84144a 86-166a | d2154a e3-134a f2164a j3167a k2-165a p3137a q3-157a w3-135a";
 
 // What the boxes prescribe for an operation, with as many half-edges at most: the counts.
 fn boxes(alloc: Global, op: Op, halfedges: u32) -> Result<[u64; 4], Fail> {
@@ -71,24 +74,28 @@ fn boxes(alloc: Global, op: Op, halfedges: u32) -> Result<[u64; 4], Fail> {
     }
 }
 
-#[test]
-fn the_corner_of_a_post_in_a_box(rt: HostRuntime) -> Result<(), Fail> {
-    assert_eq!(rt; boxes(rt.alloc(), Op::Union, 84)?, [8, 4, 10, 84]);
-    assert_eq!(rt; boxes(rt.alloc(), Op::Intersect, 48)?, [0, 4, 10, 48]);
-    assert_eq!(rt; boxes(rt.alloc(), Op::Subtract, 84)?, [8, 4, 10, 84]);
-    Ok(())
-}
+// The counts at limits that are just enough, and the half-edges alone below them.
+const COUNTS: [(Op, u32, [u64; 4]); 6] = [
+    (Op::Union, 84, [8, 4, 10, 84]),
+    (Op::Intersect, 48, [0, 4, 10, 48]),
+    (Op::Subtract, 84, [8, 4, 10, 84]),
+    (Op::Union, 83, [0, 0, 0, 84]),
+    (Op::Intersect, 47, [0, 0, 0, 48]),
+    (Op::Subtract, 0, [0, 0, 0, 84]),
+];
 
 #[test]
-fn too_many_half_edges_are_counted(rt: HostRuntime) -> Result<(), Fail> {
-    assert_eq!(rt; boxes(rt.alloc(), Op::Union, 83)?, [0, 0, 0, 84]);
-    assert_eq!(rt; boxes(rt.alloc(), Op::Intersect, 47)?, [0, 0, 0, 48]);
-    assert_eq!(rt; boxes(rt.alloc(), Op::Subtract, 0)?, [0, 0, 0, 84]);
+fn a_post_in_a_box_is_counted(rt: HostRuntime) -> Result<(), Fail> {
+    for (op, halfedges, wanted) in COUNTS {
+        let counts = boxes(rt.alloc(), op, halfedges)?;
+        assert!(rt; counts == wanted, "at {halfedges}");
+    }
     Ok(())
 }
 
 // All vertices of both boxes once, then the crossing.
-const TWICE: &str = "8 8 2 78 p0000 p1a00 p20a0 p3aa0 p400a p5a0a p60aa p7aaa q0345 q1645 q2375 q3675 q434k q564k q637k q767k e00123 e00123";
+const TWICE: &str =
+    "8 8 2 78 p0000 p1a00 p20a0 p3aa0 p400a p5a0a p60aa p7aaa q0345 q1645 q2375 q3675 q434k q564k q637k q767k e00123 e00123";
 
 #[test]
 fn a_crossing_of_number_2_is_listed_twice(rt: HostRuntime) -> Result<(), Fail> {

@@ -71,7 +71,5 @@ fn is_hit(edges: &Side, faces: &Side, hit: &Hit) -> bool
 fn follows(before: &[Hit], hit: &Hit) -> bool
     ensures { IsTrue result → All (λ h. IsBefore h hit.now) before.now }
 {
-    before.iter().all(|h| {
-        h.edge < hit.edge || h.edge == hit.edge && h.face < hit.face
-    })
+    before.iter().all(|h| { h.edge < hit.edge || h.edge == hit.edge && h.face < hit.face })
 }

@@ -28,7 +28,11 @@ fn numbers_of(alloc: Global, word: &str) -> Result<Vec<i8>, Fail> {
             sign = -1;
         } else if *byte != b'.' {
             let value = value_of(*byte).ok_or("no digit")?;
-            numbers.push(if sign < 0 { -(value as i8) } else { value as i8 })?;
+            numbers.push(if sign < 0 {
+                -(value as i8)
+            } else {
+                value as i8
+            })?;
             sign = 1;
         }
     }
@@ -50,22 +54,35 @@ fn read_side(alloc: Global, coordinates: &str, vertices: &str) -> Result<Side, F
 }
 
 fn read_mesh(alloc: Global, coordinates: &str, vertices: &str) -> Result<Mesh, Fail> {
-    let mut points = Vec::new(alloc);
-    for at in numbers_of(alloc, coordinates)?.chunks_exact(3) {
-        points.push(point_of(at).ok_or("outside the grid")?)?;
-    }
-    let mut triples = Vec::new(alloc);
-    for at in numbers_of(alloc, vertices)?.chunks_exact(3) {
-        triples.push([
-            at[0].unsigned_abs() as u32,
-            at[1].unsigned_abs() as u32,
-            at[2].unsigned_abs() as u32,
-        ])?;
-    }
+    let points = read_points(alloc, coordinates)?;
+    let triples = read_triples(alloc, vertices)?;
     if !Soup::fits(&points, &triples) {
         return Err("no soup".into());
     }
     Ok(Mesh::check(alloc, Soup::of(points, triples, 0))?)
+}
+
+fn read_points(alloc: Global, word: &str) -> Result<Vec<Point>, Fail> {
+    let numbers = numbers_of(alloc, word)?;
+    let mut points = Vec::new(alloc);
+    for at in numbers.chunks_exact(3) {
+        points.push(point_of(at).ok_or("outside the grid")?)?;
+    }
+    Ok(points)
+}
+
+fn read_triples(alloc: Global, word: &str) -> Result<Vec<[u32; 3]>, Fail> {
+    let numbers = numbers_of(alloc, word)?;
+    let mut triples = Vec::new(alloc);
+    for at in numbers.chunks_exact(3) {
+        triples.push([number_of(at[0]), number_of(at[1]), number_of(at[2])])?;
+    }
+    Ok(triples)
+}
+
+// A number that counts.
+fn number_of(value: i8) -> u32 {
+    u32::from(value.unsigned_abs())
 }
 
 /// The operation of a word.
@@ -96,8 +113,8 @@ fn read_hit(alloc: Global, word: &str) -> Result<Hit, Fail> {
         return Err("no hit".into());
     }
     Ok(Hit {
-        edge: numbers[0].unsigned_abs() as u32,
-        face: numbers[1].unsigned_abs() as u32,
+        edge: number_of(numbers[0]),
+        face: number_of(numbers[1]),
         number: numbers[2],
         at: point_of(&numbers[3..]).ok_or("outside the grid")?,
     })
