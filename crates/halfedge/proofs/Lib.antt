@@ -7,6 +7,7 @@ pub mod FanSteps
 pub mod FanWalk
 pub mod FansOnce
 pub mod Listed
+pub mod Marks
 pub mod NumberedHalves
 pub mod Numbers
 pub mod OpenPair
@@ -15,6 +16,7 @@ pub mod PairedBuckets
 pub mod Positions
 pub mod Single
 pub mod Split
+pub mod Starts
 pub mod TwinWays
 pub mod Walk
 pub mod Writing

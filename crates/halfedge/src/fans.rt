@@ -7,6 +7,8 @@ ghost use Rattle.mesh_terms.specs.Fans.{AreFans};
 ghost use Rattle.halfedge.specs.Numbering.{no_fan, by_starts, AreInOrder, AreKeptAround, IsFanNumbered};
 ghost use Rattle.mesh_terms.specs.Twins.{IsTwinned};
 
+mod clean;
+
 use crate::twins::Twins;
 use mb_base::NoMemory;
 use std::alloc::Global;

@@ -4,42 +4,20 @@ use Rattle.std.specs.Prelude.{nat_lt}
 use Rattle.std.proofs.lemmas.Bool.{cases_lt, lt-ltb, le-ltb}
 use Rattle.chain_terms.specs.Permutations.{times}
 use Rattle.chain_terms.specs.Ranks.{start, twin}
-use Rattle.chain_laws.proofs.Walks.{times_below, times-add, different_below}
+use Rattle.chain_laws.proofs.Walks.{times_below, different_below}
 use Rattle.mesh_terms.specs.Halves.{next_half, prev_half, around, around_times, SameFan}
 use Rattle.mesh_terms.specs.Meshes.{Triple}
+use Rattle.halfedge.specs.Clean.{IsClean}
 use Rattle.halfedge.proofs.Around.{around_inverse, go_around}
-use Rattle.pinch_split.specs.Split.{IsClean}
-use Rattle.pinch_split.specs.Given.{corners}
+use Rattle.halfedge.proofs.Marks.{one_fan}
 use Rattle.pinch_split.proofs.Anew.{HasFans, old, anew, fan, length-anew, start_anew}
 use Rattle.pinch_split.proofs.TwinsStay.{twin_stays}
-
--- a walk that returns in m steps returns in any multiple of m
-pub returns_again : (s : ℕ → ℕ) (m x : ℕ) → times s m x ≡ x → (i : ℕ) → times s (i * m) x ≡ x
-returns_again s m x back zero = let none : 0 * m ≡ 0 = omega arith in ap (λ n. times s n x) none
-returns_again s m x back (suc i) =
-    let more : suc i * m ≡ i * m + m = omega arith in
-    ap (λ n. times s n x) more ∙ times-add s (i * m) m x ∙ ap (times s (i * m)) back ∙ returns_again s m x back i
-
--- from a place of a walk that returns the walk leads back to where it began
-pub leads_back : (s : ℕ → ℕ) (m x : ℕ) → 0 < m → times s m x ≡ x → (i : ℕ) → times s (i * m - i) (times s i x) ≡ x
-leads_back s m x some back i =
-    let all : (i * m - i) + i ≡ i * m = omega (arith, enough i m some) in
-    sym (times-add s (i * m - i) i x) ∙ ap (λ n. times s n x) all ∙ returns_again s m x back i
-  where
-    enough : (i m : ℕ) → 0 < m → i ≤ i * m
-    enough zero m some = omega arith
-    enough (suc i) m some = omega (arith, enough i m some)
 
 -- half-edges of one fan are on one walk
 pub same_fan : (ts : List Triple) (of first : List ℕ) → HasFans ts of first → (h g : ℕ) → h < length (old ts) → g < length (old ts) → fan of h ≡ fan of g → SameFan (old ts) h g
 same_fan ts of first known h g h_below g_below same =
-    let f = get_or first (fan of h) 0 in
-    joined f h g (known.fans.reached h h_below) (subst (λ k. SameFan (old ts) (get_or first k 0) g) (sym same) (known.fans.reached g g_below)) (known.fans.returns (fan of h) (known.fans.numbered h h_below))
-  where
-    joined : (f h g : ℕ) → SameFan (old ts) f h → SameFan (old ts) f g → (n : ℕ) × (0 < n) × (around_times (old ts) n f ≡ f) → SameFan (old ts) h g
-    joined f h g (i, to_h) (j, to_g) (m, some, back) =
-        let s = around (old ts) in
-        (j + (i * m - i), times-add s j (i * m - i) h ∙ ap (λ x. times s j (times s (i * m - i) x)) (sym to_h) ∙ ap (times s j) (leads_back s m f some back i) ∙ to_g)
+    one_fan ts known.closed (get_or first (fan of h) 0) (known.fans.first_in (fan of h) (known.fans.numbered h h_below)).0 h g (known.fans.reached h h_below)
+    (subst (λ k. SameFan (old ts) (get_or first k 0) g) (sym same) (known.fans.reached g g_below))
 
 -- going around is as before
 same_walk : (ts : List Triple) (of first : List ℕ) → HasFans ts of first → (h : ℕ) → h < length (old ts) → (n : ℕ) → around_times (anew ts of) n h ≡ around_times (old ts) n h
@@ -50,7 +28,7 @@ same_walk ts of first known h below (suc n) =
     ap (around (anew ts of)) (same_walk ts of first known h below n) ∙ ap next_half (twin_stays ts of first known g within)
 
 -- half-edges that start at one new vertex are in one fan
-pub clean_anew : (ts : List Triple) (of first : List ℕ) → HasFans ts of first → IsClean (corners of (length ts))
+pub clean_anew : (ts : List Triple) (of first : List ℕ) → HasFans ts of first → IsClean (anew ts of)
 clean_anew ts of first known h g h_below g_below same =
     let full = length-anew ts of in
     let h_old : h < length (old ts) = omega (arith, h_below, full) in

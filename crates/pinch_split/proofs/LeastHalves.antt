@@ -12,9 +12,10 @@ use Rattle.mesh_terms.specs.Meshes.{Triple}
 use Rattle.halfedge.proofs.Around.{around_inverse}
 use Rattle.halfedge.proofs.FanSteps.{same_in_fan}
 use Rattle.halfedge.proofs.Listed.{listed}
+use Rattle.halfedge.proofs.Marks.{returns_again}
 use Rattle.pinch_split.specs.Split.{met_from, least, least_of_fan}
 use Rattle.pinch_split.proofs.Anew.{HasFans, old, fan}
-use Rattle.pinch_split.proofs.Clean.{returns_again, same_fan}
+use Rattle.pinch_split.proofs.Clean.{same_fan}
 
 -- the least is at most each member
 least_at_most : (m : ℕ) (xs : List ℕ) (i : ℕ) → i < length xs → least m xs ≤ get_or xs i 0

@@ -1,5 +1,6 @@
 pub mod Anew
 pub mod Clean
+pub mod CleanFans
 pub mod Corners
 pub mod FanLists
 pub mod LeastHalves

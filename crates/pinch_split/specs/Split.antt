@@ -1,10 +1,10 @@
 -- One vertex for each fan: fans by their least half-edges, their order, and the mesh that has them as its vertices.
-use Rattle.std.specs.Prelude.{◌≡◌, ℕ, ◌+◌, ◌*◌, ◌<◌, min, ℤ, List, [], ◌∷◌, Bool, ◌==◌, ◌&&◌, map, length, get_or}
+use Rattle.std.specs.Prelude.{ℕ, ◌+◌, ◌*◌, min, ℤ, List, [], ◌∷◌, Bool, ◌==◌, ◌&&◌, map, length, get_or}
 use Rattle.std.specs.List.{filter, flat_map, position_or_len}
 use Rattle.chain_terms.specs.Chains.{all_edges}
 use Rattle.chain_terms.specs.Ranks.{start}
 use Rattle.chain_terms.specs.Sums.{upto}
-use Rattle.mesh_terms.specs.Halves.{around_times, SameFan}
+use Rattle.mesh_terms.specs.Halves.{around_times}
 use Rattle.mesh_terms.specs.Meshes.{Triple}
 
 -- the half-edges that going around from h meets, h first
@@ -51,8 +51,3 @@ split_triples points ts = map (corner_values (fan_of points (all_edges ts))) (up
 -- each fan has the point of its old vertex
 abbrev pub split_points : List (List ℤ) → List Triple → List (List ℤ)
 split_points points ts = map (λ v. get_or points v []) (split_from (length points) ts)
-
--- the half-edges that start at one vertex are in one fan
-abbrev pub IsClean : List Triple → Type 0
-IsClean ts =
-    (h g : ℕ) → h < length (all_edges ts) → g < length (all_edges ts) → start (all_edges ts) h ≡ start (all_edges ts) g → SameFan (all_edges ts) h g

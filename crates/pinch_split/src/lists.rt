@@ -3,7 +3,8 @@ ghost use Rattle.std.specs.Prelude.{◌≡◌, ◌<◌, ◌≤◌, ◌*◌, IfOk
 ghost use Rattle.std.specs.List.{All};
 ghost use Rattle.chain_terms.specs.Chains.{all_edges};
 ghost use Rattle.chain_terms.specs.Ranks.{start};
-ghost use Rattle.mesh_terms.specs.Limits.{most_triangles};
+ghost use Rattle.chain_terms.specs.Sums.{upto};
+ghost use Rattle.mesh_terms.specs.Limits.{most_points, most_triangles};
 ghost use Rattle.mesh_terms.specs.Meshes.{triples_of};
 ghost use Rattle.pinch_split.specs.Given.{corners, starts_of, points_of};
 
@@ -53,4 +54,16 @@ pub fn corners(alloc: Global, of: &[u32], count: usize) -> Result<Vec<[u32; 3]>,
         triples.push([of[3 * t], of[3 * t + 1], of[3 * t + 2]])?;
     }
     Ok(triples)
+}
+
+/// The numbers from 0 on, so many.
+pub fn numbers(alloc: Global, count: usize) -> Result<Vec<u32>, NoMemory>
+    requires { count ≤ most_points }
+    ensures { IfOk result (λ numbers. numbers.items ≡ upto count) }
+{
+    let mut numbers = Vec::with_capacity(alloc, count)?;
+    for number in 0..count {
+        numbers.push(number as u32)?;
+    }
+    Ok(numbers)
 }

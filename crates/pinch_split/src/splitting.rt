@@ -2,14 +2,16 @@
 ghost use Rattle.std.specs.Prelude.{◌≡◌, ◌≤◌, ◌*◌, IfOk, length};
 ghost use Rattle.std.specs.List.{All};
 ghost use Rattle.chain_terms.specs.Chains.{all_edges, IsClosed};
+ghost use Rattle.chain_terms.specs.Sums.{upto};
 ghost use Rattle.mesh_terms.specs.Fans.{AreFans};
 ghost use Rattle.mesh_terms.specs.Limits.{most_triangles};
-ghost use Rattle.mesh_terms.specs.Meshes.{HasThree, IsAccepted, triples_of};
+ghost use Rattle.mesh_terms.specs.Meshes.{HasThree, IsAccepted, IsMesh, triples_of};
 ghost use Rattle.mesh_terms.specs.Twins.{twins_of};
-ghost use Rattle.pinch_split.specs.Split.{split_from, split_points, split_triples, IsClean};
+ghost use Rattle.halfedge.specs.Clean.{IsClean};
+ghost use Rattle.pinch_split.specs.Split.{split_from, split_points, split_triples};
 ghost use Rattle.pinch_split.specs.Given.{corners, starts_of, points_of};
 
-use crate::lists::{corners, points_at, starts};
+use crate::lists::{corners, numbers, points_at, starts};
 use crate::result::Split;
 use halfedge::{Fans, TwinFault, Twins};
 use mb_base::{NoMemory, Point};
@@ -19,17 +21,21 @@ use std::alloc::Global;
 /// The closed mesh of these points and triangles with one vertex for each fan, which has the point of its
 /// old vertex. The new vertices go by their old vertex, and at one vertex by the least half-edge of the
 /// fan. The triangles keep their order, and each half-edge its twin. `NoMemory` may come for any mesh.
-/// Beside finding the twins and the fans it takes time linear in the triangles.
+/// A mesh in which each vertex has one fan is given as it is, which is found out in time linear in the triangles. Otherwise its
+/// fans are sorted by their vertices, and what is then made of them is made in linear time. The twins are found once.
 pub fn split(alloc: Global, points: &[Point], triples: &[[u32; 3]]) -> Result<Split, NoMemory>
     requires { IsAccepted (length points.now) (triples_of triples.now) }
     ensures points { IfOk result (λ s. s.mesh.points ≡ split_points points.now (triples_of triples.now)) }
     ensures triples { IfOk result (λ s. s.mesh.triples ≡ split_triples (length points.now) (triples_of triples.now)) }
     ensures from { IfOk result (λ s. s.from.items ≡ split_from (length points.now) (triples_of triples.now)) }
-    ensures clean { IfOk result (λ s. IsClean s.mesh.triples) }
+    ensures clean { IfOk result (λ s. IsClean (all_edges s.mesh.triples)) }
     ensures twins { IfOk result (λ s. twins_of s.mesh.triples ≡ twins_of (triples_of triples.now)) }
     ensures few { IfOk result (λ s. 2 * length s.mesh.points ≤ 3 * length s.mesh.triples) }
 {
     let twins = closed_twins(alloc, triples)?;
+    if twins.are_clean(alloc, points.len())? {
+        return whole(alloc, points, twins);
+    }
     let fans = twins.fans(alloc)?;
     split_by(alloc, points, twins, fans)
 }
@@ -46,6 +52,21 @@ fn closed_twins(alloc: Global, triples: &[[u32; 3]]) -> Result<Twins, NoMemory>
         Err(TwinFault::NoMemory) => Err(NoMemory),
         Err(TwinFault::Open { .. }) => unreachable!(),
     }
+}
+
+// The mesh as it is, where each vertex has one fan.
+fn whole(alloc: Global, points: &[Point], twins: Twins) -> Result<Split, NoMemory>
+    requires { IsMesh (length points.now) twins.triples }
+    ensures points { IfOk result (λ s. s.mesh.points ≡ points.now) }
+    ensures triples { IfOk result (λ s. s.mesh.triples ≡ twins.triples) }
+    ensures from { IfOk result (λ s. s.from.items ≡ upto (length points.now)) }
+{
+    let from = numbers(alloc, points.len())?;
+    let points = points.to_vec(alloc)?;
+    Ok(Split {
+        mesh: Mesh::of_twins(points, twins),
+        from,
+    })
 }
 
 // The mesh with one vertex for each of these fans.

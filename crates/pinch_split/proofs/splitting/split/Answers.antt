@@ -1,8 +1,10 @@
 use Rattle.std.proofs.Common.{◌≡◌, length, sym, ◌∙◌, ap, subst}
 use Rattle.std.proofs.lemmas.Result.{IfOk-weaker}
+use Rattle.chain_terms.specs.Chains.{all_edges}
 use Rattle.mesh_terms.specs.Meshes.{IsAccepted, triples_of}
 use Rattle.mesh_terms.specs.Twins.{twins_of}
-use Rattle.pinch_split.specs.Split.{split_from, split_points, split_triples, IsClean}
+use Rattle.halfedge.specs.Clean.{IsClean}
+use Rattle.pinch_split.specs.Split.{split_from, split_points, split_triples}
 use Rattle.pinch_split.specs.Given.{corners, starts_of, points_of}
 use Rattle.pinch_split.proofs.Clean.{clean_anew}
 use Rattle.pinch_split.proofs.FanLists.{starts_are_from, corners_are_split}
@@ -50,7 +52,7 @@ returns-clause-clean c =
     let first = c.in_ok-fans.fans.first.items in
     let accepted = subst (IsAccepted (length c.args.points.now)) (sym c.in_ok-twins.ensures) c.requires in
     let known = has_fans (length c.args.points.now) ts of first accepted c.in_ok-fans.ensures.fans in
-    IfOk-weaker c.split_by.result (λ s. s.mesh.triples ≡ corners of (length ts)) (λ s. IsClean s.mesh.triples) (λ s same. subst IsClean (sym same) (clean_anew ts of first known)) c.split_by.ensures.triples
+    IfOk-weaker c.split_by.result (λ s. s.mesh.triples ≡ corners of (length ts)) (λ s. IsClean (all_edges s.mesh.triples)) (λ s same. subst (λ l. IsClean (all_edges l)) (sym same) (clean_anew ts of first known)) c.split_by.ensures.triples
 
 pub returns-clause-twins : goal.returns-clause-twins
 returns-clause-twins c =
