@@ -60,15 +60,6 @@ order_of_ends p c d h k =
     let e = ap (λ (z : ℤ). beats (axis 0 p) z (up_on 0 p)) same in
     absurd (cc))
 
--- where only one of two vertices of P is beyond q, it is right of the other, or as far right and the only one that is up
-pub order_of_edge : (l r q : Corner) → beyond l q ≡ false → beyond r q ≡ true → axis 0 l ≡ axis 0 r → (up_on 0 l ≡ false) × (up_on 0 r ≡ true)
-order_of_edge l r q h k e =
-    let m = not_beats_le (axis 0 l) (axis 0 q) (up_on 0 l) h in
-    let n = beats_le (axis 0 r) (axis 0 q) (up_on 0 r) k in
-    let x = beats_equal (axis 0 l) (axis 0 q) (up_on 0 l) (omega (arith, ints)) in
-    let y = beats_equal (axis 0 r) (axis 0 q) (up_on 0 r) (omega (arith, ints)) in
-    (sym x ∙ h, sym y ∙ k)
-
 -- two vertices of P can't lie between c and d the one way and the other way round
 pub no_alternation : (a b c d : Corner) → beyond a c ≡ true → beyond a d ≡ false → beyond b c ≡ false → beyond b d ≡ true → ⊥
 no_alternation a b c d h k l m =

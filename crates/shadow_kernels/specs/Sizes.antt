@@ -107,12 +107,14 @@ turned_shadow (Some m) = by m.above m.count where
   by true n = refl
   by false n = refl
 
--- turning keeps what is said of the spot
-pub turned_holds : (P : Spot → Type 0) (m : Option Meet) → IfSome m (λ n. P n.spot) → IfSome (turned m) (λ n. P n.spot)
+-- turning keeps what is said of the spot and the mark above
+pub turned_holds : (P : Spot → Bool → Type 0) (m : Option Meet) → IfSome m (λ n. P n.spot n.above) → IfSome (turned m) (λ n. P n.spot n.above)
 turned_holds P None h = tt
 turned_holds P (Some m) h = h
 
--- turning keeps the mark above
-pub turned_above : (b : Bool) (m : Option Meet) → IfSome m (λ n. n.above ≡ b) → IfSome (turned m) (λ n. n.above ≡ b)
-turned_above b None h = tt
-turned_above b (Some m) h = h
+-- turning twice gives the answer back
+pub turned_twice : (m : Option Meet) → turned (turned m) ≡ m
+turned_twice None = refl
+turned_twice (Some m) = ap (λ (z : ℤ). Some (record { count = z; above = m.above; spot = m.spot })) (neg_twice m.count) where
+  neg_twice : (z : ℤ) → neg_ℤ (neg_ℤ z) ≡ z
+  neg_twice z = omega (arith, ints)

@@ -3,13 +3,13 @@ use Rattle.std.specs.Int.{w64}
 use Rattle.shadow_kernels.specs.Spots.{gap, mark, flag, spot_between}
 use Rattle.shadow_kernels.proofs.Sights.{same_beats}
 use Rattle.shadow_kernels.proofs.Values.{seen, kept_gap, kept_between, kept_weight, same_mark}
-use Rattle.shadow_kernels.proofs.sides.is_above_between.Goals as goal
+use Rattle.shadow_kernels.proofs.tally.is_above_between.Goals as goal
 
 pub returns : goal.returns
 unfolding spot_between
 returns g c =
-    let d = c.args.sides.now.below in
-    let u = c.args.sides.now.above in
+    let d = c.args.tally.now.below in
+    let u = c.args.tally.now.above in
     let fd = c.requires.below in
     let fu = c.requires.above in
     let w = g.R.Rounding.between_of c.args.rounding.now in
