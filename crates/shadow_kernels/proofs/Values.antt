@@ -1,10 +1,11 @@
 -- Values as they stand after they were kept at a width, and spots of equal values.
-use Rattle.std.proofs.Common.{arith, ◌≡◌, ℤ, Bool, List, ap, ◌∙◌, FitsSigned}
+use Rattle.std.proofs.Common.{arith, ◌≡◌, ℕ, ℤ, Bool, List, ap, ◌∙◌, FitsSigned}
 use Rattle.std.proofs.lemmas.Int.{ints}
 use Rattle.std.specs.Int.{Width, w64, cast_signed, cast_unsigned}
+use Rattle.mb_base.specs.declared.point.Corner.{Corner}
 use Rattle.side_terms.specs.Fine.{IsFine, IsWeight}
 use Rattle.shadow_kernels.specs.declared.Spot.{Spot}
-use Rattle.shadow_kernels.specs.Spots.{Between, mark, marks, gap}
+use Rattle.shadow_kernels.specs.Spots.{Between, edge_value, mark, marks, gap}
 
 -- a number as it stands after it was kept at a width
 abbrev pub seen : Width → ℤ → ℤ
@@ -53,3 +54,10 @@ kept_gap r p q e fp fq =
     let p_kept : seen w64 p ≡ p = omega (arith, ints, fp.low, fp.high) in
     let q_kept : seen w64 q ≡ q = omega (arith, ints, fq.low, fq.high) in
     e ∙ ap (λ (z : ℤ). gap z (seen w64 q)) p_kept ∙ ap (λ (z : ℤ). gap p z) q_kept
+
+-- a value of an edge at a place that was kept at its width
+pub kept_value : (w : Between) (i : ℕ) (l r : Corner) (x y : ℤ) → y ≡ edge_value w i l r (seen w64 x) → IsFine x → FitsSigned w64 y → seen w64 y ≡ edge_value w i l r x
+kept_value w i l r x y e fine fits =
+    let kept : seen w64 y ≡ y = omega (arith, ints) in
+    let same : seen w64 x ≡ x = omega (arith, ints, fine.low, fine.high) in
+    kept ∙ e ∙ ap (λ (z : ℤ). edge_value w i l r z) same

@@ -1,6 +1,6 @@
 -- The answers of edges with vertices are sized and have fine spots.
-use Rattle.std.specs.Prelude.{List, [], ◌∷◌, Option, None, Some, IfSome}
-use Rattle.std.proofs.Common.{arith, refl}
+use Rattle.std.specs.Prelude.{◌≡◌, List, [], ◌∷◌, Option, None, Some, IfSome}
+use Rattle.std.proofs.Common.{arith, refl, sym, subst}
 use Rattle.std.proofs.lemmas.List.Elements.{All-cons, All-nil}
 use Rattle.mb_base.specs.declared.point.Corner.{Corner}
 use Rattle.side_terms.specs.Corners.{IsFineCorner, AllFine}
@@ -42,3 +42,7 @@ fine10 w stays a b q ha hb hq =
     let fp = fine_two a b ha hb in
     let fq = fine_one q hq in
     record { sized = sized10 w a b q; fine = fine_spot (a ∷ b ∷ []) (q ∷ []) fp fq (meet10 w a b q) ((laws10 w stays).hull (a ∷ b ∷ []) (q ∷ []) (omega arith) refl refl fp fq) }
+
+-- an answer equal to a fine one is fine
+pub fine_at : (r m : Option Meet) → r ≡ m → IsFinePair m → IsFinePair r
+fine_at r m e h = subst IsFinePair (sym e) h

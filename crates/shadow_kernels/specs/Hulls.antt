@@ -1,5 +1,5 @@
 -- Corners in boxes, edges at a place in x, and which of two boxes is the greater one.
-use Rattle.std.specs.Prelude.{◌≡◌, ℕ, ◌<◌, ◌≤◌, ℤ, ◌-ℤ◌, ◌≤ℤ◌, Bool, true, false, Option, None, Some, IfSome, List, length}
+use Rattle.std.specs.Prelude.{◌≡◌, ℕ, zero, suc, ◌<◌, ℤ, ◌-ℤ◌, ◌≤ℤ◌, Bool, true, false, Option, None, Some, IfSome, List, length}
 use Rattle.std.proofs.Common.{arith, inl, inr}
 use Rattle.std.proofs.lemmas.Int.{ints}
 use Rattle.mb_base.specs.declared.point.Corner.{Corner}
@@ -40,13 +40,18 @@ pub record IsAlong (l r : Corner) (x : ℤ) : Type 0 where
   pub after : axis 0 l ≤ℤ x
   pub before : x ≤ℤ axis 0 r
 
+-- a fine corner has fine coordinates
+pub fine_on : (i : ℕ) (c : Corner) → i < 3 → IsFineCorner c → IsFine (axis i c)
+fine_on zero c less h = h.x
+fine_on (suc zero) c less h = h.y
+fine_on (suc (suc zero)) c less h = h.z
+fine_on (suc (suc (suc i))) c less h = absurd (omega (arith, less))
+
 -- there the edge's values lie between those of its ends
 module _ (w : Between) (stays : StaysBetween w) (l r : Corner) (x : ℤ) (h : IsAlong l r x) where
-  pub value_y : LiesBetween (axis 1 l) (axis 1 r) (edge_value w 1 l r x)
-  value_y = stays.within (axis 1 l) (axis 1 r) (x -ℤ axis 0 l) (axis 0 r -ℤ x) h.left_fine.y h.right_fine.y (distance_weight (axis 0 l) x h.left_fine.x h.fine h.after) (distance_weight x (axis 0 r) h.fine h.right_fine.x h.before)
-
-  pub value_z : LiesBetween (axis 2 l) (axis 2 r) (edge_value w 2 l r x)
-  value_z = stays.within (axis 2 l) (axis 2 r) (x -ℤ axis 0 l) (axis 0 r -ℤ x) h.left_fine.z h.right_fine.z (distance_weight (axis 0 l) x h.left_fine.x h.fine h.after) (distance_weight x (axis 0 r) h.fine h.right_fine.x h.before)
+  pub value_between : (i : ℕ) → i < 3 → LiesBetween (axis i l) (axis i r) (edge_value w i l r x)
+  value_between i less = stays.within (axis i l) (axis i r) (x -ℤ axis 0 l) (axis 0 r -ℤ x) (fine_on i l less h.left_fine) (fine_on i r less h.right_fine)
+      (distance_weight (axis 0 l) x h.left_fine.x h.fine h.after) (distance_weight x (axis 0 r) h.fine h.right_fine.x h.before)
 
 -- the spot of a vertex p that is beyond l and not beyond r lies in the boxes of the vertex and the edge
 pub spot01_hull : (w : Between) → StaysBetween w → (ps qs : List Corner) (p l r : Corner) → IsPlaced ps p → IsPlaced qs l → IsPlaced qs r →
@@ -61,8 +66,8 @@ spot01_hull w stays ps qs p l r hp hl hr e f =
       py = hp.y;
       pz = hp.z;
       qx = box_between 0 qs (axis 0 l) (axis 0 r) (axis 0 p) hl.x hr.x (inl (left, right));
-      qy = box_between 1 qs (axis 1 l) (axis 1 r) (edge_value w 1 l r (axis 0 p)) hl.y hr.y (value_y w stays l r (axis 0 p) at);
-      qz = box_between 2 qs (axis 2 l) (axis 2 r) (edge_value w 2 l r (axis 0 p)) hl.z hr.z (value_z w stays l r (axis 0 p) at);
+      qy = box_between 1 qs (axis 1 l) (axis 1 r) (edge_value w 1 l r (axis 0 p)) hl.y hr.y (value_between w stays l r (axis 0 p) at 1 (omega arith));
+      qz = box_between 2 qs (axis 2 l) (axis 2 r) (edge_value w 2 l r (axis 0 p)) hl.z hr.z (value_between w stays l r (axis 0 p) at 2 (omega arith));
     }
 
 -- likewise that of an edge whose end r is beyond q and whose end l is not
@@ -75,8 +80,8 @@ spot10_hull w stays ps qs l r q hl hr hq e f =
     let at : IsAlong l r (axis 0 q) = record { left_fine = hl.fine; right_fine = hr.fine; fine = hq.fine.x; after = left; before = right } in
     record {
       px = box_between 0 ps (axis 0 l) (axis 0 r) (axis 0 q) hl.x hr.x (inl (left, right));
-      py = box_between 1 ps (axis 1 l) (axis 1 r) (edge_value w 1 l r (axis 0 q)) hl.y hr.y (value_y w stays l r (axis 0 q) at);
-      pz = box_between 2 ps (axis 2 l) (axis 2 r) (edge_value w 2 l r (axis 0 q)) hl.z hr.z (value_z w stays l r (axis 0 q) at);
+      py = box_between 1 ps (axis 1 l) (axis 1 r) (edge_value w 1 l r (axis 0 q)) hl.y hr.y (value_between w stays l r (axis 0 q) at 1 (omega arith));
+      pz = box_between 2 ps (axis 2 l) (axis 2 r) (edge_value w 2 l r (axis 0 q)) hl.z hr.z (value_between w stays l r (axis 0 q) at 2 (omega arith));
       qx = hq.x;
       qy = hq.y;
       qz = hq.z;

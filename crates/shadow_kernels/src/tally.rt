@@ -1,6 +1,6 @@
 //! The tally of boundary pairs: the sum of their shadows, and the spots of those that are above and are not.
 
-ghost use Rattle.std.specs.Prelude.{◌≡◌, ◌≤◌, ◌∷◌, [], ◌+ℤ◌, pos, unsigned_abs};
+ghost use Rattle.std.specs.Prelude.{◌≡◌, ◌≤◌, ◌∷◌, [], ◌+ℤ◌, pos, unsigned_abs, true, false};
 ghost use Rattle.shadow_kernels.specs.Spots.{no_spot, spot_between, above_z};
 ghost use Rattle.shadow_kernels.specs.Counts.{shadow_of, turned, chosen, joined};
 ghost use Rattle.shadow_kernels.specs.Bounds.{IsFinePair};

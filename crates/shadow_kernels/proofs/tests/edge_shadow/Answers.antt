@@ -9,7 +9,7 @@ returns-in-Some-clause-low g c =
     let a = c.args.a.now in
     let b = c.args.b.now in
     let q = c.args.q.now in
-    let size = g.met.K.Meets.size c.args.kernels.now (a ∷ b ∷ []) (q ∷ []) refl refl (fine_two a b c.requires.a_fine c.requires.b_fine) (fine_one q c.requires.q_fine) in
+    let size = (g.met.K.Meets.laws c.args.kernels.now).size (a ∷ b ∷ []) (q ∷ []) refl refl (fine_two a b c.requires.a_fine c.requires.b_fine) (fine_one q c.requires.q_fine) in
     let s = shadow_at (g.K.Meets.meet_of c.args.kernels.now (a ∷ b ∷ []) (q ∷ [])) c.in-Some.m c.in-Some.ensures size in
     omega (arith, ints, s)
 
@@ -18,6 +18,6 @@ returns-in-Some-clause-high g c =
     let a = c.args.a.now in
     let b = c.args.b.now in
     let q = c.args.q.now in
-    let size = g.met.K.Meets.size c.args.kernels.now (a ∷ b ∷ []) (q ∷ []) refl refl (fine_two a b c.requires.a_fine c.requires.b_fine) (fine_one q c.requires.q_fine) in
+    let size = (g.met.K.Meets.laws c.args.kernels.now).size (a ∷ b ∷ []) (q ∷ []) refl refl (fine_two a b c.requires.a_fine c.requires.b_fine) (fine_one q c.requires.q_fine) in
     let s = shadow_at (g.K.Meets.meet_of c.args.kernels.now (a ∷ b ∷ []) (q ∷ [])) c.in-Some.m c.in-Some.ensures size in
     omega (arith, ints, s)

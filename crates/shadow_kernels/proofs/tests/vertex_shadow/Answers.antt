@@ -9,7 +9,7 @@ returns-in-Some-clause-low g c =
     let p = c.args.p.now in
     let a = c.args.c.now in
     let b = c.args.d.now in
-    let size = g.met.K.Meets.size c.args.kernels.now (p ∷ []) (a ∷ b ∷ []) refl refl (fine_one p c.requires.p_fine) (fine_two a b c.requires.c_fine c.requires.d_fine) in
+    let size = (g.met.K.Meets.laws c.args.kernels.now).size (p ∷ []) (a ∷ b ∷ []) refl refl (fine_one p c.requires.p_fine) (fine_two a b c.requires.c_fine c.requires.d_fine) in
     let s = shadow_at (g.K.Meets.meet_of c.args.kernels.now (p ∷ []) (a ∷ b ∷ [])) c.in-Some.m c.in-Some.ensures size in
     omega (arith, ints, s)
 
@@ -18,6 +18,6 @@ returns-in-Some-clause-high g c =
     let p = c.args.p.now in
     let a = c.args.c.now in
     let b = c.args.d.now in
-    let size = g.met.K.Meets.size c.args.kernels.now (p ∷ []) (a ∷ b ∷ []) refl refl (fine_one p c.requires.p_fine) (fine_two a b c.requires.c_fine c.requires.d_fine) in
+    let size = (g.met.K.Meets.laws c.args.kernels.now).size (p ∷ []) (a ∷ b ∷ []) refl refl (fine_one p c.requires.p_fine) (fine_two a b c.requires.c_fine c.requires.d_fine) in
     let s = shadow_at (g.K.Meets.meet_of c.args.kernels.now (p ∷ []) (a ∷ b ∷ [])) c.in-Some.m c.in-Some.ensures size in
     omega (arith, ints, s)

@@ -1,0 +1,45 @@
+use Rattle.std.proofs.Common.{rules, arith, refl, ◌≡◌, ◌-ℤ◌, sym}
+use Rattle.std.proofs.lemmas.Int.{ints}
+use Rattle.std.specs.Int.{w64}
+use Rattle.side_terms.specs.Corners.{axis}
+use Rattle.shadow_kernels.specs.Hulls.{StaysBetween, value_between}
+use Rattle.shadow_kernels.specs.Order.{beats_greater, beats_smaller}
+use Rattle.shadow_kernels.specs.Spots.{Between, edge_value, flag, mark, spot01}
+use Rattle.shadow_kernels.proofs.Sights.{low_value, high_value, same_beats}
+use Rattle.shadow_kernels.proofs.Values.{seen, kept_value, same_mark}
+use Rattle.shadow_kernels.proofs.shadows.is_above_edge.Goals as goal
+
+pub returns-then-right-y : goal.returns-then-right-y
+unfolding spot01
+returns-then-right-y g c =
+    let w : Between = g.R.Rounding.between_of c.args.rounding.now in
+    let m = c.args.p.now in
+    let l = c.args.left.now in
+    let r = c.args.right.now in
+    let x = axis 0 m in
+    let stays : StaysBetween w = record { within = g.met.R.Rounding.within c.args.rounding.now } in
+    let lies = value_between w stays l r x c.requires 1 (omega arith) in
+    sym (beats_greater (axis 1 m) (edge_value w 1 l r x) (flag c.args.p.now.up 1) (low_value (axis 1 l) (axis 1 r) (axis 1 m) (edge_value w 1 l r x) lies (omega (arith, ints)) (omega (arith, ints))))
+
+pub returns-then-y-right : goal.returns-then-y-right
+unfolding spot01
+returns-then-y-right g c =
+    let w : Between = g.R.Rounding.between_of c.args.rounding.now in
+    let m = c.args.p.now in
+    let l = c.args.left.now in
+    let r = c.args.right.now in
+    let x = axis 0 m in
+    let stays : StaysBetween w = record { within = g.met.R.Rounding.within c.args.rounding.now } in
+    let lies = value_between w stays l r x c.requires 1 (omega arith) in
+    sym (beats_smaller (axis 1 m) (edge_value w 1 l r x) (flag c.args.p.now.up 1) (high_value (axis 1 l) (axis 1 r) (axis 1 m) (edge_value w 1 l r x) lies (omega (arith, ints)) (omega (arith, ints))))
+
+pub returns : goal.returns
+unfolding spot01
+returns g c =
+    let w : Between = g.R.Rounding.between_of c.args.rounding.now in
+    let m = c.args.p.now in
+    let l = c.args.left.now in
+    let r = c.args.right.now in
+    let x = axis 0 m in
+    let value = kept_value w 1 l r x c.edge_value.result c.edge_value.ensures c.requires.fine (search rules) in
+    same_beats c.exceeds.result (seen w64 (axis 1 m)) (seen w64 c.edge_value.result) (axis 1 m) (edge_value w 1 l r x) (flag m.up 1) (flag m.up 1) c.exceeds.ensures (omega (arith, ints)) value refl
