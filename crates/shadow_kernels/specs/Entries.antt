@@ -1,18 +1,21 @@
 -- Lists of answers as signed lists: the count of each, and whether it is above.
-use Rattle.std.specs.Prelude.{◌≡◌, ◌≢◌, ◌+◌, ◌<◌, ◌≤◌, ℤ, pos, negsuc, nat_abs, ◌+ℤ◌, ◌≤ℤ◌, nat_lt, Bool, true, false, if◌then◌else◌, cond, Option, None, Some, IfSome, List, [], ◌∷◌, map}
-use Rattle.std.specs.List.{sum_by}
+use Rattle.std.specs.Prelude.{◌≡◌, ◌≢◌, ◌+◌, ◌<◌, ◌≤◌, ℤ, pos, negsuc, nat_abs, ◌+ℤ◌, ◌≤ℤ◌, nat_lt, Bool, true, false, if◌then◌else◌, cond, Option, None, Some, IfSome, List, [], ◌∷◌, length, map}
+use Rattle.std.specs.List.{sum_by, All}
 use Rattle.std.proofs.Common.{arith, refl, sym, ap, subst, inl, inr, ◌∙◌}
 use Rattle.std.proofs.lemmas.Int.{ints}
 use Rattle.std.proofs.lemmas.List.Sums.{sum_by-cons}
+use Rattle.std.proofs.lemmas.List.{length-map}
+use Rattle.std.proofs.lemmas.List.Elements.{All-nil, All-cons}
 use Rattle.chain_terms.specs.Sums.{total}
 use Rattle.chain_laws.specs.Firsts.{first_of}
 use Rattle.chain_laws.specs.Sides.{counts_at}
-use Rattle.chain_laws.specs.Signs.{number, whole, weight, weight_at, size_at, AllAre, number_all_above, number_none_above, number_sides, number_of_three}
+use Rattle.chain_laws.specs.Sums.{IsWithin}
+use Rattle.chain_laws.specs.Signs.{number, whole, weight, weight_at, size_at, AllAre, number_all_above, number_none_above, number_sides, number_of_three, number_of_five, weight_of_units}
 use Rattle.shadow_kernels.specs.declared.Spot.{Spot}
 use Rattle.shadow_kernels.specs.declared.Meet.{Meet}
 use Rattle.shadow_kernels.specs.Spots.{no_spot}
 use Rattle.shadow_kernels.specs.Counts.{count_of, shadow_of, chosen, first_spot}
-use Rattle.shadow_kernels.specs.Sizes.{IsUnit, IsSized}
+use Rattle.shadow_kernels.specs.Sizes.{IsUnit, IsSized, sized_bounds}
 
 -- a fact holds of each answer in a list
 abbrev pub Each : (Option Meet → Type 0) → List (Option Meet) → Type 0
@@ -76,6 +79,21 @@ pub balanced_size : (ms : List (Option Meet)) → IsBalanced ms → (negsuc 0 �
 balanced_size ms h =
     let n = number_of_three (map entry ms) (sym (whole_is ms) ∙ h.whole) h.few in
     (omega (arith, ints, number_is ms, n.low), omega (arith, ints, number_is ms, n.high))
+
+-- sized answers whose counts add up to nothing, five at most, have shadows that add up to -2, .. or 2
+pub five_size : (ms : List (Option Meet)) → Each IsSized ms → length ms ≤ 5 → total count_of ms ≡ pos 0 → (negsuc 1 ≤ℤ total shadow_of ms) × (total shadow_of ms ≤ℤ pos 2)
+five_size ms h few none =
+    let weight = weight_of_units (map entry ms) (units ms h) in
+    let long : length (map entry ms) ≡ length ms = length-map ms entry in
+    let n = number_of_five (map entry ms) (sym (whole_is ms) ∙ none) (omega (arith, weight, long, few)) in
+    (omega (arith, ints, number_is ms, n.low), omega (arith, ints, number_is ms, n.high))
+  where
+    within : (m : Option Meet) → IsSized m → IsWithin (count_of m) 1
+    within m h = let b = sized_bounds m h in record { low = omega (arith, ints, b.0); high = omega (arith, ints, b.1) }
+
+    units : (ms : List (Option Meet)) → Each IsSized ms → All (λ (e : ℤ × Bool). IsWithin e.0 1) (map entry ms)
+    units [] h = All-nil (λ (e : ℤ × Bool). IsWithin e.0 1)
+    units (m ∷ ms) h = All-cons (λ (e : ℤ × Bool). IsWithin e.0 1) (entry m) (map entry ms) (within m h.0) (units ms h.1)
 
 -- where there is no answer the shadows add up to nothing
 pub total_none : (ms : List (Option Meet)) → Each (λ m. m ≡ None) ms → total shadow_of ms ≡ pos 0

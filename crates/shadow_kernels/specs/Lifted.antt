@@ -68,7 +68,7 @@ lifted_decided w stays ps qs fp fq ms h each =
     }
 
 -- turning an answer keeps its spot
-chosen_turned : (want : Bool) (m : Option Meet) (x : Spot) → chosen want (turned m) x ≡ chosen want m x
+pub chosen_turned : (want : Bool) (m : Option Meet) (x : Spot) → chosen want (turned m) x ≡ chosen want m x
 chosen_turned want None x = refl
 chosen_turned true (Some m) x = refl
 chosen_turned false (Some m) x = refl
