@@ -6,8 +6,8 @@ use Rattle.mb_base.specs.declared.TheConstants.{UNIT}
 use Rattle.mesh_terms.specs.Points.{IsOnGrid}
 use Rattle.side_terms.specs.Fine.{IsFine, IsWeight}
 use Rattle.shadow_kernels.specs.Spots.{Between}
-use Rattle.edge_face.specs.Lawful.{IsSettling}
-use Rattle.edge_face.specs.Points.{Settle}
+use Rattle.edge_face.specs.Crossings.{Settle}
+use Rattle.edge_face.specs.CrossLaws.{IsSettling}
 use Rattle.edge_face.proofs.Kept.{seen}
 
 -- a settled value between values by weights, all kept at their width

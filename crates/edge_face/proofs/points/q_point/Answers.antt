@@ -1,7 +1,7 @@
 use Rattle.std.proofs.Common.{rules}
 use Rattle.std.specs.Int.{w32}
 use Rattle.shadow_kernels.specs.Spots.{Between, gap}
-use Rattle.edge_face.specs.Points.{Settle, q_point}
+use Rattle.edge_face.specs.Crossings.{Settle, q_point}
 use Rattle.edge_face.proofs.Kept.{seen}
 use Rattle.edge_face.proofs.Placed.{made_point, kept_settled, kept_on}
 use Rattle.edge_face.proofs.points.q_point.Goals as goal

@@ -6,7 +6,7 @@ use Rattle.side_terms.specs.Fine.{IsFine}
 use Rattle.shadow_kernels.specs.Hulls.{StaysBetween}
 use Rattle.shadow_kernels.specs.Spots.{Between}
 use Rattle.shadow_kernels.proofs.Values.{kept_between}
-use Rattle.edge_face.specs.Lawful.{IsSettling}
+use Rattle.edge_face.specs.CrossLaws.{IsSettling}
 use Rattle.edge_face.specs.Settled.{between_fine}
 use Rattle.edge_face.proofs.Kept.{seen}
 use Rattle.edge_face.proofs.Placed.{settled_grid}

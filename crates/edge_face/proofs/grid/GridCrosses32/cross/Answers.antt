@@ -1,147 +1,65 @@
-use Rattle.std.proofs.Common.{rules, arith, true, false, FitsSigned, [], ◌∷◌, sym, ◌∙◌}
+use Rattle.std.proofs.Common.{rules, arith, ◌≡◌, ◌≢◌, pos, true, false, FitsSigned, sym, ap, ◌∙◌}
+use Rattle.std.proofs.lemmas.Int.{ints}
 use Rattle.std.specs.Int.{w8}
 use Rattle.side_terms.specs.Corners.{corner_at}
-use Rattle.shadow_kernels.specs.FinePairs.{fine_two, fine_three}
-use Rattle.shadow_kernels.specs.Hulls.{StaysBetween}
-use Rattle.shadow_kernels.specs.Shadows.{meet11, meet20}
+use Rattle.shadow_kernels.specs.Shadows.{vertex_edge, edge_vertex, edge_edge, vertex_face, face_vertex}
 use Rattle.shadow_kernels.specs.Spots.{Between}
-use Rattle.edge_face.specs.Grids.{grid_tests}
-use Rattle.edge_face.specs.GridLaws.{grid_lawful}
-use Rattle.edge_face.specs.Pairs.{pairs_number}
-use Rattle.edge_face.specs.Points.{Settle, q_point, cross21}
-use Rattle.edge_face.specs.Boundaries.{boundary21}
-use Rattle.edge_face.proofs.Kept.{seen, kept_fit, fine_in}
-use Rattle.edge_face.proofs.Found.{any_zero, any_number, number_pairs, always_found, found_fine, crossed_not, crossed_at}
+use Rattle.edge_face.specs.Boundaries.{grid_face_edge}
+use Rattle.edge_face.specs.Crossings.{Settle, mirror, q_point, face_edge_pairs, crossing}
+use Rattle.edge_face.specs.Pairs.{spot_at}
+use Rattle.edge_face.proofs.Five.{number_known, spot_known, first_fine, made_none, made_some}
+use Rattle.edge_face.proofs.Kept.{seen, kept_fit, fine_edge, fine_face}
 use Rattle.edge_face.proofs.grid.GridCrosses32.cross.Goals as goal
 
-pub returns-in_err-number : goal.returns-in_err-number
-unfolding cross21
-returns-in_err-number g c =
+pub returns-then-number-eq0 : goal.returns-then-number-eq0
+returns-then-number-eq0 g c =
     let w : Between = g.R.Rounding.between_of c.args.self.now.rounding in
-    let p0 = corner_at c.args.p.now 0 in
-    let p1 = corner_at c.args.p.now 1 in
-    let p2 = corner_at c.args.p.now 2 in
-    let q0 = corner_at c.args.q.now 0 in
-    let q1 = corner_at c.args.q.now 1 in
-    let s = meet20 w p0 p1 p2 q0 in
-    let f = meet20 w p0 p1 p2 q1 in
-    let x = meet11 w p0 p1 q0 q1 in
-    let y = meet11 w p1 p2 q0 q1 in
-    let z = meet11 w p2 p0 q0 q1 in
-    let n = pairs_number c.face_edge_pairs-pairs.result in
-    let e = number_pairs s f x y z c.face_edge_pairs-pairs.result c.face_edge_pairs-pairs.ensures in
+    let p = c.args.p.now in
+    let q = c.args.q.now in
+    let h = grid_face_edge w (record { within = g.met.R.Rounding.within c.args.self.now.rounding }) in
+    let fe = fine_edge q c.told-q c.requires.q_fine in
+    let ff = fine_face p c.told-p c.requires.p_fine in
+    let number = c.number-number.ensures ∙ number_known (λ e f. f) (λ e f. e) (mirror (face_vertex w)) (mirror (edge_edge w)) (mirror (edge_vertex w)) (mirror (vertex_edge w)) h (corner_at q 0) (corner_at q 1) (corner_at p 0) (corner_at p 1) (corner_at p 2) fe ff c.face_edge_pairs-pairs.result c.face_edge_pairs-pairs.ensures in
     let settle : Settle = g.R.Rounding.settle_of c.args.self.now.rounding in
-    let zero = any_zero n (sym c.number.ensures ∙ c.in_err-number.was) in
-    record { value = c.from_residual.ensures ∙ crossed_not (q_point w settle) s f x y z n e zero }
-
-pub returns-in_err-below : goal.returns-in_err-below
-returns-in_err-below g c =
-    let w : Between = g.R.Rounding.between_of c.args.self.now.rounding in
-    let p0 = corner_at c.args.p.now 0 in
-    let p1 = corner_at c.args.p.now 1 in
-    let p2 = corner_at c.args.p.now 2 in
-    let q0 = corner_at c.args.q.now 0 in
-    let q1 = corner_at c.args.q.now 1 in
-    let s = meet20 w p0 p1 p2 q0 in
-    let f = meet20 w p0 p1 p2 q1 in
-    let x = meet11 w p0 p1 q0 q1 in
-    let y = meet11 w p1 p2 q0 q1 in
-    let z = meet11 w p2 p0 q0 q1 in
-    let n = pairs_number c.face_edge_pairs-pairs.result in
-    let e = number_pairs s f x y z c.face_edge_pairs-pairs.result c.face_edge_pairs-pairs.ensures in
-    let any = any_number n c.in_ok-number.number (sym c.number.ensures ∙ c.in_ok-number.was) in
-    let stays : StaysBetween w = record { within = g.met.R.Rounding.within c.args.self.now.rounding } in
-    let fp = fine_three p0 p1 p2 (fine_in c.args.p.now 0 c.requires.p_fine (omega arith)) (fine_in c.args.p.now 1 c.requires.p_fine (omega arith)) (fine_in c.args.p.now 2 c.requires.p_fine (omega arith)) in
-    let fq = fine_two q0 q1 (fine_in c.args.q.now 0 c.requires.q_fine (omega arith)) (fine_in c.args.q.now 1 c.requires.q_fine (omega arith)) in
-    let h = boundary21 (grid_tests w) (grid_lawful w stays) p0 p1 p2 q0 q1 fp fq in
-    absurd (always_found (p0 ∷ p1 ∷ p2 ∷ []) (q0 ∷ q1 ∷ []) s f x y z h n e any.1 false (sym c.first_of_face_edge.ensures ∙ c.in_err-below.was))
-
-pub returns-in_err-above : goal.returns-in_err-above
-returns-in_err-above g c =
-    let w : Between = g.R.Rounding.between_of c.args.self.now.rounding in
-    let p0 = corner_at c.args.p.now 0 in
-    let p1 = corner_at c.args.p.now 1 in
-    let p2 = corner_at c.args.p.now 2 in
-    let q0 = corner_at c.args.q.now 0 in
-    let q1 = corner_at c.args.q.now 1 in
-    let s = meet20 w p0 p1 p2 q0 in
-    let f = meet20 w p0 p1 p2 q1 in
-    let x = meet11 w p0 p1 q0 q1 in
-    let y = meet11 w p1 p2 q0 q1 in
-    let z = meet11 w p2 p0 q0 q1 in
-    let n = pairs_number c.face_edge_pairs-pairs.result in
-    let e = number_pairs s f x y z c.face_edge_pairs-pairs.result c.face_edge_pairs-pairs.ensures in
-    let any = any_number n c.in_ok-number.number (sym c.number.ensures ∙ c.in_ok-number.was) in
-    let stays : StaysBetween w = record { within = g.met.R.Rounding.within c.args.self.now.rounding } in
-    let fp = fine_three p0 p1 p2 (fine_in c.args.p.now 0 c.requires.p_fine (omega arith)) (fine_in c.args.p.now 1 c.requires.p_fine (omega arith)) (fine_in c.args.p.now 2 c.requires.p_fine (omega arith)) in
-    let fq = fine_two q0 q1 (fine_in c.args.q.now 0 c.requires.q_fine (omega arith)) (fine_in c.args.q.now 1 c.requires.q_fine (omega arith)) in
-    let h = boundary21 (grid_tests w) (grid_lawful w stays) p0 p1 p2 q0 q1 fp fq in
-    absurd (always_found (p0 ∷ p1 ∷ p2 ∷ []) (q0 ∷ q1 ∷ []) s f x y z h n e any.1 true (sym c.first_of_face_edge-2.ensures ∙ c.in_err-above.was))
+    let fits : FitsSigned w8 c.number-number.result = search rules in
+    let zero : c.number-number.result ≡ pos 0 = omega (arith, ints) in
+    record { value = made_none (mirror (face_vertex w)) (mirror (edge_edge w)) (q_point w settle) (corner_at q 0) (corner_at q 1) (corner_at p 0) (corner_at p 1) (corner_at p 2) c.number-number.result number zero }
 
 pub q_point-requires-clause-below_fine : goal.q_point-requires-clause-below_fine
 q_point-requires-clause-below_fine g c =
     let w : Between = g.R.Rounding.between_of c.args.self.now.rounding in
-    let p0 = corner_at c.args.p.now 0 in
-    let p1 = corner_at c.args.p.now 1 in
-    let p2 = corner_at c.args.p.now 2 in
-    let q0 = corner_at c.args.q.now 0 in
-    let q1 = corner_at c.args.q.now 1 in
-    let s = meet20 w p0 p1 p2 q0 in
-    let f = meet20 w p0 p1 p2 q1 in
-    let x = meet11 w p0 p1 q0 q1 in
-    let y = meet11 w p1 p2 q0 q1 in
-    let z = meet11 w p2 p0 q0 q1 in
-    let n = pairs_number c.face_edge_pairs-pairs.result in
-    let e = number_pairs s f x y z c.face_edge_pairs-pairs.result c.face_edge_pairs-pairs.ensures in
-    let any = any_number n c.in_ok-number.number (sym c.number.ensures ∙ c.in_ok-number.was) in
-    let stays : StaysBetween w = record { within = g.met.R.Rounding.within c.args.self.now.rounding } in
-    let fp = fine_three p0 p1 p2 (fine_in c.args.p.now 0 c.requires.p_fine (omega arith)) (fine_in c.args.p.now 1 c.requires.p_fine (omega arith)) (fine_in c.args.p.now 2 c.requires.p_fine (omega arith)) in
-    let fq = fine_two q0 q1 (fine_in c.args.q.now 0 c.requires.q_fine (omega arith)) (fine_in c.args.q.now 1 c.requires.q_fine (omega arith)) in
-    let h = boundary21 (grid_tests w) (grid_lawful w stays) p0 p1 p2 q0 q1 fp fq in
-    found_fine (p0 ∷ p1 ∷ p2 ∷ []) (q0 ∷ q1 ∷ []) s f x y z h fp fq n e any.1 false c.in_ok-below.below (sym c.first_of_face_edge.ensures ∙ c.in_ok-below.was)
+    let p = c.args.p.now in
+    let q = c.args.q.now in
+    let h = grid_face_edge w (record { within = g.met.R.Rounding.within c.args.self.now.rounding }) in
+    let fe = fine_edge q c.told-q c.requires.q_fine in
+    let ff = fine_face p c.told-p c.requires.p_fine in
+    let below = c.face_edge_spot-below.ensures ∙ ap (λ i. spot_at (face_edge_pairs w p q) i) c.first_on.ensures ∙ spot_known (λ e f. f) (λ e f. e) (mirror (face_vertex w)) (mirror (edge_edge w)) (mirror (edge_vertex w)) (mirror (vertex_edge w)) h (corner_at q 0) (corner_at q 1) (corner_at p 0) (corner_at p 1) (corner_at p 2) fe ff false c.face_edge_pairs-pairs.result c.face_edge_pairs-pairs.ensures in
+    first_fine (λ e f. f) (λ e f. e) (mirror (face_vertex w)) (mirror (edge_edge w)) (mirror (edge_vertex w)) (mirror (vertex_edge w)) h (corner_at q 0) (corner_at q 1) (corner_at p 0) (corner_at p 1) (corner_at p 2) fe ff ff fe false c.face_edge_spot-below.result below
 
 pub q_point-requires-clause-above_fine : goal.q_point-requires-clause-above_fine
 q_point-requires-clause-above_fine g c =
     let w : Between = g.R.Rounding.between_of c.args.self.now.rounding in
-    let p0 = corner_at c.args.p.now 0 in
-    let p1 = corner_at c.args.p.now 1 in
-    let p2 = corner_at c.args.p.now 2 in
-    let q0 = corner_at c.args.q.now 0 in
-    let q1 = corner_at c.args.q.now 1 in
-    let s = meet20 w p0 p1 p2 q0 in
-    let f = meet20 w p0 p1 p2 q1 in
-    let x = meet11 w p0 p1 q0 q1 in
-    let y = meet11 w p1 p2 q0 q1 in
-    let z = meet11 w p2 p0 q0 q1 in
-    let n = pairs_number c.face_edge_pairs-pairs.result in
-    let e = number_pairs s f x y z c.face_edge_pairs-pairs.result c.face_edge_pairs-pairs.ensures in
-    let any = any_number n c.in_ok-number.number (sym c.number.ensures ∙ c.in_ok-number.was) in
-    let stays : StaysBetween w = record { within = g.met.R.Rounding.within c.args.self.now.rounding } in
-    let fp = fine_three p0 p1 p2 (fine_in c.args.p.now 0 c.requires.p_fine (omega arith)) (fine_in c.args.p.now 1 c.requires.p_fine (omega arith)) (fine_in c.args.p.now 2 c.requires.p_fine (omega arith)) in
-    let fq = fine_two q0 q1 (fine_in c.args.q.now 0 c.requires.q_fine (omega arith)) (fine_in c.args.q.now 1 c.requires.q_fine (omega arith)) in
-    let h = boundary21 (grid_tests w) (grid_lawful w stays) p0 p1 p2 q0 q1 fp fq in
-    found_fine (p0 ∷ p1 ∷ p2 ∷ []) (q0 ∷ q1 ∷ []) s f x y z h fp fq n e any.1 true c.in_ok-above.above (sym c.first_of_face_edge-2.ensures ∙ c.in_ok-above.was)
+    let p = c.args.p.now in
+    let q = c.args.q.now in
+    let h = grid_face_edge w (record { within = g.met.R.Rounding.within c.args.self.now.rounding }) in
+    let fe = fine_edge q c.told-q c.requires.q_fine in
+    let ff = fine_face p c.told-p c.requires.p_fine in
+    let above = c.face_edge_spot-above.ensures ∙ ap (λ i. spot_at (face_edge_pairs w p q) i) c.first_on-2.ensures ∙ spot_known (λ e f. f) (λ e f. e) (mirror (face_vertex w)) (mirror (edge_edge w)) (mirror (edge_vertex w)) (mirror (vertex_edge w)) h (corner_at q 0) (corner_at q 1) (corner_at p 0) (corner_at p 1) (corner_at p 2) fe ff true c.face_edge_pairs-pairs.result c.face_edge_pairs-pairs.ensures in
+    first_fine (λ e f. f) (λ e f. e) (mirror (face_vertex w)) (mirror (edge_edge w)) (mirror (edge_vertex w)) (mirror (vertex_edge w)) h (corner_at q 0) (corner_at q 1) (corner_at p 0) (corner_at p 1) (corner_at p 2) fe ff ff fe true c.face_edge_spot-above.result above
 
 pub returns : goal.returns
-unfolding cross21
 returns g c =
     let w : Between = g.R.Rounding.between_of c.args.self.now.rounding in
-    let p0 = corner_at c.args.p.now 0 in
-    let p1 = corner_at c.args.p.now 1 in
-    let p2 = corner_at c.args.p.now 2 in
-    let q0 = corner_at c.args.q.now 0 in
-    let q1 = corner_at c.args.q.now 1 in
-    let s = meet20 w p0 p1 p2 q0 in
-    let f = meet20 w p0 p1 p2 q1 in
-    let x = meet11 w p0 p1 q0 q1 in
-    let y = meet11 w p1 p2 q0 q1 in
-    let z = meet11 w p2 p0 q0 q1 in
-    let n = pairs_number c.face_edge_pairs-pairs.result in
-    let e = number_pairs s f x y z c.face_edge_pairs-pairs.result c.face_edge_pairs-pairs.ensures in
+    let p = c.args.p.now in
+    let q = c.args.q.now in
+    let h = grid_face_edge w (record { within = g.met.R.Rounding.within c.args.self.now.rounding }) in
+    let fe = fine_edge q c.told-q c.requires.q_fine in
+    let ff = fine_face p c.told-p c.requires.p_fine in
+    let number = c.number-number.ensures ∙ number_known (λ e f. f) (λ e f. e) (mirror (face_vertex w)) (mirror (edge_edge w)) (mirror (edge_vertex w)) (mirror (vertex_edge w)) h (corner_at q 0) (corner_at q 1) (corner_at p 0) (corner_at p 1) (corner_at p 2) fe ff c.face_edge_pairs-pairs.result c.face_edge_pairs-pairs.ensures in
+    let below = c.face_edge_spot-below.ensures ∙ ap (λ i. spot_at (face_edge_pairs w p q) i) c.first_on.ensures ∙ spot_known (λ e f. f) (λ e f. e) (mirror (face_vertex w)) (mirror (edge_edge w)) (mirror (edge_vertex w)) (mirror (vertex_edge w)) h (corner_at q 0) (corner_at q 1) (corner_at p 0) (corner_at p 1) (corner_at p 2) fe ff false c.face_edge_pairs-pairs.result c.face_edge_pairs-pairs.ensures in
+    let above = c.face_edge_spot-above.ensures ∙ ap (λ i. spot_at (face_edge_pairs w p q) i) c.first_on-2.ensures ∙ spot_known (λ e f. f) (λ e f. e) (mirror (face_vertex w)) (mirror (edge_edge w)) (mirror (edge_vertex w)) (mirror (vertex_edge w)) h (corner_at q 0) (corner_at q 1) (corner_at p 0) (corner_at p 1) (corner_at p 2) fe ff true c.face_edge_pairs-pairs.result c.face_edge_pairs-pairs.ensures in
     let settle : Settle = g.R.Rounding.settle_of c.args.self.now.rounding in
-    let any = any_number n c.in_ok-number.number (sym c.number.ensures ∙ c.in_ok-number.was) in
-    let fits : FitsSigned w8 c.in_ok-number.number = search rules in
-    record {
-      value = crossed_at (q_point w settle) s f x y z n (seen w8 c.in_ok-number.number) c.in_ok-below.below c.in_ok-above.above c.in_ok-at.at e any.1 (kept_fit c.in_ok-number.number fits ∙ any.0)
-          (sym c.first_of_face_edge.ensures ∙ c.in_ok-below.was) (sym c.first_of_face_edge-2.ensures ∙ c.in_ok-above.was) (sym c.in_ok-at.was ∙ c.q_point.ensures);
-    }
+    let n = c.number-number.result in
+    let fits : FitsSigned w8 n = search rules in
+    let some : n ≢ pos 0 = λ z. omega (arith, ints) in
+    record { value = made_some (mirror (face_vertex w)) (mirror (edge_edge w)) (q_point w settle) (corner_at q 0) (corner_at q 1) (corner_at p 0) (corner_at p 1) (corner_at p 2) n number (seen w8 n) c.in_ok-at.at c.face_edge_spot-below.result c.face_edge_spot-above.result some (kept_fit n fits) below above (sym c.in_ok-at.was ∙ c.q_point.ensures) }
