@@ -1,5 +1,6 @@
 -- What the code knows of the five boundary pairs of an edge and a face, for an edge of P and for one of Q alike.
 use Rattle.std.proofs.Common.{arith, ◌≡◌, ◌≢◌, ℕ, ℤ, pos, ◌+ℤ◌, ◌-ℤ◌, Bool, true, false, not, if◌then◌else◌, Option, None, Some, IfSome, List, [], ◌∷◌, map, refl, sym, ap, subst, inl, inr, ◌∙◌}
+use Rattle.std.specs.Int.{w8}
 use Rattle.std.specs.Ordering.{int_eq}
 use Rattle.std.proofs.lemmas.Int.{ints}
 use Rattle.std.proofs.lemmas.Bool.Decides.{Decides-int_eq}
@@ -12,7 +13,7 @@ use Rattle.shadow_kernels.specs.Bounds.{IsFineSpot, hull_fine}
 use Rattle.shadow_kernels.specs.Spots.{no_spot}
 use Rattle.shadow_kernels.specs.Counts.{count_of, shadow_of, chosen, first_spot}
 use Rattle.shadow_kernels.specs.ShadowLaws.{ShadowTest}
-use Rattle.shadow_kernels.specs.Sizes.{IsUnit, IsSized, any_some}
+use Rattle.shadow_kernels.specs.Sizes.{IsUnit, IsSized, sized_bounds, any_some}
 use Rattle.shadow_kernels.specs.Entries.{Each, each_map, first_holds, spot_of}
 use Rattle.shadow_kernels.specs.Decided.{IsDecided}
 use Rattle.shadow_kernels.proofs.Steps.{no_spot_fine}
@@ -23,6 +24,7 @@ use Rattle.edge_face.specs.Boundaries.{AreMet, signed_pairs, pairs_decided, spot
 use Rattle.edge_face.specs.Crossings.{edge_pairs, edge_number, crossed, crossing}
 use Rattle.edge_face.specs.Laws.{crossed_none}
 use Rattle.edge_face.specs.Pairs.{IsPairOf, ArePairsOf, pair_shadow, pair_on, pairs_number, first_place, spot_at, number_at, AreCounts, vertex_rim, edge_corners}
+use Rattle.edge_face.proofs.Kept.{seen}
 use Rattle.edge_face.specs.Parts.{itself, start_of, end_of, first_edge, second_edge, third_edge}
 
 -- the shadow of a pair is that of its answer
@@ -80,13 +82,17 @@ module _ (s f x y z : Option Meet) (ps : Pairs) (h : ArePairsOf (s ∷ f ∷ x �
       ∙ sym (ap (λ (t : Spot). chosen want s t) second
       ∙ chosen_pair want s ps.start (if on ps.end then spot_of f else (if on ps.first then spot_of x else (if on ps.second then spot_of y else (if on ps.third then spot_of z else no_spot)))) sized.0 h.0)
 
--- the counts of five answers
+-- a number known to be the count of a sized answer stays it at eight bits
+kept_count : (m : Option Meet) (n : ℤ) → IsSized m → n ≡ count_of m → seen w8 n ≡ count_of m
+kept_count m n h e = let b = sized_bounds m h in omega (arith, ints, b.0, b.1, e)
+
+-- the counts of five answers, as they are handed on
 pub record AreKnown (counts : List ℤ) (s f x y z : Option Meet) : Type 0 where
-  pub start : number_at counts 0 ≡ count_of s
-  pub end : number_at counts 1 ≡ count_of f
-  pub first : number_at counts 2 ≡ count_of x
-  pub second : number_at counts 3 ≡ count_of y
-  pub third : number_at counts 4 ≡ count_of z
+  pub start : seen w8 (number_at counts 0) ≡ count_of s
+  pub end : seen w8 (number_at counts 1) ≡ count_of f
+  pub first : seen w8 (number_at counts 2) ≡ count_of x
+  pub second : seen w8 (number_at counts 3) ≡ count_of y
+  pub third : seen w8 (number_at counts 4) ≡ count_of z
 
 -- the pairs of an edge and a face
 module _ (P Q : List Corner → List Corner → List Corner) (ends edges one other : ShadowTest) (h : AreMet P Q ends edges one other) (a b u v w : Corner) (fe : AllFine (a ∷ b ∷ [])) (ff : AllFine (u ∷ v ∷ w ∷ [])) where
@@ -134,11 +140,11 @@ module _ (P Q : List Corner → List Corner → List Corner) (ends edges one oth
   pub counts_known : (start end at counts : List ℤ) → AreCounts start end at counts → start ≡ map shadow_of (vertex_rim one a (u ∷ v ∷ w ∷ [])) → end ≡ map shadow_of (vertex_rim one b (u ∷ v ∷ w ∷ [])) →
       at ≡ map shadow_of (edge_corners other (a ∷ b ∷ []) (u ∷ v ∷ w ∷ [])) → AreKnown counts (ends (a ∷ []) (u ∷ v ∷ w ∷ [])) (ends (b ∷ []) (u ∷ v ∷ w ∷ [])) (edges (a ∷ b ∷ []) (u ∷ v ∷ [])) (edges (a ∷ b ∷ []) (v ∷ w ∷ [])) (edges (a ∷ b ∷ []) (w ∷ u ∷ []))
   counts_known start end at counts made is_start is_end is_at = record {
-    start = omega (arith, ints, made.start_count, s 0, s 1, s 2, h.ends_count a u v w (start_of a b IsFineCorner fe) ff);
-    end = omega (arith, ints, made.end_count, e 0, e 1, e 2, h.ends_count b u v w (end_of a b IsFineCorner fe) ff);
-    first = omega (arith, ints, made.first, s 0, e 0, t 0, t 1, h.edges_count a b u v fe (first_edge u v w IsFineCorner ff));
-    second = omega (arith, ints, made.second, s 1, e 1, t 1, t 2, h.edges_count a b v w fe (second_edge u v w IsFineCorner ff));
-    third = omega (arith, ints, made.third, s 2, e 2, t 2, t 0, h.edges_count a b w u fe (third_edge u v w IsFineCorner ff));
+    start = kept_count (ends (a ∷ []) (u ∷ v ∷ w ∷ [])) (number_at counts 0) sized_pairs.0 (omega (arith, ints, made.start_count, s 0, s 1, s 2, h.ends_count a u v w (start_of a b IsFineCorner fe) ff));
+    end = kept_count (ends (b ∷ []) (u ∷ v ∷ w ∷ [])) (number_at counts 1) sized_pairs.1.0 (omega (arith, ints, made.end_count, e 0, e 1, e 2, h.ends_count b u v w (end_of a b IsFineCorner fe) ff));
+    first = kept_count (edges (a ∷ b ∷ []) (u ∷ v ∷ [])) (number_at counts 2) sized_pairs.1.1.0 (omega (arith, ints, made.first, s 0, e 0, t 0, t 1, h.edges_count a b u v fe (first_edge u v w IsFineCorner ff)));
+    second = kept_count (edges (a ∷ b ∷ []) (v ∷ w ∷ [])) (number_at counts 3) sized_pairs.1.1.1.0 (omega (arith, ints, made.second, s 1, e 1, t 1, t 2, h.edges_count a b v w fe (second_edge u v w IsFineCorner ff)));
+    third = kept_count (edges (a ∷ b ∷ []) (w ∷ u ∷ [])) (number_at counts 4) sized_pairs.1.1.1.1.0 (omega (arith, ints, made.third, s 2, e 2, t 2, t 0, h.edges_count a b w u fe (third_edge u v w IsFineCorner ff)));
   }
     where
       s : (i : ℕ) → number_at start i ≡ number_at (map shadow_of (vertex_rim one a (u ∷ v ∷ w ∷ []))) i

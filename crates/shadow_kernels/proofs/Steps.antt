@@ -39,7 +39,7 @@ from_tally w ms r s h e =
     ∙ ap (λ (x : Spot). joined w (total shadow_of ms) (first_spot false ms) x) h.above
 
 -- the spot of nothing is fine
-no_spot_fine : IsFineSpot no_spot
+pub no_spot_fine : IsFineSpot no_spot
 no_spot_fine =
     let zero : IsFine (pos 0) = record { low = omega (arith, ints); high = omega (arith, ints) } in
     record { x = zero; py = zero; qy = zero; pz = zero; qz = zero }

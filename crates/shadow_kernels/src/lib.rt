@@ -17,7 +17,7 @@ pub use shadows::{
     edge_vertex_shadow, is_edge_above_edge, is_face_above_vertex, is_vertex_above_face,
     vertex_edge_shadow,
 };
-pub use spots::gap_of;
+pub use spots::{gap_of, spot_of};
 
 mod edges;
 mod grid;

@@ -5,9 +5,10 @@ ghost use Rattle.side_terms.specs.Fine.{IsFine, IsWeight};
 ghost use Rattle.side_terms.specs.Corners.{axis};
 ghost use Rattle.shadow_kernels.specs.Spots.{beats, beyond, mark, marks, gap, edge_value, spot00, spot01, spot10, spot_between};
 ghost use Rattle.shadow_kernels.specs.Bounds.{IsFineSpot};
+ghost use Rattle.shadow_kernels.specs.Entries.{spot_of};
 ghost use Rattle.shadow_kernels.specs.Hulls.{IsAlong};
 
-use crate::Spot;
+use crate::{Meet, Spot};
 use mb_base::Corner;
 use rounding::Rounding;
 
@@ -57,6 +58,23 @@ pub fn gap_of(p: i64, q: i64) -> i64
     ensures weight { IsWeight result }
 {
     (p - q).abs()
+}
+
+/// The spot of an answer; where there is none, one of zeros.
+pub fn spot_of(meet: &Option<Meet>) -> Spot
+    ensures { result ≡ spot_of meet.now }
+{
+    match meet {
+        None => Spot {
+            x: 0,
+            py: 0,
+            qy: 0,
+            pz: 0,
+            qz: 0,
+            up: [false; 3],
+        },
+        Some(m) => m.spot,
+    }
 }
 
 /// The spot of two vertices.

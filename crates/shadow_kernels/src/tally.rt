@@ -7,7 +7,7 @@ ghost use Rattle.shadow_kernels.specs.Bounds.{IsFinePair};
 ghost use Rattle.shadow_kernels.specs.Tallies.{IsTallyOf, IsFineTally};
 ghost use Rattle.shadow_kernels.specs.Sizes.{IsSized};
 
-use crate::spots::{exceeds, gap_of, mark_between, spot_between_spots};
+use crate::spots::{exceeds, gap_of, mark_between, spot_between_spots, spot_of};
 use crate::{Meet, Spot};
 use rounding::Rounding;
 
@@ -24,14 +24,7 @@ impl Tally {
     fn none() -> Tally
         ensures { result ≡ record { count = pos 0; below = no_spot; above = no_spot } }
     {
-        let nothing = Spot {
-            x: 0,
-            py: 0,
-            qy: 0,
-            pz: 0,
-            qz: 0,
-            up: [false; 3],
-        };
+        let nothing = spot_of(&None);
         Tally {
             count: 0,
             below: nothing,
