@@ -1,7 +1,7 @@
 -- Values as they stand after they were kept at a width, and spots of equal values.
 use Rattle.std.proofs.Common.{arith, ◌≡◌, ℕ, ℤ, Bool, List, ap, ◌∙◌, FitsSigned}
 use Rattle.std.proofs.lemmas.Int.{ints}
-use Rattle.std.specs.Int.{Width, w64, cast_signed, cast_unsigned}
+use Rattle.std.specs.Int.{Width, w8, w64, cast_signed, cast_unsigned}
 use Rattle.mb_base.specs.declared.point.Corner.{Corner}
 use Rattle.side_terms.specs.Fine.{IsFine, IsWeight}
 use Rattle.shadow_kernels.specs.declared.Spot.{Spot}
@@ -61,3 +61,7 @@ kept_value w i l r x y e fine fits =
     let kept : seen w64 y ≡ y = omega (arith, ints) in
     let same : seen w64 x ≡ x = omega (arith, ints, fine.low, fine.high) in
     kept ∙ e ∙ ap (λ (z : ℤ). edge_value w i l r z) same
+
+-- a number that fits eight bits stays as it is at them
+pub kept_unit : (z : ℤ) → FitsSigned w8 z → seen w8 z ≡ z
+kept_unit z fits = omega (arith, ints)

@@ -31,18 +31,15 @@ fine_spot ps qs fp fq None h = tt
 fine_spot ps qs fp fq (Some m) h = hull_fine ps qs m.spot fp fq h
 
 -- the answers of a vertex and an edge, and of an edge and a vertex, are sized and have fine spots
-pub fine01 : (w : Between) → StaysBetween w → (p c d : Corner) → IsFineCorner p → IsFineCorner c → IsFineCorner d → IsFinePair (meet01 w p c d)
-fine01 w stays p c d hp hc hd =
-    let fp = fine_one p hp in
-    let fq = fine_two c d hc hd in
-    record { sized = sized01 w p c d; fine = fine_spot (p ∷ []) (c ∷ d ∷ []) fp fq (meet01 w p c d) ((laws01 w stays).hull (p ∷ []) (c ∷ d ∷ []) (omega arith) refl refl fp fq) }
+module _ {r : Option Meet} (w : Between) (stays : StaysBetween w) (a b c : Corner) (ha : IsFineCorner a) (hb : IsFineCorner b) (hc : IsFineCorner c) where
+  pub fine01 : r ≡ meet01 w a b c → IsFinePair r
+  fine01 e =
+      let fp = fine_one a ha in
+      let fq = fine_two b c hb hc in
+      subst IsFinePair (sym e) (record { sized = sized01 w a b c; fine = fine_spot (a ∷ []) (b ∷ c ∷ []) fp fq (meet01 w a b c) ((laws01 w stays).hull (a ∷ []) (b ∷ c ∷ []) (omega arith) refl refl fp fq) })
 
-pub fine10 : (w : Between) → StaysBetween w → (a b q : Corner) → IsFineCorner a → IsFineCorner b → IsFineCorner q → IsFinePair (meet10 w a b q)
-fine10 w stays a b q ha hb hq =
-    let fp = fine_two a b ha hb in
-    let fq = fine_one q hq in
-    record { sized = sized10 w a b q; fine = fine_spot (a ∷ b ∷ []) (q ∷ []) fp fq (meet10 w a b q) ((laws10 w stays).hull (a ∷ b ∷ []) (q ∷ []) (omega arith) refl refl fp fq) }
-
--- an answer equal to a fine one is fine
-pub fine_at : (r m : Option Meet) → r ≡ m → IsFinePair m → IsFinePair r
-fine_at r m e h = subst IsFinePair (sym e) h
+  pub fine10 : r ≡ meet10 w a b c → IsFinePair r
+  fine10 e =
+      let fp = fine_two a b ha hb in
+      let fq = fine_one c hc in
+      subst IsFinePair (sym e) (record { sized = sized10 w a b c; fine = fine_spot (a ∷ b ∷ []) (c ∷ []) fp fq (meet10 w a b c) ((laws10 w stays).hull (a ∷ b ∷ []) (c ∷ []) (omega arith) refl refl fp fq) })

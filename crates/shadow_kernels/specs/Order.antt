@@ -31,12 +31,6 @@ beats_smaller p q up h =
     ap (λ (t : Bool). t || (int_eq p q && up)) (lt_false q p (omega (arith, ints)))
     ∙ ap (λ (t : Bool). t && up) (eq_false p q (int_eq p q) refl h)
 
--- an equal value is beyond where it is up
-pub beats_equal : (p q : ℤ) (up : Bool) → p ≡ q → beats p q up ≡ up
-beats_equal p q up e =
-    ap (λ (t : Bool). t || (int_eq p q && up)) (lt_false q p (omega (arith, ints)))
-    ∙ ap (λ (t : Bool). t && up) ((Decides-int_eq p q).1 e)
-
 -- a value beyond is no smaller
 pub beats_le : (p q : ℤ) (up : Bool) → beats p q up ≡ true → q ≤ℤ p
 beats_le p q up e = by_lt_z p q

@@ -47,17 +47,26 @@ pub met_some : (c : ℤ) (above : Bool) (s : Spot) → c ≢ pos 0 → met c abo
 unfolding met
 met_some c above s n = any_some c (record { count = c; above = above; spot = s }) n
 
--- an answer has the count that it was made of
-pub met_count : (c : ℤ) (above : Bool) (s : Spot) → count_of (met c above s) ≡ c
-met_count c above s = by_zero c
-    (λ e. ap count_of (met_none c above s e) ∙ sym e)
-    (λ n. ap count_of (met_some c above s n))
+-- what holds unless a number is 0 holds of what is there
+pub any_holds : {X : Type 0} (P : X → Type 0) (c : ℤ) (x : X) → (c ≢ pos 0 → P x) → IfSome (if_any c x) P
+any_holds P c x f = by_zero c
+    (λ e. rw (any_none c x e) tt)
+    (λ n. rw (any_some c x n) (f n))
 
--- what holds of the spot at every count that is not 0 holds of the answer
+-- a number that is 0 where there is nothing is that of which the rest was made
+pub any_number : {X : Type 0} (number : Option X → ℤ) (c : ℤ) (x : X) → number None ≡ pos 0 → number (Some x) ≡ c → number (if_any c x) ≡ c
+any_number number c x none some = by_zero c
+    (λ e. ap number (any_none c x e) ∙ none ∙ sym e)
+    (λ n. ap number (any_some c x n) ∙ some)
+
+-- so an answer has its count, and what holds at every count that is not 0 holds of it
+pub met_count : (c : ℤ) (above : Bool) (s : Spot) → count_of (met c above s) ≡ c
+unfolding met
+met_count c above s = any_number count_of c (record { count = c; above = above; spot = s }) refl refl
+
 pub met_holds : (P : Meet → Type 0) (c : ℤ) (above : Bool) (s : Spot) → (c ≢ pos 0 → P (record { count = c; above = above; spot = s })) → IfSome (met c above s) P
-met_holds P c above s f = by_zero c
-    (λ e. rw (met_none c above s e) tt)
-    (λ n. rw (met_some c above s n) (f n))
+unfolding met
+met_holds P c above s f = any_holds P c (record { count = c; above = above; spot = s }) f
 
 -- an answer at the count turned
 pub met_turned : (c : ℤ) (above : Bool) (s : Spot) → met (neg_ℤ c) above s ≡ turned (met c above s)

@@ -1,11 +1,10 @@
-use Rattle.std.proofs.Common.{rules, arith, refl, ◌≡◌, ◌-ℤ◌, sym}
+use Rattle.std.proofs.Common.{rules, arith, refl, ◌≡◌, ◌-ℤ◌}
 use Rattle.std.proofs.lemmas.Int.{ints}
 use Rattle.std.specs.Int.{w64}
 use Rattle.side_terms.specs.Corners.{axis}
-use Rattle.shadow_kernels.specs.Hulls.{StaysBetween, value_between}
-use Rattle.shadow_kernels.specs.Order.{beats_greater, beats_smaller}
+use Rattle.shadow_kernels.specs.Hulls.{value_between}
 use Rattle.shadow_kernels.specs.Spots.{Between, edge_value, flag, mark, spot01}
-use Rattle.shadow_kernels.proofs.Sights.{low_value, high_value, same_beats}
+use Rattle.shadow_kernels.proofs.Sights.{beats_low, beats_high, same_beats}
 use Rattle.shadow_kernels.proofs.Values.{seen, kept_value, same_mark}
 use Rattle.shadow_kernels.proofs.shadows.is_above_edge.Goals as goal
 
@@ -17,9 +16,7 @@ returns-then-right-y g c =
     let l = c.args.left.now in
     let r = c.args.right.now in
     let x = axis 0 m in
-    let stays : StaysBetween w = record { within = g.met.R.Rounding.within c.args.rounding.now } in
-    let lies = value_between w stays l r x c.requires 1 (omega arith) in
-    sym (beats_greater (axis 1 m) (edge_value w 1 l r x) (flag c.args.p.now.up 1) (low_value (axis 1 l) (axis 1 r) (axis 1 m) (edge_value w 1 l r x) lies (omega (arith, ints)) (omega (arith, ints))))
+    beats_low (axis 1 m) (flag m.up 1) (value_between w (record { within = g.met.R.Rounding.within c.args.rounding.now }) l r x c.requires 1 (omega arith)) (omega (arith, ints)) (omega (arith, ints))
 
 pub returns-then-y-right : goal.returns-then-y-right
 unfolding spot01
@@ -29,9 +26,7 @@ returns-then-y-right g c =
     let l = c.args.left.now in
     let r = c.args.right.now in
     let x = axis 0 m in
-    let stays : StaysBetween w = record { within = g.met.R.Rounding.within c.args.rounding.now } in
-    let lies = value_between w stays l r x c.requires 1 (omega arith) in
-    sym (beats_smaller (axis 1 m) (edge_value w 1 l r x) (flag c.args.p.now.up 1) (high_value (axis 1 l) (axis 1 r) (axis 1 m) (edge_value w 1 l r x) lies (omega (arith, ints)) (omega (arith, ints))))
+    beats_high (axis 1 m) (flag m.up 1) (value_between w (record { within = g.met.R.Rounding.within c.args.rounding.now }) l r x c.requires 1 (omega arith)) (omega (arith, ints)) (omega (arith, ints))
 
 pub returns : goal.returns
 unfolding spot01

@@ -1,7 +1,7 @@
 use Rattle.std.proofs.Common.{refl}
 use Rattle.side_terms.specs.Corners.{corner_at}
 use Rattle.shadow_kernels.specs.GridLaws.{laws11}
-use Rattle.shadow_kernels.specs.Shadows.{boundary11, meet11, edge_edge}
+use Rattle.shadow_kernels.specs.Shadows.{boundary11, meet11}
 use Rattle.shadow_kernels.specs.Spots.{Between}
 use Rattle.shadow_kernels.proofs.Sights.{when_below, when_above, mark_of_tally}
 use Rattle.shadow_kernels.proofs.shadows.is_edge_above_edge.Goals as goal
@@ -9,18 +9,12 @@ use Rattle.shadow_kernels.proofs.shadows.is_edge_above_edge.Goals as goal
 pub returns-then-is_below : goal.returns-then-is_below
 returns-then-is_below g c =
     let w : Between = g.R.Rounding.between_of c.args.rounding.now in
-    let laws = laws11 w (record { within = g.met.R.Rounding.within c.args.rounding.now }) in
-    let p = c.args.p.now in
-    let q = c.args.q.now in
-    when_below 2 p q (edge_edge w p q) (laws.side p q 2 c.told-p c.told-q c.requires.p_fine c.requires.q_fine refl) (c.is_below.ensures c.if-is_below.true)
+    when_below (laws11 w (record { within = g.met.R.Rounding.within c.args.rounding.now })) refl c.args.p.now c.args.q.now c.told-p c.told-q c.requires.p_fine c.requires.q_fine (c.is_below.ensures c.if-is_below.true)
 
 pub returns-then-is_below-2 : goal.returns-then-is_below-2
 returns-then-is_below-2 g c =
     let w : Between = g.R.Rounding.between_of c.args.rounding.now in
-    let laws = laws11 w (record { within = g.met.R.Rounding.within c.args.rounding.now }) in
-    let p = c.args.p.now in
-    let q = c.args.q.now in
-    when_above 2 p q (edge_edge w p q) (laws.side p q 2 c.told-p c.told-q c.requires.p_fine c.requires.q_fine refl) (c.is_below-2.ensures c.if-is_below-2.true)
+    when_above (laws11 w (record { within = g.met.R.Rounding.within c.args.rounding.now })) refl c.args.p.now c.args.q.now c.told-p c.told-q c.requires.p_fine c.requires.q_fine (c.is_below-2.ensures c.if-is_below-2.true)
 
 pub returns : goal.returns
 unfolding meet11
