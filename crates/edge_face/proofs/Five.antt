@@ -1,5 +1,5 @@
 -- What the code knows of the five boundary pairs of an edge and a face, for an edge of P and for one of Q alike.
-use Rattle.std.proofs.Common.{arith, ◌≡◌, ◌≢◌, ℕ, ℤ, pos, ◌+ℤ◌, ◌-ℤ◌, Bool, true, false, not, if◌then◌else◌, Option, None, Some, IfSome, List, [], ◌∷◌, map, refl, sym, ap, subst, inl, inr, ◌∙◌}
+use Rattle.std.proofs.Common.{arith, ◌≡◌, ◌≢◌, ℕ, ℤ, pos, ◌+ℤ◌, ◌-ℤ◌, Bool, true, false, not, if◌then◌else◌, Option, None, Some, IfSome, List, [], ◌∷◌, map, get_or, refl, sym, ap, subst, inl, inr, ◌∙◌}
 use Rattle.std.specs.Int.{w8}
 use Rattle.std.specs.Ordering.{int_eq}
 use Rattle.std.proofs.lemmas.Int.{ints}
@@ -87,15 +87,20 @@ kept_count : (m : Option Meet) (n : ℤ) → IsSized m → n ≡ count_of m → 
 kept_count m n h e = let b = sized_bounds m h in omega (arith, ints, b.0, b.1, e)
 
 -- the counts of five answers, as they are handed on
-pub record AreKnown (counts : List ℤ) (s f x y z : Option Meet) : Type 0 where
-  pub start : seen w8 (number_at counts 0) ≡ count_of s
-  pub end : seen w8 (number_at counts 1) ≡ count_of f
-  pub first : seen w8 (number_at counts 2) ≡ count_of x
-  pub second : seen w8 (number_at counts 3) ≡ count_of y
-  pub third : seen w8 (number_at counts 4) ≡ count_of z
+pub record AreKnown (counts : List ℤ) (ms : List (Option Meet)) : Type 0 where
+  pub start : seen w8 (number_at counts 0) ≡ count_of (get_or ms 0 None)
+  pub end : seen w8 (number_at counts 1) ≡ count_of (get_or ms 1 None)
+  pub first : seen w8 (number_at counts 2) ≡ count_of (get_or ms 2 None)
+  pub second : seen w8 (number_at counts 3) ≡ count_of (get_or ms 3 None)
+  pub third : seen w8 (number_at counts 4) ≡ count_of (get_or ms 4 None)
+
+-- the number of answers, as the code reads it from their pairs, and the first spots
+pub record AreRead (ms : List (Option Meet)) (n : ℤ) (ps : Pairs) : Type 0 where
+  pub number : pairs_number ps ≡ n
+  pub spot : (want : Bool) (s : Spot) (i : ℕ) → s ≡ spot_at ms i → i ≡ first_place want ps → (s ≡ first_spot want ms) × IsFineSpot s
 
 -- the pairs of an edge and a face
-module _ (P Q : List Corner → List Corner → List Corner) (ends edges one other : ShadowTest) (h : AreMet P Q ends edges one other) (a b u v w : Corner) (fe : AllFine (a ∷ b ∷ [])) (ff : AllFine (u ∷ v ∷ w ∷ [])) where
+module _ {P Q : List Corner → List Corner → List Corner} {ends edges one other : ShadowTest} (h : AreMet P Q ends edges one other) (a b u v w : Corner) (fe : AllFine (a ∷ b ∷ [])) (ff : AllFine (u ∷ v ∷ w ∷ [])) where
   -- are sized
   sized_pairs : Each IsSized (edge_pairs ends edges a b u v w)
   sized_pairs =
@@ -111,34 +116,34 @@ module _ (P Q : List Corner → List Corner → List Corner) (ends edges one oth
         ),
       )
 
-  pub spot_known : (want : Bool) (ps : Pairs) → ArePairsOf (edge_pairs ends edges a b u v w) ps → spot_at (edge_pairs ends edges a b u v w) (first_place want ps) ≡ first_spot want (edge_pairs ends edges a b u v w)
-  spot_known want ps k =
-      let e = a ∷ b ∷ [] in
-      let f = u ∷ v ∷ w ∷ [] in
-      spot_of_pairs (ends (a ∷ []) f) (ends (b ∷ []) f) (edges e (u ∷ v ∷ [])) (edges e (v ∷ w ∷ [])) (edges e (w ∷ u ∷ [])) ps k want sized_pairs
-
-  pub number_known : (ps : Pairs) → ArePairsOf (edge_pairs ends edges a b u v w) ps → pairs_number ps ≡ edge_number ends edges a b u v w
-  number_known ps k =
-      let e = a ∷ b ∷ [] in
-      let f = u ∷ v ∷ w ∷ [] in
-      number_of_pairs (ends (a ∷ []) f) (ends (b ∷ []) f) (edges e (u ∷ v ∷ [])) (edges e (v ∷ w ∷ [])) (edges e (w ∷ u ∷ [])) ps k
-
-  -- the first spots are fine
-  pub first_fine : AllFine (P (a ∷ b ∷ []) (u ∷ v ∷ w ∷ [])) → AllFine (Q (a ∷ b ∷ []) (u ∷ v ∷ w ∷ [])) → (want : Bool) (s : Spot) → s ≡ first_spot want (edge_pairs ends edges a b u v w) → IsFineSpot s
-  first_fine fp fq want s e =
-      let p = P (a ∷ b ∷ []) (u ∷ v ∷ w ∷ []) in
-      let q = Q (a ∷ b ∷ []) (u ∷ v ∷ w ∷ []) in
-      let fine : (m : Option Meet) → IsDecided 2 p q m → IfSome m (λ n. IsFineSpot n.spot) = λ m d. fine_if m (d.hull (omega arith)) in
-      subst IsFineSpot (sym (e ∙ spots_signed ends edges a b u v w want))
-      (first_holds IsFineSpot want (signed_pairs ends edges a b u v w) no_spot_fine (each_map (IsDecided 2 p q) (λ m. IfSome m (λ n. IsFineSpot n.spot)) fine (signed_pairs ends edges a b u v w) (pairs_decided P Q ends edges one other h a b u v w fe ff)))
+  -- what the code reads from them
+  pub pairs_read : AllFine (P (a ∷ b ∷ []) (u ∷ v ∷ w ∷ [])) → AllFine (Q (a ∷ b ∷ []) (u ∷ v ∷ w ∷ [])) → (ps : Pairs) → ArePairsOf (edge_pairs ends edges a b u v w) ps →
+      AreRead (edge_pairs ends edges a b u v w) (edge_number ends edges a b u v w) ps
+  pairs_read fp fq ps k =
+      let s = ends (a ∷ []) (u ∷ v ∷ w ∷ []) in
+      let t = ends (b ∷ []) (u ∷ v ∷ w ∷ []) in
+      let x = edges (a ∷ b ∷ []) (u ∷ v ∷ []) in
+      let y = edges (a ∷ b ∷ []) (v ∷ w ∷ []) in
+      let z = edges (a ∷ b ∷ []) (w ∷ u ∷ []) in
+      let ms = edge_pairs ends edges a b u v w in
+      let first : (want : Bool) (r : Spot) (i : ℕ) → r ≡ spot_at ms i → i ≡ first_place want ps → r ≡ first_spot want ms = λ want r i e at.
+      e ∙ ap (λ (n : ℕ). spot_at ms n) at ∙ spot_of_pairs s t x y z ps k want sized_pairs in
+      record {
+        number = number_of_pairs s t x y z ps k;
+        spot = λ want r i e at. (first want r i e at, subst IsFineSpot (sym (first want r i e at ∙ spots_signed ends edges a b u v w want)) (fine want));
+      }
     where
       fine_if : (m : Option Meet) → IfSome m (λ n. IsInHull (P (a ∷ b ∷ []) (u ∷ v ∷ w ∷ [])) (Q (a ∷ b ∷ []) (u ∷ v ∷ w ∷ [])) n.spot) → IfSome m (λ n. IsFineSpot n.spot)
       fine_if None k = tt
       fine_if (Some n) k = hull_fine (P (a ∷ b ∷ []) (u ∷ v ∷ w ∷ [])) (Q (a ∷ b ∷ []) (u ∷ v ∷ w ∷ [])) n.spot fp fq k
 
+      fine : (want : Bool) → IsFineSpot (first_spot want (signed_pairs ends edges a b u v w))
+      fine want = first_holds IsFineSpot want (signed_pairs ends edges a b u v w) no_spot_fine
+          (each_map (IsDecided 2 (P (a ∷ b ∷ []) (u ∷ v ∷ w ∷ [])) (Q (a ∷ b ∷ []) (u ∷ v ∷ w ∷ []))) (λ m. IfSome m (λ n. IsFineSpot n.spot)) (λ m d. fine_if m (d.hull (omega arith))) (signed_pairs ends edges a b u v w) (pairs_decided h a b u v w fe ff))
+
   -- their counts are made of shadows
   pub counts_known : (start end at counts : List ℤ) → AreCounts start end at counts → start ≡ map shadow_of (vertex_rim one a (u ∷ v ∷ w ∷ [])) → end ≡ map shadow_of (vertex_rim one b (u ∷ v ∷ w ∷ [])) →
-      at ≡ map shadow_of (edge_corners other (a ∷ b ∷ []) (u ∷ v ∷ w ∷ [])) → AreKnown counts (ends (a ∷ []) (u ∷ v ∷ w ∷ [])) (ends (b ∷ []) (u ∷ v ∷ w ∷ [])) (edges (a ∷ b ∷ []) (u ∷ v ∷ [])) (edges (a ∷ b ∷ []) (v ∷ w ∷ [])) (edges (a ∷ b ∷ []) (w ∷ u ∷ []))
+      at ≡ map shadow_of (edge_corners other (a ∷ b ∷ []) (u ∷ v ∷ w ∷ [])) → AreKnown counts (edge_pairs ends edges a b u v w)
   counts_known start end at counts made is_start is_end is_at = record {
     start = kept_count (ends (a ∷ []) (u ∷ v ∷ w ∷ [])) (number_at counts 0) sized_pairs.0 (omega (arith, ints, made.start_count, s 0, s 1, s 2, h.ends_count a u v w (start_of a b IsFineCorner fe) ff));
     end = kept_count (ends (b ∷ []) (u ∷ v ∷ w ∷ [])) (number_at counts 1) sized_pairs.1.0 (omega (arith, ints, made.end_count, e 0, e 1, e 2, h.ends_count b u v w (end_of a b IsFineCorner fe) ff));

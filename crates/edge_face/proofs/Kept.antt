@@ -42,10 +42,7 @@ fine_face f three h = fine_three (corner_at f 0) (corner_at f 1) (corner_at f 2)
 pub kept_small : (a : ℤ) → unsigned_abs a ≤ 40 → seen w8 a ≡ a
 kept_small a h = omega (arith, ints, h)
 
--- so do a shadow, and any number that fits
-pub kept_one : (a : ℤ) → unsigned_abs a ≤ 1 → seen w8 a ≡ a
-kept_one a h = kept_small a (omega arith)
-
+-- so does any number that fits
 pub kept_fit : (a : ℤ) → FitsSigned w8 a → seen w8 a ≡ a
 kept_fit a h = omega (arith, ints)
 

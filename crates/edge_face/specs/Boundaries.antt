@@ -90,7 +90,7 @@ spots_signed ends edges a b u v w want =
     same : (s f x y z : Option Meet) → first_spot want (s ∷ f ∷ x ∷ y ∷ z ∷ []) ≡ first_spot want (turned s ∷ f ∷ turned x ∷ turned y ∷ turned z ∷ [])
     same s f x y z = kept s _ _ (ap (λ (t : Spot). chosen want f t) (kept x _ _ (kept y _ _ (kept z _ _ refl))))
 
-module _ (P Q : List Corner → List Corner → List Corner) (ends edges one other : ShadowTest) (h : AreMet P Q ends edges one other) (a b u v w : Corner) (fe : AllFine (a ∷ b ∷ [])) (ff : AllFine (u ∷ v ∷ w ∷ [])) where
+module _ {P Q : List Corner → List Corner → List Corner} {ends edges one other : ShadowTest} (h : AreMet P Q ends edges one other) (a b u v w : Corner) (fe : AllFine (a ∷ b ∷ [])) (ff : AllFine (u ∷ v ∷ w ∷ [])) where
   -- they are decided in the boxes of the edge and the face
   pub pairs_decided : Each (IsDecided 2 (P (a ∷ b ∷ []) (u ∷ v ∷ w ∷ [])) (Q (a ∷ b ∷ []) (u ∷ v ∷ w ∷ []))) (signed_pairs ends edges a b u v w)
   pairs_decided =

@@ -13,7 +13,7 @@ use Rattle.shadow_kernels.specs.Spots.{Between}
 use Rattle.shadow_kernels.specs.Counts.{shadow_of, first_spot}
 use Rattle.shadow_kernels.specs.ShadowLaws.{ShadowTest}
 use Rattle.shadow_kernels.specs.Shadows.{vertex_edge, edge_vertex, edge_edge, vertex_face, face_vertex}
-use Rattle.shadow_kernels.specs.Sizes.{IsSized, by_zero, any_none, any_some}
+use Rattle.shadow_kernels.specs.Sizes.{IsSized, any_none, any_holds, any_number}
 use Rattle.shadow_kernels.specs.Entries.{Each, each_map, five_size}
 use Rattle.shadow_kernels.specs.Hulls.{StaysBetween}
 use Rattle.shadow_kernels.specs.Decided.{IsDecided, apart_none, first_hull}
@@ -29,18 +29,14 @@ unfolding crossed
 crossed_none n at e = any_none {X = Cross} n (record { number = n; at = at }) e
 
 -- what holds at every number that is not 0 holds of the answer
-pub crossed_holds : (P : Cross → Type 0) (n : ℤ) (at : List ℤ) → (n ≢ pos 0 → P (record { number = n; at = at })) → IfSome (crossed n at) P
+crossed_holds : (P : Cross → Type 0) (n : ℤ) (at : List ℤ) → (n ≢ pos 0 → P (record { number = n; at = at })) → IfSome (crossed n at) P
 unfolding crossed
-crossed_holds P n at f = by_zero n
-    (λ e. rw (any_none {X = Cross} n (record { number = n; at = at }) e) tt)
-    (λ h. rw (any_some {X = Cross} n (record { number = n; at = at }) h) (f h))
+crossed_holds P n at f = any_holds P n (record { number = n; at = at }) f
 
 -- an answer has the number that it was made of
 crossed_number : (n : ℤ) (at : List ℤ) → number_of (crossed n at) ≡ n
 unfolding crossed
-crossed_number n at = by_zero n
-    (λ e. ap number_of (any_none {X = Cross} n (record { number = n; at = at }) e) ∙ sym e)
-    (λ h. ap number_of (any_some {X = Cross} n (record { number = n; at = at }) h))
+crossed_number n at = any_number number_of n (record { number = n; at = at }) refl refl
 
 -- so a crossing has its number, whatever the tests are
 pub lift : (ends edges : ShadowTest) (place : Spot → Spot → List ℤ) (a b u v w : Corner) → number_of (crossing ends edges place a b u v w) ≡ edge_number ends edges a b u v w
@@ -55,25 +51,25 @@ present ends edges place a b u v w =
     crossed_holds (λ c. c.number ≢ pos 0) (edge_number ends edges a b u v w) (place (first_spot false (edge_pairs ends edges a b u v w)) (first_spot true (edge_pairs ends edges a b u v w))) (λ n. n)
 
 -- the rest under lawful tests
-module _ (P Q : List Corner → List Corner → List Corner) (ends edges one other : ShadowTest) (h : AreMet P Q ends edges one other) (place : Spot → Spot → List ℤ)
+module _ {P Q : List Corner → List Corner → List Corner} {ends edges one other : ShadowTest} (h : AreMet P Q ends edges one other) (place : Spot → Spot → List ℤ)
   (a b u v w : Corner) (fe : AllFine (a ∷ b ∷ [])) (ff : AllFine (u ∷ v ∷ w ∷ [])) where
   pub number_size : (negsuc 1 ≤ℤ number_of (crossing ends edges place a b u v w)) × (number_of (crossing ends edges place a b u v w) ≤ℤ pos 2)
   number_size =
       let e = P (a ∷ b ∷ []) (u ∷ v ∷ w ∷ []) in
       let f = Q (a ∷ b ∷ []) (u ∷ v ∷ w ∷ []) in
       let ms = signed_pairs ends edges a b u v w in
-      let each = pairs_decided P Q ends edges one other h a b u v w fe ff in
-      let k = five_size ms (each_map (IsDecided 2 e f) IsSized (λ m d. d.sized) ms each) (omega arith) (pairs_whole P Q ends edges one other h a b u v w fe ff) in
+      let each = pairs_decided h a b u v w fe ff in
+      let k = five_size ms (each_map (IsDecided 2 e f) IsSized (λ m d. d.sized) ms each) (omega arith) (pairs_whole h a b u v w fe ff) in
       (omega (arith, ints, lift ends edges place a b u v w, number_signed ends edges a b u v w, k.0), omega (arith, ints, lift ends edges place a b u v w, number_signed ends edges a b u v w, k.1))
 
   pub turned_crossing : number_of (crossing ends edges place b a u v w) ≡ neg_ℤ (number_of (crossing ends edges place a b u v w))
-  turned_crossing = lift ends edges place b a u v w ∙ number_turned P Q ends edges one other h a b u v w fe ff ∙ ap neg_ℤ (sym (lift ends edges place a b u v w))
+  turned_crossing = lift ends edges place b a u v w ∙ number_turned h a b u v w fe ff ∙ ap neg_ℤ (sym (lift ends edges place a b u v w))
 
   pub apart_crossing : (i : ℕ) → i < 3 → AreApart i (P (a ∷ b ∷ []) (u ∷ v ∷ w ∷ [])) (Q (a ∷ b ∷ []) (u ∷ v ∷ w ∷ [])) → crossing ends edges place a b u v w ≡ None
   unfolding crossing
   apart_crossing i less apart =
       let ms = signed_pairs ends edges a b u v w in
-      let none = apart_none 2 (P (a ∷ b ∷ []) (u ∷ v ∷ w ∷ [])) (Q (a ∷ b ∷ []) (u ∷ v ∷ w ∷ [])) ms (pairs_decided P Q ends edges one other h a b u v w fe ff) (pairs_whole P Q ends edges one other h a b u v w fe ff) i less apart in
+      let none = apart_none 2 (P (a ∷ b ∷ []) (u ∷ v ∷ w ∷ [])) (Q (a ∷ b ∷ []) (u ∷ v ∷ w ∷ [])) ms (pairs_decided h a b u v w fe ff) (pairs_whole h a b u v w fe ff) i less apart in
       crossed_none (edge_number ends edges a b u v w) (place (first_spot false (edge_pairs ends edges a b u v w)) (first_spot true (edge_pairs ends edges a b u v w))) (number_signed ends edges a b u v w ∙ none)
 
   -- what holds of each point placed between spots in the boxes holds of the crossing's point
@@ -87,7 +83,7 @@ module _ (P Q : List Corner → List Corner → List Corner) (ends edges one oth
       let ms = signed_pairs ends edges a b u v w in
       let in_hull : edge_number ends edges a b u v w ≢ pos 0 → (want : Bool) → IsInHull e f (first_spot want (edge_pairs ends edges a b u v w)) = λ n want.
       subst (IsInHull e f) (sym (spots_signed ends edges a b u v w want))
-      (first_hull 2 e f ms (pairs_decided P Q ends edges one other h a b u v w fe ff) (pairs_whole P Q ends edges one other h a b u v w fe ff) (omega arith) (λ z. n (number_signed ends edges a b u v w ∙ z)) want) in
+      (first_hull 2 e f ms (pairs_decided h a b u v w fe ff) (pairs_whole h a b u v w fe ff) (omega arith) (λ z. n (number_signed ends edges a b u v w ∙ z)) want) in
       crossed_holds (λ c. X c.at) (edge_number ends edges a b u v w) (place (first_spot false (edge_pairs ends edges a b u v w)) (first_spot true (edge_pairs ends edges a b u v w)))
       (λ n. each (first_spot false (edge_pairs ends edges a b u v w)) (first_spot true (edge_pairs ends edges a b u v w)) (in_hull n false) (in_hull n true))
 
@@ -109,18 +105,16 @@ module _ (w : Between) (stays : StaysBetween w) (settle : Settle) (settling : Is
   edge_face_laws =
       let vf = vertex_face w in
       let ee = edge_edge w in
-      let ve = vertex_edge w in
-      let ev = edge_vertex w in
       let h = grid_edge_face w stays in
       let place = p_point w settle in
       let test = edge_face_crossing w settle in record {
         present = λ p q l m fp fq. present vf ee place (corner_at p 0) (corner_at p 1) (corner_at q 0) (corner_at q 1) (corner_at q 2);
-        size = by_lists (λ p q. (negsuc 1 ≤ℤ number_of (test p q)) × (number_of (test p q) ≤ℤ pos 2)) (number_size (λ e f. e) (λ e f. f) vf ee ve ev h place);
-        turn_p = λ p q two. by_lists (λ p q. number_of (test (swap p 0 1) q) ≡ neg_ℤ (number_of (test p q))) (turned_crossing (λ e f. e) (λ e f. f) vf ee ve ev h place) p q;
+        size = by_lists (λ p q. (negsuc 1 ≤ℤ number_of (test p q)) × (number_of (test p q) ≤ℤ pos 2)) (number_size h place);
+        turn_p = λ p q two. by_lists (λ p q. number_of (test (swap p 0 1) q) ≡ neg_ℤ (number_of (test p q))) (turned_crossing h place) p q;
         turn_q = λ p q two. absurd (omega (arith, two));
-        apart = λ p q i l m fp fq. by_lists (λ p q. i < 3 → AreApart i p q → test p q ≡ None) (λ a b u v t fe ff. apart_crossing (λ e f. e) (λ e f. f) vf ee ve ev h place a b u v t fe ff i) p q l m fp fq;
+        apart = λ p q i l m fp fq. by_lists (λ p q. i < 3 → AreApart i p q → test p q ≡ None) (λ a b u v t fe ff. apart_crossing h place a b u v t fe ff i) p q l m fp fq;
         inside_p = λ p q two l m fp fq whole also. by_lists (λ p q. AllWhole p → IfSome (test p q) (λ c. IsPointIn p c.at))
-            (λ a b u v t fe ff we. point_holds (λ e f. e) (λ e f. f) vf ee ve ev h place a b u v t fe ff (IsPointIn (a ∷ b ∷ [])) (λ d s. p_point_inside w stays settle settling a b (u ∷ v ∷ t ∷ []) d s fe ff we)) p q l m fp fq whole;
+            (λ a b u v t fe ff we. point_holds h place a b u v t fe ff (IsPointIn (a ∷ b ∷ [])) (λ d s. p_point_inside w stays settle settling a b (u ∷ v ∷ t ∷ []) d s fe ff we)) p q l m fp fq whole;
         inside_q = λ p q two. absurd (omega (arith, two));
       }
 
@@ -128,17 +122,15 @@ module _ (w : Between) (stays : StaysBetween w) (settle : Settle) (settling : Is
   face_edge_laws =
       let vf = mirror (face_vertex w) in
       let ee = mirror (edge_edge w) in
-      let ve = mirror (edge_vertex w) in
-      let ev = mirror (vertex_edge w) in
       let h = grid_face_edge w stays in
       let place = q_point w settle in
       let test = face_edge_crossing w settle in record {
         present = λ p q l m fp fq. present vf ee place (corner_at q 0) (corner_at q 1) (corner_at p 0) (corner_at p 1) (corner_at p 2);
-        size = λ p q l m fp fq. by_lists (λ q p. (negsuc 1 ≤ℤ number_of (test p q)) × (number_of (test p q) ≤ℤ pos 2)) (number_size (λ e f. f) (λ e f. e) vf ee ve ev h place) q p m l fq fp;
+        size = λ p q l m fp fq. by_lists (λ q p. (negsuc 1 ≤ℤ number_of (test p q)) × (number_of (test p q) ≤ℤ pos 2)) (number_size h place) q p m l fq fp;
         turn_p = λ p q two. absurd (omega (arith, two));
-        turn_q = λ p q two l m fp fq. by_lists (λ q p. number_of (test p (swap q 0 1)) ≡ neg_ℤ (number_of (test p q))) (turned_crossing (λ e f. f) (λ e f. e) vf ee ve ev h place) q p m l fq fp;
-        apart = λ p q i l m fp fq. by_lists (λ q p. i < 3 → AreApart i p q → test p q ≡ None) (λ a b u v t fe ff. apart_crossing (λ e f. f) (λ e f. e) vf ee ve ev h place a b u v t fe ff i) q p m l fq fp;
+        turn_q = λ p q two l m fp fq. by_lists (λ q p. number_of (test p (swap q 0 1)) ≡ neg_ℤ (number_of (test p q))) (turned_crossing h place) q p m l fq fp;
+        apart = λ p q i l m fp fq. by_lists (λ q p. i < 3 → AreApart i p q → test p q ≡ None) (λ a b u v t fe ff. apart_crossing h place a b u v t fe ff i) q p m l fq fp;
         inside_p = λ p q two. absurd (omega (arith, two));
         inside_q = λ p q two l m fp fq also whole. by_lists (λ q p. AllWhole q → IfSome (test p q) (λ c. IsPointIn q c.at))
-            (λ a b u v t fe ff we. point_holds (λ e f. f) (λ e f. e) vf ee ve ev h place a b u v t fe ff (IsPointIn (a ∷ b ∷ [])) (λ d s. q_point_inside w stays settle settling a b (u ∷ v ∷ t ∷ []) d s ff fe we)) q p m l fq fp whole;
+            (λ a b u v t fe ff we. point_holds h place a b u v t fe ff (IsPointIn (a ∷ b ∷ [])) (λ d s. q_point_inside w stays settle settling a b (u ∷ v ∷ t ∷ []) d s ff fe we)) q p m l fq fp whole;
       }

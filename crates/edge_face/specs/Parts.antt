@@ -2,7 +2,7 @@
 use Rattle.std.specs.Prelude.{◌≡◌, ℕ, ◌+◌, ℤ, ◌≤ℤ◌, ◌<ℤ◌, Bool, true, false, Option, None, Some, IfSome, List, [], ◌∷◌, length}
 use Rattle.std.specs.List.{All}
 use Rattle.std.proofs.Common.{arith, inl, inr}
-use Rattle.std.proofs.lemmas.List.Elements.{All-nil, All-cons, All-head, All-tail, All-weaker}
+use Rattle.std.proofs.lemmas.List.Elements.{All-nil, All-cons, All-weaker}
 use Rattle.mb_base.specs.declared.point.Corner.{Corner}
 use Rattle.side_terms.specs.Corners.{axis, IsFineCorner, AllFine}
 use Rattle.shadow_kernels.specs.declared.Spot.{Spot}
@@ -22,36 +22,27 @@ IsPart part whole = (P : Corner → Type 0) → All P whole → All P part
 pub itself : (cs : List Corner) → IsPart cs cs
 itself cs P h = h
 
--- the first, the second and the third of three
-first_of : (u v w : Corner) (P : Corner → Type 0) → All P (u ∷ v ∷ w ∷ []) → P u
-first_of u v w P h = All-head P u (v ∷ w ∷ []) h
-
-second_of : (u v w : Corner) (P : Corner → Type 0) → All P (u ∷ v ∷ w ∷ []) → P v
-second_of u v w P h = All-head P v (w ∷ []) (All-tail P u (v ∷ w ∷ []) h)
-
-third_of : (u v w : Corner) (P : Corner → Type 0) → All P (u ∷ v ∷ w ∷ []) → P w
-third_of u v w P h = All-head P w [] (All-tail P v (w ∷ []) (All-tail P u (v ∷ w ∷ []) h))
-
 -- two corners of which something holds
 pub both_of : (P : Corner → Type 0) (a b : Corner) → P a → P b → All P (a ∷ b ∷ [])
 both_of P a b h k = All-cons P a (b ∷ []) h (All-cons P b [] k (All-nil P))
 
 -- the start and the end of an edge
 pub start_of : (a b : Corner) → IsPart (a ∷ []) (a ∷ b ∷ [])
-start_of a b P h = All-cons P a [] (All-head P a (b ∷ []) h) (All-nil P)
+start_of a b P h = All-cons P a [] (h 0 a (omega arith)) (All-nil P)
 
 pub end_of : (a b : Corner) → IsPart (b ∷ []) (a ∷ b ∷ [])
-end_of a b P h = All-cons P b [] (All-head P b [] (All-tail P a (b ∷ []) h)) (All-nil P)
+end_of a b P h = All-cons P b [] (h 1 b (omega arith)) (All-nil P)
 
 -- the three edges of a face
-pub first_edge : (u v w : Corner) → IsPart (u ∷ v ∷ []) (u ∷ v ∷ w ∷ [])
-first_edge u v w P h = both_of P u v (first_of u v w P h) (second_of u v w P h)
+module _ (u v w : Corner) where
+  pub first_edge : IsPart (u ∷ v ∷ []) (u ∷ v ∷ w ∷ [])
+  first_edge P h = both_of P u v (h 0 u (omega arith)) (h 1 v (omega arith))
 
-pub second_edge : (u v w : Corner) → IsPart (v ∷ w ∷ []) (u ∷ v ∷ w ∷ [])
-second_edge u v w P h = both_of P v w (second_of u v w P h) (third_of u v w P h)
+  pub second_edge : IsPart (v ∷ w ∷ []) (u ∷ v ∷ w ∷ [])
+  second_edge P h = both_of P v w (h 1 v (omega arith)) (h 2 w (omega arith))
 
-pub third_edge : (u v w : Corner) → IsPart (w ∷ u ∷ []) (u ∷ v ∷ w ∷ [])
-third_edge u v w P h = both_of P w u (third_of u v w P h) (first_of u v w P h)
+  pub third_edge : IsPart (w ∷ u ∷ []) (u ∷ v ∷ w ∷ [])
+  third_edge P h = both_of P w u (h 2 w (omega arith)) (h 0 u (omega arith))
 
 -- the box of the part lies in the box of the whole
 pub wider_box : (i : ℕ) (part whole : List Corner) (z : ℤ) → IsPart part whole → IsInBox i part z → IsInBox i whole z

@@ -10,7 +10,7 @@ use Rattle.shadow_kernels.specs.declared.Spot.{Spot}
 use Rattle.shadow_kernels.specs.Spots.{Between, gap}
 use Rattle.side_terms.specs.Boxes.{IsInBox}
 use Rattle.shadow_kernels.specs.Boxes.{IsInHull}
-use Rattle.shadow_kernels.specs.Bounds.{IsFineSpot, box_between, hull_fine}
+use Rattle.shadow_kernels.specs.Bounds.{IsFineSpot, corner_in_box, box_between, hull_fine}
 use Rattle.shadow_kernels.specs.Hulls.{StaysBetween}
 use Rattle.shadow_kernels.specs.Lifted.{gap_weight}
 use Rattle.edge_face.specs.Crossings.{Settle, point_between, p_point, q_point}
@@ -32,24 +32,21 @@ settled_high : (settle : Settle) → IsSettling settle → (y z : ℤ) → IsFin
 settled_high settle s y z fy fz h l =
     let e = settled_whole settle s y fy h in let m = s.monotone z y fz fy l in let v = h.value in omega (arith, ints, e, m, v)
 
+-- what lies in the box of an edge lies between its ends
+between_ends : (i : ℕ) (a b : Corner) (z : ℤ) → IsInBox i (a ∷ b ∷ []) z → LiesBetween (axis i a) (axis i b) z
+between_ends i a b z h = by_lt_z (axis i b) (axis i a)
+    (λ l. inr (h.low (axis i b) (both_of (λ c. axis i b ≤ℤ axis i c) a b (omega (arith, ints)) (omega (arith, ints))), h.high (axis i a) (both_of (λ c. axis i c ≤ℤ axis i a) a b (omega (arith, ints)) (omega (arith, ints)))))
+    (λ l. inl (h.low (axis i a) (both_of (λ c. axis i a ≤ℤ axis i c) a b (omega (arith, ints)) (omega (arith, ints))), h.high (axis i b) (both_of (λ c. axis i c ≤ℤ axis i b) a b (omega (arith, ints)) (omega (arith, ints)))))
+
 -- a value between the ends of an edge settles between them
 settled_box : (settle : Settle) → IsSettling settle → (i : ℕ) (a b : Corner) (z : ℤ) → IsFine (axis i a) → IsFine (axis i b) → IsFine z → IsWhole (axis i a) → IsWhole (axis i b) →
     IsInBox i (a ∷ b ∷ []) z → IsInBox i (a ∷ b ∷ []) (UNIT *ℤ settle z)
-settled_box settle s i a b z fa fb fz wa wb h = by_lt_z (axis i b) (axis i a)
-    (λ l.
-    let low = settled_low settle s (axis i b) z fb fz wb (h.low (axis i b) (both_of (λ c. axis i b ≤ℤ axis i c) a b (omega (arith, ints)) (omega (arith, ints)))) in
-    let high = settled_high settle s (axis i a) z fa fz wa (h.high (axis i a) (both_of (λ c. axis i c ≤ℤ axis i a) a b (omega (arith, ints)) (omega (arith, ints)))) in
-    record {
-      low = λ m all. let k : m ≤ℤ axis i b = all 1 blank_corner (omega arith) in omega (arith, ints, low, k);
-      high = λ m all. let k : axis i a ≤ℤ m = all 0 blank_corner (omega arith) in omega (arith, ints, high, k);
-    })
-    (λ l.
-    let low = settled_low settle s (axis i a) z fa fz wa (h.low (axis i a) (both_of (λ c. axis i a ≤ℤ axis i c) a b (omega (arith, ints)) (omega (arith, ints)))) in
-    let high = settled_high settle s (axis i b) z fb fz wb (h.high (axis i b) (both_of (λ c. axis i c ≤ℤ axis i b) a b (omega (arith, ints)) (omega (arith, ints)))) in
-    record {
-      low = λ m all. let k : m ≤ℤ axis i a = all 0 blank_corner (omega arith) in omega (arith, ints, low, k);
-      high = λ m all. let k : axis i b ≤ℤ m = all 1 blank_corner (omega arith) in omega (arith, ints, high, k);
-    })
+settled_box settle s i a b z fa fb fz wa wb h =
+    box_between i (a ∷ b ∷ []) (axis i a) (axis i b) (UNIT *ℤ settle z) (corner_in_box i (a ∷ b ∷ []) 0 (omega arith)) (corner_in_box i (a ∷ b ∷ []) 1 (omega arith)) (by (between_ends i a b z h))
+  where
+    by : LiesBetween (axis i a) (axis i b) z → LiesBetween (axis i a) (axis i b) (UNIT *ℤ settle z)
+    by (inl k) = inl (settled_low settle s (axis i a) z fa fz wa k.0, settled_high settle s (axis i b) z fb fz wb k.1)
+    by (inr k) = inr (settled_low settle s (axis i b) z fb fz wb k.0, settled_high settle s (axis i a) z fa fz wa k.1)
 
 -- what lies between two fine values is fine
 pub lies_fine : (u v z : ℤ) → IsFine u → IsFine v → LiesBetween u v z → IsFine z
