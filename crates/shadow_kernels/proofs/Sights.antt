@@ -41,8 +41,8 @@ module _ {u v z : ℤ} (y : ℤ) (up : Bool) where
   high_beats h k l = sym (beats_greater z y up (high_value h k l))
 
 -- a comparison of equal values
-pub same_beats : (r : Bool) (p q p' q' : ℤ) (up up' : Bool) → r ≡ beats p q up → p ≡ p' → q ≡ q' → up ≡ up' → r ≡ beats p' q' up'
-same_beats r p q p' q' up up' h e f k =
+pub same_beats : {r : Bool} {p q p' q' : ℤ} {up up' : Bool} → r ≡ beats p q up → p ≡ p' → q ≡ q' → up ≡ up' → r ≡ beats p' q' up'
+same_beats {r} {p} {q} {p'} {q'} {up} {up'} h e f k =
     h ∙ ap (λ (z : ℤ). beats z q up) e ∙ ap (λ (z : ℤ). beats p' z up) f ∙ ap (λ (t : Bool). beats p' q' t) k
 
 -- the answer of simplices of which one is below the other

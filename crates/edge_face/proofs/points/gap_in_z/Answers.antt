@@ -10,4 +10,4 @@ returns-clause-value c =
     let s = c.args.spot.now in
     let fits : FitsSigned w64 c.gap_of.result = search rules in
     let kept : seen w64 c.gap_of.result ≡ c.gap_of.result = omega (arith, ints) in
-    kept ∙ kept_gap c.gap_of.result s.pz s.qz c.gap_of.ensures.value c.requires.pz c.requires.qz
+    kept ∙ kept_gap c.gap_of.ensures.value c.requires.pz c.requires.qz

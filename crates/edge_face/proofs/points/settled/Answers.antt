@@ -18,7 +18,7 @@ settle-requires g c =
     let stays : StaysBetween w = record { within = g.met.R.Rounding.within c.args.rounding.now } in
     let r = c.requires in
     let fits : FitsSigned w64 c.between.result = search rules in
-    let e = kept_between w c.between.result c.args.u c.args.v c.args.a c.args.b c.args.a c.args.b c.between.ensures r.u_fine r.v_fine r.a_weight r.b_weight refl refl fits in
+    let e = kept_between w c.between.ensures r.u_fine r.v_fine r.a_weight r.b_weight refl refl fits in
     subst IsFine (sym e) (between_fine w stays c.args.u c.args.v c.args.a c.args.b r.u_fine r.v_fine r.a_weight r.b_weight)
 
 pub returns-clause-on_grid : goal.returns-clause-on_grid
@@ -28,7 +28,7 @@ returns-clause-on_grid g c =
     let settling : IsSettling (g.R.Rounding.settle_of c.args.rounding.now) = record { monotone = g.met.R.Rounding.monotone c.args.rounding.now; units = g.met.R.Rounding.units c.args.rounding.now } in
     let r = c.requires in
     let fits : FitsSigned w64 c.between.result = search rules in
-    let e = kept_between w c.between.result c.args.u c.args.v c.args.a c.args.b c.args.a c.args.b c.between.ensures r.u_fine r.v_fine r.a_weight r.b_weight refl refl fits in
+    let e = kept_between w c.between.ensures r.u_fine r.v_fine r.a_weight r.b_weight refl refl fits in
     let fine = subst IsFine (sym e) (between_fine w stays c.args.u c.args.v c.args.a c.args.b r.u_fine r.v_fine r.a_weight r.b_weight) in
     let on : IsOnGrid c.settle.result = subst IsOnGrid (sym c.settle.ensures) (settled_grid (g.R.Rounding.settle_of c.args.rounding.now) settling (seen w64 c.between.result) fine) in
     let kept : seen w32 c.settle.result ≡ c.settle.result = omega (arith, ints, on) in

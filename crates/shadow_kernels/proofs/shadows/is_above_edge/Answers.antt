@@ -32,9 +32,7 @@ pub returns : goal.returns
 unfolding spot01
 returns g c =
     let w : Between = g.R.Rounding.between_of c.args.rounding.now in
-    let m = c.args.p.now in
     let l = c.args.left.now in
     let r = c.args.right.now in
-    let x = axis 0 m in
-    let value = kept_value w 1 l r x c.edge_value.result c.edge_value.ensures c.requires.fine (search rules) in
-    same_beats c.exceeds.result (seen w64 (axis 1 m)) (seen w64 c.edge_value.result) (axis 1 m) (edge_value w 1 l r x) (flag m.up 1) (flag m.up 1) c.exceeds.ensures (omega (arith, ints)) value refl
+    let value = kept_value w 1 l r (axis 0 c.args.p.now) c.edge_value.ensures c.requires.fine (search rules) in
+    same_beats c.exceeds.ensures (omega (arith, ints)) value refl

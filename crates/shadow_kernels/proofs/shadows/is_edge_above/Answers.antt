@@ -32,14 +32,11 @@ pub returns : goal.returns
 unfolding spot10
 returns g c =
     let w : Between = g.R.Rounding.between_of c.args.rounding.now in
-    let m = c.args.q.now in
     let l = c.args.left.now in
     let r = c.args.right.now in
-    let x = axis 0 m in
-    let value = kept_value w 1 l r x c.edge_value.result c.edge_value.ensures c.requires.fine (search rules) in
-    let a = x -ℤ axis 0 l in
-    let b = axis 0 r -ℤ x in
-    let before : seen w64 (seen w64 x -ℤ seen w64 (axis 0 l)) ≡ a = omega (arith, ints) in
-    let after : seen w64 (seen w64 (axis 0 r) -ℤ seen w64 x) ≡ b = omega (arith, ints) in
-    let up = same_mark c.mark_between-up.result (seen w64 (seen w64 x -ℤ seen w64 (axis 0 l))) (seen w64 (seen w64 (axis 0 r) -ℤ seen w64 x)) a b (flag l.up 1) (flag r.up 1) c.mark_between-up.ensures before after in
-    same_beats c.exceeds.result (seen w64 c.edge_value.result) (seen w64 (axis 1 m)) (edge_value w 1 l r x) (axis 1 m) c.mark_between-up.result (mark a b (flag l.up 1) (flag r.up 1)) c.exceeds.ensures value (omega (arith, ints)) up
+    let value = kept_value w 1 l r (axis 0 c.args.q.now) c.edge_value.ensures c.requires.fine (search rules) in
+    let x = axis 0 c.args.q.now in
+    let before : seen w64 (seen w64 x -ℤ seen w64 (axis 0 l)) ≡ x -ℤ axis 0 l = omega (arith, ints) in
+    let after : seen w64 (seen w64 (axis 0 r) -ℤ seen w64 x) ≡ axis 0 r -ℤ x = omega (arith, ints) in
+    let y : seen w64 (axis 1 c.args.q.now) ≡ axis 1 c.args.q.now = omega (arith, ints) in
+    same_beats c.exceeds.ensures value y (same_mark (flag l.up 1) (flag r.up 1) c.mark_between-up.ensures before after)
