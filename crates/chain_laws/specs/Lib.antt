@@ -1,7 +1,6 @@
 pub mod Areas
 pub mod Ascending
 pub mod Chains
-pub mod Closed
 pub mod Counts
 pub mod Firsts
 pub mod Identities

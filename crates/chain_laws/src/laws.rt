@@ -54,18 +54,3 @@ pub fn walks_return()
     ensures walk { WalksReturn }
     ensures cycles { CyclesHaveTheEdges }
 {}
-
-#[cfg(test)]
-mod tests {
-    use super::*;
-
-    #[test]
-    fn laws_return() {
-        odd_sums_vanish();
-        boundary_decides_sums();
-        crossings_are_conserved();
-        numbers_are_small();
-        twins_pair_up();
-        walks_return();
-    }
-}

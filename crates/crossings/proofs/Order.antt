@@ -1,18 +1,26 @@
 -- All hits are in order, of lower half-edges and faces, with numbers that may be listed.
-use Rattle.std.proofs.Common.{◌≡◌, ◌≢◌, ℕ, pos, negsuc, ◌≤ℤ◌, zero, suc, ◌+◌, ◌<◌, ◌≤◌, List, [], ◌∷◌, ◌++◌, Option, Some, None, Bool, true, nat_lt, filter, length, refl, arith, inl, inr, sym, ap, ◌∙◌, subst, IfSome}
+use Rattle.std.proofs.Common.{◌≡◌, ◌≢◌, ℕ, ℤ, pos, negsuc, ◌≤ℤ◌, zero, suc, ◌+◌, ◌<◌, ◌≤◌, List, [], ◌∷◌, ◌++◌, Option, Some, None, Bool, true, nat_lt, filter, length, get_or, refl, arith, inl, inr, sym, ap, ◌∙◌, subst, IfSome}
 use Rattle.std.specs.List.{All, AllPairs, cons_option, filter_map, flat_map}
 use Rattle.std.proofs.lemmas.Bool.{ltb-true, cases_Bool}
 use Rattle.std.proofs.lemmas.List.Elements.{All-append, All-cons, All-head, All-nil, All-tail, All-weaker}
 use Rattle.std.proofs.lemmas.List.Kept.{AllPairs-cons}
 use Rattle.chain_terms.specs.Chains.{all_edges}
 use Rattle.chain_terms.specs.Sums.{up_from}
-use Rattle.chain_terms.specs.Ranks.{twin}
+use Rattle.chain_terms.specs.Ranks.{start, finish, twin}
+use Rattle.mb_base.specs.declared.point.Corner.{Corner}
 use Rattle.mb_base.specs.declared.results.Hit.{Hit}
 use Rattle.edge_face.specs.declared.Cross.{Cross}
 use Rattle.edge_face.specs.Crossings.{number_of}
+use Rattle.side_terms.specs.Corners.{AllFine}
+use Rattle.lean.proofs.Corners.{edge_fine, face_fine}
 use Rattle.side_terms.specs.Sides.{Side, edge_at, face_at}
 use Rattle.crossings.specs.Hits.{CrossTest, hit_of, hits_along, hits_of}
-use Rattle.side_terms.specs.Hits.{IsBefore, IsListed, AreHits}
+use Rattle.side_terms.specs.Hits.{IsBefore, IsNumber, AreHits, AllCross}
+
+-- a number of crossings that is listed
+pub record IsListed (n : ℤ) : Type 0 where
+  pub some : n ≢ pos 0
+  pub range : IsNumber n
 
 -- two lists in order, the one before the other
 in_order_append : (P Q : Hit → Type 0) → ((h k : Hit) → P h → Q k → IsBefore h k) → (xs ys : List Hit) → All P xs → All Q ys → AllPairs IsBefore xs → AllPairs IsBefore ys → AllPairs IsBefore (xs ++ ys)
@@ -35,7 +43,18 @@ AllListed test edges faces = (h f : ℕ) → IfSome (test (edge_at edges h) (fac
 -- an answer whose number is small and not 0
 pub listed_number : (o : Option Cross) → IfSome o (λ c. c.number ≢ pos 0) → (negsuc 1 ≤ℤ number_of o) × (number_of o ≤ℤ pos 2) → IfSome o (λ c. IsListed c.number)
 listed_number None h k = tt
-listed_number (Some c) h k = record { some = h; low = k.0; high = k.1 }
+listed_number (Some c) h k = record { some = h; range = record { low = k.0; high = k.1 } }
+
+-- where every answer for fine corners is such, all are
+pub all_listed : (test : CrossTest) (edges faces : Side) → AllFine edges.corners → AllFine faces.corners →
+    ((e f : List Corner) → length e ≡ 2 → length f ≡ 3 → AllFine e → AllFine f → IfSome (test e f) (λ c. c.number ≢ pos 0) × ((negsuc 1 ≤ℤ number_of (test e f)) × (number_of (test e f) ≤ℤ pos 2))) →
+    AllListed test edges faces
+all_listed test edges faces edges_fine faces_fine each h f =
+    let es = all_edges edges.triples in
+    let a = edge_fine edges.corners edges_fine (start es h) (finish es h) in
+    let b = face_fine faces.corners faces_fine (get_or faces.triples f (0, 0, 0)) in
+    let both = each (edge_at edges h) (face_at faces f) refl refl a b in
+    listed_number (test (edge_at edges h) (face_at faces f)) both.0 both.1
 
 -- an answer put before the hits of the later faces
 along_cons : (h k n : ℕ) (o : Option Cross) (rest : List Hit) → k < n → IfSome o (λ c. IsListed c.number) → All (IsAlong h (suc k) n) rest → AllPairs IsBefore rest →
@@ -94,8 +113,9 @@ of_from lower n rows each k (suc m) =
           )
     ]
 
--- all hits
-pub hits_in_order : (test : CrossTest) (edges faces : Side) → AllListed test edges faces → AreHits (all_edges edges.triples) (length faces.triples) (hits_of test edges faces)
+-- all hits are of lower half-edges and faces, in order, and each pair crosses
+pub hits_in_order : (test : CrossTest) (edges faces : Side) → AllListed test edges faces →
+    AreHits (all_edges edges.triples) (length faces.triples) (hits_of test edges faces) × AllCross (hits_of test edges faces)
 hits_in_order test edges faces listed =
     let es = all_edges edges.triples in
     let n = length faces.triples in
@@ -105,10 +125,12 @@ hits_in_order test edges faces listed =
     λ h.
     let row = along_from (λ f. test (edge_at edges h) (face_at faces f)) (listed h) h 0 n in
     let end : 0 + n ≡ n = omega arith in (subst (λ e. All (IsAlong h 0 e) (hits_along test edges faces h)) end row.0, row.1) in
-    let all = of_from lower n (hits_along test edges faces) rows 0 (length es) in
-    record {
-      on_edges = All-weaker (IsOf lower 0 (0 + length es) n) (λ x. (x.edge < length es) × (x.edge < twin es x.edge)) (λ x a. (omega (arith, a.below), ltb-true x.edge (twin es x.edge) a.passes)) hits all.0;
-      on_faces = All-weaker (IsOf lower 0 (0 + length es) n) (λ x. x.face < n) (λ x a. a.face) hits all.0;
-      numbers = All-weaker (IsOf lower 0 (0 + length es) n) (λ x. IsListed x.number) (λ x a. a.listed) hits all.0;
-      ascending = all.1;
-    }
+    let all = of_from lower n (hits_along test edges faces) rows 0 (length es) in (
+      record {
+        on_edges = All-weaker (IsOf lower 0 (0 + length es) n) (λ x. (x.edge < length es) × (x.edge < twin es x.edge)) (λ x a. (omega (arith, a.below), ltb-true x.edge (twin es x.edge) a.passes)) hits all.0;
+        on_faces = All-weaker (IsOf lower 0 (0 + length es) n) (λ x. x.face < n) (λ x a. a.face) hits all.0;
+        numbers = All-weaker (IsOf lower 0 (0 + length es) n) (λ x. IsNumber x.number) (λ x a. a.listed.range) hits all.0;
+        ascending = all.1;
+      },
+      All-weaker (IsOf lower 0 (0 + length es) n) (λ x. x.number ≢ pos 0) (λ x a. a.listed.some) hits all.0,
+    )

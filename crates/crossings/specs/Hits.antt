@@ -1,12 +1,12 @@
 -- Hits: the edges of one side against the faces of another, and where their numbers of crossings are not 0.
-use Rattle.std.specs.Prelude.{◌≡◌, ◌≢◌, ℕ, ◌<◌, ◌⊎◌, ℤ, pos, negsuc, ◌≤ℤ◌, nat_lt, Option, None, Some, List, length, filter}
-use Rattle.std.specs.List.{All, AllPairs, filter_map, flat_map}
+use Rattle.std.specs.Prelude.{ℕ, Option, None, Some, List, length}
+use Rattle.std.specs.List.{filter_map, flat_map}
 use Rattle.chain_terms.specs.Chains.{all_edges}
 use Rattle.chain_terms.specs.Sums.{upto}
-use Rattle.chain_terms.specs.Ranks.{twin}
 use Rattle.mb_base.specs.declared.point.Corner.{Corner}
 use Rattle.mb_base.specs.declared.results.Hit.{Hit}
 use Rattle.edge_face.specs.declared.Cross.{Cross}
+use Rattle.side_terms.specs.Hits.{lower_halves}
 use Rattle.side_terms.specs.Sides.{Side, edge_at, face_at}
 
 -- what is answered for the corners of an edge and of a face

@@ -4,10 +4,10 @@
 //! inexact geometric computation" and the Manifold library.
 #![tactic(auto)]
 
+mod both;
 mod hits;
 mod pairs;
-mod sides;
 #[cfg(test)]
 mod tests;
 
-pub use sides::crossings;
+pub use both::crossings;

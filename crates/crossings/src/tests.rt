@@ -1,55 +1,31 @@
 // Two boxes, worked out by a separate program in Python that was written from the definitions alone.
 use crate::crossings;
 use lean::{Side, leans};
-use mb_base::{Hit, Op, Point, Soup};
+use mb_base::{Hit, Op};
 use mesh_check::Mesh;
 use rounding::Nearest;
+use samples::box_soup;
 use shadow_kernels::Grid;
 use std::alloc::Global;
 use std::test::Fail;
 
-const BOX_FACES: [[u32; 3]; 12] = [
-    [0, 3, 1],
-    [0, 2, 3],
-    [4, 5, 7],
-    [4, 7, 6],
-    [0, 1, 4],
-    [1, 5, 4],
-    [1, 3, 7],
-    [1, 7, 5],
-    [3, 2, 6],
-    [3, 6, 7],
-    [0, 4, 6],
-    [0, 6, 2],
-];
-
 // The box between two corners.
 fn box_of(alloc: Global, low: [i32; 3], high: [i32; 3]) -> Result<Mesh, Fail> {
-    let mut points = Vec::new(alloc);
-    for z in [low[2], high[2]] {
-        for y in [low[1], high[1]] {
-            for x in [low[0], high[0]] {
-                points.push(Point::of(x, y, z).ok_or("outside the grid")?)?;
-            }
-        }
-    }
-    let triples = BOX_FACES.to_vec(alloc)?;
-    if !Soup::fits(&points, &triples) {
-        return Err("no soup".into());
-    }
-    Ok(Mesh::check(alloc, Soup::of(points, triples, 0))?)
+    Ok(Mesh::check(alloc, box_soup(alloc, low, high)?)?)
 }
 
-// The first mesh of a union, with its marks.
-fn first_side(alloc: Global, mesh: &Mesh) -> Result<Side, Fail> {
-    let ups = leans(alloc, mesh, Op::Union)?;
-    Ok(Side::of(alloc, mesh, ups)?)
+// A box as the first mesh of a union, with its marks.
+fn first_side(alloc: Global, low: [i32; 3], high: [i32; 3]) -> Result<Side, Fail> {
+    let mesh = box_of(alloc, low, high)?;
+    let ups = leans(alloc, &mesh, Op::Union)?;
+    Ok(Side::of(alloc, &mesh, ups)?)
 }
 
-// The second mesh, without marks.
-fn second_side(alloc: Global, mesh: &Mesh) -> Result<Side, Fail> {
+// A box as the second mesh, without marks.
+fn second_side(alloc: Global, low: [i32; 3], high: [i32; 3]) -> Result<Side, Fail> {
+    let mesh = box_of(alloc, low, high)?;
     let ups = vec![in alloc; [false; 3]; mesh.points().len()]?;
-    Ok(Side::of(alloc, mesh, ups)?)
+    Ok(Side::of(alloc, &mesh, ups)?)
 }
 
 // A hit: edge, face, number and point.
@@ -68,10 +44,8 @@ fn rows_of(alloc: Global, hits: &[Hit]) -> Result<Vec<Row>, Fail> {
 // post's edges and the diagonals of its walls run through the top.
 #[test]
 fn a_post_crosses_the_top_of_a_cube(rt: HostRuntime) -> Result<(), Fail> {
-    let cube = box_of(rt.alloc(), [0, 0, 0], [10, 10, 10])?;
-    let post = box_of(rt.alloc(), [3, 4, 5], [6, 7, 20])?;
-    let p = first_side(rt.alloc(), &cube)?;
-    let q = second_side(rt.alloc(), &post)?;
+    let p = first_side(rt.alloc(), [0; 3], [10; 3])?;
+    let q = second_side(rt.alloc(), [3, 4, 5], [6, 7, 20])?;
     let hits = crossings(rt.alloc(), &p, &q, &Grid { rounding: Nearest })?;
     assert_eq!(rt;
         rows_of(rt.alloc(), &hits.x12)?.as_slice(),
@@ -97,9 +71,8 @@ fn a_post_crosses_the_top_of_a_cube(rt: HostRuntime) -> Result<(), Fail> {
 // The first is grown, so nothing crosses.
 #[test]
 fn a_cube_does_not_cross_itself(rt: HostRuntime) -> Result<(), Fail> {
-    let cube = box_of(rt.alloc(), [0, 0, 0], [10, 10, 10])?;
-    let p = first_side(rt.alloc(), &cube)?;
-    let q = second_side(rt.alloc(), &cube)?;
+    let p = first_side(rt.alloc(), [0; 3], [10; 3])?;
+    let q = second_side(rt.alloc(), [0; 3], [10; 3])?;
     let hits = crossings(rt.alloc(), &p, &q, &Grid { rounding: Nearest })?;
     assert!(rt; hits.x12.is_empty());
     assert!(rt; hits.x21.is_empty());

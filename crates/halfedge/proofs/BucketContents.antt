@@ -1,4 +1,4 @@
--- Half-edges in buckets by a key of their lesser ends: what lies in one, and its two sides.
+-- Half-edges in buckets by a key of their lesser ends: what lies in one, and its two ways.
 use Rattle.std.proofs.Common.{◌≡◌, ◌<◌, ◌%◌, ℕ, List, [], length, get_or, map, sym, ◌∙◌, ap, subst}
 use Rattle.std.specs.List.{All, filter}
 use Rattle.std.proofs.lemmas.List.{get_or-map, length-map}
@@ -8,7 +8,7 @@ use Rattle.chain_terms.specs.Sums.{upto}
 use Rattle.counting_sort.specs.Buckets.{places_of}
 use Rattle.counting_sort.proofs.Upto.{get_or-map-upto}
 use Rattle.halfedge.specs.Pairing.{Half, turned, IsSortOf}
-use Rattle.halfedge.specs.Sides.{half_of, bucket_of, runs_up, AreSides}
+use Rattle.halfedge.specs.Ways.{half_of, bucket_of, runs_up, AreWays}
 use Rattle.halfedge.proofs.Split.{AreKeys, key_ups, key_downs, places_below}
 
 -- keys modulo n are numbers of n buckets
@@ -40,9 +40,9 @@ bucket_is keys n k bucket low is =
 pub bucket_members : (keys : List ℕ) (n k : ℕ) (bucket : List ℕ) → k < n → IsBucket keys n k bucket → All (λ place. place < length keys) bucket
 bucket_members keys n k bucket low is = subst (All (λ place. place < length keys)) (sym (bucket_is keys n k bucket low is)) (places_below keys k)
 
--- what runs up and what runs down of the half-edges there, each sorted, are its sides
+-- what runs up and what runs down of the half-edges there, each sorted, are its ways
 pub bucket_sides : (es : List (ℕ × ℕ)) (key : ℕ → ℕ) (keys : List ℕ) (n k : ℕ) (bucket : List ℕ) (ups downs : List Half) → AreKeys es key keys → k < n → IsBucket keys n k bucket → IsSortOf (filter runs_up (map (half_of es) bucket)) ups
-    → IsSortOf (filter runs_up (map turned (map (half_of es) bucket))) downs → AreSides es key k ups downs
+    → IsSortOf (filter runs_up (map turned (map (half_of es) bucket))) downs → AreWays es key k ups downs
 bucket_sides es key keys n k bucket ups downs are low is first second =
     let at = bucket_is keys n k bucket low is in
     record {

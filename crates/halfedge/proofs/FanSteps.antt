@@ -6,6 +6,7 @@ use Rattle.chain_terms.specs.Chains.{all_edges, IsClosed}
 use Rattle.chain_terms.specs.Permutations.{Returns}
 use Rattle.chain_terms.specs.Ranks.{start, twin}
 use Rattle.chain_laws.proofs.Walks.{times_below, returns}
+use Rattle.mesh_terms.specs.Limits.{most_triangles}
 use Rattle.mesh_terms.specs.Meshes.{Triple}
 use Rattle.mesh_terms.specs.Halves.{prev_half, around, around_times, SameFan}
 use Rattle.mesh_terms.specs.Fans.{AreFans}
@@ -69,7 +70,7 @@ fan_seen es order i of first known below fans has = record {
     later k (j, l, e) = (j, omega (arith, l), e)
 
 -- a half-edge that has none is the least of a fan
-pub fan_more : (ts : List Triple) → IsClosed (all_edges ts) → length ts ≤ 100000000 → (order : List (ℕ × ℕ)) (i : ℕ) (of new first : List ℕ) → AreInOrder (all_edges ts) order → i < length order →
+pub fan_more : (ts : List Triple) → IsClosed (all_edges ts) → length ts ≤ most_triangles → (order : List (ℕ × ℕ)) (i : ℕ) (of new first : List ℕ) → AreInOrder (all_edges ts) order → i < length order →
     AreFansSoFar (all_edges ts) order i of first → get_or of (ordered_at order i) 0 ≡ no_fan → IsFanNumbered (all_edges ts) (ordered_at order i) (length first) of new → AreFansSoFar (all_edges ts) order (i + 1) new (first ++ ordered_at order i ∷ [])
 fan_more ts closed few order i of new first known below fans none numbered = record {
   full = numbered.full;
@@ -203,7 +204,7 @@ fan_more ts closed few order i of new first known below fans none numbered = rec
     ]
 
 -- when all half-edges were looked at, these are the fans
-pub all_fans : (ts : List Triple) → IsClosed (all_edges ts) → length ts ≤ 100000000 → (order : List (ℕ × ℕ)) (of first : List ℕ) → AreInOrder (all_edges ts) order → AreFansSoFar (all_edges ts) order (length order) of first → AreFans (all_edges ts) of first
+pub all_fans : (ts : List Triple) → IsClosed (all_edges ts) → length ts ≤ most_triangles → (order : List (ℕ × ℕ)) (of first : List ℕ) → AreInOrder (all_edges ts) order → AreFansSoFar (all_edges ts) order (length order) of first → AreFans (all_edges ts) of first
 all_fans ts closed few order of first known fans = record {
   one_each = fans.full;
   steps = fans.kept_around;

@@ -15,6 +15,6 @@ pub mod PairedBuckets
 pub mod Positions
 pub mod Single
 pub mod Split
-pub mod TwinSides
+pub mod TwinWays
 pub mod Walk
 pub mod Writing

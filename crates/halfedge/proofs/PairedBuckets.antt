@@ -16,10 +16,10 @@ use Rattle.mesh_terms.specs.Meshes.{Triple, HasThree}
 use Rattle.mesh_terms.specs.OpenEdges.{is_lesser}
 use Rattle.halfedge.specs.Laws.{AreSingle}
 use Rattle.halfedge.specs.Pairing.{Half, numbered, ends, ends_of, half_at, IsSortOf}
-use Rattle.halfedge.specs.Sides.{EndsDiffer, edge_lies_in, lies_in, AreSides, AreWritten, ArePaired}
+use Rattle.halfedge.specs.Ways.{EndsDiffer, edge_lies_in, lies_in, AreWays, AreWritten, ArePaired}
 use Rattle.halfedge.proofs.Order.{one_edge, is_itself, same_edge}
 use Rattle.halfedge.proofs.NumberedHalves.{ends-numbered}
-use Rattle.halfedge.proofs.TwinSides.{lies_from}
+use Rattle.halfedge.proofs.TwinWays.{lies_from}
 use Rattle.halfedge.proofs.Walk.{IsRising, rising_from_sorted, none_lesser}
 
 -- a half-edge that runs from a to b lies in a bucket where that edge does
@@ -52,21 +52,21 @@ filter_count key k a b (h ∷ hs) =
     (λ no. later ∙ not_counted (is_edge (ends h) a b) (edge_lies_in key k (a, b)) all (λ is. sym no ∙ lies_as_edge key k a b h is))
 
 -- so it does once the bucket is sorted
-pub side_count : (es : List (ℕ × ℕ)) (key : ℕ → ℕ) (k : ℕ) (side : List Half) → IsSortOf (filter (lies_in key k) (numbered 0 es)) side → (a b : ℕ) → dir (ends_of side) a b ≡ cond (edge_lies_in key k (a, b)) (dir es a b) 0
-side_count es key k side sorted a b =
+pub way_count : (es : List (ℕ × ℕ)) (key : ℕ → ℕ) (k : ℕ) (way : List Half) → IsSortOf (filter (lies_in key k) (numbered 0 es)) way → (a b : ℕ) → dir (ends_of way) a b ≡ cond (edge_lies_in key k (a, b)) (dir es a b) 0
+way_count es key k way sorted a b =
     let kept = filter (lies_in key k) (numbered 0 es) in
-    dir-permutation (ends_of kept) (ends_of side) (IsPermutation-map ends kept side sorted.moved) a b ∙ filter_count key k a b (numbered 0 es)
+    dir-permutation (ends_of kept) (ends_of way) (IsPermutation-map ends kept way sorted.moved) a b ∙ filter_count key k a b (numbered 0 es)
     ∙ ap (λ l. cond (edge_lies_in key k (a, b)) (dir l a b) 0) (ends-numbered 0 es)
 
 -- an edge that runs up runs as often among the ups of its bucket
-pub ups_count : (es : List (ℕ × ℕ)) (key : ℕ → ℕ) (k : ℕ) (ups downs : List Half) → AreSides es key k ups downs → (a b : ℕ) → a < b → key a ≡ k → dir (ends_of ups) a b ≡ dir es a b
-ups_count es key k ups downs sides a b up same =
-    side_count es key k ups sides.ups_sorted a b ∙ ap (λ t. cond t (dir es a b) 0) (lies_from key k a b up same)
+pub ups_count : (es : List (ℕ × ℕ)) (key : ℕ → ℕ) (k : ℕ) (ups downs : List Half) → AreWays es key k ups downs → (a b : ℕ) → a < b → key a ≡ k → dir (ends_of ups) a b ≡ dir es a b
+ups_count es key k ups downs ways a b up same =
+    way_count es key k ups ways.ups_sorted a b ∙ ap (λ t. cond t (dir es a b) 0) (lies_from key k a b up same)
 
 -- and among the downs as often as it runs back
-pub downs_count : (es : List (ℕ × ℕ)) (key : ℕ → ℕ) (k : ℕ) (ups downs : List Half) → AreSides es key k ups downs → (a b : ℕ) → a < b → key a ≡ k → dir (ends_of downs) a b ≡ dir es b a
-downs_count es key k ups downs sides a b up same =
-    side_count (backward es) key k downs sides.downs_sorted a b ∙ ap (λ t. cond t (dir (backward es) a b) 0) (lies_from key k a b up same) ∙ dir-backward es a b
+pub downs_count : (es : List (ℕ × ℕ)) (key : ℕ → ℕ) (k : ℕ) (ups downs : List Half) → AreWays es key k ups downs → (a b : ℕ) → a < b → key a ≡ k → dir (ends_of downs) a b ≡ dir es b a
+downs_count es key k ups downs ways a b up same =
+    way_count (backward es) key k downs ways.downs_sorted a b ∙ ap (λ t. cond t (dir (backward es) a b) 0) (lies_from key k a b up same) ∙ dir-backward es a b
 
 -- an edge of a rising list is not lesser than the first
 not_before_first : (x q : ℕ × ℕ) (xs : List (ℕ × ℕ)) → IsRising (x ∷ xs) → 0 < dir (x ∷ xs) q.0 q.1 → is_lesser q x ≡ false
@@ -93,16 +93,16 @@ rising_same (x ∷ xs) (y ∷ ys) up up_too same =
     ap (λ e. e ∷ xs) first ∙ ap (λ l. y ∷ l) rest
 
 -- in a closed chain the ups and the downs of a bucket have the same ends
-closed_alike : (es : List (ℕ × ℕ)) (key : ℕ → ℕ) (k : ℕ) (ups downs : List Half) → AreSides es key k ups downs → IsClosed es → ends_of ups ≡ ends_of downs
-closed_alike es key k ups downs sides closed =
-    rising_same (ends_of ups) (ends_of downs) (rising_from_sorted ups sides.ups_sorted.up) (rising_from_sorted downs sides.downs_sorted.up)
+closed_alike : (es : List (ℕ × ℕ)) (key : ℕ → ℕ) (k : ℕ) (ups downs : List Half) → AreWays es key k ups downs → IsClosed es → ends_of ups ≡ ends_of downs
+closed_alike es key k ups downs ways closed =
+    rising_same (ends_of ups) (ends_of downs) (rising_from_sorted ups ways.ups_sorted.up) (rising_from_sorted downs ways.downs_sorted.up)
     (λ a b.
-    side_count es key k ups sides.ups_sorted a b ∙ ap (λ n. cond (edge_lies_in key k (a, b)) n 0) (closed a b ∙ sym (dir-backward es a b))
-    ∙ sym (side_count (backward es) key k downs sides.downs_sorted a b))
+    way_count es key k ups ways.ups_sorted a b ∙ ap (λ n. cond (edge_lies_in key k (a, b)) n 0) (closed a b ∙ sym (dir-backward es a b))
+    ∙ sym (way_count (backward es) key k downs ways.downs_sorted a b))
 
 -- where they have not, the chain is not closed
-pub not_closed : (es : List (ℕ × ℕ)) (key : ℕ → ℕ) (k : ℕ) (ups downs : List Half) → AreSides es key k ups downs → (ends_of ups ≡ ends_of downs → ⊥) → IsClosed es → ⊥
-not_closed es key k ups downs sides differ closed = differ (closed_alike es key k ups downs sides closed)
+pub not_closed : (es : List (ℕ × ℕ)) (key : ℕ → ℕ) (k : ℕ) (ups downs : List Half) → AreWays es key k ups downs → (ends_of ups ≡ ends_of downs → ⊥) → IsClosed es → ⊥
+not_closed es key k ups downs ways differ closed = differ (closed_alike es key k ups downs ways closed)
 
 -- no bucket is paired yet, and none has to be
 pub paired_none : (es : List (ℕ × ℕ)) (key : ℕ → ℕ) (twins : List ℕ) → length twins ≡ length es → ArePaired es key 0 twins true
@@ -122,36 +122,36 @@ below_next P k n low before here = elim (cases_lt n k) as (λ _. P n) [
 ]
 
 -- the half-edges of a bucket are single where the edges that lie there are
-single_inside : (es : List (ℕ × ℕ)) (key : ℕ → ℕ) (k : ℕ) (side : List Half) → IsSortOf (filter (lies_in key k) (numbered 0 es)) side → ((a b : ℕ) → a < b → key a ≡ k → dir es a b ≤ 1) → AreSingle (ends_of side)
-single_inside es key k side sorted few a b =
-    subst (λ n. n ≤ 1) (sym (side_count es key k side sorted a b))
+single_inside : (es : List (ℕ × ℕ)) (key : ℕ → ℕ) (k : ℕ) (way : List Half) → IsSortOf (filter (lies_in key k) (numbered 0 es)) way → ((a b : ℕ) → a < b → key a ≡ k → dir es a b ≤ 1) → AreSingle (ends_of way)
+single_inside es key k way sorted few a b =
+    subst (λ n. n ≤ 1) (sym (way_count es key k way sorted a b))
     (cond_both (edge_lies_in key k (a, b)) (dir es a b) 0 (λ n. n ≤ 1)
     (λ yes. let p = and_parts (nat_lt a b) (key a == k) yes in few a b (ltb-true a b p.0) (eqb-true (key a) k p.1))
     (λ no. omega arith))
 
 -- with one more bucket: no edge of the first buckets runs twice, and none of the next
-alone_more : (es : List (ℕ × ℕ)) (key : ℕ → ℕ) (k : ℕ) (ups downs : List Half) (single one : Bool) → AreSides es key k ups downs → (IsTrue single ↔ ((a b : ℕ) → a < b → key a < k → dir es a b ≤ 1)) → (IsTrue one ↔ AreSingle (ends_of ups))
+alone_more : (es : List (ℕ × ℕ)) (key : ℕ → ℕ) (k : ℕ) (ups downs : List Half) (single one : Bool) → AreWays es key k ups downs → (IsTrue single ↔ ((a b : ℕ) → a < b → key a < k → dir es a b ≤ 1)) → (IsTrue one ↔ AreSingle (ends_of ups))
     → (IsTrue (single && one) ↔ ((a b : ℕ) → a < b → key a < k + 1 → dir es a b ≤ 1))
-alone_more es key k ups downs single one sides alone known = (
+alone_more es key k ups downs single one ways alone known = (
   (λ yes a b up low.
       let p = and_parts single one yes in
       below_next (λ n. dir es a b ≤ 1) k (key a) low (alone.0 p.0 a b up)
-      (λ same. subst (λ n. n ≤ 1) (ups_count es key k ups downs sides a b up same) (known.0 p.1 a b))),
+      (λ same. subst (λ n. n ≤ 1) (ups_count es key k ups downs ways a b up same) (known.0 p.1 a b))),
   (λ all. and_from single one
       (alone.1 (λ a b up low. all a b up (omega (arith, low))))
-      (known.1 (single_inside es key k ups sides.ups_sorted (λ a b up same. all a b up (omega (arith, same)))))),
+      (known.1 (single_inside es key k ups ways.ups_sorted (λ a b up same. all a b up (omega (arith, same)))))),
 )
 
 -- a half-edge that stands in a list whose half-edges have their twins has its twin
-has_twin : (es : List (ℕ × ℕ)) (side : List Half) (new : List ℕ) (h : ℕ) → ((i : ℕ) → i < length side → get_or new (half_at side i) 0 ≡ twin es (half_at side i)) → (i : ℕ) × (i < length side) × (half_at side i ≡ h) → get_or new h 0 ≡ twin es h
-has_twin es side new h each (i, below, is) = subst (λ g. get_or new g 0 ≡ twin es g) is (each i below)
+has_twin : (es : List (ℕ × ℕ)) (way : List Half) (new : List ℕ) (h : ℕ) → ((i : ℕ) → i < length way → get_or new (half_at way i) 0 ≡ twin es (half_at way i)) → (i : ℕ) × (i < length way) × (half_at way i ≡ h) → get_or new h 0 ≡ twin es h
+has_twin es way new h each (i, below, is) = subst (λ g. get_or new g 0 ≡ twin es g) is (each i below)
 
 -- one more bucket is paired
-pub paired_more : (es : List (ℕ × ℕ)) (key : ℕ → ℕ) (k : ℕ) (ups downs : List Half) (old new : List ℕ) (single one : Bool) → ArePaired es key k old single → AreSides es key k ups downs → ends_of ups ≡ ends_of downs
+pub paired_more : (es : List (ℕ × ℕ)) (key : ℕ → ℕ) (k : ℕ) (ups downs : List Half) (old new : List ℕ) (single one : Bool) → ArePaired es key k old single → AreWays es key k ups downs → ends_of ups ≡ ends_of downs
     → length new ≡ length old → AreWritten (twin es) ups downs old new → (IsTrue one ↔ AreSingle (ends_of ups))
     → ((h : ℕ) → h < length es → start es h < finish es h → key (start es h) ≡ k → (i : ℕ) × (i < length ups) × (half_at ups i ≡ h))
     → ((h : ℕ) → h < length es → finish es h < start es h → key (finish es h) ≡ k → (i : ℕ) × (i < length downs) × (half_at downs i ≡ h)) → ArePaired es key (k + 1) new (single && one)
-paired_more es key k ups downs old new single one paired sides alike full written known up_places down_places = record {
+paired_more es key k ups downs old new single one paired ways alike full written known up_places down_places = record {
   full = full ∙ paired.full;
   up = λ h below up low. below_next (λ n. get_or new h 0 ≡ twin es h) k (key (start es h)) low
       (λ less. written.kept h (paired.up h below up less))
@@ -160,8 +160,8 @@ paired_more es key k ups downs old new single one paired sides alike full writte
       (λ less. written.kept h (paired.down h below down less))
       (λ same. has_twin es downs new h written.down (down_places h below down same));
   even = λ a b up low. below_next (λ n. dir es a b ≡ dir es b a) k (key a) low (paired.even a b up)
-      (λ same. sym (ups_count es key k ups downs sides a b up same) ∙ ap (λ l. dir l a b) alike ∙ downs_count es key k ups downs sides a b up same);
-  alone = alone_more es key k ups downs single one sides paired.alone known;
+      (λ same. sym (ups_count es key k ups downs ways a b up same) ∙ ap (λ l. dir l a b) alike ∙ downs_count es key k ups downs ways a b up same);
+  alone = alone_more es key k ups downs single one ways paired.alone known;
 }
 
 -- where no edge starts where it ends, none runs from a vertex to itself

@@ -12,7 +12,7 @@ use Rattle.chain_terms.specs.Ranks.{start, finish}
 use Rattle.chain_laws.proofs.Ascending.{filter-upto_same, kept_at}
 use Rattle.counting_sort.specs.Buckets.{places_of}
 use Rattle.halfedge.specs.Pairing.{Half, numbered, turned}
-use Rattle.halfedge.specs.Sides.{half_of, lesser_end_at, runs_up, lies_in}
+use Rattle.halfedge.specs.Ways.{half_of, lesser_end_at, runs_up, lies_in}
 use Rattle.halfedge.proofs.NumberedHalves.{turned-numbered}
 
 -- a filter of a map is the map of a filter

@@ -3,7 +3,7 @@ use Rattle.std.proofs.Common.{◌≡◌, ◌<◌, ◌+◌, ℕ, List, length, ge
 use Rattle.std.proofs.lemmas.Bool.{cases_eq}
 use Rattle.std.proofs.lemmas.List.{length-set}
 use Rattle.halfedge.specs.Pairing.{Half, half_at}
-use Rattle.halfedge.specs.Sides.{ArePartners, AreWritten}
+use Rattle.halfedge.specs.Ways.{ArePartners, AreWritten}
 
 -- the first i pairs are written, and what stood right has stayed
 pub record AreWrittenTo (partner : ℕ → ℕ) (ups downs : List Half) (i : ℕ) (old new : List ℕ) : Type 0 where

@@ -1,6 +1,6 @@
 pub mod Laws
 pub mod Numbering
 pub mod Pairing
-pub mod Sides
+pub mod Ways
 pub mod Surplus
 pub mod Twins

@@ -1,6 +1,7 @@
 // Fans: the half-edges that start at one vertex, in the order in which they follow round it.
 ghost use Rattle.std.specs.Prelude.{◌≡◌, ◌<◌, ◌≤◌, ℕ, List, IfOk, length, get_or};
 ghost use Rattle.chain_terms.specs.Chains.{all_edges};
+ghost use Rattle.mesh_terms.specs.Limits.{most_triangles};
 ghost use Rattle.mesh_terms.specs.Meshes.{triples_of};
 ghost use Rattle.mesh_terms.specs.Fans.{AreFans};
 ghost use Rattle.halfedge.specs.Numbering.{no_fan, by_starts, AreInOrder, AreKeptAround, IsFanNumbered};
@@ -70,7 +71,7 @@ impl Twins {
 
 // The half-edges of the triangles behind their starts.
 fn behind_starts(alloc: Global, triples: &[[u32; 3]]) -> Result<Vec<(u32, u32)>, NoMemory>
-    requires { length triples.now ≤ 100000000 }
+    requires { length triples.now ≤ most_triangles }
     ensures { IfOk result (λ order. order.items ≡ by_starts (all_edges (triples_of triples.now))) }
 {
     let mut order = Vec::with_capacity(alloc, 3 * triples.len())?;

@@ -7,11 +7,11 @@
 mod fans;
 mod open_edge;
 mod pairing;
-mod sides;
 mod surplus;
 #[cfg(test)]
 mod tests;
 mod twins;
+mod ways;
 
 pub use fans::Fans;
 pub use twins::{TwinFault, Twins};

@@ -1,19 +1,20 @@
 // The least open edge, found by sorting all half-edges.
 ghost use Rattle.std.specs.Prelude.{◌≡◌, ◌≤◌, IfOk, length, map};
 ghost use Rattle.chain_terms.specs.Chains.{all_edges};
+ghost use Rattle.mesh_terms.specs.Limits.{most_triangles};
 ghost use Rattle.mesh_terms.specs.Meshes.{triples_of};
 ghost use Rattle.mesh_terms.specs.OpenEdges.{open_pair};
 ghost use Rattle.halfedge.specs.Pairing.{numbered, turned};
 
-use crate::sides::Half;
 use crate::surplus::least_surplus;
+use crate::ways::Half;
 use mb_base::NoMemory;
 use std::alloc::Global;
 
 /// The least edge, by its start and then by its end, that runs more often one way than back; none
 /// where the triangles are closed. It sorts all half-edges, so it is called only where they are not.
 pub fn least_open_edge(alloc: Global, triples: &[[u32; 3]]) -> Result<Option<(u32, u32)>, NoMemory>
-    requires { length triples.now ≤ 100000000 }
+    requires { length triples.now ≤ most_triangles }
     ensures { IfOk result (λ r. r ≡ open_pair (all_edges (triples_of triples.now))) }
 {
     let mut edges = numbered_edges(alloc, triples)?;
@@ -25,7 +26,7 @@ pub fn least_open_edge(alloc: Global, triples: &[[u32; 3]]) -> Result<Option<(u3
 
 // The half-edges of the triangles in order.
 fn numbered_edges(alloc: Global, triples: &[[u32; 3]]) -> Result<Vec<Half>, NoMemory>
-    requires { length triples.now ≤ 100000000 }
+    requires { length triples.now ≤ most_triangles }
     ensures { IfOk result (λ edges. edges.items ≡ numbered 0 (all_edges (triples_of triples.now))) }
 {
     let mut edges = Vec::with_capacity(alloc, 3 * triples.len())?;

@@ -4,12 +4,13 @@ ghost use Rattle.std.specs.List.{All};
 ghost use Rattle.chain_terms.specs.Chains.{all_edges, IsClosed};
 ghost use Rattle.chain_terms.specs.Sums.{upto};
 ghost use Rattle.chain_terms.specs.Ranks.{twin};
+ghost use Rattle.mesh_terms.specs.Limits.{most_triangles};
 ghost use Rattle.mesh_terms.specs.Meshes.{HasThree, triples_of};
 ghost use Rattle.halfedge.specs.Laws.{AreSingle};
 ghost use Rattle.halfedge.specs.Pairing.{ends_of};
-ghost use Rattle.halfedge.specs.Sides.{ArePartners, AreWritten};
+ghost use Rattle.halfedge.specs.Ways.{ArePartners, AreWritten};
 
-use crate::sides::{Half, bucket_numbers, sides};
+use crate::ways::{Half, bucket_numbers, ways};
 use counting_sort::Buckets;
 use mb_base::NoMemory;
 use std::alloc::Global;
@@ -20,7 +21,7 @@ use std::alloc::Global;
 /// sorted, must run as those that run down, turned and sorted: so the k-th from a to b stands beside
 /// the k-th from b to a.
 pub fn paired(alloc: Global, triples: &[[u32; 3]]) -> Result<Option<(Vec<u32>, bool)>, NoMemory>
-    requires few { length triples.now ≤ 100000000 }
+    requires few { length triples.now ≤ most_triangles }
     requires three { All HasThree (triples_of triples.now) }
     ensures none { IfOk result (λ r. IsNone r → IsClosed (all_edges (triples_of triples.now)) → ⊥) }
     ensures closed { IfOk result (λ r. IfSome r (λ _. IsClosed (all_edges (triples_of triples.now)))) }
@@ -35,7 +36,7 @@ pub fn paired(alloc: Global, triples: &[[u32; 3]]) -> Result<Option<(Vec<u32>, b
     let mut lists = (Vec::new(alloc), Vec::new(alloc));
     let mut single = true;
     for k in 0..count as usize {
-        let (ups, downs) = sides(triples, buckets.bucket(k), lists)?;
+        let (ups, downs) = ways(triples, buckets.bucket(k), lists)?;
         if !run_alike(&ups, &downs) {
             return Ok(None);
         }

@@ -3,7 +3,7 @@ ghost use Rattle.std.specs.Prelude.{◌≡◌, IfSome, IsNone, IsSorted};
 ghost use Rattle.halfedge.specs.Pairing.{ends_of};
 ghost use Rattle.halfedge.specs.Surplus.{IsLeastSurplus, HasNoSurplus};
 
-use crate::sides::Half;
+use crate::ways::Half;
 use std::cmp::Ordering;
 
 /// The least edge, by its start and then by its end, that the first list has more often than the

@@ -1,9 +1,7 @@
 // Small meshes, with twins and fans known from outside.
 use crate::{TwinFault, Twins};
-use std::alloc::Global;
+use samples::TETRAHEDRON;
 use std::test::Fail;
-
-const TETRAHEDRON: [[u32; 3]; 4] = [[0, 2, 1], [0, 1, 3], [1, 2, 3], [2, 0, 3]];
 
 #[test]
 fn the_tetrahedron_has_one_fan_at_each_vertex(rt: HostRuntime) -> Result<(), Fail> {

@@ -4,6 +4,7 @@ ghost use Rattle.std.specs.List.{All};
 ghost use Rattle.chain_terms.specs.Chains.{all_edges, IsClosed};
 ghost use Rattle.chain_terms.specs.Sums.{upto};
 ghost use Rattle.chain_terms.specs.Ranks.{start, finish, twin, RunsBack};
+ghost use Rattle.mesh_terms.specs.Limits.{most_triangles};
 ghost use Rattle.mesh_terms.specs.Meshes.{HasThree, triples_of};
 ghost use Rattle.mesh_terms.specs.OpenEdges.{open_pair};
 ghost use Rattle.mesh_terms.specs.Halves.{next_half};
@@ -80,7 +81,7 @@ impl Twins {
     /// most that of sorting all half-edges.
     pub fn of(alloc: Global, triples: &[[u32; 3]]) -> Result<Twins, TwinFault>
         requires three { All HasThree (triples_of triples.now) }
-        requires few { length triples.now ≤ 100000000 }
+        requires few { length triples.now ≤ most_triangles }
         ensures triples { IfOk result (λ t. t.triples ≡ triples_of triples.now) }
         ensures twins { IfOk result (λ t. t.twins ≡ map (twin (all_edges (triples_of triples.now))) (upto (length (all_edges (triples_of triples.now))))) }
         ensures closed { IfOk result (λ _. IsClosed (all_edges (triples_of triples.now))) }
@@ -149,7 +150,7 @@ impl Twins {
 
 // The twin of each half-edge, and whether no two run the same way; or the least open edge.
 fn listed_twins(alloc: Global, triples: &[[u32; 3]]) -> Result<(Vec<u32>, bool), TwinFault>
-    requires few { length triples.now ≤ 100000000 }
+    requires few { length triples.now ≤ most_triangles }
     requires three { All HasThree (triples_of triples.now) }
     ensures single { IfOk result (λ r. IsTrue r.1 ↔ AreSingle (all_edges (triples_of triples.now))) }
     ensures twins { IfOk result (λ r. r.0.items ≡ map (twin (all_edges (triples_of triples.now))) (upto (length (all_edges (triples_of triples.now))))) }

@@ -1,14 +1,15 @@
 -- The list of corners, step by step, and its corners.
-use Rattle.std.proofs.Common.{arith, ◌≡◌, ℕ, zero, suc, ◌+◌, ◌<◌, ℤ, pos, Bool, List, [], ◌∷◌, ◌++◌, length, take, get_or, map, min, ap, ◌∙◌}
+use Rattle.std.proofs.Common.{arith, ◌≡◌, ℕ, zero, suc, ◌+◌, ◌<◌, ℤ, pos, Bool, List, [], ◌∷◌, ◌++◌, length, take, get_or, map, min, ap, refl, ◌∙◌}
 use Rattle.std.specs.List.{zip}
 use Rattle.std.proofs.lemmas.Int.{ints}
 use Rattle.std.proofs.lemmas.List.Elements.{All-cons, All-head, All-nil, All-tail}
 use Rattle.std.proofs.lemmas.List.{take_more, map_push, take_all, length-map, get_or-map}
 use Rattle.std.proofs.lemmas.Slice.Zip.{length-zip, get_or-zip}
 use Rattle.mb_base.specs.declared.point.Corner.{Corner}
-use Rattle.side_terms.specs.Corners.{corner_at, blank_corner, AllFine, IsFineCorner}
+use Rattle.side_terms.specs.Corners.{corner_at, blank_corner, AllFine, AllWhole, IsFineCorner, IsWholeCorner}
 use Rattle.side_terms.specs.Fine.{IsFine}
 use Rattle.mesh_terms.specs.Meshes.{Triple}
+use Rattle.mesh_terms.specs.Points.{coordinate_of}
 use Rattle.side_terms.specs.Sides.{corner_of, corners_of, edge_of, face_of}
 
 -- the corners of the first i points
@@ -42,6 +43,22 @@ pub corners_at :
 corners_at ps us i h k =
     let g : (List ℤ × List Bool) → Corner = λ m. corner_of m.0 m.1 in
     get_or-map g (zip ps us) i ([], []) blank_corner (omega (arith, length-zip ps us, h, k)) ∙ ap g (get_or-zip ps us i ([], []) h k)
+
+-- the corner of a point lies at a grid point
+corner_whole : (p : List ℤ) (u : List Bool) → IsWholeCorner (corner_of p u)
+corner_whole p u = record {
+  x = record { steps = coordinate_of p 0; value = refl };
+  y = record { steps = coordinate_of p 1; value = refl };
+  z = record { steps = coordinate_of p 2; value = refl };
+}
+
+-- so do the corners of all points
+whole_each : (ms : List (List ℤ × List Bool)) → AllWhole (map (λ m. corner_of m.0 m.1) ms)
+whole_each [] = All-nil IsWholeCorner
+whole_each (m ∷ ms) = All-cons IsWholeCorner (corner_of m.0 m.1) (map (λ n. corner_of n.0 n.1) ms) (corner_whole m.0 m.1) (whole_each ms)
+
+pub corners_whole : (ps : List (List ℤ)) (us : List (List Bool)) → AllWhole (corners_of ps us)
+corners_whole ps us = whole_each (zip ps us)
 
 -- where all corners of a list are fine, so is the one at any place: past the end it is blank
 pub corner_fine : (cs : List Corner) → AllFine cs → (i : ℕ) → IsFineCorner (corner_at cs i)

@@ -1,11 +1,10 @@
 // The lists of a side.
 ghost use Rattle.std.specs.Prelude.{◌≡◌, ◌<◌, ◌*◌, IfOk, length, map};
 ghost use Rattle.chain_terms.specs.Chains.{all_edges};
-ghost use Rattle.chain_terms.specs.Sums.{upto};
-ghost use Rattle.chain_terms.specs.Ranks.{start, twin};
+ghost use Rattle.chain_terms.specs.Ranks.{start};
 ghost use Rattle.mesh_terms.specs.Meshes.{triples_of};
-ghost use Rattle.side_terms.specs.Corners.{corner_at, AllFine, IsFineCorner};
-ghost use Rattle.side_terms.specs.Sides.{IsSide, corners_of, face_at, edge_at};
+ghost use Rattle.side_terms.specs.Corners.{corner_at, AllFine, AllWhole, IsFineCorner};
+ghost use Rattle.side_terms.specs.Sides.{IsSide, side_of, corners_of, face_at, edge_at};
 
 use crate::corner::corner_of;
 use halfedge::Twins;
@@ -37,9 +36,7 @@ impl Side {
     /// points and triangles. `NoMemory` may come for any mesh.
     pub fn of(alloc: Global, mesh: &Mesh, ups: Vec<[bool; 3]>) -> Result<Side, NoMemory>
         requires { length ups.items ≡ length mesh.now.points }
-        ensures corners { IfOk result (λ s. s.corners ≡ corners_of mesh.now.points ups.items) }
-        ensures triples { IfOk result (λ s. s.triples ≡ mesh.now.triples) }
-        ensures twins { IfOk result (λ s. s.twins ≡ map (twin (all_edges mesh.now.triples)) (upto (length (all_edges mesh.now.triples)))) }
+        ensures { IfOk result (λ side. side ≡ side_of mesh.now ups.items) }
     {
         let corners = corners_of(alloc, mesh.points(), &ups)?;
         let twins = mesh.twins().clone()?;
@@ -117,6 +114,7 @@ fn corners_of(alloc: Global, points: &[Point], ups: &[[bool; 3]]) -> Result<Vec<
     requires { length ups.now ≡ length points.now }
     ensures value { IfOk result (λ corners. corners.items ≡ corners_of points.now ups.now) }
     ensures fine { IfOk result (λ corners. AllFine corners.items) }
+    ensures whole { IfOk result (λ corners. AllWhole corners.items) }
     ensures length { IfOk result (λ corners. length corners.items ≡ length points.now) }
 {
     let mut corners = Vec::with_capacity(alloc, points.len())?;

@@ -1,47 +1,14 @@
 // The marks and corners of small meshes.
 use crate::{Side, leans};
-use mb_base::{Op, Point, Soup, UNIT};
+use mb_base::{Op, UNIT};
 use mesh_check::Mesh;
+use samples::{box_soup, soup_of};
 use std::alloc::Global;
 use std::test::Fail;
 
-fn mesh_of(alloc: Global, corners: &[[i32; 3]], triples: &[[u32; 3]]) -> Result<Mesh, Fail> {
-    let mut points = Vec::new(alloc);
-    for [x, y, z] in corners {
-        points.push(Point::of(*x, *y, *z).ok_or("outside the grid")?)?;
-    }
-    let triples = triples.to_vec(alloc)?;
-    if !Soup::fits(&points, &triples) {
-        return Err("no soup".into());
-    }
-    Ok(Mesh::check(alloc, Soup::of(points, triples, 0))?)
+fn mesh_of(alloc: Global, points: &[[i32; 3]], triples: &[[u32; 3]]) -> Result<Mesh, Fail> {
+    Ok(Mesh::check(alloc, soup_of(alloc, points, triples)?)?)
 }
-
-const BOX: [[i32; 3]; 8] = [
-    [0, 0, 0],
-    [10, 0, 0],
-    [0, 10, 0],
-    [10, 10, 0],
-    [0, 0, 10],
-    [10, 0, 10],
-    [0, 10, 10],
-    [10, 10, 10],
-];
-
-const BOX_FACES: [[u32; 3]; 12] = [
-    [0, 3, 1],
-    [0, 2, 3],
-    [4, 5, 7],
-    [4, 7, 6],
-    [0, 1, 4],
-    [1, 5, 4],
-    [1, 3, 7],
-    [1, 7, 5],
-    [3, 2, 6],
-    [3, 6, 7],
-    [0, 4, 6],
-    [0, 6, 2],
-];
 
 // The sums at a box's corners point away from it on each axis.
 const OUTWARD: [[bool; 3]; 8] = [
@@ -68,7 +35,8 @@ const INWARD: [[bool; 3]; 8] = [
 
 #[test]
 fn a_box_grows_in_a_union_and_shrinks_in_the_others(rt: HostRuntime) -> Result<(), Fail> {
-    let mesh = mesh_of(rt.alloc(), &BOX, &BOX_FACES)?;
+    let soup = box_soup(rt.alloc(), [0; 3], [10; 3])?;
+    let mesh = Mesh::check(rt.alloc(), soup)?;
     let union = leans(rt.alloc(), &mesh, Op::Union)?;
     assert_eq!(rt; union.as_slice(), OUTWARD.as_slice());
     let intersection = leans(rt.alloc(), &mesh, Op::Intersect)?;

@@ -3,6 +3,7 @@ use Rattle.std.proofs.Common.{◌≡◌, ◌<◌, ◌≤◌, ℕ, List, [], ◌�
 use Rattle.std.specs.List.{All, list_any}
 use Rattle.std.proofs.lemmas.List.{get_or-map, length-map}
 use Rattle.std.proofs.lemmas.List.Elements.{All-map}
+use Rattle.mesh_terms.specs.Limits.{most_points, most_triangles}
 use Rattle.mesh_terms.specs.Meshes.{HasThree, IsBelow, IsMesh, has, triple_of, triples_of}
 
 -- three different point numbers below n
@@ -13,8 +14,8 @@ IsSound n t = HasThree (triple_of t) × IsBelow n (triple_of t)
 pub record Fits (n : ℕ) (ts : List (List ℕ)) : Type 0 where
   pub sound : All (IsSound n) ts
   pub used : (v : ℕ) → v < n → list_any (λ t. has (triple_of t) v) ts ≡ true
-  pub few_points : n ≤ 150000000
-  pub few_triples : length ts ≤ 100000000
+  pub few_points : n ≤ most_points
+  pub few_triples : length ts ≤ most_triangles
 
 -- a point is used by the triples where it is in some array
 list_any-map : (v : ℕ) (ts : List (List ℕ)) → list_any (λ t. has t v) (triples_of ts) ≡ list_any (λ t. has (triple_of t) v) ts

@@ -17,7 +17,7 @@ mod tests;
 pub use arg_list::ArgList;
 pub use cross_product::cross;
 pub use fault::{Counted, TextFault, TextKind};
-pub use limits::Limits;
+pub use limits::{Limits, MOST_POINTS, MOST_TRIANGLES};
 pub use op::Op;
 pub use point::{Box3, Corner, Point};
 pub use results::{Entry, Hit, Hits, Origin, Segment, Windings};

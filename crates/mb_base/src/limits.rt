@@ -4,6 +4,12 @@ ghost use Rattle.mesh_terms.specs.Limits.{Limits as TheLimits, IsLawful};
 
 use std::marker::Model;
 
+/// The most triangles that any mesh has.
+pub const MOST_TRIANGLES: u32 = 100_000_000;
+
+/// The most points that any mesh has.
+pub const MOST_POINTS: u32 = 150_000_000;
+
 /// How much a run accepts. What keeps these limits can be written and read again: a result of an
 /// operation within the half-edges is within the points and the triangles, and its OBJ file is
 /// within the bytes.
@@ -28,8 +34,8 @@ impl Model for Limits {
 }
 
 impl Limits {
-    /// The limits of these numbers; None exactly where they are not lawful: more than 100,000,000
-    /// triangles or 150,000,000 points; fewer triangles than 5/3 of the half-edges, or fewer points
+    /// The limits of these numbers; None exactly where they are not lawful: more than `MOST_TRIANGLES`
+    /// triangles or `MOST_POINTS` points; fewer triangles than 5/3 of the half-edges, or fewer points
     /// than 3/2 of the triangles; fewer bytes than 41 for each point and 32 for each triangle, or
     /// more than 2^40.
     pub fn of(file_bytes: u64, points: u32, triangles: u32, halfedges: u32) -> Option<Limits>
@@ -37,7 +43,7 @@ impl Limits {
         ensures value { IfSome result (λ l. l ≡ record { file_bytes = file_bytes; points = points; triangles = triangles; halfedges = halfedges }) }
     {
         let (n, t, h) = (points as u64, triangles as u64, halfedges as u64);
-        let few = triangles <= 100_000_000 && points <= 150_000_000;
+        let few = triangles <= MOST_TRIANGLES && points <= MOST_POINTS;
         let enough = 3 * t >= 5 * h && 2 * n >= 3 * t;
         let bytes = 41 * n + 32 * t <= file_bytes && file_bytes <= 1 << 40;
         if few && enough && bytes {

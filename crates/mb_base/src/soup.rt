@@ -1,8 +1,10 @@
 // Points and triangles as a file gives them.
 ghost use Rattle.std.specs.Prelude.{◌≡◌, ◌↔◌, ◌<◌, ◌≤◌, ℕ, IsTrue, true, length};
 ghost use Rattle.std.specs.List.{All, list_any};
+ghost use Rattle.mesh_terms.specs.Limits.{most_points, most_triangles};
 ghost use Rattle.mesh_terms.specs.Meshes.{HasThree, IsBelow, IsMesh, has, triple_of, triples_of};
 
+use crate::limits::{MOST_POINTS, MOST_TRIANGLES};
 use crate::point::Point;
 use std::marker::Model;
 
@@ -93,7 +95,7 @@ impl Soup {
 
 // Whether a mesh may have so many points and triples.
 fn are_few(points: usize, triples: usize) -> bool
-    ensures { IsTrue result ↔ ((points ≤ 150000000) × (triples ≤ 100000000)) }
+    ensures { IsTrue result ↔ ((points ≤ most_points) × (triples ≤ most_triangles)) }
 {
     points <= 150_000_000 && triples <= 100_000_000
 }

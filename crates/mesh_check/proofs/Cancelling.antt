@@ -1,4 +1,4 @@
--- The two sorted sides of a bucket, read side by side: the k-th edge from a to b goes with the k-th from b to a.
+-- The two sorted ways of a bucket, read side by side: the k-th edge from a to b goes with the k-th from b to a.
 use Rattle.std.proofs.Common.{◌≡◌, ◌<◌, ◌≤◌, ◌+◌, ◌-◌, ◌⊎◌, inl, inr, ℕ, min, Bool, true, false, List, [], ◌∷◌, length, get_or, set, refl, sym, ◌∙◌, ap, subst, arith, below_more, get_or-set_other, get_or-set_same}
 use Rattle.std.specs.Prelude.{nat_le, nat_lt, cond, ◌==◌}
 use Rattle.std.specs.List.{filter}
@@ -13,13 +13,13 @@ use Rattle.chain_terms.specs.Ranks.{rank, start, finish, runs_as}
 use Rattle.chain_laws.proofs.Ranks.{rank_below}
 use Rattle.mesh_terms.specs.OpenEdges.{is_lesser}
 use Rattle.halfedge.specs.Pairing.{Half, numbered, half_at, ends, ends_of, IsSortOf}
-use Rattle.halfedge.specs.Sides.{lesser_end, lesser_end_at, EndsDiffer, edge_lies_in, lies_in, AreSides}
-use Rattle.halfedge.proofs.PairedBuckets.{side_count, ups_count, downs_count}
+use Rattle.halfedge.specs.Ways.{lesser_end, lesser_end_at, EndsDiffer, edge_lies_in, lies_in, AreWays}
+use Rattle.halfedge.proofs.PairedBuckets.{way_count, ups_count, downs_count}
 use Rattle.halfedge.proofs.Order.{one_edge, same_edge, is_itself}
 use Rattle.halfedge.proofs.Positions.{lesser_count}
 use Rattle.halfedge.proofs.Single.{ends_at}
 use Rattle.halfedge.proofs.NumberedHalves.{edge_at, lesser_count_more}
-use Rattle.halfedge.proofs.TwinSides.{IsPlacedIn, placed_in, placed_lies, rank_backward, backward_at, up_placed, down_placed}
+use Rattle.halfedge.proofs.TwinWays.{IsPlacedIn, placed_in, placed_lies, rank_backward, backward_at, up_placed, down_placed}
 use Rattle.mesh_check.specs.Cancelling.{is_left, AreMarked}
 
 -- how many edges run as x
@@ -94,7 +94,7 @@ le_true m n h = grind (arith, nat_tests, h)
 le_false : (m n : ℕ) → n < m → nat_le m n ≡ false
 le_false m n h = grind (arith, nat_tests, h)
 
--- half-edge g, where x stands at place p of its side: it is left where those that run back are no more than those before it
+-- half-edge g, where x stands at place p of its way: it is left where those that run back are no more than those before it
 pub record IsAt (es : List (ℕ × ℕ)) (key : ℕ → ℕ) (k : ℕ) (ones others : List (ℕ × ℕ)) (p g : ℕ) (x : ℕ × ℕ) : Type 0 where
   pub within : g < length es
   pub keyed : key (lesser_end_at es g) ≡ k
@@ -111,7 +111,7 @@ left_same : (es : List (ℕ × ℕ)) (key : ℕ → ℕ) (k : ℕ) (ones others 
 left_same es key k ones others i j g x at level there =
     at.left ∙ le_false (same_count others x) (i - lesser_count ones x) (omega (arith, at.stands.low, at.stands.high, level x, there.low, there.high))
 
--- what stands at the places of two sides, different half-edges at different places
+-- what stands at the places of two ways, different half-edges at different places
 pub record AreKnown (es : List (ℕ × ℕ)) (key : ℕ → ℕ) (k : ℕ) (ones others : List Half) : Type 0 where
   pub first : (p : ℕ) → p < length ones → IsAt es key k (ends_of ones) (ends_of others) p (half_at ones p) (ends_at ones p)
   pub second : (p : ℕ) → p < length others → IsAt es key k (ends_of others) (ends_of ones) p (half_at others p) (ends_at others p)
@@ -119,7 +119,7 @@ pub record AreKnown (es : List (ℕ × ℕ)) (key : ℕ → ℕ) (k : ℕ) (ones
   pub second_once : (p q : ℕ) → p < length others → q < length others → half_at others p ≡ half_at others q → p ≡ q
   pub apart : (p q : ℕ) → p < length ones → q < length others → half_at ones p ≡ half_at others q → ⊥
 
--- the same with the sides exchanged
+-- the same with the ways exchanged
 known_exchanged : (es : List (ℕ × ℕ)) (key : ℕ → ℕ) (k : ℕ) (ones others : List Half) → AreKnown es key k ones others → AreKnown es key k others ones
 known_exchanged es key k ones others known = record {
   first = known.second;
@@ -129,7 +129,7 @@ known_exchanged es key k ones others known = record {
   apart = λ p q below low same. known.apart q p low below (sym same);
 }
 
--- one side is read to i: the marks of what stands before say what is left, the others are set
+-- one way is read to i: the marks of what stands before say what is left, the others are set
 pub record IsReadTo (es : List (ℕ × ℕ)) (xs : List Half) (i : ℕ) (left : List Bool) : Type 0 where
   pub done : (p : ℕ) → p < i → p < length xs → get_or left (half_at xs p) true ≡ is_left es (half_at xs p)
   pub rest : (p : ℕ) → i ≤ p → p < length xs → get_or left (half_at xs p) true ≡ true
@@ -161,14 +161,14 @@ other_goes es xs i g left other read = record {
   rest = λ p later below. get_or-set_other left g (half_at xs p) false true (other p below) ∙ read.rest p later below;
 }
 
--- both sides are read, to i and j; the marks of half-edges in other buckets are as before
+-- both ways are read, to i and j; the marks of half-edges in other buckets are as before
 pub record IsRead (es : List (ℕ × ℕ)) (key : ℕ → ℕ) (k : ℕ) (ones others : List Half) (i j : ℕ) (old left : List Bool) : Type 0 where
   pub level : IsLevel (ends_of ones) (ends_of others) i j
   pub first : IsReadTo es ones i left
   pub second : IsReadTo es others j left
   pub kept : (h : ℕ) → (key (lesser_end_at es h) ≡ k → ⊥) → get_or left h true ≡ get_or old h true
 
--- the same with the sides exchanged
+-- the same with the ways exchanged
 read_exchanged : (es : List (ℕ × ℕ)) (key : ℕ → ℕ) (k : ℕ) (ones others : List Half) (i j : ℕ) (old left : List Bool) → IsRead es key k ones others i j old left → IsRead es key k others ones j i old left
 read_exchanged es key k ones others i j old left read = record {
   level = level_exchanged (ends_of ones) (ends_of others) i j read.level;
@@ -192,7 +192,7 @@ none_read es key k ones others left known marked = record {
   kept = λ h other. refl;
 }
 
--- the first side's edge is lesser
+-- the first way's edge is lesser
 pub first_read : (es : List (ℕ × ℕ)) (key : ℕ → ℕ) (k : ℕ) (ones others : List Half) (i j : ℕ) (old left : List Bool) → AreKnown es key k ones others → i < length ones → j < length others → is_lesser (ends_at ones i) (ends_at others j) ≡ true
     → IsRead es key k ones others i j old left → IsRead es key k ones others (i + 1) j old left
 first_read es key k ones others i j old left known low below less read = record {
@@ -208,14 +208,14 @@ first_read es key k ones others i j old left known low below less read = record 
     passed : IsPassed (ends_of others) j (ends_at ones i)
     passed = let there = known.second j below in omega (arith, there.stands.low, lesser_count_more (ends_of others) (ends_at ones i) (ends_at others j) less)
 
--- the second side's edge is lesser
+-- the second way's edge is lesser
 pub second_read : (es : List (ℕ × ℕ)) (key : ℕ → ℕ) (k : ℕ) (ones others : List Half) (i j : ℕ) (old left : List Bool) → AreKnown es key k ones others → i < length ones → j < length others → is_lesser (ends_at others j) (ends_at ones i) ≡ true
     → IsRead es key k ones others i j old left → IsRead es key k ones others i (j + 1) old left
 second_read es key k ones others i j old left known low below less read =
     read_exchanged es key k others ones (j + 1) i old left
     (first_read es key k others ones j i old left (known_exchanged es key k ones others known) below low less (read_exchanged es key k ones others i j old left read))
 
--- both sides have the edge: both marks go
+-- both ways have the edge: both marks go
 pub both_read : (es : List (ℕ × ℕ)) (key : ℕ → ℕ) (k : ℕ) (ones others : List Half) (i j : ℕ) (old left : List Bool) → AreKnown es key k ones others → i < length ones → j < length others → ends_at others j ≡ ends_at ones i → length left ≡ length es
     → IsRead es key k ones others i j old left → IsRead es key k ones others (i + 1) (j + 1) old (set (set left (half_at ones i) false) (half_at others j) false)
 both_read es key k ones others i j old left known low below same full read = record {
@@ -253,10 +253,10 @@ both_read es key k ones others i j old left known low below same full read = rec
     elsewhere : (m : ℕ) → key (lesser_end_at es m) ≡ k → (h : ℕ) → (key (lesser_end_at es h) ≡ k → ⊥) → h ≡ m → ⊥
     elsewhere m keyed h other is = other (ap (λ n. key (lesser_end_at es n)) is ∙ keyed)
 
--- where the other side is at its end, the marks of a side say what is left
-side_marked : (es : List (ℕ × ℕ)) (key : ℕ → ℕ) (k : ℕ) (ones others : List Half) (i j : ℕ) (old left : List Bool) → AreKnown es key k ones others → (length ones ≤ i) ⊎ (length others ≤ j) → IsRead es key k ones others i j old left
+-- where the other side is at its end, the marks of a way say what is left
+way_marked : (es : List (ℕ × ℕ)) (key : ℕ → ℕ) (k : ℕ) (ones others : List Half) (i j : ℕ) (old left : List Bool) → AreKnown es key k ones others → (length ones ≤ i) ⊎ (length others ≤ j) → IsRead es key k ones others i j old left
     → (p : ℕ) → p < length ones → get_or left (half_at ones p) true ≡ is_left es (half_at ones p)
-side_marked es key k ones others i j old left known ended read p low = elim (cases_lt p i) as (λ _. get_or left (half_at ones p) true ≡ is_left es (half_at ones p)) [
+way_marked es key k ones others i j old left known ended read p low = elim (cases_lt p i) as (λ _. get_or left (half_at ones p) true ≡ is_left es (half_at ones p)) [
   | inl before ↦ read.first.done p before low
   | inr later ↦ by ended later
 ]
@@ -267,7 +267,7 @@ side_marked es key k ones others i j old left known ended read p low = elim (cas
         read.first.rest p later low
         ∙ sym (left_more es key k (ends_of ones) (ends_of others) i j p (half_at ones p) (ends_at ones p) (known.first p low) later read.level (omega (arith, second, lesser_and_same (ends_of others) (ends_at ones p), length-map others ends)))
 
--- that one side is at its end, with the sides exchanged
+-- that one way is at its end, with the ways exchanged
 ended_exchanged : (ones others : List Half) (i j : ℕ) → (length ones ≤ i) ⊎ (length others ≤ j) → (length others ≤ j) ⊎ (length ones ≤ i)
 ended_exchanged ones others i j (inl first) = inr first
 ended_exchanged ones others i j (inr second) = inl second
@@ -287,7 +287,7 @@ stands_there es key k xs sorted i low =
     let p = placed_in es key k xs sorted i low in
     let g = half_at xs i in
     let lies = placed_lies es key k xs sorted i low in
-    let all = side_count es key k xs sorted (start es g) (finish es g) ∙ ap (λ t. cond t (dir es (start es g) (finish es g)) 0) lies in
+    let all = way_count es key k xs sorted (start es g) (finish es g) ∙ ap (λ t. cond t (dir es (start es g) (finish es g)) 0) lies in
     record { low = omega (arith, p.place); high = omega (arith, p.place, all, rank_less es g p.within) }
 
 -- an edge of the bucket runs from a lesser vertex with key k to a greater one
@@ -314,44 +314,44 @@ lesser_finish : (a b : ℕ) → b < a → lesser_end (a, b) ≡ b
 lesser_finish a b down = grind (arith, nat_tests, down)
 
 -- a half-edge at a place of the ups
-up_at : (es : List (ℕ × ℕ)) (key : ℕ → ℕ) (k : ℕ) (ups downs : List Half) → AreSides es key k ups downs → (p : ℕ) → p < length ups → IsAt es key k (ends_of ups) (ends_of downs) p (half_at ups p) (ends_at ups p)
-up_at es key k ups downs sides p low =
+up_at : (es : List (ℕ × ℕ)) (key : ℕ → ℕ) (k : ℕ) (ups downs : List Half) → AreWays es key k ups downs → (p : ℕ) → p < length ups → IsAt es key k (ends_of ups) (ends_of downs) p (half_at ups p) (ends_at ups p)
+up_at es key k ups downs ways p low =
     subst (IsAt es key k (ends_of ups) (ends_of downs) p g) (sym at.runs)
     (record {
       within = at.within;
       keyed = ap key (lesser_start (start es g) (finish es g) way.0) ∙ way.1;
-      stands = stands_there es key k ups sides.ups_sorted p low;
-      left = ap (λ n. nat_le n (rank (runs_as es g) es g)) (sym (downs_count es key k ups downs sides (start es g) (finish es g) way.0 way.1)) ∙ ap (nat_le (same_count (ends_of downs) (edge_at es g))) before;
+      stands = stands_there es key k ups ways.ups_sorted p low;
+      left = ap (λ n. nat_le n (rank (runs_as es g) es g)) (sym (downs_count es key k ups downs ways (start es g) (finish es g) way.0 way.1)) ∙ ap (nat_le (same_count (ends_of downs) (edge_at es g))) before;
     })
   where
     g : ℕ
     g = half_at ups p
 
     at : IsPlacedIn es ups p g
-    at = placed_in es key k ups sides.ups_sorted p low
+    at = placed_in es key k ups ways.ups_sorted p low
 
     way : (start es g < finish es g) × (key (start es g) ≡ k)
-    way = ups_rise es key k ups sides.ups_sorted p low
+    way = ups_rise es key k ups ways.ups_sorted p low
 
     before : rank (runs_as es g) es g ≡ p - lesser_count (ends_of ups) (edge_at es g)
     before = omega (arith, at.place)
 
 -- and at a place of the downs
-down_at : (es : List (ℕ × ℕ)) (key : ℕ → ℕ) (k : ℕ) (ups downs : List Half) → AreSides es key k ups downs → (p : ℕ) → p < length downs → IsAt es key k (ends_of downs) (ends_of ups) p (half_at downs p) (ends_at downs p)
-down_at es key k ups downs sides p low =
+down_at : (es : List (ℕ × ℕ)) (key : ℕ → ℕ) (k : ℕ) (ups downs : List Half) → AreWays es key k ups downs → (p : ℕ) → p < length downs → IsAt es key k (ends_of downs) (ends_of ups) p (half_at downs p) (ends_at downs p)
+down_at es key k ups downs ways p low =
     subst (IsAt es key k (ends_of downs) (ends_of ups) p t) (sym (at.runs ∙ turn))
     (record {
       within = within;
       keyed = ap key (lesser_finish (start es t) (finish es t) way.0) ∙ way.1;
-      stands = subst (Stands (ends_of downs) p) turn (stands_there (backward es) key k downs sides.downs_sorted p low);
-      left = ap (λ n. nat_le n (rank (runs_as es t) es t)) (sym (ups_count es key k ups downs sides (finish es t) (start es t) way.0 way.1)) ∙ ap (nat_le (same_count (ends_of ups) (finish es t, start es t))) before;
+      stands = subst (Stands (ends_of downs) p) turn (stands_there (backward es) key k downs ways.downs_sorted p low);
+      left = ap (λ n. nat_le n (rank (runs_as es t) es t)) (sym (ups_count es key k ups downs ways (finish es t) (start es t) way.0 way.1)) ∙ ap (nat_le (same_count (ends_of ups) (finish es t, start es t))) before;
     })
   where
     t : ℕ
     t = half_at downs p
 
     at : IsPlacedIn (backward es) downs p t
-    at = placed_in (backward es) key k downs sides.downs_sorted p low
+    at = placed_in (backward es) key k downs ways.downs_sorted p low
 
     within : t < length es
     within = within_turned es t at.within
@@ -360,7 +360,7 @@ down_at es key k ups downs sides p low =
     turn = backward_at es t within
 
     way : (finish es t < start es t) × (key (finish es t) ≡ k)
-    way = downs_fall es key k downs sides.downs_sorted p low
+    way = downs_fall es key k downs ways.downs_sorted p low
 
     place : p ≡ lesser_count (ends_of downs) (finish es t, start es t) + rank (λ e. is_edge e (finish es t) (start es t)) (backward es) t
     place = subst (λ (x : ℕ × ℕ). p ≡ lesser_count (ends_of downs) x + rank (λ e. is_edge e x.0 x.1) (backward es) t) turn at.place
@@ -372,23 +372,23 @@ down_at es key k ups downs sides p low =
 one_place : (es : List (ℕ × ℕ)) (xs : List Half) (p q : ℕ) → IsPlacedIn es xs p (half_at xs p) → IsPlacedIn es xs q (half_at xs q) → half_at xs p ≡ half_at xs q → p ≡ q
 one_place es xs p q at there same = at.place ∙ sym (subst (IsPlacedIn es xs q) (sym same) there).place
 
--- so what stands in the two sides of a bucket is known
-pub sides_known : (es : List (ℕ × ℕ)) (key : ℕ → ℕ) (k : ℕ) (ups downs : List Half) → AreSides es key k ups downs → AreKnown es key k ups downs
-sides_known es key k ups downs sides = record {
-  first = up_at es key k ups downs sides;
-  second = down_at es key k ups downs sides;
-  first_once = λ p q low below. one_place es ups p q (placed_in es key k ups sides.ups_sorted p low) (placed_in es key k ups sides.ups_sorted q below);
-  second_once = λ p q low below. one_place (backward es) downs p q (placed_in (backward es) key k downs sides.downs_sorted p low) (placed_in (backward es) key k downs sides.downs_sorted q below);
+-- so what stands in the two ways of a bucket is known
+pub ways_known : (es : List (ℕ × ℕ)) (key : ℕ → ℕ) (k : ℕ) (ups downs : List Half) → AreWays es key k ups downs → AreKnown es key k ups downs
+ways_known es key k ups downs ways = record {
+  first = up_at es key k ups downs ways;
+  second = down_at es key k ups downs ways;
+  first_once = λ p q low below. one_place es ups p q (placed_in es key k ups ways.ups_sorted p low) (placed_in es key k ups ways.ups_sorted q below);
+  second_once = λ p q low below. one_place (backward es) downs p q (placed_in (backward es) key k downs ways.downs_sorted p low) (placed_in (backward es) key k downs ways.downs_sorted q below);
   apart = λ p q low below same.
-      let up = ups_rise es key k ups sides.ups_sorted p low in
-      let down = downs_fall es key k downs sides.downs_sorted q below in
+      let up = ups_rise es key k ups ways.ups_sorted p low in
+      let down = downs_fall es key k downs ways.downs_sorted q below in
       absurd (omega (arith, up.0, down.0, ap (start es) same, ap (finish es) same));
 }
 
--- once one side is at its end, one bucket more is marked
-pub marked_more : (es : List (ℕ × ℕ)) (key : ℕ → ℕ) (k : ℕ) (ups downs : List Half) (i j : ℕ) (old left : List Bool) → AreSides es key k ups downs → EndsDiffer es
+-- once one way is at its end, one bucket more is marked
+pub marked_more : (es : List (ℕ × ℕ)) (key : ℕ → ℕ) (k : ℕ) (ups downs : List Half) (i j : ℕ) (old left : List Bool) → AreWays es key k ups downs → EndsDiffer es
     → (length ups ≤ i) ⊎ (length downs ≤ j) → length left ≡ length old → AreMarked es key k old → IsRead es key k ups downs i j old left → AreMarked es key (k + 1) left
-marked_more es key k ups downs i j old left sides differ ended full marked read = record {
+marked_more es key k ups downs i j old left ways differ ended full marked read = record {
   full = full ∙ marked.full;
   done = λ h within low. elim (cases_lt (key (lesser_end_at es h)) k) as (λ _. get_or left h true ≡ is_left es h) [
     | inl before ↦ read.kept h (λ is. absurd (omega (arith, before, is))) ∙ marked.done h within before
@@ -398,19 +398,19 @@ marked_more es key k ups downs i j old left sides differ ended full marked read 
 }
   where
     known : AreKnown es key k ups downs
-    known = sides_known es key k ups downs sides
+    known = ways_known es key k ups downs ways
 
     at_up : (h : ℕ) → (p : ℕ) × (p < length ups) × (half_at ups p ≡ h) → get_or left h true ≡ is_left es h
-    at_up h (p, low, is) = subst (λ g. get_or left g true ≡ is_left es g) is (side_marked es key k ups downs i j old left known ended read p low)
+    at_up h (p, low, is) = subst (λ g. get_or left g true ≡ is_left es g) is (way_marked es key k ups downs i j old left known ended read p low)
 
     at_down : (h : ℕ) → (p : ℕ) × (p < length downs) × (half_at downs p ≡ h) → get_or left h true ≡ is_left es h
     at_down h (p, low, is) =
         subst (λ g. get_or left g true ≡ is_left es g) is
-        (side_marked es key k downs ups j i old left (known_exchanged es key k ups downs known) (ended_exchanged ups downs i j ended) (read_exchanged es key k ups downs i j old left read) p low)
+        (way_marked es key k downs ups j i old left (known_exchanged es key k ups downs known) (ended_exchanged ups downs i j ended) (read_exchanged es key k ups downs i j old left read) p low)
 
     in_bucket : (h : ℕ) → h < length es → key (lesser_end_at es h) ≡ k → get_or left h true ≡ is_left es h
     in_bucket h within keyed = elim (cases_order (start es h) (finish es h)) as (λ _. get_or left h true ≡ is_left es h) [
       | inl same ↦ absurd (differ h within same)
-      | inr (inl up) ↦ at_up h (up_placed es key k ups downs sides h within up (ap key (sym (lesser_start (start es h) (finish es h) up)) ∙ keyed))
-      | inr (inr down) ↦ at_down h (down_placed es key k ups downs sides h within down (ap key (sym (lesser_finish (start es h) (finish es h) down)) ∙ keyed))
+      | inr (inl up) ↦ at_up h (up_placed es key k ups downs ways h within up (ap key (sym (lesser_start (start es h) (finish es h) up)) ∙ keyed))
+      | inr (inr down) ↦ at_down h (down_placed es key k ups downs ways h within down (ap key (sym (lesser_finish (start es h) (finish es h) down)) ∙ keyed))
     ]

@@ -6,5 +6,5 @@ pub mod KeptMarks
 pub mod OpenPair
 pub mod Orientations
 pub mod ReducedMesh
-pub mod SideSteps
+pub mod WaySteps
 pub mod TriangleBuckets

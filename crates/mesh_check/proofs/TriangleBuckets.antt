@@ -1,4 +1,4 @@
--- Triangles in buckets by their least vertices: what lies in one, its two sides, and the marks once it is done.
+-- Triangles in buckets by their least vertices: what lies in one, its two ways, and the marks once it is done.
 use Rattle.std.proofs.Common.{◌≡◌, ◌<◌, ◌+◌, ◌/◌, ◌%◌, ℕ, Bool, true, List, length, get_or, map, replicate, nat_lt, sym, ◌∙◌, ap, subst, arith}
 use Rattle.std.specs.List.{All, filter}
 use Rattle.std.proofs.lemmas.Bool.{cond_both}
@@ -7,10 +7,10 @@ use Rattle.chain_terms.specs.Sums.{upto}
 use Rattle.chain_laws.proofs.Places.{get_or-up_from, length-up_from}
 use Rattle.mesh_terms.specs.Meshes.{Triple}
 use Rattle.halfedge.specs.Pairing.{Half, half_at, turned, IsSortOf}
-use Rattle.halfedge.specs.Sides.{half_of, lesser_end, lesser_end_at, EndsDiffer, runs_up, AreSides}
+use Rattle.halfedge.specs.Ways.{half_of, lesser_end, lesser_end_at, EndsDiffer, runs_up, AreWays}
 use Rattle.halfedge.proofs.BucketContents.{IsBucket, bucket_sides}
 use Rattle.halfedge.proofs.Split.{AreKeys}
-use Rattle.halfedge.proofs.TwinSides.{halves_of_sides}
+use Rattle.halfedge.proofs.TwinWays.{halves_of_ways}
 use Rattle.mesh_check.specs.declared.oriented.Oriented.{Oriented}
 use Rattle.mesh_check.specs.Cancelling.{as_half, halves_of, is_left, left_marks, bucket_of_triple, bucket_of_end, AreMarked}
 use Rattle.mesh_check.specs.Orientations.{least_first, edge_of, pair_number, orientation_edge, orientation_edges, IsNarrow, IsTriangle}
@@ -51,11 +51,11 @@ orientations_differ ts all h below same =
     let ends : (orientation_edge t).0 ≡ (orientation_edge t).1 = sym (ap (λ (e : ℕ × ℕ). e.0) edge) ∙ same ∙ ap (λ (e : ℕ × ℕ). e.1) edge in
     from_least (λ u. u.1 ≡ u.2 → ⊥) t triangle.three.bc triangle.three.ca triangle.three.ab (omega (arith, ends))
 
--- the triangles of one orientation in a bucket, sorted, and the other sides of the rest, sorted, are its two sides; us and vs are these lists as they are read later
-pub sides_read : (ts : List Triple) (n k : ℕ) (bucket : List ℕ) (ones others us vs : List Oriented) → All IsTriangle ts → k < n → IsBucket (map (bucket_of_triple n) ts) n k bucket
+-- the triangles of one orientation in a bucket, sorted, and the other sides of the rest, sorted, are its two ways; us and vs are these lists as they are read later
+pub ways_read : (ts : List Triple) (n k : ℕ) (bucket : List ℕ) (ones others us vs : List Oriented) → All IsTriangle ts → k < n → IsBucket (map (bucket_of_triple n) ts) n k bucket
     → IsSortOf (filter runs_up (map (half_of (orientation_edges ts)) bucket)) (halves_of ones) → IsSortOf (filter runs_up (map turned (map (half_of (orientation_edges ts)) bucket))) (halves_of others) → us ≡ ones → vs ≡ others
-    → AreSides (orientation_edges ts) (bucket_of_end n) k (halves_of us) (halves_of vs)
-sides_read ts n k bucket ones others us vs all low is sorted back_sorted first second =
+    → AreWays (orientation_edges ts) (bucket_of_end n) k (halves_of us) (halves_of vs)
+ways_read ts n k bucket ones others us vs all low is sorted back_sorted first second =
     let es = orientation_edges ts in
     bucket_sides es (bucket_of_end n) (map (bucket_of_triple n) ts) n k bucket (halves_of us) (halves_of vs) (triangle_keys ts n all) low is
     (subst (λ l. IsSortOf (filter runs_up (map (half_of es) bucket)) (halves_of l)) (sym first) sorted) (subst (λ l. IsSortOf (filter runs_up (map turned (map (half_of es) bucket))) (halves_of l)) (sym second) back_sorted)
@@ -65,15 +65,15 @@ halves_placed : (es : List (ℕ × ℕ)) (os : List Oriented) → ((i : ℕ) →
 halves_placed es os each i d low =
     let read = ap (λ (h : Half). h.2) (get_or-map as_half os i d (0, 0, 0) low) in omega (arith, read, each i (omega (arith, low, length-map os as_half)))
 
--- one side of a bucket has places of triangles only
-pub ones_placed : (ts : List Triple) (key : ℕ → ℕ) (k : ℕ) (ones others : List Oriented) → AreSides (orientation_edges ts) key k (halves_of ones) (halves_of others) → All (λ o. o.place < length ts) ones
-ones_placed ts key k ones others sides =
-    subst (λ n. All (λ (o : Oriented). o.place < n) ones) (length-map ts orientation_edge) (halves_placed (orientation_edges ts) ones (halves_of_sides (orientation_edges ts) key k (halves_of ones) (halves_of others) sides).0)
+-- one way of a bucket has places of triangles only
+pub ones_placed : (ts : List Triple) (key : ℕ → ℕ) (k : ℕ) (ones others : List Oriented) → AreWays (orientation_edges ts) key k (halves_of ones) (halves_of others) → All (λ o. o.place < length ts) ones
+ones_placed ts key k ones others ways =
+    subst (λ n. All (λ (o : Oriented). o.place < n) ones) (length-map ts orientation_edge) (halves_placed (orientation_edges ts) ones (halves_of_ways (orientation_edges ts) key k (halves_of ones) (halves_of others) ways).0)
 
 -- and so has the other
-pub others_placed : (ts : List Triple) (key : ℕ → ℕ) (k : ℕ) (ones others : List Oriented) → AreSides (orientation_edges ts) key k (halves_of ones) (halves_of others) → All (λ o. o.place < length ts) others
-others_placed ts key k ones others sides =
-    subst (λ n. All (λ (o : Oriented). o.place < n) others) (length-map ts orientation_edge) (halves_placed (orientation_edges ts) others (halves_of_sides (orientation_edges ts) key k (halves_of ones) (halves_of others) sides).1)
+pub others_placed : (ts : List Triple) (key : ℕ → ℕ) (k : ℕ) (ones others : List Oriented) → AreWays (orientation_edges ts) key k (halves_of ones) (halves_of others) → All (λ o. o.place < length ts) others
+others_placed ts key k ones others ways =
+    subst (λ n. All (λ (o : Oriented). o.place < n) others) (length-map ts orientation_edge) (halves_placed (orientation_edges ts) others (halves_of_ways (orientation_edges ts) key k (halves_of ones) (halves_of others) ways).1)
 
 -- no bucket is done yet: all marks are set
 pub marks_none : (es : List (ℕ × ℕ)) (key : ℕ → ℕ) → AreMarked es key 0 (replicate (length es) true)

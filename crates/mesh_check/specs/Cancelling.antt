@@ -4,7 +4,7 @@ use Rattle.chain_terms.specs.Chains.{dir}
 use Rattle.chain_terms.specs.Sums.{upto}
 use Rattle.chain_terms.specs.Ranks.{rank, start, finish, runs_as}
 use Rattle.halfedge.specs.Pairing.{Half}
-use Rattle.halfedge.specs.Sides.{lesser_end_at}
+use Rattle.halfedge.specs.Ways.{lesser_end_at}
 use Rattle.mesh_terms.specs.Meshes.{Triple}
 use Rattle.mesh_check.specs.declared.oriented.Oriented.{Oriented}
 use Rattle.mesh_check.specs.Orientations.{edge_of, least_first}

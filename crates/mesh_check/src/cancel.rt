@@ -2,13 +2,14 @@
 // other.
 ghost use Rattle.std.specs.Prelude.{◌≡◌, ◌<◌, ◌≤◌, ◌+◌, ℕ, List, IfOk, length};
 ghost use Rattle.std.specs.List.{All};
-ghost use Rattle.halfedge.specs.Sides.{EndsDiffer, AreSides};
+ghost use Rattle.halfedge.specs.Ways.{EndsDiffer, AreWays};
+ghost use Rattle.mesh_terms.specs.Limits.{most_triangles};
 ghost use Rattle.mesh_terms.specs.Meshes.{triples_of};
 ghost use Rattle.mesh_check.specs.Cancelling.{halves_of, kept_marks, AreMarked};
 ghost use Rattle.mesh_check.specs.Orientations.{IsTriangle};
 
 use crate::oriented::Oriented;
-use crate::oriented_sides::{bucket_numbers, oriented_sides};
+use crate::oriented_ways::{bucket_numbers, oriented_ways};
 use counting_sort::Buckets;
 use mb_base::NoMemory;
 use std::alloc::Global;
@@ -20,7 +21,7 @@ use std::cmp::Ordering;
 /// same three vertices lie in one bucket. In each the two orientations make two lists, which are sorted
 /// and read side by side.
 pub fn uncancelled(alloc: Global, triples: &[[u32; 3]]) -> Result<Vec<bool>, NoMemory>
-    requires few { length triples.now ≤ 100000000 }
+    requires few { length triples.now ≤ most_triangles }
     requires triangles { All IsTriangle (triples_of triples.now) }
     ensures { IfOk result (λ marks. marks.items ≡ kept_marks (triples_of triples.now)) }
 {
@@ -31,19 +32,19 @@ pub fn uncancelled(alloc: Global, triples: &[[u32; 3]]) -> Result<Vec<bool>, NoM
     let mut left = vec![in alloc; true; triples.len()]?;
     let mut lists = (Vec::new(alloc), Vec::new(alloc));
     for k in 0..count as usize {
-        let (ones, others) = oriented_sides(triples, buckets.bucket(k), lists)?;
+        let (ones, others) = oriented_ways(triples, buckets.bucket(k), lists)?;
         left = cancel(&ones, &others, left);
         lists = (ones, others);
     }
     Ok(left)
 }
 
-// Takes away the marks of the triangles that cancel: of the two sides of a bucket, both sorted, the
+// Takes away the marks of the triangles that cancel: of the two ways of a bucket, both sorted, the
 // k-th with some vertices in the one cancels with the k-th with the same vertices in the other.
 fn cancel(ones: &[Oriented], others: &[Oriented], mut left: Vec<bool>) -> Vec<bool>
     requires ones { All (λ o. o.place < length left.items) ones.now }
     requires others { All (λ o. o.place < length left.items) others.now }
-    ensures { (es : List (ℕ × ℕ)) (key : ℕ → ℕ) (k : ℕ) → AreSides es key k (halves_of ones.now) (halves_of others.now) → EndsDiffer es → AreMarked es key k left.items → AreMarked es key (k + 1) result.items }
+    ensures { (es : List (ℕ × ℕ)) (key : ℕ → ℕ) (k : ℕ) → AreWays es key k (halves_of ones.now) (halves_of others.now) → EndsDiffer es → AreMarked es key k left.items → AreMarked es key (k + 1) result.items }
 {
     let mut i = 0;
     let mut j = 0;

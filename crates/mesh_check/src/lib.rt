@@ -7,7 +7,7 @@ mod cancel;
 mod mesh;
 mod opposites;
 mod oriented;
-mod oriented_sides;
+mod oriented_ways;
 mod reduction;
 #[cfg(test)]
 mod tests;

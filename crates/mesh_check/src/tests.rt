@@ -2,31 +2,33 @@
 mod table;
 
 use crate::{Mesh, MeshFault, reduce};
-use mb_base::{Point, Soup};
+use samples::{BOX, TETRAHEDRON, soup_of};
 use std::alloc::Global;
 use std::process::Abort;
 use std::test::Fail;
 use table::{FIRST_MESHES, FOURTH_MESHES, Row, SECOND_MESHES, THIRD_MESHES};
 
-const TETRAHEDRON: [[u32; 3]; 4] = [[0, 2, 1], [0, 1, 3], [1, 2, 3], [2, 0, 3]];
-
-// The soup of these triangles over so many points on a line.
-fn soup_of(alloc: Global, count: i32, triples: &[[u32; 3]]) -> Result<Soup, Fail> {
-    let mut points = Vec::new(alloc);
+// The mesh of these triangles over so many points on a line, or why there is none.
+fn checked(
+    alloc: Global,
+    count: i32,
+    triples: &[[u32; 3]],
+) -> Result<Result<Mesh, MeshFault>, Fail> {
+    let mut rows = Vec::new(alloc);
     for x in 0..count {
-        points.push(Point::of(x, 0, 0).ok_or("outside the grid")?)?;
+        rows.push([x, 0, 0])?;
     }
-    let triples = triples.to_vec(alloc)?;
-    if !Soup::fits(&points, &triples) {
-        return Err("no soup".into());
-    }
-    Ok(Soup::of(points, triples, 0))
+    Ok(Mesh::check(alloc, soup_of(alloc, &rows, triples)?))
+}
+
+// Where the mesh of these triangles is open.
+fn fault_of(alloc: Global, count: i32, triples: &[[u32; 3]]) -> Result<Option<MeshFault>, Fail> {
+    Ok(checked(alloc, count, triples)?.err())
 }
 
 #[test]
 fn a_closed_mesh_keeps_its_lists(rt: HostRuntime) -> Result<(), Fail> {
-    let soup = soup_of(rt.alloc(), 4, &TETRAHEDRON)?;
-    let mesh = Mesh::check(rt.alloc(), soup)?;
+    let mesh = checked(rt.alloc(), 4, &TETRAHEDRON)??;
     assert_eq!(rt; mesh.points().len(), 4);
     assert_eq!(rt; mesh.points()[3].at(), [3, 0, 0]);
     assert_eq!(rt; mesh.triples(), TETRAHEDRON.as_slice());
@@ -38,28 +40,42 @@ fn a_closed_mesh_keeps_its_lists(rt: HostRuntime) -> Result<(), Fail> {
 }
 
 #[test]
-fn triangles_may_repeat_and_cancel(rt: HostRuntime) -> Result<(), Fail> {
+fn the_least_open_edge_is_named(rt: HostRuntime) -> Result<(), Fail> {
     let [a, b, c, d] = TETRAHEDRON;
-    let twice = soup_of(rt.alloc(), 4, &[a, b, c, d, a, b, c, d])?;
-    assert!(rt; Mesh::check(rt.alloc(), twice).is_ok());
-    let flat = soup_of(rt.alloc(), 3, &[[0, 1, 2], [2, 1, 0]])?;
-    assert!(rt; Mesh::check(rt.alloc(), flat).is_ok());
+    let twice = fault_of(rt.alloc(), 4, &[a, b, c, d, a, b, c, d])?;
+    assert!(rt; twice.is_none());
+    let two_sided = fault_of(rt.alloc(), 3, &[[0, 1, 2], [2, 1, 0]])?;
+    assert!(rt; two_sided.is_none());
+    // The last face's edges are missing, so their reverses are open: 0 to 2, 3 to 0 and 2 to 3.
+    let open = fault_of(rt.alloc(), 4, &TETRAHEDRON[..3])?;
+    assert_eq!(rt; open, Some(MeshFault::OpenEdge { from: 0, to: 2 }));
+    // Three triangles share an edge, twice from 1 to 0 and once back; it comes after 0 to 2 and 0 to 4.
+    let fan = fault_of(rt.alloc(), 5, &[[1, 0, 2], [0, 1, 3], [1, 0, 4]])?;
+    assert_eq!(rt; fan, Some(MeshFault::OpenEdge { from: 0, to: 2 }));
+    let turned = fault_of(rt.alloc(), 5, &[[0, 1, 2], [1, 0, 3], [0, 1, 4]])?;
+    assert_eq!(rt; turned, Some(MeshFault::OpenEdge { from: 0, to: 1 }));
     Ok(())
 }
 
-#[test]
-fn the_least_open_edge_is_named(rt: HostRuntime) -> Result<(), Fail> {
-    // The last face's edges are missing, so their reverses are open: 0 to 2, 3 to 0 and 2 to 3.
-    let open = soup_of(rt.alloc(), 4, &TETRAHEDRON[..3])?;
-    let fault = MeshFault::OpenEdge { from: 0, to: 2 };
-    assert_eq!(rt; Mesh::check(rt.alloc(), open).err(), Some(fault));
-    // Three triangles share an edge, twice from 1 to 0 and once back; it comes after 0 to 2 and 0 to 4.
-    let fan = soup_of(rt.alloc(), 5, &[[1, 0, 2], [0, 1, 3], [1, 0, 4]])?;
-    assert_eq!(rt; Mesh::check(rt.alloc(), fan).err(), Some(fault));
-    let turned = soup_of(rt.alloc(), 5, &[[0, 1, 2], [1, 0, 3], [0, 1, 4]])?;
-    let fault = MeshFault::OpenEdge { from: 0, to: 1 };
-    assert_eq!(rt; Mesh::check(rt.alloc(), turned).err(), Some(fault));
-    Ok(())
+// Whether reduction leaves these points, by their places on the line, and these triangles over them.
+fn reduces_to(
+    alloc: Global,
+    count: i32,
+    triples: &[[u32; 3]],
+    stay: &[i32],
+    left: &[[u32; 3]],
+) -> Result<bool, Fail> {
+    let mesh = checked(alloc, count, triples)??;
+    let reduced = reduce(alloc, &mesh)?;
+    if reduced.points().len() != stay.len() || reduced.triples() != left {
+        return Ok(false);
+    }
+    for (point, x) in reduced.points().iter().zip(stay) {
+        if point.at() != [*x, 0, 0] {
+            return Ok(false);
+        }
+    }
+    Ok(true)
 }
 
 // A two-sided triangle, and beside it a box, whose corners have the numbers 3 to 10.
@@ -80,41 +96,6 @@ const SHEET_AND_BOX: [[u32; 3]; 14] = [
     [3, 9, 5],
 ];
 
-// The box alone.
-const BOX: [[u32; 3]; 12] = [
-    [0, 3, 1],
-    [0, 2, 3],
-    [4, 5, 7],
-    [4, 7, 6],
-    [0, 1, 4],
-    [1, 5, 4],
-    [1, 3, 7],
-    [1, 7, 5],
-    [3, 2, 6],
-    [3, 6, 7],
-    [0, 4, 6],
-    [0, 6, 2],
-];
-
-#[test]
-fn a_two_sided_triangle_goes_with_its_points(rt: HostRuntime) -> Result<(), Fail> {
-    let mesh = Mesh::check(rt.alloc(), soup_of(rt.alloc(), 11, &SHEET_AND_BOX)?)?;
-    let reduced = reduce(rt.alloc(), &mesh)?;
-    assert_eq!(rt; reduced.points().len(), 8);
-    assert_eq!(rt; reduced.points()[0].at(), [3, 0, 0]);
-    assert_eq!(rt; reduced.points()[7].at(), [10, 0, 0]);
-    assert_eq!(rt; reduced.triples(), BOX.as_slice());
-    // The box first, which keeps its points.
-    let mut triples = BOX.to_vec(rt.alloc())?;
-    triples.push([8, 9, 10])?;
-    triples.push([8, 10, 9])?;
-    let mesh = Mesh::check(rt.alloc(), soup_of(rt.alloc(), 11, &triples)?)?;
-    let reduced = reduce(rt.alloc(), &mesh)?;
-    assert_eq!(rt; reduced.points().len(), 8);
-    assert_eq!(rt; reduced.triples(), BOX.as_slice());
-    Ok(())
-}
-
 // Five two-sided triangles, the last one turned, and a tetrahedron on the vertices 15 to 18.
 const SHEETS_AND_TETRAHEDRON: [[u32; 3]; 14] = [
     [0, 1, 2],
@@ -134,78 +115,49 @@ const SHEETS_AND_TETRAHEDRON: [[u32; 3]; 14] = [
 ];
 
 #[test]
-fn vertices_may_be_more_than_triangles(rt: HostRuntime) -> Result<(), Fail> {
-    let mesh = Mesh::check(
-        rt.alloc(),
-        soup_of(rt.alloc(), 19, &SHEETS_AND_TETRAHEDRON)?,
-    )?;
-    let reduced = reduce(rt.alloc(), &mesh)?;
-    assert_eq!(rt; reduced.points().len(), 4);
-    assert_eq!(rt; reduced.points()[0].at(), [15, 0, 0]);
-    assert_eq!(rt; reduced.triples(), TETRAHEDRON.as_slice());
+fn two_sided_triangles_go_with_their_points(rt: HostRuntime) -> Result<(), Fail> {
+    let stay = [3, 4, 5, 6, 7, 8, 9, 10];
+    assert!(rt; reduces_to(rt.alloc(), 11, &SHEET_AND_BOX, &stay, &BOX)?);
+    // The box first, which keeps its points.
+    let mut triples = BOX.to_vec(rt.alloc())?;
+    triples.push([8, 9, 10])?;
+    triples.push([8, 10, 9])?;
+    let stay = [0, 1, 2, 3, 4, 5, 6, 7];
+    assert!(rt; reduces_to(rt.alloc(), 11, &triples, &stay, &BOX)?);
+    // There are more vertices than triangles.
+    let stay = [15, 16, 17, 18];
+    assert!(rt; reduces_to(rt.alloc(), 19, &SHEETS_AND_TETRAHEDRON, &stay, &TETRAHEDRON)?);
     Ok(())
 }
 
-// The number that a digit stands for.
-fn digit(byte: u8) -> u32 {
-    u32::from(byte.saturating_sub(b'0'))
-}
-
-// The triangles of a text, each as three digits.
-fn triples_of(alloc: Global, text: &str) -> Result<Vec<[u32; 3]>, Fail> {
+// The triangles of a row.
+fn triples_of(alloc: Global, codes: &[u16]) -> Result<Vec<[u32; 3]>, Fail> {
     let mut triples = Vec::new(alloc);
-    for word in text.split_whitespace() {
-        if let [a, b, c] = word.as_bytes() {
-            triples.push([digit(*a), digit(*b), digit(*c)])?;
-        }
+    for code in codes {
+        let code = u32::from(*code);
+        triples.push([code / 100, code / 10 % 10, code % 10])?;
     }
     Ok(triples)
 }
 
-// One more than the greatest digit of a text.
-fn count_of(text: &str) -> i32 {
-    let mut count = 0;
-    for byte in text.as_bytes() {
-        count = count.max(i32::from(byte.saturating_sub(b'0')) + 1);
-    }
-    count
+fn row_holds(alloc: Global, row: &Row) -> Result<bool, Fail> {
+    let (count, triples, stay, left) = *row;
+    let triples = triples_of(alloc, triples)?;
+    let left = triples_of(alloc, left)?;
+    reduces_to(alloc, count, &triples, stay, &left)
 }
 
-fn expect_reduced(rt: &(impl Abort + AllocGlobal), rows: &[Row]) -> Result<(), Fail> {
-    for (text, stay, left) in rows {
-        let triples = triples_of(rt.alloc(), text)?;
-        let mesh = Mesh::check(rt.alloc(), soup_of(rt.alloc(), count_of(text), &triples)?)?;
-        let reduced = reduce(rt.alloc(), &mesh)?;
-        let left = triples_of(rt.alloc(), left)?;
-        assert!(rt; reduced.triples() == left.as_slice(), "triangles of {text}");
-        assert!(rt; reduced.points().len() == stay.len(), "points of {text}");
-        for (point, digit) in reduced.points().iter().zip(stay.as_bytes()) {
-            let [x, _, _] = point.at();
-            assert!(rt;
-                x == i32::from(digit.saturating_sub(b'0')),
-                "points of {text}"
-            );
-        }
+fn expect_rows(rt: &(impl Abort + AllocGlobal), rows: &[Row]) -> Result<(), Fail> {
+    for (at, row) in rows.iter().enumerate() {
+        assert!(rt; row_holds(rt.alloc(), row)?, "row {at}");
     }
     Ok(())
 }
 
 #[test]
-fn the_first_meshes_are_reduced(rt: HostRuntime) -> Result<(), Fail> {
-    expect_reduced(&rt, &FIRST_MESHES)
-}
-
-#[test]
-fn the_second_meshes_are_reduced(rt: HostRuntime) -> Result<(), Fail> {
-    expect_reduced(&rt, &SECOND_MESHES)
-}
-
-#[test]
-fn the_third_meshes_are_reduced(rt: HostRuntime) -> Result<(), Fail> {
-    expect_reduced(&rt, &THIRD_MESHES)
-}
-
-#[test]
-fn the_fourth_meshes_are_reduced(rt: HostRuntime) -> Result<(), Fail> {
-    expect_reduced(&rt, &FOURTH_MESHES)
+fn three_hundred_meshes_are_reduced(rt: HostRuntime) -> Result<(), Fail> {
+    expect_rows(&rt, &FIRST_MESHES)?;
+    expect_rows(&rt, &SECOND_MESHES)?;
+    expect_rows(&rt, &THIRD_MESHES)?;
+    expect_rows(&rt, &FOURTH_MESHES)
 }

@@ -3,6 +3,7 @@
 
 ghost use Rattle.std.specs.Prelude.{◌≡◌, ◌≤◌, ◌↔◌, List, length, true, IfOk, IsTrue};
 ghost use Rattle.std.specs.List.{All};
+ghost use Rattle.mesh_terms.specs.Limits.{most_points};
 ghost use Rattle.mesh_terms.specs.Meshes.{IsBelow, Triple, triples_of, soup_of, used_from};
 ghost use Rattle.unused_points.specs.Used.{IsSound, MarksUsed, NumbersUsed, renamed};
 
@@ -57,7 +58,7 @@ fn kept_points(
     marks: &[bool],
 ) -> Result<(Vec<Point>, Vec<u32>), NoMemory>
     requires marks { length marks.now ≡ length points.now }
-    requires few { length points.now ≤ 150000000 }
+    requires few { length points.now ≤ most_points }
     ensures kept { IfOk result (λ r. (ts : List Triple) → MarksUsed (length points.now) ts marks.now → r.0.items ≡ used_from ts 0 points.now) }
     ensures numbers { IfOk result (λ r. (ts : List Triple) → MarksUsed (length points.now) ts marks.now → NumbersUsed (length points.now) ts r.1.items) }
 {

@@ -9,7 +9,7 @@ use Rattle.side_terms.specs.Corners.{corner_at}
 use Rattle.rounding.specs.Nearest.{nearest}
 use Rattle.shadow_kernels.specs.Shadows.{meet02}
 use Rattle.edge_face.specs.Crossings.{ShadowTest}
-use Rattle.side_terms.specs.Sides.{Side, corner_of, corners_of, face_of}
+use Rattle.side_terms.specs.Sides.{Side, corner_of, corners_of, face_of, side_of}
 use Rattle.lean.proofs.Corners.{corners_at}
 use Rattle.winding.specs.Windings.{face_shadow, winding, plain_corner, plain_shadow, winding_at}
 
@@ -34,14 +34,13 @@ plain_face point points t h = rw (plain_at points t.0 h.a, plain_at points t.1 h
 
 -- the sum over all faces of the side of a mesh
 pub plain_winding : (point : List ℤ) (mesh : Mesh) (p : Corner) (side : Side) (ups : List (List Bool)) →
-    p ≡ plain_corner point → side.corners ≡ corners_of mesh.points ups → side.triples ≡ mesh.triples →
+    p ≡ plain_corner point → side ≡ side_of mesh ups →
     ups ≡ replicate (length mesh.points) no_marks → All (IsBelow (length mesh.points)) mesh.triples →
     winding nearest_test p side ≡ winding_at point mesh
-plain_winding point mesh p side ups at corners triples plain below =
+plain_winding point mesh p side ups at is plain below =
     let cs = corners_of mesh.points (replicate (length mesh.points) no_marks) in
     let f : Triple → ℤ = λ t. face_shadow nearest_test (plain_corner point) (face_of cs t) in
     let g : Triple → ℤ = λ t. plain_shadow point (get_or mesh.points t.0 []) (get_or mesh.points t.1 []) (get_or mesh.points t.2 []) in
     let corner = ap (λ c. winding nearest_test c side) at in
-    let marks = ap (λ l. winding nearest_test (plain_corner point) (record { corners = l; triples = side.triples; twins = side.twins })) (corners ∙ ap (corners_of mesh.points) plain) in
-    let faces = ap (λ ts. winding nearest_test (plain_corner point) (record { corners = cs; triples = ts; twins = side.twins })) triples in
-    corner ∙ marks ∙ faces ∙ ap neg_ℤ (total-same_all f g mesh.triples (λ k d h. plain_face point mesh.points (get_or mesh.triples k d) (below k d h)))
+    let marks = ap (winding nearest_test (plain_corner point)) (is ∙ ap (side_of mesh) plain) in
+    corner ∙ marks ∙ ap neg_ℤ (total-same_all f g mesh.triples (λ k d h. plain_face point mesh.points (get_or mesh.triples k d) (below k d h)))

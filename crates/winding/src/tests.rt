@@ -9,9 +9,10 @@ mod text;
 
 use crate::{winding_at, winding_sum};
 use lean::{Side, corner_of};
-use mb_base::{Point, Soup};
+use mb_base::Point;
 use mesh_check::Mesh;
 use rounding::Nearest;
+use samples::{BOX, box_points, soup_of};
 use shadow_kernels::Grid;
 use std::alloc::Global;
 use std::marker::Brand;
@@ -19,83 +20,40 @@ use std::sync::ledger::{Blank, Ledger};
 use std::test::Fail;
 use steps::Steps;
 
-// The corners of two cubes, in grid steps.
-const OUTER: [[i32; 3]; 8] = [
-    [0, 0, 0],
-    [100_000, 0, 0],
-    [0, 100_000, 0],
-    [100_000, 100_000, 0],
-    [0, 0, 100_000],
-    [100_000, 0, 100_000],
-    [0, 100_000, 100_000],
-    [100_000, 100_000, 100_000],
-];
-
-const INNER: [[i32; 3]; 8] = [
-    [20_000, 20_000, 20_000],
-    [80_000, 20_000, 20_000],
-    [20_000, 80_000, 20_000],
-    [80_000, 80_000, 20_000],
-    [20_000, 20_000, 80_000],
-    [80_000, 20_000, 80_000],
-    [20_000, 80_000, 80_000],
-    [80_000, 80_000, 80_000],
-];
-
-const FACES: [[u32; 3]; 12] = [
-    [0, 3, 1],
-    [0, 2, 3],
-    [4, 5, 7],
-    [4, 7, 6],
-    [0, 1, 4],
-    [1, 5, 4],
-    [1, 3, 7],
-    [1, 7, 5],
-    [3, 2, 6],
-    [3, 6, 7],
-    [0, 4, 6],
-    [0, 6, 2],
-];
-
-fn push_points(points: &mut Vec<Point>, corners: &[[i32; 3]; 8]) -> Result<(), Fail> {
-    for [x, y, z] in corners {
-        points.push(Point::of(*x, *y, *z).ok_or("outside the grid")?)?;
-    }
-    Ok(())
+fn checked(alloc: Global, points: &[[i32; 3]], triples: &[[u32; 3]]) -> Result<Mesh, Fail> {
+    Ok(Mesh::check(alloc, soup_of(alloc, points, triples)?)?)
 }
 
-fn mesh_of(alloc: Global, points: Vec<Point>, triples: Vec<[u32; 3]>) -> Result<Mesh, Fail> {
-    if !Soup::fits(&points, &triples) {
-        return Err("no soup".into());
-    }
-    Ok(Mesh::check(alloc, Soup::of(points, triples, 0))?)
-}
+const CUBE: [[i32; 3]; 2] = [[0; 3], [100_000; 3]];
+
+const INNER: [[i32; 3]; 2] = [[20_000; 3], [80_000; 3]];
 
 fn cube(alloc: Global) -> Result<Mesh, Fail> {
-    let mut points = Vec::new(alloc);
-    push_points(&mut points, &OUTER)?;
-    mesh_of(alloc, points, FACES.to_vec(alloc)?)
+    let [low, high] = CUBE;
+    checked(alloc, &box_points(low, high), &BOX)
 }
 
 fn turned_cube(alloc: Global) -> Result<Mesh, Fail> {
-    let mut points = Vec::new(alloc);
-    push_points(&mut points, &OUTER)?;
+    let [low, high] = CUBE;
     let mut triples = Vec::new(alloc);
-    for [a, b, c] in &FACES {
+    for [a, b, c] in &BOX {
         triples.push([*a, *c, *b])?;
     }
-    mesh_of(alloc, points, triples)
+    checked(alloc, &box_points(low, high), &triples)
 }
 
 fn nested_cubes(alloc: Global) -> Result<Mesh, Fail> {
     let mut points = Vec::new(alloc);
-    push_points(&mut points, &OUTER)?;
-    push_points(&mut points, &INNER)?;
-    let mut triples = FACES.to_vec(alloc)?;
-    for [a, b, c] in &FACES {
+    for [low, high] in [CUBE, INNER] {
+        for point in box_points(low, high) {
+            points.push(point)?;
+        }
+    }
+    let mut triples = BOX.to_vec(alloc)?;
+    for [a, b, c] in &BOX {
         triples.push([*a | 8, *b | 8, *c | 8])?;
     }
-    mesh_of(alloc, points, triples)
+    checked(alloc, &points, &triples)
 }
 
 // The winding number of a point in tens of thousands of grid steps.

@@ -1,8 +1,7 @@
 // Closed meshes with repeated and opposite triangles, and what is left of them. They come from an independent
 // reference program, which groups triangles by their three vertices: meshes made at random from two-sided
-// triangles and tetrahedra, turned, repeated and shuffled, under a fixed seed. Each row is the triangles, each
-// as three digits; the points that stay, each as a digit; and the triangles that stay, with their new numbers.
-// The rows stand in parts, since a proof has to read each part at once.
+// triangles and tetrahedra, turned, repeated and shuffled, under a fixed seed. The rows stand in parts, since a
+// proof has to read each part at once.
 mod first;
 mod fourth;
 mod second;
@@ -13,5 +12,6 @@ pub use fourth::FOURTH_MESHES;
 pub use second::SECOND_MESHES;
 pub use third::THIRD_MESHES;
 
-/// The triangles, the points that stay, and the triangles that stay.
-pub type Row = (&'static str, &'static str, &'static str);
+/// How many points, the triangles, the points that stay, and the triangles that stay, with their new numbers. A triangle is
+/// written as its three vertices, one digit each.
+pub type Row = (i32, &'static [u16], &'static [i32], &'static [u16]);

@@ -3,11 +3,11 @@ use super::low::Low;
 use super::numbers::numbers_of;
 use super::table::{FIRST_PAIRS, SECOND_PAIRS};
 use super::text::{first_side, read_sides, second_side, text_of};
-use super::{FACES, mesh_of, push_points};
 use lean::Side;
 use mb_base::Op;
 use mesh_check::Mesh;
 use rounding::{Nearest, Rounding};
+use samples::box_soup;
 use shadow_kernels::Grid;
 use std::alloc::Global;
 use std::marker::Brand;
@@ -54,41 +54,21 @@ fn agrees_with_the_table(rt: HostRuntime) -> Result<(), Fail> {
     expect_answers(&rt, rt.alloc(), SECOND_PAIRS)
 }
 
-const CUBE: [[i32; 3]; 8] = [
-    [0, 0, 0],
-    [10, 0, 0],
-    [0, 10, 0],
-    [10, 10, 0],
-    [0, 0, 10],
-    [10, 0, 10],
-    [0, 10, 10],
-    [10, 10, 10],
-];
+fn cube(alloc: Global) -> Result<Side, Fail> {
+    let mesh = Mesh::check(alloc, box_soup(alloc, [0; 3], [10; 3])?)?;
+    first_side(alloc, &mesh, Op::Union)
+}
 
-const POST: [[i32; 3]; 8] = [
-    [3, 4, 5],
-    [6, 4, 5],
-    [3, 7, 5],
-    [6, 7, 5],
-    [3, 4, 20],
-    [6, 4, 20],
-    [3, 7, 20],
-    [6, 7, 20],
-];
-
-fn box_of(alloc: Global, corners: &[[i32; 3]; 8]) -> Result<Mesh, Fail> {
-    let mut points = Vec::new(alloc);
-    push_points(&mut points, corners)?;
-    mesh_of(alloc, points, FACES.to_vec(alloc)?)
+fn post(alloc: Global) -> Result<Side, Fail> {
+    let mesh = Mesh::check(alloc, box_soup(alloc, [3, 4, 5], [6, 7, 20])?)?;
+    second_side(alloc, &mesh)
 }
 
 // The lower corners of the post lie in the cube.
 #[test]
 fn a_post_begins_in_a_cube(rt: HostRuntime) -> Result<(), Fail> {
-    let cube = box_of(rt.alloc(), &CUBE)?;
-    let post = box_of(rt.alloc(), &POST)?;
-    let p = first_side(rt.alloc(), &cube, Op::Union)?;
-    let q = second_side(rt.alloc(), &post)?;
+    let p = cube(rt.alloc())?;
+    let q = post(rt.alloc())?;
     let kernels = Grid { rounding: Nearest };
     let (hits, windings) = numbers_of::<Grid<Nearest>, Brand>(
         rt.alloc(),

@@ -1,7 +1,7 @@
 // The lines of the table: sides, and the answers for them.
-use super::mesh_of;
+use super::checked;
 use lean::{Side, leans};
-use mb_base::{Hit, Hits, Op, Point, Windings};
+use mb_base::{Hit, Hits, Op, Windings};
 use mesh_check::Mesh;
 use std::alloc::Global;
 use std::test::Fail;
@@ -28,22 +28,24 @@ fn values_of(alloc: Global, word: &str) -> Result<Vec<u8>, Fail> {
 fn read_mesh(alloc: Global, coordinates: &str, vertices: &str) -> Result<Mesh, Fail> {
     let mut points = Vec::new(alloc);
     for at in values_of(alloc, coordinates)?.chunks_exact(3) {
-        let point = Point::of(at[0] as i32, at[1] as i32, at[2] as i32);
-        points.push(point.ok_or("outside the grid")?)?;
+        points.push([at[0] as i32, at[1] as i32, at[2] as i32])?;
     }
     let mut triples = Vec::new(alloc);
     for at in values_of(alloc, vertices)?.chunks_exact(3) {
         triples.push([at[0] as u32, at[1] as u32, at[2] as u32])?;
     }
-    mesh_of(alloc, points, triples)
+    checked(alloc, &points, &triples)
 }
 
 fn read_op(word: &str) -> Option<Op> {
-    match word {
-        "union" => Some(Op::Union),
-        "intersect" => Some(Op::Intersect),
-        "subtract" => Some(Op::Subtract),
-        _ => None,
+    if word == "union" {
+        Some(Op::Union)
+    } else if word == "intersect" {
+        Some(Op::Intersect)
+    } else if word == "subtract" {
+        Some(Op::Subtract)
+    } else {
+        None
     }
 }
 

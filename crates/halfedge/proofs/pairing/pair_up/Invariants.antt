@@ -1,5 +1,5 @@
 use Rattle.std.proofs.Common.{◌≡◌, ℕ, length}
-use Rattle.halfedge.specs.Sides.{ArePartners}
+use Rattle.halfedge.specs.Ways.{ArePartners}
 use Rattle.halfedge.proofs.Writing.{AreWrittenTo}
 use Rattle.halfedge.proofs.pairing.pair_up.Given as goal
 

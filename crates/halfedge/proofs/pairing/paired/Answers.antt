@@ -11,11 +11,11 @@ use Rattle.counting_sort.specs.Buckets.{places_of}
 use Rattle.counting_sort.proofs.Upto.{length-map-upto}
 use Rattle.halfedge.specs.Laws.{AreSingle}
 use Rattle.halfedge.specs.Pairing.{Half, turned, half_at, half_cmp, ends_of, IsSortOf}
-use Rattle.halfedge.specs.Sides.{half_of, lesser_end, bucket_of, runs_up, AreSides, ArePartners, AreWritten, ArePaired}
+use Rattle.halfedge.specs.Ways.{half_of, lesser_end, bucket_of, runs_up, AreWays, ArePartners, AreWritten, ArePaired}
 use Rattle.halfedge.proofs.Edges.{length-all_edges}
 use Rattle.halfedge.proofs.BucketContents.{numbers_below, edge_keys, read_bucket, bucket_members, bucket_sides}
 use Rattle.halfedge.proofs.PairedBuckets.{paired_more, paired_all, not_closed, edges_differ}
-use Rattle.halfedge.proofs.TwinSides.{twins_of_sides, halves_of_sides, up_placed, down_placed}
+use Rattle.halfedge.proofs.TwinWays.{twins_of_sides, halves_of_ways, up_placed, down_placed}
 use Rattle.halfedge.proofs.pairing.paired.Goals as goal
 
 -- lists read later, with the same ends
@@ -39,14 +39,14 @@ of-requires-clause-few c =
 pub bucket-requires : goal.bucket-requires
 bucket-requires c = omega (arith, c.loop-k-test.true, ap length c.in_ok-buckets.ensures, length-map-upto (places_of c.deref.result.now) (length c.args.triples.now + 1))
 
--- the sides of the bucket that is read
-read_sides : (es : List (ℕ × ℕ)) (n k : ℕ) (numbers : List ℕ) (buckets : List (List ℕ)) (bucket : List ℕ) (ups downs : List Half) → k < n → numbers ≡ map (bucket_of n) es → buckets ≡ map (places_of numbers) (upto n) → bucket ≡ get_or buckets k []
-    → IsSortOf (filter runs_up (map (half_of es) bucket)) ups → IsSortOf (filter runs_up (map turned (map (half_of es) bucket))) downs → AreSides es (λ a. a % n) k ups downs
-read_sides es n k numbers buckets bucket ups downs low same gathered read =
+-- the ways of the bucket that is read
+read_ways : (es : List (ℕ × ℕ)) (n k : ℕ) (numbers : List ℕ) (buckets : List (List ℕ)) (bucket : List ℕ) (ups downs : List Half) → k < n → numbers ≡ map (bucket_of n) es → buckets ≡ map (places_of numbers) (upto n) → bucket ≡ get_or buckets k []
+    → IsSortOf (filter runs_up (map (half_of es) bucket)) ups → IsSortOf (filter runs_up (map turned (map (half_of es) bucket))) downs → AreWays es (λ a. a % n) k ups downs
+read_ways es n k numbers buckets bucket ups downs low same gathered read =
     bucket_sides es (λ a. a % n) (map (bucket_of n) es) n k bucket ups downs (edge_keys es n) low (read_bucket (map (bucket_of n) es) n k numbers buckets bucket same gathered read)
 
-pub sides-requires-clause-within : goal.sides-requires-clause-within
-sides-requires-clause-within c k d low =
+pub ways-requires-clause-within : goal.ways-requires-clause-within
+ways-requires-clause-within c k d low =
     let es = all_edges (triples_of c.args.triples.now) in
     let n : ℕ = length c.args.triples.now + 1 in
     let bucket = read_bucket (map (bucket_of n) es) n c.loop-k.k _ _ _ (c.deref.ensures.value ∙ c.in_ok-numbers.ensures) c.in_ok-buckets.ensures c.bucket.ensures in
@@ -56,9 +56,9 @@ pub returns-then-not-run_alike-clause-none : goal.returns-then-not-run_alike-cla
 returns-then-not-run_alike-clause-none c none closed =
     let es = all_edges (triples_of c.args.triples.now) in
     let n : ℕ = length c.args.triples.now + 1 in
-    let sides = read_sides es n c.loop-k.k _ _ _ c.in_ok-ups.ups.items c.in_ok-ups.downs.items c.loop-k-test.true (c.deref.ensures.value ∙ c.in_ok-numbers.ensures) c.in_ok-buckets.ensures c.bucket.ensures c.in_ok-ups.ensures.ups c.in_ok-ups.ensures.downs in
+    let ways = read_ways es n c.loop-k.k _ _ _ c.in_ok-ups.ups.items c.in_ok-ups.downs.items c.loop-k-test.true (c.deref.ensures.value ∙ c.in_ok-numbers.ensures) c.in_ok-buckets.ensures c.bucket.ensures c.in_ok-ups.ensures.ups c.in_ok-ups.ensures.downs in
     let known = c.run_alike.ensures in
-    not_closed es (λ a. a % n) c.loop-k.k c.in_ok-ups.ups.items c.in_ok-ups.downs.items sides
+    not_closed es (λ a. a % n) c.loop-k.k c.in_ok-ups.ups.items c.in_ok-ups.downs.items ways
     (λ same. absurd (differ c.run_alike.result (known.1 (ends_as _ _ _ _ (sym c.deref-in-loop-k.ensures.value) (sym c.deref-in-loop-k-2.ensures.value) same)) c.if-not-run_alike.true))
     closed
   where
@@ -75,24 +75,24 @@ pub pair_up-requires-clause-ups_within : goal.pair_up-requires-clause-ups_within
 pair_up-requires-clause-ups_within c =
     let es = all_edges (triples_of c.args.triples.now) in
     let n : ℕ = length c.args.triples.now + 1 in
-    let sides = read_sides es n c.loop-k.k _ _ _ c.in_ok-ups.ups.items c.in_ok-ups.downs.items c.loop-k-test.true (c.deref.ensures.value ∙ c.in_ok-numbers.ensures) c.in_ok-buckets.ensures c.bucket.ensures c.in_ok-ups.ensures.ups c.in_ok-ups.ensures.downs in
+    let ways = read_ways es n c.loop-k.k _ _ _ c.in_ok-ups.ups.items c.in_ok-ups.downs.items c.loop-k-test.true (c.deref.ensures.value ∙ c.in_ok-numbers.ensures) c.in_ok-buckets.ensures c.bucket.ensures c.in_ok-ups.ensures.ups c.in_ok-ups.ensures.downs in
     all_below c.deref-in-loop-k-3.result.now c.in_ok-ups.ups.items (length c.deref_mut.result.now) (length es) c.deref-in-loop-k-3.ensures.value (ap length c.deref_mut.ensures.value ∙ c.loop-k.invariant.full)
-    (halves_of_sides es (λ a. a % n) c.loop-k.k c.in_ok-ups.ups.items c.in_ok-ups.downs.items sides).0
+    (halves_of_ways es (λ a. a % n) c.loop-k.k c.in_ok-ups.ups.items c.in_ok-ups.downs.items ways).0
 
 pub pair_up-requires-clause-downs_within : goal.pair_up-requires-clause-downs_within
 pair_up-requires-clause-downs_within c =
     let es = all_edges (triples_of c.args.triples.now) in
     let n : ℕ = length c.args.triples.now + 1 in
-    let sides = read_sides es n c.loop-k.k _ _ _ c.in_ok-ups.ups.items c.in_ok-ups.downs.items c.loop-k-test.true (c.deref.ensures.value ∙ c.in_ok-numbers.ensures) c.in_ok-buckets.ensures c.bucket.ensures c.in_ok-ups.ensures.ups c.in_ok-ups.ensures.downs in
+    let ways = read_ways es n c.loop-k.k _ _ _ c.in_ok-ups.ups.items c.in_ok-ups.downs.items c.loop-k-test.true (c.deref.ensures.value ∙ c.in_ok-numbers.ensures) c.in_ok-buckets.ensures c.bucket.ensures c.in_ok-ups.ensures.ups c.in_ok-ups.ensures.downs in
     all_below c.deref-in-loop-k-4.result.now c.in_ok-ups.downs.items (length c.deref_mut.result.now) (length es) c.deref-in-loop-k-4.ensures.value (ap length c.deref_mut.ensures.value ∙ c.loop-k.invariant.full)
-    (halves_of_sides es (λ a. a % n) c.loop-k.k c.in_ok-ups.ups.items c.in_ok-ups.downs.items sides).1
+    (halves_of_ways es (λ a. a % n) c.loop-k.k c.in_ok-ups.ups.items c.in_ok-ups.downs.items ways).1
 
 pub are_single-single-requires : goal.are_single-single-requires
 are_single-single-requires c =
     let es = all_edges (triples_of c.args.triples.now) in
     let n : ℕ = length c.args.triples.now + 1 in
-    let sides = read_sides es n c.loop-k.k _ _ _ c.in_ok-ups.ups.items c.in_ok-ups.downs.items c.loop-k-test.true (c.deref.ensures.value ∙ c.in_ok-numbers.ensures) c.in_ok-buckets.ensures c.bucket.ensures c.in_ok-ups.ensures.ups c.in_ok-ups.ensures.downs in
-    subst (IsSorted half_cmp) (sym c.deref-in-loop-k-5.ensures.value) sides.ups_sorted.up
+    let ways = read_ways es n c.loop-k.k _ _ _ c.in_ok-ups.ups.items c.in_ok-ups.downs.items c.loop-k-test.true (c.deref.ensures.value ∙ c.in_ok-numbers.ensures) c.in_ok-buckets.ensures c.bucket.ensures c.in_ok-ups.ensures.ups c.in_ok-ups.ensures.downs in
+    subst (IsSorted half_cmp) (sym c.deref-in-loop-k-5.ensures.value) ways.ups_sorted.up
 
 -- what is known once all buckets are read
 all_paired : (ts : List (List ℕ)) (k : ℕ) (twins : List ℕ) (single : Bool) → All HasThree (triples_of ts) → length ts + 1 ≤ k → k ≤ length ts + 1 → ArePaired (all_edges (triples_of ts)) (λ a. a % (length ts + 1)) k twins single
@@ -109,17 +109,17 @@ returns-clause-twins c = (all_paired c.args.triples.now c.loop-k.k c.loop-k.twin
 pub returns-clause-single : goal.returns-clause-single
 returns-clause-single c = (all_paired c.args.triples.now c.loop-k.k c.loop-k.twins.items c.loop-k.single c.requires.three c.loop-k-test.false c.loop-k.auto.k-end c.loop-k.invariant).2
 
--- one bucket more is paired, with its sides and the twins as they are read again and again
-bucket_paired : (es : List (ℕ × ℕ)) (key : ℕ → ℕ) (k : ℕ) (ups downs us vs ws : List Half) (old read new twins : List ℕ) (single one : Bool) → ArePaired es key k old single → AreSides es key k ups downs → us ≡ ups → vs ≡ downs → ws ≡ ups → ends_of ups ≡ ends_of downs
+-- one bucket more is paired, with its ways and the twins as they are read again and again
+bucket_paired : (es : List (ℕ × ℕ)) (key : ℕ → ℕ) (k : ℕ) (ups downs us vs ws : List Half) (old read new twins : List ℕ) (single one : Bool) → ArePaired es key k old single → AreWays es key k ups downs → us ≡ ups → vs ≡ downs → ws ≡ ups → ends_of ups ≡ ends_of downs
     → read ≡ old → length new ≡ length read → ((partner : ℕ → ℕ) → ArePartners partner us vs → AreWritten partner us vs read new) → (IsTrue one ↔ AreSingle (ends_of ws)) → twins ≡ new → ArePaired es key (k + 1) twins (single && one)
-bucket_paired es key k ups downs us vs ws old read new twins single one before sides first second third same as_old full written alone stays =
-    let partners = twins_of_sides es key k ups downs sides same in
+bucket_paired es key k ups downs us vs ws old read new twins single one before ways first second third same as_old full written alone stays =
+    let partners = twins_of_sides es key k ups downs ways same in
     let on_sides : AreWritten (twin es) ups downs old new =
     subst (λ l. AreWritten (twin es) ups downs l new) as_old
     (subst (λ l. AreWritten (twin es) l downs read new) first
     (subst (λ l. AreWritten (twin es) us l read new) second (written (twin es) (subst (λ l. ArePartners (twin es) l vs) (sym first) (subst (λ l. ArePartners (twin es) ups l) (sym second) partners))))) in
     subst (λ l. ArePaired es key (k + 1) l (single && one)) (sym stays)
-    (paired_more es key k ups downs old new single one before sides same (full ∙ ap length as_old) on_sides (subst (λ l. IsTrue one ↔ AreSingle (ends_of l)) third alone) (up_placed es key k ups downs sides) (down_placed es key k ups downs sides))
+    (paired_more es key k ups downs old new single one before ways same (full ∙ ap length as_old) on_sides (subst (λ l. IsTrue one ↔ AreSingle (ends_of l)) third alone) (up_placed es key k ups downs ways) (down_placed es key k ups downs ways))
 
 pub loop-k-preserved : goal.loop-k-preserved
 loop-k-preserved c =
@@ -127,8 +127,8 @@ loop-k-preserved c =
     let n : ℕ = length c.args.triples.now + 1 in
     let ups = c.in_ok-ups.ups.items in
     let downs = c.in_ok-ups.downs.items in
-    let sides = read_sides es n c.loop-k.k _ _ _ ups downs c.loop-k-test.true (c.deref.ensures.value ∙ c.in_ok-numbers.ensures) c.in_ok-buckets.ensures c.bucket.ensures c.in_ok-ups.ensures.ups c.in_ok-ups.ensures.downs in
+    let ways = read_ways es n c.loop-k.k _ _ _ ups downs c.loop-k-test.true (c.deref.ensures.value ∙ c.in_ok-numbers.ensures) c.in_ok-buckets.ensures c.bucket.ensures c.in_ok-ups.ensures.ups c.in_ok-ups.ensures.downs in
     let same = ends_as ups downs _ _ c.deref-in-loop-k.ensures.value c.deref-in-loop-k-2.ensures.value (c.run_alike.ensures.0 c.if-not-run_alike.false) in
     let full : length c.pair_up.new.twins ≡ c.loop-k.twins.len = c.pair_up.ensures.length ∙ ap length c.deref_mut.ensures.value ∙ sym c.loop-k.twins.ok.0 in
-    bucket_paired es (λ a. a % n) c.loop-k.k ups downs c.deref-in-loop-k-3.result.now c.deref-in-loop-k-4.result.now c.deref-in-loop-k-5.result.now c.loop-k.twins.items c.deref_mut.result.now c.pair_up.new.twins _ c.loop-k.single c.are_single-single.result c.loop-k.invariant sides
+    bucket_paired es (λ a. a % n) c.loop-k.k ups downs c.deref-in-loop-k-3.result.now c.deref-in-loop-k-4.result.now c.deref-in-loop-k-5.result.now c.loop-k.twins.items c.deref_mut.result.now c.pair_up.new.twins _ c.loop-k.single c.are_single-single.result c.loop-k.invariant ways
     c.deref-in-loop-k-3.ensures.value c.deref-in-loop-k-4.ensures.value c.deref-in-loop-k-5.ensures.value same c.deref_mut.ensures.value c.pair_up.ensures.length c.pair_up.ensures.written c.are_single-single.ensures (with_items_is c.loop-k.twins c.pair_up.new.twins full)

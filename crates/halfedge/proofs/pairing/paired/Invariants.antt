@@ -1,7 +1,7 @@
 use Rattle.std.proofs.Common.{◌%◌, ◌+◌, length}
 use Rattle.chain_terms.specs.Chains.{all_edges}
 use Rattle.mesh_terms.specs.Meshes.{triples_of}
-use Rattle.halfedge.specs.Sides.{ArePaired}
+use Rattle.halfedge.specs.Ways.{ArePaired}
 use Rattle.halfedge.proofs.pairing.paired.Given as goal
 
 -- the half-edges of the first k buckets are paired

@@ -1,5 +1,6 @@
 use Rattle.std.proofs.Common.{ℕ, ◌≡◌, ◌+◌, ◌*◌, ◌^◌, ◌≤◌, [], length, get_or, take, rules, arith, ap, sym, subst, ◌∙◌}
 use Rattle.std.proofs.lemmas.List.{length-map}
+use Rattle.mesh_terms.specs.Limits.{most_triangles}
 use Rattle.mesh_terms.specs.Meshes.{HasThree, IsBelow, triple_of, triples_of}
 use Rattle.lean.specs.Leans.{face_normal, normals_of}
 use Rattle.lean.specs.Vectors.{AllSmall, added_at_corners}
@@ -32,7 +33,7 @@ pub add_at_corners-requires-clause-sums_small : goal.add_at_corners-requires-cla
 add_at_corners-requires-clause-sums_small c v =
     let xs = c.triples-triple-items.result.now in
     let i = c.loop-triple.triple-index in
-    let few : length xs ≤ 100000000 = omega (arith, length-map xs triple_of, ap length c.triples-triple-items.ensures.value, c.triples-triple-items.ensures.accepted.mesh.few_triples) in
+    let few : length xs ≤ most_triangles = omega (arith, length-map xs triple_of, ap length c.triples-triple-items.ensures.value, c.triples-triple-items.ensures.accepted.mesh.few_triples) in
     small_below (i * (3 * 2 ^ 63)) (2 ^ 119) (get_or c.loop-triple.normals v []) (omega (arith, few)) (c.loop-triple.invariant.small v)
 
 pub loop-triple-preserved : goal.loop-triple-preserved

@@ -3,7 +3,7 @@ use Rattle.std.proofs.lemmas.List.{length_push}
 use Rattle.std.proofs.lemmas.List.Elements.{All-push}
 use Rattle.std.proofs.lemmas.Slice.Zip.{zip_turn, zip_end}
 use Rattle.side_terms.specs.Corners.{IsFineCorner}
-use Rattle.lean.proofs.Corners.{corners_more, corners_all, corners_long}
+use Rattle.lean.proofs.Corners.{corners_more, corners_all, corners_long, corners_whole}
 use Rattle.lean.proofs.side.corners_of.Goals as goal
 
 pub loop-point-preserved : goal.loop-point-preserved
@@ -23,6 +23,12 @@ pub returns-clause-value : goal.returns-clause-value
 returns-clause-value c =
     let n = zip_end c.args.points.now c.args.ups.now c.loop-point.yielded c.into_iter-point-iterator.result c.loop-point.point-iterator c.next.new.self c.next.result (search rules) (search rules) c.loop-point.yielded_by c.in-None.is c.next.ensures.steps in
     c.loop-point.invariant.value ∙ corners_all c.args.points.now c.args.ups.now (length c.loop-point.yielded) n
+
+pub returns-clause-whole : goal.returns-clause-whole
+returns-clause-whole c =
+    let n = zip_end c.args.points.now c.args.ups.now c.loop-point.yielded c.into_iter-point-iterator.result c.loop-point.point-iterator c.next.new.self c.next.result (search rules) (search rules) c.loop-point.yielded_by c.in-None.is c.next.ensures.steps in
+    let whole = c.loop-point.invariant.value ∙ corners_all c.args.points.now c.args.ups.now (length c.loop-point.yielded) n in
+    rw whole (corners_whole c.args.points.now c.args.ups.now)
 
 pub returns-clause-length : goal.returns-clause-length
 returns-clause-length c =

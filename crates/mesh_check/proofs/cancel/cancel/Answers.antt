@@ -6,8 +6,8 @@ use Rattle.halfedge.specs.Pairing.{Half, half_at, ends}
 use Rattle.mesh_check.specs.declared.oriented.Oriented.{Oriented}
 use Rattle.mesh_check.specs.Cancelling.{vertices_of, as_half, halves_of}
 use Rattle.mesh_check.specs.Orientations.{edge_of}
-use Rattle.mesh_check.proofs.Cancelling.{IsRead, sides_known, none_read, first_read, second_read, both_read, marked_more}
-use Rattle.mesh_check.proofs.SideSteps.{vertices_cmp, edge_less, edge_more, edge_equal}
+use Rattle.mesh_check.proofs.Cancelling.{IsRead, ways_known, none_read, first_read, second_read, both_read, marked_more}
+use Rattle.mesh_check.proofs.WaySteps.{vertices_cmp, edge_less, edge_more, edge_equal}
 use Rattle.mesh_check.proofs.cancel.cancel.Goals as goal
 
 -- a triangle without vertices
@@ -33,7 +33,7 @@ compared answer x y s t known is at = sym (known ∙ (λ k. vertices_cmp (is k) 
 pub loop-i-init : goal.loop-i-init
 loop-i-init c = record {
   full = refl;
-  read = λ es key k sides marked. none_read es key k (halves_of c.args.ones.now) (halves_of c.args.others.now) c.args.left.items (sides_known es key k (halves_of c.args.ones.now) (halves_of c.args.others.now) sides) marked;
+  read = λ es key k ways marked. none_read es key k (halves_of c.args.ones.now) (halves_of c.args.others.now) c.args.left.items (ways_known es key k (halves_of c.args.ones.now) (halves_of c.args.others.now) ways) marked;
 }
 
 pub loop-i-preserved-in-Less : goal.loop-i-preserved-in-Less
@@ -46,10 +46,10 @@ loop-i-preserved-in-Less c =
     (compared c.cmp.result c.vertices.result c.vertices-in-loop-i.result _ _ c.cmp.ensures c.vertices.ensures.value c.vertices-in-loop-i.ensures.value ∙ c.in-Less.is) in
     record {
       full = c.loop-i.invariant.full;
-      read = λ es key k sides marked.
-          second_read es key k (halves_of ones) (halves_of others) i j c.args.left.items c.loop-i.left.items (sides_known es key k (halves_of ones) (halves_of others) sides)
+      read = λ es key k ways marked.
+          second_read es key k (halves_of ones) (halves_of others) i j c.args.left.items c.loop-i.left.items (ways_known es key k (halves_of ones) (halves_of others) ways)
           (below_halves ones i c.loop-i-test.true) (below_halves others j c.if-j-others.true)
-          ((λ n. is_lesser (ends_here others j c.if-j-others.true n) (ends_here ones i c.loop-i-test.true n)) ∙ less) (c.loop-i.invariant.read es key k sides marked);
+          ((λ n. is_lesser (ends_here others j c.if-j-others.true n) (ends_here ones i c.loop-i-test.true n)) ∙ less) (c.loop-i.invariant.read es key k ways marked);
     }
 
 pub loop-i-preserved : goal.loop-i-preserved
@@ -62,10 +62,10 @@ loop-i-preserved c =
     (compared c.cmp.result c.vertices.result c.vertices-in-loop-i.result _ _ c.cmp.ensures c.vertices.ensures.value c.vertices-in-loop-i.ensures.value ∙ c.in-Greater.is) in
     record {
       full = c.loop-i.invariant.full;
-      read = λ es key k sides marked.
-          first_read es key k (halves_of ones) (halves_of others) i j c.args.left.items c.loop-i.left.items (sides_known es key k (halves_of ones) (halves_of others) sides)
+      read = λ es key k ways marked.
+          first_read es key k (halves_of ones) (halves_of others) i j c.args.left.items c.loop-i.left.items (ways_known es key k (halves_of ones) (halves_of others) ways)
           (below_halves ones i c.loop-i-test.true) (below_halves others j c.if-j-others.true)
-          ((λ n. is_lesser (ends_here ones i c.loop-i-test.true n) (ends_here others j c.if-j-others.true n)) ∙ more) (c.loop-i.invariant.read es key k sides marked);
+          ((λ n. is_lesser (ends_here ones i c.loop-i-test.true n) (ends_here others j c.if-j-others.true n)) ∙ more) (c.loop-i.invariant.read es key k ways marked);
     }
 
 pub loop-i-preserved-in-Equal : goal.loop-i-preserved-in-Equal
@@ -82,20 +82,20 @@ loop-i-preserved-in-Equal c =
     let t : ℕ = (get_or others j none).place in
     record {
       full = length-set (set left g false) t false ∙ length-set left g false ∙ c.loop-i.invariant.full;
-      read = λ es key k sides marked.
+      read = λ es key k ways marked.
           subst (λ m. IsRead es key k (halves_of ones) (halves_of others) (i + 1) (j + 1) old (set (set left m false) t false)) (place_here ones i c.loop-i-test.true)
           (subst (λ m. IsRead es key k (halves_of ones) (halves_of others) (i + 1) (j + 1) old (set (set left (half_at (halves_of ones) i) false) m false)) (place_here others j c.if-j-others.true)
-          (both_read es key k (halves_of ones) (halves_of others) i j old left (sides_known es key k (halves_of ones) (halves_of others) sides)
+          (both_read es key k (halves_of ones) (halves_of others) i j old left (ways_known es key k (halves_of ones) (halves_of others) ways)
           (below_halves ones i c.loop-i-test.true) (below_halves others j c.if-j-others.true)
-          (ends_here others j c.if-j-others.true ∙ same ∙ sym (ends_here ones i c.loop-i-test.true)) (c.loop-i.invariant.full ∙ marked.full) (c.loop-i.invariant.read es key k sides marked)));
+          (ends_here others j c.if-j-others.true ∙ same ∙ sym (ends_here ones i c.loop-i-test.true)) (c.loop-i.invariant.full ∙ marked.full) (c.loop-i.invariant.read es key k ways marked)));
     }
 
 pub returns-else-j-others : goal.returns-else-j-others
-returns-else-j-others c es key k sides differ marked =
+returns-else-j-others c es key k ways differ marked =
     let ended : (length (halves_of c.args.ones.now) ≤ c.loop-i.i) ⊎ (length (halves_of c.args.others.now) ≤ c.loop-i.j) = inr (omega (arith, c.if-j-others.false, length-map c.args.others.now as_half)) in
-    marked_more es key k (halves_of c.args.ones.now) (halves_of c.args.others.now) c.loop-i.i c.loop-i.j c.args.left.items c.loop-i.left.items sides differ ended c.loop-i.invariant.full marked (c.loop-i.invariant.read es key k sides marked)
+    marked_more es key k (halves_of c.args.ones.now) (halves_of c.args.others.now) c.loop-i.i c.loop-i.j c.args.left.items c.loop-i.left.items ways differ ended c.loop-i.invariant.full marked (c.loop-i.invariant.read es key k ways marked)
 
 pub returns-after-loop-i : goal.returns-after-loop-i
-returns-after-loop-i c es key k sides differ marked =
+returns-after-loop-i c es key k ways differ marked =
     let ended : (length (halves_of c.args.ones.now) ≤ c.loop-i.i) ⊎ (length (halves_of c.args.others.now) ≤ c.loop-i.j) = inl (omega (arith, c.loop-i-test.false, length-map c.args.ones.now as_half)) in
-    marked_more es key k (halves_of c.args.ones.now) (halves_of c.args.others.now) c.loop-i.i c.loop-i.j c.args.left.items c.loop-i.left.items sides differ ended c.loop-i.invariant.full marked (c.loop-i.invariant.read es key k sides marked)
+    marked_more es key k (halves_of c.args.ones.now) (halves_of c.args.others.now) c.loop-i.i c.loop-i.j c.args.left.items c.loop-i.left.items ways differ ended c.loop-i.invariant.full marked (c.loop-i.invariant.read es key k ways marked)

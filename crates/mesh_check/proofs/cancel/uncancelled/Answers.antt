@@ -5,12 +5,12 @@ use Rattle.std.proofs.lemmas.Nat.{mod_below}
 use Rattle.mesh_terms.specs.Meshes.{Triple, triple_of, triples_of}
 use Rattle.counting_sort.specs.Buckets.{places_of}
 use Rattle.counting_sort.proofs.Upto.{length-map-upto}
-use Rattle.halfedge.specs.Sides.{AreSides}
+use Rattle.halfedge.specs.Ways.{AreWays}
 use Rattle.halfedge.proofs.BucketContents.{numbers_below, read_bucket, bucket_members}
 use Rattle.mesh_check.specs.Cancelling.{halves_of, bucket_of_triple, bucket_of_end, AreMarked}
 use Rattle.mesh_check.specs.Orientations.{least_first, orientation_edge, orientation_edges}
 use Rattle.mesh_check.proofs.KeptMarks.{kept_marks_left}
-use Rattle.mesh_check.proofs.TriangleBuckets.{orientations_differ, sides_read, ones_placed, others_placed, marks_none, marks_all}
+use Rattle.mesh_check.proofs.TriangleBuckets.{orientations_differ, ways_read, ones_placed, others_placed, marks_none, marks_all}
 use Rattle.mesh_check.proofs.cancel.uncancelled.Goals as goal
 
 -- there is an edge for each triangle
@@ -25,27 +25,27 @@ of-requires-clause-below c =
 pub bucket-requires : goal.bucket-requires
 bucket-requires c = omega (arith, c.loop-k-test.true, ap length c.in_ok-buckets.ensures, length-map-upto (places_of c.deref.result.now) (length c.args.triples.now + 1))
 
-pub oriented_sides-requires : goal.oriented_sides-requires
-oriented_sides-requires c k d low =
+pub oriented_ways-requires : goal.oriented_ways-requires
+oriented_ways-requires c k d low =
     let ts : List Triple = triples_of c.args.triples.now in
     let n : ℕ = length c.args.triples.now + 1 in
     let bucket = read_bucket (map (bucket_of_triple n) ts) n c.loop-k.k _ _ _ (c.deref.ensures.value ∙ c.in_ok-numbers.ensures) c.in_ok-buckets.ensures c.bucket.ensures in
     omega (arith, length-map c.args.triples.now triple_of, length-map ts (bucket_of_triple n), bucket_members _ n c.loop-k.k c.bucket.result.now c.loop-k-test.true bucket k d low)
 
--- the sides of the bucket that is read
-these_sides : (c : goal.After-deref-in-loop-k-2) → AreSides (orientation_edges (triples_of c.args.triples.now)) (bucket_of_end (length c.args.triples.now + 1)) c.loop-k.k (halves_of c.deref-in-loop-k.result.now) (halves_of c.deref-in-loop-k-2.result.now)
-these_sides c =
-    sides_read (triples_of c.args.triples.now) (length c.args.triples.now + 1) c.loop-k.k _ _ _ _ _ c.requires.triangles c.loop-k-test.true
+-- the ways of the bucket that is read
+these_ways : (c : goal.After-deref-in-loop-k-2) → AreWays (orientation_edges (triples_of c.args.triples.now)) (bucket_of_end (length c.args.triples.now + 1)) c.loop-k.k (halves_of c.deref-in-loop-k.result.now) (halves_of c.deref-in-loop-k-2.result.now)
+these_ways c =
+    ways_read (triples_of c.args.triples.now) (length c.args.triples.now + 1) c.loop-k.k _ _ _ _ _ c.requires.triangles c.loop-k-test.true
     (read_bucket _ _ _ _ _ _ (c.deref.ensures.value ∙ c.in_ok-numbers.ensures) c.in_ok-buckets.ensures c.bucket.ensures) c.in_ok-ones.ensures.ones c.in_ok-ones.ensures.others
     c.deref-in-loop-k.ensures.value c.deref-in-loop-k-2.ensures.value
 
 pub cancel-left-requires-clause-ones : goal.cancel-left-requires-clause-ones
 cancel-left-requires-clause-ones c k d low =
-    omega (arith, c.loop-k.invariant.full, edge_count c.args.triples.now, length-map c.args.triples.now triple_of, ones_placed (triples_of c.args.triples.now) (bucket_of_end (length c.args.triples.now + 1)) c.loop-k.k _ _ (these_sides c) k d low)
+    omega (arith, c.loop-k.invariant.full, edge_count c.args.triples.now, length-map c.args.triples.now triple_of, ones_placed (triples_of c.args.triples.now) (bucket_of_end (length c.args.triples.now + 1)) c.loop-k.k _ _ (these_ways c) k d low)
 
 pub cancel-left-requires-clause-others : goal.cancel-left-requires-clause-others
 cancel-left-requires-clause-others c k d low =
-    omega (arith, c.loop-k.invariant.full, edge_count c.args.triples.now, length-map c.args.triples.now triple_of, others_placed (triples_of c.args.triples.now) (bucket_of_end (length c.args.triples.now + 1)) c.loop-k.k _ _ (these_sides c) k d low)
+    omega (arith, c.loop-k.invariant.full, edge_count c.args.triples.now, length-map c.args.triples.now triple_of, others_placed (triples_of c.args.triples.now) (bucket_of_end (length c.args.triples.now + 1)) c.loop-k.k _ _ (these_ways c) k d low)
 
 pub loop-k-init : goal.loop-k-init
 loop-k-init c =
@@ -56,7 +56,7 @@ loop-k-init c =
 pub loop-k-preserved : goal.loop-k-preserved
 loop-k-preserved c =
     c.cancel-left.ensures (orientation_edges (triples_of c.args.triples.now)) (bucket_of_end (length c.args.triples.now + 1)) c.loop-k.k
-    (sides_read (triples_of c.args.triples.now) (length c.args.triples.now + 1) c.loop-k.k _ _ _ _ _ c.requires.triangles c.loop-k-test.true
+    (ways_read (triples_of c.args.triples.now) (length c.args.triples.now + 1) c.loop-k.k _ _ _ _ _ c.requires.triangles c.loop-k-test.true
     (read_bucket _ _ _ _ _ _ (c.deref.ensures.value ∙ c.in_ok-numbers.ensures) c.in_ok-buckets.ensures c.bucket.ensures) c.in_ok-ones.ensures.ones c.in_ok-ones.ensures.others
     c.deref-in-loop-k.ensures.value c.deref-in-loop-k-2.ensures.value)
     (orientations_differ (triples_of c.args.triples.now) c.requires.triangles) c.loop-k.invariant
