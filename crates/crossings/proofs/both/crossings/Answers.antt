@@ -52,8 +52,8 @@ returns-clause-pair_identity g c =
     let pc = corner_at p.corners in
     let qc = corner_at q.corners in
     let agree = pairs_agree p q test12 test21 up down sides p_side q_side
-    (λ t a b. g.met.K.Crosses-1.turn_p k (edge_of p.corners a b) (face_of q.corners t) refl refl refl (edge_fine p.corners p_side.fine a b) (face_fine q.corners q_side.fine t))
-    (λ t a b. g.met.K.Crosses-2.turn_q k (face_of p.corners t) (edge_of q.corners a b) refl refl refl (face_fine p.corners p_side.fine t) (edge_fine q.corners q_side.fine a b))
+    (λ t a b. (g.met.K.Crosses-1.laws k).turn_p (edge_of p.corners a b) (face_of q.corners t) refl refl refl (edge_fine p.corners p_side.fine a b) (face_fine q.corners q_side.fine t))
+    (λ t a b. (g.met.K.Crosses-2.laws k).turn_q (face_of p.corners t) (edge_of q.corners a b) refl refl refl (face_fine p.corners p_side.fine t) (edge_fine q.corners q_side.fine a b))
     (λ t a b. g.met.K.Kernels.lift_12 k (pc a) (pc b) (qc t.0) (qc t.1) (qc t.2) (edge_fine p.corners p_side.fine a b) (face_fine q.corners q_side.fine t))
     (λ t a b. g.met.K.Kernels.lift_21 k (pc t.0) (pc t.1) (pc t.2) (qc a) (qc b) (face_fine p.corners p_side.fine t) (edge_fine q.corners q_side.fine a b)) in
     subst (λ (l : List Hit × List Hit). PairIdentity (length p.triples) (length q.triples) (half_number (all_edges p.triples) l.0) (half_number (all_edges q.triples) l.1)) (sym (ap (λ (l : List Hit). (l, c.in_ok-x21.x21.items)) c.in_ok-x12.ensures ∙ ap (λ (l : List Hit). (hits_of test12 p q, l)) c.in_ok-x21.ensures)) agree
