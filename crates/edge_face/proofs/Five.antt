@@ -25,7 +25,7 @@ use Rattle.edge_face.specs.Crossings.{edge_pairs, edge_number, crossed, crossing
 use Rattle.edge_face.specs.Laws.{crossed_none}
 use Rattle.edge_face.specs.Pairs.{IsPairOf, ArePairsOf, pair_shadow, pair_on, pairs_number, first_place, spot_at, number_at, AreCounts, vertex_rim, edge_corners}
 use Rattle.edge_face.proofs.Kept.{seen}
-use Rattle.edge_face.specs.Parts.{itself, start_of, end_of, first_edge, second_edge, third_edge}
+use Rattle.edge_face.specs.Parts.{start_of, end_of, first_edge, second_edge, third_edge}
 
 -- the shadow of a pair is that of its answer
 shadow_pair : (m : Option Meet) (s : Pair) → IsPairOf m s → pair_shadow s ≡ shadow_of m

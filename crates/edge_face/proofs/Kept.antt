@@ -1,5 +1,5 @@
 -- Pairs from known counts, and corners of lists of fine ones.
-use Rattle.std.proofs.Common.{arith, ◌≡◌, ◌<◌, ◌≤◌, ℕ, ℤ, pos, ◌+ℤ◌, ◌-ℤ◌, unsigned_abs, FitsSigned, ap, ◌∙◌, Option, None, Some, IfSome, Bool, false, List, [], ◌∷◌, length, sym, inl, inr}
+use Rattle.std.proofs.Common.{arith, ◌≡◌, ◌≤◌, ℕ, ℤ, pos, unsigned_abs, FitsSigned, ◌∙◌, Option, None, Some, IfSome, false, List, [], ◌∷◌, length, sym, inl, inr}
 use Rattle.std.proofs.lemmas.Int.{ints}
 use Rattle.std.specs.Int.{Width, w8, cast_signed, cast_unsigned}
 use Rattle.mb_base.specs.declared.point.Corner.{Corner}
@@ -38,23 +38,6 @@ fine_edge e two h = fine_two (corner_at e 0) (corner_at e 1) (h 0 blank_corner (
 pub fine_face : (f : List Corner) → length f ≡ 3 → AllFine f → AllFine (corner_at f 0 ∷ corner_at f 1 ∷ corner_at f 2 ∷ [])
 fine_face f three h = fine_three (corner_at f 0) (corner_at f 1) (corner_at f 2) (h 0 blank_corner (omega (arith, three))) (h 1 blank_corner (omega (arith, three))) (h 2 blank_corner (omega (arith, three)))
 
--- a small number stays as it is at eight bits
-pub kept_small : (a : ℤ) → unsigned_abs a ≤ 40 → seen w8 a ≡ a
-kept_small a h = omega (arith, ints, h)
-
--- so does any number that fits
+-- a number that fits eight bits stays as it is at them
 pub kept_fit : (a : ℤ) → FitsSigned w8 a → seen w8 a ≡ a
 kept_fit a h = omega (arith, ints)
-
--- so do a difference and a sum of small numbers
-pub kept_difference : (x y a b : ℤ) → x ≡ a → y ≡ b → unsigned_abs a ≤ 20 → unsigned_abs b ≤ 20 → seen w8 (x -ℤ y) ≡ a -ℤ b
-kept_difference x y a b e f h k = ap (λ (z : ℤ). seen w8 (z -ℤ y)) e ∙ ap (λ (z : ℤ). seen w8 (a -ℤ z)) f ∙ kept_small (a -ℤ b) (omega (arith, ints, h, k))
-
-pub kept_sum : (x y a b : ℤ) → x ≡ a → y ≡ b → unsigned_abs a ≤ 20 → unsigned_abs b ≤ 20 → seen w8 (x +ℤ y) ≡ a +ℤ b
-kept_sum x y a b e f h k = ap (λ (z : ℤ). seen w8 (z +ℤ y)) e ∙ ap (λ (z : ℤ). seen w8 (a +ℤ z)) f ∙ kept_small (a +ℤ b) (omega (arith, ints, h, k))
-
--- the difference of two small sums fits eight bits
-pub fits_difference : (x y a b : ℤ) → x ≡ a → y ≡ b → unsigned_abs a ≤ 20 → unsigned_abs b ≤ 20 → FitsSigned w8 (x -ℤ y)
-fits_difference x y a b e f h k = let s : unsigned_abs (x -ℤ y) ≤ 40 = omega (arith, ints, e, f, h, k) in fits (x -ℤ y) s where
-  fits : (z : ℤ) → unsigned_abs z ≤ 40 → FitsSigned w8 z
-  fits z h = omega (arith, ints, h)

@@ -1,5 +1,5 @@
 -- The boundary pairs of an edge and a face under lawful tests, for an edge of P and for one of Q alike.
-use Rattle.std.specs.Prelude.{◌≡◌, ◌≤◌, ℤ, pos, neg_ℤ, ◌+ℤ◌, ◌-ℤ◌, Bool, Option, List, [], ◌∷◌, length, swap}
+use Rattle.std.specs.Prelude.{◌≡◌, pos, neg_ℤ, ◌+ℤ◌, ◌-ℤ◌, Bool, Option, List, [], ◌∷◌, length, swap}
 use Rattle.std.proofs.Common.{arith, refl, sym, ap, ◌∙◌}
 use Rattle.std.proofs.lemmas.Int.{ints}
 use Rattle.chain_terms.specs.Sums.{total}

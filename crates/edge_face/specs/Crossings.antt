@@ -9,7 +9,7 @@ use Rattle.shadow_kernels.specs.declared.Meet.{Meet}
 use Rattle.shadow_kernels.specs.Spots.{Between, gap}
 use Rattle.shadow_kernels.specs.Counts.{shadow_of, first_spot}
 use Rattle.shadow_kernels.specs.ShadowLaws.{ShadowTest}
-use Rattle.shadow_kernels.specs.Shadows.{vertex_edge, edge_vertex, edge_edge, vertex_face, face_vertex}
+use Rattle.shadow_kernels.specs.Shadows.{edge_edge, vertex_face, face_vertex}
 use Rattle.edge_face.specs.declared.Cross.{Cross}
 
 -- the number of an answer, 0 where there is none

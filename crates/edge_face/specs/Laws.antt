@@ -1,20 +1,18 @@
 -- The laws of the crossings of an edge and a face, for an edge of P and for one of Q alike.
-use Rattle.std.specs.Prelude.{◌≡◌, ◌≢◌, ℕ, ◌+◌, ◌<◌, ◌≤◌, ℤ, pos, negsuc, neg_ℤ, ◌≤ℤ◌, Bool, true, false, Option, None, IfSome, List, [], ◌∷◌, length, swap}
+use Rattle.std.specs.Prelude.{◌≡◌, ◌≢◌, ℕ, ◌<◌, ℤ, pos, negsuc, neg_ℤ, ◌≤ℤ◌, Bool, true, false, None, IfSome, List, [], ◌∷◌, length, swap}
 use Rattle.std.proofs.Common.{arith, refl, sym, ap, subst, ◌∙◌}
 use Rattle.std.proofs.lemmas.Int.{ints}
-use Rattle.chain_terms.specs.Sums.{total}
 use Rattle.mb_base.specs.declared.point.Corner.{Corner}
 use Rattle.side_terms.specs.Corners.{corner_at, AllFine, AllWhole}
 use Rattle.side_terms.specs.Boxes.{AreApart, IsPointIn}
 use Rattle.shadow_kernels.specs.declared.Spot.{Spot}
-use Rattle.shadow_kernels.specs.declared.Meet.{Meet}
 use Rattle.shadow_kernels.specs.Boxes.{IsInHull}
 use Rattle.shadow_kernels.specs.Spots.{Between}
-use Rattle.shadow_kernels.specs.Counts.{shadow_of, first_spot}
+use Rattle.shadow_kernels.specs.Counts.{first_spot}
 use Rattle.shadow_kernels.specs.ShadowLaws.{ShadowTest}
-use Rattle.shadow_kernels.specs.Shadows.{vertex_edge, edge_vertex, edge_edge, vertex_face, face_vertex}
+use Rattle.shadow_kernels.specs.Shadows.{edge_edge, vertex_face, face_vertex}
 use Rattle.shadow_kernels.specs.Sizes.{IsSized, any_none, any_holds, any_number}
-use Rattle.shadow_kernels.specs.Entries.{Each, each_map, five_size}
+use Rattle.shadow_kernels.specs.Entries.{each_map, five_size}
 use Rattle.shadow_kernels.specs.Hulls.{StaysBetween}
 use Rattle.shadow_kernels.specs.Decided.{IsDecided, apart_none, first_hull}
 use Rattle.edge_face.specs.declared.Cross.{Cross}

@@ -1,5 +1,5 @@
 -- What the code keeps of the five boundary pairs of an edge and a face.
-use Rattle.std.specs.Prelude.{◌≡◌, ℕ, ◌≤◌, ℤ, pos, ◌+ℤ◌, ◌-ℤ◌, unsigned_abs, slice_index_or, Bool, true, false, not, if◌then◌else◌, Option, None, IfSome, List, [], ◌∷◌, map, get_or}
+use Rattle.std.specs.Prelude.{◌≡◌, ℕ, ◌≤◌, ℤ, pos, ◌+ℤ◌, ◌-ℤ◌, unsigned_abs, slice_index_or, Bool, false, not, if◌then◌else◌, Option, None, IfSome, List, [], ◌∷◌, map, get_or}
 use Rattle.std.specs.Ordering.{int_eq}
 use Rattle.mb_base.specs.declared.point.Corner.{Corner}
 use Rattle.side_terms.specs.Corners.{corner_at}
@@ -65,6 +65,6 @@ edge_corners other e f = map (λ c. other e (c ∷ [])) (corner_at f 0 ∷ corne
 pub record AreCounts (start end at counts : List ℤ) : Type 0 where
   pub start_count : number_at counts 0 ≡ number_at start 0 +ℤ (number_at start 1 +ℤ number_at start 2)
   pub end_count : number_at counts 1 ≡ number_at end 0 +ℤ (number_at end 1 +ℤ number_at end 2)
-  pub first : number_at counts 2 ≡ (number_at end 0 -ℤ number_at start 0) +ℤ (number_at at 1 -ℤ number_at at 0)
-  pub second : number_at counts 3 ≡ (number_at end 1 -ℤ number_at start 1) +ℤ (number_at at 2 -ℤ number_at at 1)
-  pub third : number_at counts 4 ≡ (number_at end 2 -ℤ number_at start 2) +ℤ (number_at at 0 -ℤ number_at at 2)
+  pub first : number_at counts 2 ≡ (number_at end 0 -ℤ number_at start 0) -ℤ (number_at at 0 -ℤ number_at at 1)
+  pub second : number_at counts 3 ≡ (number_at end 1 -ℤ number_at start 1) -ℤ (number_at at 1 -ℤ number_at at 2)
+  pub third : number_at counts 4 ≡ (number_at end 2 -ℤ number_at start 2) -ℤ (number_at at 2 -ℤ number_at at 0)

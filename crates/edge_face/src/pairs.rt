@@ -1,12 +1,13 @@
 //! The five boundary pairs of an edge and a face. The shadows of vertices and edges below them are taken once each, and
 //! no spot is placed but where the boxes leave it open whether a pair is above.
 
-ghost use Rattle.std.specs.Prelude.{◌≡◌, ◌≤◌, ◌+ℤ◌, ◌-ℤ◌, unsigned_abs, map};
+ghost use Rattle.std.specs.Prelude.{◌≡◌, ◌+◌, ◌≤◌, ◌+ℤ◌, ◌-ℤ◌, unsigned_abs, map};
 ghost use Rattle.side_terms.specs.Corners.{corner_at, IsFineCorner, AllFine};
 ghost use Rattle.shadow_kernels.specs.Counts.{count_of, shadow_of};
 ghost use Rattle.shadow_kernels.specs.Shadows.{vertex_edge, edge_vertex, edge_edge, vertex_face, face_vertex};
 ghost use Rattle.edge_face.specs.Crossings.{mirror, edge_face_pairs, face_edge_pairs};
-ghost use Rattle.edge_face.specs.Pairs.{IsPairOf, ArePairsOf, pair_shadow, pair_on, pairs_number, first_place, number_at, AreSmall, AreCounts, vertex_rim, edge_corners};
+ghost use Rattle.edge_face.specs.Pairs.{IsPairOf, ArePairsOf, pair_shadow, pair_on, pairs_number, first_place};
+ghost use Rattle.edge_face.specs.Pairs.{number_at, AreSmall, AreCounts, vertex_rim, edge_corners};
 
 use crate::pair::{Pair, Pairs};
 use mb_base::Corner;
@@ -42,9 +43,13 @@ impl Pairs {
     pub(crate) fn number(&self) -> i8
         ensures { result ≡ pairs_number self.now }
     {
-        let edges = self.first.shadow() + (self.second.shadow() + self.third.shadow());
-        let ends = self.end.shadow() - self.start.shadow();
-        ends - edges
+        let edges = [
+            self.first.shadow(),
+            self.second.shadow(),
+            self.third.shadow(),
+        ];
+        let ends = less(self.end.shadow(), self.start.shadow());
+        less(ends, sum(&edges))
     }
 
     /// The place of the first pair that is above, or of the first that is not, from 0 to 4; 5 where there is none.
@@ -122,13 +127,24 @@ fn counts(start: &[i8; 3], end: &[i8; 3], at: &[i8; 3]) -> [i8; 5]
     ]
 }
 
-/// The count of a vertex and a face, from the shadows with the three edges.
+/// The sum of the shadows with the three edges: the count of a vertex and a face.
 fn sum(shadows: &[i8; 3]) -> i8
     requires { AreSmall shadows.now }
-    ensures { result ≡ number_at shadows.now 0 +ℤ (number_at shadows.now 1 +ℤ number_at shadows.now 2) }
+    ensures value { result ≡ number_at shadows.now 0 +ℤ (number_at shadows.now 1 +ℤ number_at shadows.now 2) }
+    ensures small { unsigned_abs result ≤ 3 }
 {
     let [first, second, third] = *shadows;
     first + (second + third)
+}
+
+/// The difference of two small numbers.
+fn less(x: i8, y: i8) -> i8
+    requires x_small { unsigned_abs x ≤ 3 }
+    requires y_small { unsigned_abs y ≤ 3 }
+    ensures value { result ≡ x -ℤ y }
+    ensures small { unsigned_abs result ≤ unsigned_abs x + unsigned_abs y }
+{
+    x - y
 }
 
 /// The count of two edges, from the shadows of the ends of each with the other.
@@ -137,11 +153,9 @@ fn lifted(start: i8, end: i8, from: i8, to: i8) -> i8
     requires end_small { unsigned_abs end ≤ 1 }
     requires from_small { unsigned_abs from ≤ 1 }
     requires to_small { unsigned_abs to ≤ 1 }
-    ensures { result ≡ (end -ℤ start) +ℤ (to -ℤ from) }
+    ensures { result ≡ (end -ℤ start) -ℤ (from -ℤ to) }
 {
-    let own = end - start;
-    let other = to - from;
-    own + other
+    less(less(end, start), less(from, to))
 }
 
 /// The shadows of a vertex with the three edges of a face.

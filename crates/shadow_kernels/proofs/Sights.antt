@@ -1,11 +1,9 @@
 -- Comparisons that the boxes of two simplices decide, and those at the spot between two spots.
-use Rattle.std.proofs.Common.{arith, ◌≡◌, ℕ, ◌+◌, ℤ, ◌<ℤ◌, Bool, true, false, Option, None, Some, IfSome, List, [], ◌∷◌, length, sym, ap, ◌∙◌, inl, inr}
-use Rattle.std.specs.List.{All}
+use Rattle.std.proofs.Common.{arith, ◌≡◌, ℕ, ◌+◌, ℤ, ◌<ℤ◌, Bool, true, false, Option, None, Some, IfSome, List, length, sym, ap, ◌∙◌, inl, inr}
 use Rattle.std.proofs.lemmas.Int.{ints}
-use Rattle.std.proofs.lemmas.List.Elements.{All-nil, All-cons}
 use Rattle.chain_terms.specs.Sums.{total}
 use Rattle.mb_base.specs.declared.point.Corner.{Corner}
-use Rattle.side_terms.specs.Fine.{IsFine, IsWeight, LiesBetween}
+use Rattle.side_terms.specs.Fine.{LiesBetween}
 use Rattle.side_terms.specs.Corners.{AllFine}
 use Rattle.shadow_kernels.specs.declared.Spot.{Spot}
 use Rattle.shadow_kernels.specs.declared.Meet.{Meet}

@@ -56,12 +56,6 @@ fine_tally ms s each h = record { below = fine_first false ms s.below each h.bel
 pub same_tally : (s : Tally) (ms ns : List (Option Meet)) → IsTallyOf ms s → ms ≡ ns → IsTallyOf ns s
 same_tally s ms ns h e = subst (λ (l : List (Option Meet)). IsTallyOf l s) e h
 
-pub three : (a b c a' b' c' : Option Meet) → a ≡ a' → b ≡ b' → c ≡ c' → (a ∷ b ∷ c ∷ []) ≡ a' ∷ b' ∷ c' ∷ []
-three a b c a' b' c' e f g = cc
-
-pub four : (a b c d a' b' c' d' : Option Meet) → a ≡ a' → b ≡ b' → c ≡ c' → d ≡ d' → (a ∷ turned b ∷ c ∷ turned d ∷ []) ≡ a' ∷ turned b' ∷ c' ∷ turned d' ∷ []
-four a b c d a' b' c' d' e f g h = cc
-
 -- a pair equal to one turned is fine where that is
 pub fine_turned : (r m : Option Meet) → r ≡ turned m → IsFinePair m → IsFinePair r
 fine_turned r m e h = subst IsFinePair (sym e) (record { sized = turned_sized m h.sized; fine = turned_holds (λ s above. IsFineSpot s) m h.fine })

@@ -1,13 +1,12 @@
 -- The six shadow tests are lawful, under any rounding that stays between, and count as their boundary pairs do.
-use Rattle.std.specs.Prelude.{◌≡◌, ℕ, zero, suc, ◌<◌, pos, ◌+ℤ◌, ◌-ℤ◌, Bool, true, false, if◌then◌else◌, List, length}
-use Rattle.std.proofs.Common.{arith, refl, sym, inl, ◌∙◌}
+use Rattle.std.specs.Prelude.{◌≡◌, ℕ, ◌<◌, pos, ◌+ℤ◌, ◌-ℤ◌, Bool, true, false, if◌then◌else◌, List, length}
+use Rattle.std.proofs.Common.{arith, refl, inl, ◌∙◌}
 use Rattle.std.proofs.lemmas.Int.{ints}
 use Rattle.mb_base.specs.declared.point.Corner.{Corner}
 use Rattle.side_terms.specs.Corners.{axis, up_on, corner_at, AllFine}
 use Rattle.chain_laws.specs.Squares.{less}
-use Rattle.side_terms.specs.Boxes.{IsBelow}
 use Rattle.shadow_kernels.specs.Spots.{Between, beyond}
-use Rattle.shadow_kernels.specs.Counts.{count_of, shadow_of, turned}
+use Rattle.shadow_kernels.specs.Counts.{count_of, shadow_of}
 use Rattle.shadow_kernels.specs.ShadowLaws.{ShadowLaws}
 use Rattle.shadow_kernels.specs.Shadows.{meet00, meet01, meet10, meet11, meet02, meet20, boundary11, boundary02, boundary20, vertex_vertex, vertex_edge, edge_vertex, edge_edge, vertex_face, face_vertex}
 use Rattle.shadow_kernels.specs.Sizes.{turned_shadow}

@@ -1,5 +1,5 @@
 -- The answers of two edges and of faces with vertices: from ends of edges to edges, and from edges to faces.
-use Rattle.std.specs.Prelude.{◌≡◌, ℕ, zero, suc, ◌<◌, neg_ℤ, Bool, true, false, not, Option, List, [], ◌∷◌, length, swap}
+use Rattle.std.specs.Prelude.{◌≡◌, ℕ, zero, suc, ◌<◌, neg_ℤ, Bool, not, Option, List, [], ◌∷◌, length, swap}
 use Rattle.std.specs.List.Sorted.{IsPermutation}
 use Rattle.std.proofs.Common.{arith, refl, sym, ap, inl, inr, ◌∙◌}
 use Rattle.std.proofs.lemmas.List.Sorted.{IsPermutation-cons, IsPermutation-middle, IsPermutation-trans}
@@ -93,10 +93,10 @@ flip : (a b : Option Meet) (ms : List (Option Meet)) → IsPermutation (a ∷ b 
 flip a b ms = IsPermutation-middle (a ∷ []) b ms
 
 -- lists of equal members
-three : {X : Type 0} (a b c a' b' c' : X) → a ≡ a' → b ≡ b' → c ≡ c' → (a ∷ b ∷ c ∷ []) ≡ a' ∷ b' ∷ c' ∷ []
+pub three : {X : Type 0} (a b c a' b' c' : X) → a ≡ a' → b ≡ b' → c ≡ c' → (a ∷ b ∷ c ∷ []) ≡ a' ∷ b' ∷ c' ∷ []
 three a b c a' b' c' e f g = cc
 
-four : {X : Type 0} (a b c d a' b' c' d' : X) → a ≡ a' → b ≡ b' → c ≡ c' → d ≡ d' → (a ∷ b ∷ c ∷ d ∷ []) ≡ a' ∷ b' ∷ c' ∷ d' ∷ []
+pub four : {X : Type 0} (a b c d a' b' c' d' : X) → a ≡ a' → b ≡ b' → c ≡ c' → d ≡ d' → (a ∷ b ∷ c ∷ d ∷ []) ≡ a' ∷ b' ∷ c' ∷ d' ∷ []
 four a b c d a' b' c' d' e f g h = cc
 
 -- the answers of the three edges round the corners of a face

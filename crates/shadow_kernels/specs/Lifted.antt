@@ -1,12 +1,12 @@
 -- The laws of an answer that is made from boundary pairs.
-use Rattle.std.specs.Prelude.{◌≡◌, ◌≢◌, ℕ, zero, suc, ◌<◌, ℤ, pos, neg_ℤ, Bool, true, false, Option, None, Some, IfSome, List, [], ◌∷◌, map}
+use Rattle.std.specs.Prelude.{◌≡◌, ◌≢◌, ℕ, ℤ, pos, neg_ℤ, Bool, true, false, Option, None, Some, List, [], ◌∷◌, map}
 use Rattle.std.specs.List.Sorted.{IsPermutation}
 use Rattle.std.proofs.Common.{arith, refl, sym, ap, ◌∙◌}
 use Rattle.std.proofs.lemmas.Int.{ints}
 use Rattle.mb_base.specs.declared.point.Corner.{Corner}
 use Rattle.side_terms.specs.Fine.{IsFine, IsWeight}
 use Rattle.side_terms.specs.Corners.{AllFine}
-use Rattle.side_terms.specs.Boxes.{IsInBox, AreApart}
+use Rattle.side_terms.specs.Boxes.{IsInBox}
 use Rattle.chain_terms.specs.Sums.{total}
 use Rattle.chain_laws.specs.Sums.{total-permutation}
 use Rattle.chain_laws.specs.Sides.{first_at-permutation}
@@ -14,7 +14,7 @@ use Rattle.shadow_kernels.specs.declared.Spot.{Spot}
 use Rattle.shadow_kernels.specs.declared.Meet.{Meet}
 use Rattle.shadow_kernels.specs.Spots.{Between, gap, spot_between, no_spot, above_z}
 use Rattle.shadow_kernels.specs.Boxes.{IsInHull}
-use Rattle.shadow_kernels.specs.Counts.{count_of, shadow_of, turned, met, chosen, first_spot, joined, lifted}
+use Rattle.shadow_kernels.specs.Counts.{count_of, shadow_of, turned, chosen, first_spot, joined, lifted}
 use Rattle.shadow_kernels.specs.Sizes.{IsSized, by_zero, met_none, met_count, met_sized, met_holds, met_turned, turned_shadow}
 use Rattle.shadow_kernels.specs.Entries.{Each, IsBalanced, balanced_size, entry, spot_of, number_is, whole_is, first_is}
 use Rattle.shadow_kernels.specs.Bounds.{box_between, hull_fine}

@@ -18,24 +18,24 @@ returns-clause-x12_listed g c =
     let p = c.args.p.now in
     let q = c.args.q.now in
     let test : CrossTest = g.K.Crosses-1.cross_of c.args.kernels.now in
-    subst (AreHits (all_edges p.triples) (length q.triples)) (sym c.in_ok-x12.ensures) (hits_in_order test p q (all_listed test c.args.p.now c.args.q.now c.twins.ensures.side.fine c.twins-2.ensures.side.fine (λ e f l m a b. (g.met.K.Crosses-1.present c.args.kernels.now e f l m a b, g.met.K.Crosses-1.size c.args.kernels.now e f l m a b)))).0
+    subst (AreHits (all_edges p.triples) (length q.triples)) (sym c.in_ok-x12.ensures) (hits_in_order test p q (all_listed test c.args.p.now c.args.q.now c.twins.ensures.side.fine c.twins-2.ensures.side.fine (λ e f l m a b. ((g.met.K.Crosses-1.laws c.args.kernels.now).present e f l m a b, (g.met.K.Crosses-1.laws c.args.kernels.now).size e f l m a b)))).0
 
 pub returns-clause-x12_cross : goal.returns-clause-x12_cross
 returns-clause-x12_cross g c =
     let test : CrossTest = g.K.Crosses-1.cross_of c.args.kernels.now in
-    subst AllCross (sym c.in_ok-x12.ensures) (hits_in_order test c.args.p.now c.args.q.now (all_listed test c.args.p.now c.args.q.now c.twins.ensures.side.fine c.twins-2.ensures.side.fine (λ e f l m a b. (g.met.K.Crosses-1.present c.args.kernels.now e f l m a b, g.met.K.Crosses-1.size c.args.kernels.now e f l m a b)))).1
+    subst AllCross (sym c.in_ok-x12.ensures) (hits_in_order test c.args.p.now c.args.q.now (all_listed test c.args.p.now c.args.q.now c.twins.ensures.side.fine c.twins-2.ensures.side.fine (λ e f l m a b. ((g.met.K.Crosses-1.laws c.args.kernels.now).present e f l m a b, (g.met.K.Crosses-1.laws c.args.kernels.now).size e f l m a b)))).1
 
 pub returns-clause-x21_listed : goal.returns-clause-x21_listed
 returns-clause-x21_listed g c =
     let p = c.args.p.now in
     let q = c.args.q.now in
     let test : CrossTest = λ edge face. g.K.Crosses-2.cross_of c.args.kernels.now face edge in
-    subst (AreHits (all_edges q.triples) (length p.triples)) (sym c.in_ok-x21.ensures) (hits_in_order test q p (all_listed test c.args.q.now c.args.p.now c.twins-2.ensures.side.fine c.twins.ensures.side.fine (λ e f l m a b. (g.met.K.Crosses-2.present c.args.kernels.now f e m l b a, g.met.K.Crosses-2.size c.args.kernels.now f e m l b a)))).0
+    subst (AreHits (all_edges q.triples) (length p.triples)) (sym c.in_ok-x21.ensures) (hits_in_order test q p (all_listed test c.args.q.now c.args.p.now c.twins-2.ensures.side.fine c.twins.ensures.side.fine (λ e f l m a b. ((g.met.K.Crosses-2.laws c.args.kernels.now).present f e m l b a, (g.met.K.Crosses-2.laws c.args.kernels.now).size f e m l b a)))).0
 
 pub returns-clause-x21_cross : goal.returns-clause-x21_cross
 returns-clause-x21_cross g c =
     let test : CrossTest = λ edge face. g.K.Crosses-2.cross_of c.args.kernels.now face edge in
-    subst AllCross (sym c.in_ok-x21.ensures) (hits_in_order test c.args.q.now c.args.p.now (all_listed test c.args.q.now c.args.p.now c.twins-2.ensures.side.fine c.twins.ensures.side.fine (λ e f l m a b. (g.met.K.Crosses-2.present c.args.kernels.now f e m l b a, g.met.K.Crosses-2.size c.args.kernels.now f e m l b a)))).1
+    subst AllCross (sym c.in_ok-x21.ensures) (hits_in_order test c.args.q.now c.args.p.now (all_listed test c.args.q.now c.args.p.now c.twins-2.ensures.side.fine c.twins.ensures.side.fine (λ e f l m a b. ((g.met.K.Crosses-2.laws c.args.kernels.now).present f e m l b a, (g.met.K.Crosses-2.laws c.args.kernels.now).size f e m l b a)))).1
 
 pub returns-clause-pair_identity : goal.returns-clause-pair_identity
 returns-clause-pair_identity g c =

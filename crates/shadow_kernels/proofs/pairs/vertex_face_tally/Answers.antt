@@ -1,9 +1,9 @@
 use Rattle.std.proofs.Common.{[], ◌∷◌}
 use Rattle.side_terms.specs.Corners.{corner_at}
-use Rattle.shadow_kernels.specs.Counts.{turned}
-use Rattle.shadow_kernels.specs.Shadows.{boundary02, meet01, meet10}
+use Rattle.shadow_kernels.specs.Shadows.{boundary02, meet01}
 use Rattle.shadow_kernels.specs.Spots.{Between}
-use Rattle.shadow_kernels.proofs.Steps.{same_tally, three}
+use Rattle.shadow_kernels.proofs.Steps.{same_tally}
+use Rattle.shadow_kernels.specs.Levels.{three}
 use Rattle.shadow_kernels.proofs.pairs.vertex_face_tally.Goals as goal
 
 pub returns-clause-tally : goal.returns-clause-tally

@@ -1,11 +1,10 @@
-use Rattle.std.proofs.Common.{rules, arith, refl, ◌≡◌, ◌-ℤ◌}
+use Rattle.std.proofs.Common.{rules, arith, refl}
 use Rattle.std.proofs.lemmas.Int.{ints}
-use Rattle.std.specs.Int.{w64}
 use Rattle.side_terms.specs.Corners.{axis}
 use Rattle.shadow_kernels.specs.Hulls.{value_between}
-use Rattle.shadow_kernels.specs.Spots.{Between, edge_value, flag, mark, spot01}
+use Rattle.shadow_kernels.specs.Spots.{Between, flag, spot01}
 use Rattle.shadow_kernels.proofs.Sights.{beats_low, beats_high, same_beats}
-use Rattle.shadow_kernels.proofs.Values.{seen, kept_value, same_mark}
+use Rattle.shadow_kernels.proofs.Values.{kept_value}
 use Rattle.shadow_kernels.proofs.shadows.is_above_edge.Goals as goal
 
 pub returns-then-right-y : goal.returns-then-right-y

@@ -1,9 +1,9 @@
-use Rattle.std.proofs.Common.{rules, arith, refl, ◌≡◌, ◌-ℤ◌}
+use Rattle.std.proofs.Common.{rules, arith, ◌≡◌, ◌-ℤ◌}
 use Rattle.std.proofs.lemmas.Int.{ints}
 use Rattle.std.specs.Int.{w64}
 use Rattle.side_terms.specs.Corners.{axis}
 use Rattle.shadow_kernels.specs.Hulls.{value_between}
-use Rattle.shadow_kernels.specs.Spots.{Between, edge_value, flag, mark, spot10}
+use Rattle.shadow_kernels.specs.Spots.{Between, flag, mark, spot10}
 use Rattle.shadow_kernels.proofs.Sights.{high_beats, low_beats, same_beats}
 use Rattle.shadow_kernels.proofs.Values.{seen, kept_value, same_mark}
 use Rattle.shadow_kernels.proofs.shadows.is_edge_above.Goals as goal

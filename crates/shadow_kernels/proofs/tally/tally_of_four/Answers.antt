@@ -1,7 +1,8 @@
 use Rattle.std.proofs.Common.{[], ◌∷◌, refl}
 use Rattle.shadow_kernels.specs.Counts.{turned}
 use Rattle.shadow_kernels.specs.Tallies.{IsTallyOf}
-use Rattle.shadow_kernels.proofs.Steps.{put_tally, fine_tally, fine_turned, same_tally, three}
+use Rattle.shadow_kernels.proofs.Steps.{put_tally, fine_tally, fine_turned, same_tally}
+use Rattle.shadow_kernels.specs.Levels.{three}
 use Rattle.shadow_kernels.proofs.tally.tally_of_four.Goals as goal
 
 pub tally_of_three-tally-requires-clause-first_fine : goal.tally_of_three-tally-requires-clause-first_fine

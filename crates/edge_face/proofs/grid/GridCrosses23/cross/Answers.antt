@@ -2,10 +2,10 @@ use Rattle.std.proofs.Common.{rules, arith, ◌≡◌, ◌≢◌, pos, true, fal
 use Rattle.std.proofs.lemmas.Int.{ints}
 use Rattle.std.specs.Int.{w8}
 use Rattle.side_terms.specs.Corners.{corner_at}
-use Rattle.shadow_kernels.specs.Shadows.{edge_edge, vertex_face, face_vertex}
+use Rattle.shadow_kernels.specs.Shadows.{edge_edge, vertex_face}
 use Rattle.shadow_kernels.specs.Spots.{Between}
 use Rattle.edge_face.specs.Boundaries.{grid_edge_face}
-use Rattle.edge_face.specs.Crossings.{Settle, mirror, p_point, edge_number, edge_face_pairs}
+use Rattle.edge_face.specs.Crossings.{Settle, p_point, edge_number, edge_face_pairs}
 use Rattle.edge_face.proofs.Five.{AreRead, pairs_read, made_none, made_some}
 use Rattle.edge_face.proofs.Kept.{seen, kept_fit, fine_edge, fine_face}
 use Rattle.edge_face.proofs.grid.GridCrosses23.cross.Given.{Over}

@@ -2,7 +2,7 @@ use Rattle.std.proofs.Common.{rules, arith, ◌≡◌, ◌≢◌, pos, true, fal
 use Rattle.std.proofs.lemmas.Int.{ints}
 use Rattle.std.specs.Int.{w8}
 use Rattle.side_terms.specs.Corners.{corner_at}
-use Rattle.shadow_kernels.specs.Shadows.{edge_edge, vertex_face, face_vertex}
+use Rattle.shadow_kernels.specs.Shadows.{edge_edge, face_vertex}
 use Rattle.shadow_kernels.specs.Spots.{Between}
 use Rattle.edge_face.specs.Boundaries.{grid_face_edge}
 use Rattle.edge_face.specs.Crossings.{Settle, mirror, q_point, edge_number, face_edge_pairs}
