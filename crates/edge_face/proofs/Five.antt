@@ -8,8 +8,8 @@ use Rattle.mb_base.specs.declared.point.Corner.{Corner}
 use Rattle.side_terms.specs.Corners.{IsFineCorner, AllFine}
 use Rattle.shadow_kernels.specs.declared.Spot.{Spot}
 use Rattle.shadow_kernels.specs.declared.Meet.{Meet}
-use Rattle.shadow_kernels.specs.Boxes.{IsInHull}
-use Rattle.shadow_kernels.specs.Bounds.{IsFineSpot, hull_fine}
+use Rattle.shadow_kernels.specs.Bounds.{IsFineSpot}
+use Rattle.shadow_kernels.specs.FinePairs.{fine_spot}
 use Rattle.shadow_kernels.specs.Spots.{no_spot}
 use Rattle.shadow_kernels.specs.Counts.{count_of, shadow_of, chosen, first_spot}
 use Rattle.shadow_kernels.specs.ShadowLaws.{ShadowTest}
@@ -24,7 +24,7 @@ use Rattle.edge_face.specs.Boundaries.{AreMet, signed_pairs, pairs_decided, spot
 use Rattle.edge_face.specs.Crossings.{edge_pairs, edge_number, crossed, crossing}
 use Rattle.edge_face.specs.Laws.{crossed_none}
 use Rattle.edge_face.specs.Pairs.{IsPairOf, ArePairsOf, pair_shadow, pair_on, pairs_number, first_place, spot_at, number_at, AreCounts, vertex_rim, edge_corners}
-use Rattle.edge_face.proofs.Kept.{seen}
+use Rattle.shadow_kernels.proofs.Values.{seen}
 use Rattle.edge_face.specs.Parts.{start_of, end_of, first_edge, second_edge, third_edge}
 
 -- the shadow of a pair is that of its answer
@@ -133,13 +133,9 @@ module _ {P Q : List Corner → List Corner → List Corner} {ends edges one oth
         spot = λ want r i e at. (first want r i e at, subst IsFineSpot (sym (first want r i e at ∙ spots_signed ends edges a b u v w want)) (fine want));
       }
     where
-      fine_if : (m : Option Meet) → IfSome m (λ n. IsInHull (P (a ∷ b ∷ []) (u ∷ v ∷ w ∷ [])) (Q (a ∷ b ∷ []) (u ∷ v ∷ w ∷ [])) n.spot) → IfSome m (λ n. IsFineSpot n.spot)
-      fine_if None k = tt
-      fine_if (Some n) k = hull_fine (P (a ∷ b ∷ []) (u ∷ v ∷ w ∷ [])) (Q (a ∷ b ∷ []) (u ∷ v ∷ w ∷ [])) n.spot fp fq k
-
       fine : (want : Bool) → IsFineSpot (first_spot want (signed_pairs ends edges a b u v w))
       fine want = first_holds IsFineSpot want (signed_pairs ends edges a b u v w) no_spot_fine
-          (each_map (IsDecided 2 (P (a ∷ b ∷ []) (u ∷ v ∷ w ∷ [])) (Q (a ∷ b ∷ []) (u ∷ v ∷ w ∷ []))) (λ m. IfSome m (λ n. IsFineSpot n.spot)) (λ m d. fine_if m (d.hull (omega arith))) (signed_pairs ends edges a b u v w) (pairs_decided h a b u v w fe ff))
+          (each_map (IsDecided 2 (P (a ∷ b ∷ []) (u ∷ v ∷ w ∷ [])) (Q (a ∷ b ∷ []) (u ∷ v ∷ w ∷ []))) (λ m. IfSome m (λ n. IsFineSpot n.spot)) (λ m d. fine_spot (P (a ∷ b ∷ []) (u ∷ v ∷ w ∷ [])) (Q (a ∷ b ∷ []) (u ∷ v ∷ w ∷ [])) fp fq m (d.hull (omega arith))) (signed_pairs ends edges a b u v w) (pairs_decided h a b u v w fe ff))
 
   -- their counts are made of shadows
   pub counts_known : (start end at counts : List ℤ) → AreCounts start end at counts → start ≡ map shadow_of (vertex_rim one a (u ∷ v ∷ w ∷ [])) → end ≡ map shadow_of (vertex_rim one b (u ∷ v ∷ w ∷ [])) →

@@ -1,18 +1,15 @@
 -- Pairs from known counts, and corners of lists of fine ones.
-use Rattle.std.proofs.Common.{arith, ◌≡◌, ◌≤◌, ℕ, ℤ, pos, unsigned_abs, FitsSigned, ◌∙◌, Option, None, Some, IfSome, false, List, [], ◌∷◌, length, sym, inl, inr}
+use Rattle.std.proofs.Common.{arith, ◌≡◌, ◌≤◌, ℕ, ℤ, pos, unsigned_abs, ◌∙◌, Option, None, Some, IfSome, false, List, [], ◌∷◌, length, sym, inl, inr}
 use Rattle.std.proofs.lemmas.Int.{ints}
-use Rattle.std.specs.Int.{Width, w8, cast_signed, cast_unsigned}
+use Rattle.std.specs.Int.{w8}
 use Rattle.mb_base.specs.declared.point.Corner.{Corner}
 use Rattle.side_terms.specs.Corners.{corner_at, blank_corner, AllFine}
 use Rattle.shadow_kernels.specs.declared.Meet.{Meet}
 use Rattle.shadow_kernels.specs.Counts.{count_of}
 use Rattle.shadow_kernels.specs.Sizes.{IsSized, sized_from}
 use Rattle.shadow_kernels.specs.ShadowLaws.{ShadowTest, ShadowLaws}
+use Rattle.shadow_kernels.proofs.Values.{seen}
 use Rattle.shadow_kernels.specs.FinePairs.{fine_two, fine_three}
-
--- a number as it stands after it was kept at a width
-abbrev pub seen : Width → ℤ → ℤ
-seen w z = cast_signed w (cast_unsigned w z)
 
 -- a sized answer of count 0 is none
 none_at : (P : Meet → Type 0) (m : Option Meet) → IsSized m → count_of m ≡ pos 0 → IfSome m P
@@ -37,7 +34,3 @@ fine_edge e two h = fine_two (corner_at e 0) (corner_at e 1) (h 0 blank_corner (
 
 pub fine_face : (f : List Corner) → length f ≡ 3 → AllFine f → AllFine (corner_at f 0 ∷ corner_at f 1 ∷ corner_at f 2 ∷ [])
 fine_face f three h = fine_three (corner_at f 0) (corner_at f 1) (corner_at f 2) (h 0 blank_corner (omega (arith, three))) (h 1 blank_corner (omega (arith, three))) (h 2 blank_corner (omega (arith, three)))
-
--- a number that fits eight bits stays as it is at them
-pub kept_fit : (a : ℤ) → FitsSigned w8 a → seen w8 a ≡ a
-kept_fit a h = omega (arith, ints)

@@ -8,7 +8,7 @@ use Rattle.side_terms.specs.Fine.{IsFine, IsWeight}
 use Rattle.shadow_kernels.specs.Spots.{Between}
 use Rattle.edge_face.specs.Crossings.{Settle}
 use Rattle.edge_face.specs.CrossLaws.{IsSettling}
-use Rattle.edge_face.proofs.Kept.{seen}
+use Rattle.shadow_kernels.proofs.Values.{seen}
 
 -- a settled value between values by weights, all kept at their width
 pub kept_settled : {r u v a b g h : ℤ} (w : Between) (settle : Settle) → r ≡ settle (w (seen w64 u) (seen w64 v) (seen w64 a) (seen w64 b)) → IsFine u → IsFine v → IsWeight a → IsWeight b → a ≡ g → b ≡ h → FitsSigned w32 r →

@@ -43,16 +43,12 @@ ends_same false false x y e = refl
 -- where the first test alone holds
 pub ends_first : (s t : Bool) (x y : Spot) → s ≡ true → t ≡ false → by_ends s t x y ≡ Some (record { count = pos 1; above = above_y x; spot = x })
 unfolding by_ends met
-ends_first true false x y e f = refl
-ends_first true true x y e f = absurd (cc)
-ends_first false t x y e f = absurd (cc)
+ends_first s t x y e f = rw (e, f) refl
 
 -- where the second test alone holds
 pub ends_second : (s t : Bool) (x y : Spot) → s ≡ false → t ≡ true → by_ends s t x y ≡ Some (record { count = negsuc 0; above = above_y y; spot = y })
 unfolding by_ends met
-ends_second false true x y e f = refl
-ends_second false false x y e f = absurd (cc)
-ends_second true t x y e f = absurd (cc)
+ends_second s t x y e f = rw (e, f) refl
 
 -- what holds of the answer at either end holds of it
 pub ends_hold : (P : Meet → Type 0) (s t : Bool) (x y : Spot) → (s ≡ true → t ≡ false → P (record { count = pos 1; above = above_y x; spot = x })) →

@@ -26,7 +26,7 @@ pub fine_three : (p q r : Corner) → IsFineCorner p → IsFineCorner q → IsFi
 fine_three p q r h k l = All-cons IsFineCorner p (q ∷ r ∷ []) h (fine_two q r k l)
 
 -- an answer with its spot in the boxes of fine corners has a fine spot
-fine_spot : (ps qs : List Corner) → AllFine ps → AllFine qs → (m : Option Meet) → IfSome m (λ n. IsInHull ps qs n.spot) → IfSome m (λ n. IsFineSpot n.spot)
+pub fine_spot : (ps qs : List Corner) → AllFine ps → AllFine qs → (m : Option Meet) → IfSome m (λ n. IsInHull ps qs n.spot) → IfSome m (λ n. IsFineSpot n.spot)
 fine_spot ps qs fp fq None h = tt
 fine_spot ps qs fp fq (Some m) h = hull_fine ps qs m.spot fp fq h
 

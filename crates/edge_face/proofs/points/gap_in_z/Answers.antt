@@ -2,7 +2,7 @@ use Rattle.std.proofs.Common.{rules, arith, ◌≡◌, FitsSigned, ◌∙◌}
 use Rattle.std.proofs.lemmas.Int.{ints}
 use Rattle.std.specs.Int.{w64}
 use Rattle.shadow_kernels.proofs.Values.{kept_gap}
-use Rattle.edge_face.proofs.Kept.{seen}
+use Rattle.shadow_kernels.proofs.Values.{seen}
 use Rattle.edge_face.proofs.points.gap_in_z.Goals as goal
 
 pub returns-clause-value : goal.returns-clause-value

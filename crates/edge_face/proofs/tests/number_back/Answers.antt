@@ -3,7 +3,7 @@ use Rattle.std.proofs.lemmas.Int.{ints}
 use Rattle.std.specs.Int.{w8}
 use Rattle.shadow_kernels.specs.FinePairs.{fine_two}
 use Rattle.edge_face.specs.Crossings.{number_of}
-use Rattle.edge_face.proofs.Kept.{seen}
+use Rattle.shadow_kernels.proofs.Values.{seen}
 use Rattle.edge_face.proofs.tests.number_back.Goals as goal
 
 pub returns-in-None : goal.returns-in-None

@@ -7,7 +7,8 @@ use Rattle.shadow_kernels.specs.Spots.{Between}
 use Rattle.edge_face.specs.Boundaries.{grid_edge_face}
 use Rattle.edge_face.specs.Crossings.{Settle, p_point, edge_number, edge_face_pairs}
 use Rattle.edge_face.proofs.Five.{AreRead, pairs_read, made_none, made_some}
-use Rattle.edge_face.proofs.Kept.{seen, kept_fit, fine_edge, fine_face}
+use Rattle.shadow_kernels.proofs.Values.{seen, kept_unit}
+use Rattle.edge_face.proofs.Kept.{fine_edge, fine_face}
 use Rattle.edge_face.proofs.grid.GridCrosses23.cross.Given.{Over}
 use Rattle.edge_face.proofs.grid.GridCrosses23.cross.Goals.{After-edge_face_pairs-pairs}
 use Rattle.edge_face.proofs.grid.GridCrosses23.cross.Goals as goal
@@ -47,5 +48,5 @@ returns g c =
     let below = (r.spot false c.edge_face_spot-below.result c.first_on.result c.edge_face_spot-below.ensures c.first_on.ensures).0 in
     let above = (r.spot true c.edge_face_spot-above.result c.first_on-2.result c.edge_face_spot-above.ensures c.first_on-2.ensures).0 in
     record {
-      value = made_some (vertex_face w) (edge_edge w) (p_point w settle) (corner_at c.args.p.now 0) (corner_at c.args.p.now 1) (corner_at c.args.q.now 0) (corner_at c.args.q.now 1) (corner_at c.args.q.now 2) n (c.number-number.ensures ∙ r.number) (seen w8 n) c.in_ok-at.at c.edge_face_spot-below.result c.edge_face_spot-above.result some (kept_fit n fits) below above (sym c.in_ok-at.was ∙ c.p_point.ensures);
+      value = made_some (vertex_face w) (edge_edge w) (p_point w settle) (corner_at c.args.p.now 0) (corner_at c.args.p.now 1) (corner_at c.args.q.now 0) (corner_at c.args.q.now 1) (corner_at c.args.q.now 2) n (c.number-number.ensures ∙ r.number) (seen w8 n) c.in_ok-at.at c.edge_face_spot-below.result c.edge_face_spot-above.result some (kept_unit n fits) below above (sym c.in_ok-at.was ∙ c.p_point.ensures);
     }
