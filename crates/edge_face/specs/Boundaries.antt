@@ -35,7 +35,7 @@ pub record AreMet (P Q : List Corner → List Corner → List Corner) (ends edge
 pub edge_face : (vf ee ve ev : ShadowTest) → ShadowLaws 1 3 vf → ShadowLaws 2 2 ee →
     ((p u v w : Corner) → AllFine (p ∷ []) → AllFine (u ∷ v ∷ w ∷ []) → count_of (vf (p ∷ []) (u ∷ v ∷ w ∷ [])) ≡ total (λ e. shadow_of (ve (p ∷ []) e)) (face_edges u v w)) →
     ((a b c d : Corner) → AllFine (a ∷ b ∷ []) → AllFine (c ∷ d ∷ []) → count_of (ee (a ∷ b ∷ []) (c ∷ d ∷ []))
-      ≡ shadow_of (ve (b ∷ []) (c ∷ d ∷ [])) -ℤ shadow_of (ve (a ∷ []) (c ∷ d ∷ [])) +ℤ shadow_of (ev (a ∷ b ∷ []) (d ∷ [])) -ℤ shadow_of (ev (a ∷ b ∷ []) (c ∷ []))) →
+    ≡ shadow_of (ve (b ∷ []) (c ∷ d ∷ [])) -ℤ shadow_of (ve (a ∷ []) (c ∷ d ∷ [])) +ℤ shadow_of (ev (a ∷ b ∷ []) (d ∷ [])) -ℤ shadow_of (ev (a ∷ b ∷ []) (c ∷ []))) →
     AreMet (λ e f. e) (λ e f. f) vf ee ve ev
 edge_face vf ee ve ev laws13 laws22 lift13 lift22 = record {
   ends_decided = λ v e f part one three fe ff. decided_in 1 3 vf laws13 refl v e f f part (itself f) one three fe ff;
@@ -49,7 +49,7 @@ edge_face vf ee ve ev laws13 laws22 lift13 lift22 = record {
 pub face_edge : (fv ee ve ev : ShadowTest) → ShadowLaws 3 1 fv → ShadowLaws 2 2 ee →
     ((u v w q : Corner) → AllFine (u ∷ v ∷ w ∷ []) → AllFine (q ∷ []) → count_of (fv (u ∷ v ∷ w ∷ []) (q ∷ [])) ≡ total (λ e. shadow_of (ev e (q ∷ []))) (face_edges u v w)) →
     ((a b c d : Corner) → AllFine (a ∷ b ∷ []) → AllFine (c ∷ d ∷ []) → count_of (ee (a ∷ b ∷ []) (c ∷ d ∷ []))
-      ≡ shadow_of (ve (b ∷ []) (c ∷ d ∷ [])) -ℤ shadow_of (ve (a ∷ []) (c ∷ d ∷ [])) +ℤ shadow_of (ev (a ∷ b ∷ []) (d ∷ [])) -ℤ shadow_of (ev (a ∷ b ∷ []) (c ∷ []))) →
+    ≡ shadow_of (ve (b ∷ []) (c ∷ d ∷ [])) -ℤ shadow_of (ve (a ∷ []) (c ∷ d ∷ [])) +ℤ shadow_of (ev (a ∷ b ∷ []) (d ∷ [])) -ℤ shadow_of (ev (a ∷ b ∷ []) (c ∷ []))) →
     AreMet (λ e f. f) (λ e f. e) (mirror fv) (mirror ee) (mirror ev) (mirror ve)
 face_edge fv ee ve ev laws31 laws22 lift31 lift22 = record {
   ends_decided = λ v e f part one three fe ff. decided_in 3 1 fv laws31 refl f f v e (itself f) part three one ff fe;
@@ -96,11 +96,11 @@ module _ {P Q : List Corner → List Corner → List Corner} {ends edges one oth
   pairs_decided =
       let e = a ∷ b ∷ [] in
       let f = u ∷ v ∷ w ∷ [] in
-      let side : (g : List Corner) → IsPart g f → length g ≡ 2 → IsDecided 2 (P e f) (Q e f) (turned (edges e g)) = λ g part two. turned_decided 2 (P e f) (Q e f) (edges e g) (h.edges_decided e g f part refl two fe ff) in (
+      let edge : (g : List Corner) → IsPart g f → length g ≡ 2 → IsDecided 2 (P e f) (Q e f) (turned (edges e g)) = λ g part two. turned_decided 2 (P e f) (Q e f) (edges e g) (h.edges_decided e g f part refl two fe ff) in (
         turned_decided 2 (P e f) (Q e f) (ends (a ∷ []) f) (h.ends_decided (a ∷ []) e f (start_of a b) refl refl fe ff),
         (
           h.ends_decided (b ∷ []) e f (end_of a b) refl refl fe ff,
-          (side (u ∷ v ∷ []) (first_edge u v w) refl, (side (v ∷ w ∷ []) (second_edge u v w) refl, (side (w ∷ u ∷ []) (third_edge u v w) refl, tt))),
+          (edge (u ∷ v ∷ []) (first_edge u v w) refl, (edge (v ∷ w ∷ []) (second_edge u v w) refl, (edge (w ∷ u ∷ []) (third_edge u v w) refl, tt))),
         ),
       )
 

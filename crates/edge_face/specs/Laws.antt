@@ -6,10 +6,9 @@ use Rattle.mb_base.specs.declared.point.Corner.{Corner}
 use Rattle.side_terms.specs.Corners.{corner_at, AllFine, AllWhole}
 use Rattle.side_terms.specs.Boxes.{AreApart, IsPointIn}
 use Rattle.shadow_kernels.specs.declared.Spot.{Spot}
-use Rattle.shadow_kernels.specs.Boxes.{IsInHull}
 use Rattle.shadow_kernels.specs.Spots.{Between}
 use Rattle.shadow_kernels.specs.Counts.{first_spot}
-use Rattle.shadow_kernels.specs.ShadowLaws.{ShadowTest}
+use Rattle.shadow_kernels.specs.ShadowLaws.{IsInHull, ShadowTest}
 use Rattle.shadow_kernels.specs.Shadows.{edge_edge, vertex_face, face_vertex}
 use Rattle.shadow_kernels.specs.Sizes.{IsSized, any_none, any_holds, any_number}
 use Rattle.shadow_kernels.specs.Entries.{each_map, five_size}
@@ -50,7 +49,7 @@ present ends edges place a b u v w =
 
 -- the rest under lawful tests
 module _ {P Q : List Corner → List Corner → List Corner} {ends edges one other : ShadowTest} (h : AreMet P Q ends edges one other) (place : Spot → Spot → List ℤ)
-  (a b u v w : Corner) (fe : AllFine (a ∷ b ∷ [])) (ff : AllFine (u ∷ v ∷ w ∷ [])) where
+    (a b u v w : Corner) (fe : AllFine (a ∷ b ∷ [])) (ff : AllFine (u ∷ v ∷ w ∷ [])) where
   pub number_size : (negsuc 1 ≤ℤ number_of (crossing ends edges place a b u v w)) × (number_of (crossing ends edges place a b u v w) ≤ℤ pos 2)
   number_size =
       let e = P (a ∷ b ∷ []) (u ∷ v ∷ w ∷ []) in

@@ -8,8 +8,7 @@ use Rattle.side_terms.specs.Corners.{axis, IsFineCorner, AllFine}
 use Rattle.shadow_kernels.specs.declared.Spot.{Spot}
 use Rattle.side_terms.specs.Boxes.{IsInBox, IsBelow, AreApart}
 use Rattle.shadow_kernels.specs.declared.Meet.{Meet}
-use Rattle.shadow_kernels.specs.Boxes.{IsInHull}
-use Rattle.shadow_kernels.specs.ShadowLaws.{ShadowTest, ShadowLaws}
+use Rattle.shadow_kernels.specs.ShadowLaws.{IsInHull, ShadowTest, ShadowLaws}
 use Rattle.shadow_kernels.specs.Sizes.{sized_from}
 use Rattle.shadow_kernels.specs.Hulls.{IsBeyond}
 use Rattle.shadow_kernels.specs.Decided.{IsDecided}
@@ -76,7 +75,7 @@ widen : (p ps q qs : List Corner) → IsPart p ps → IsPart q qs → (m : Optio
 widen p ps q qs sub_p sub_q None h = tt
 widen p ps q qs sub_p sub_q (Some a) h = wider_hull p ps q qs a.spot sub_p sub_q h
 
--- parts of simplices strictly apart in z are on the side of these
+-- parts of simplices strictly apart in z compare as these do
 decide : (p ps q qs : List Corner) → IsPart p ps → IsPart q qs → (m : Option Meet) → IfSome m (λ a. (IsBelow 2 p q → a.above ≡ false) × (IsBelow 2 q p → a.above ≡ true)) →
     (b : Bool) → IsBeyond 2 ps qs b → IfSome m (λ a. a.above ≡ b)
 decide p ps q qs sub_p sub_q None h b s = tt

@@ -6,10 +6,10 @@ use Rattle.mb_base.specs.declared.TheConstants.{UNIT}
 use Rattle.mb_base.specs.declared.point.Corner.{Corner}
 use Rattle.side_terms.specs.Fine.{IsFine, IsWeight, LiesBetween}
 use Rattle.side_terms.specs.Corners.{axis, blank_corner, IsFineCorner, AllFine}
+use Rattle.shadow_kernels.specs.ShadowLaws.{IsInHull}
 use Rattle.shadow_kernels.specs.declared.Spot.{Spot}
 use Rattle.shadow_kernels.specs.Spots.{Between, gap}
 use Rattle.side_terms.specs.Boxes.{IsInBox}
-use Rattle.shadow_kernels.specs.Boxes.{IsInHull}
 use Rattle.shadow_kernels.specs.Bounds.{IsFineSpot, corner_in_box, box_between, hull_fine}
 use Rattle.shadow_kernels.specs.Hulls.{StaysBetween}
 use Rattle.shadow_kernels.specs.Lifted.{gap_weight}

@@ -221,12 +221,7 @@ fn vertices_edge<R: Rounding>(rounding: &R, p: &[Corner; 3], q: &[Corner; 2]) ->
 }
 
 /// The pair of a vertex and a face, of which the count is known.
-fn vertex_face_pair<R: Rounding>(
-    rounding: &R,
-    count: i8,
-    p: &[Corner; 1],
-    q: &[Corner; 3],
-) -> Pair
+fn vertex_face_pair<R: Rounding>(rounding: &R, count: i8, p: &[Corner; 1], q: &[Corner; 3]) -> Pair
     requires known { count ≡ count_of (vertex_face (R.between_of rounding.now) p.now q.now) }
     requires p_fine { AllFine p.now }
     requires q_fine { AllFine q.now }
@@ -243,12 +238,7 @@ fn vertex_face_pair<R: Rounding>(
 }
 
 /// The pair of a face and a vertex, of which the count is known.
-fn face_vertex_pair<R: Rounding>(
-    rounding: &R,
-    count: i8,
-    p: &[Corner; 3],
-    q: &[Corner; 1],
-) -> Pair
+fn face_vertex_pair<R: Rounding>(rounding: &R, count: i8, p: &[Corner; 3], q: &[Corner; 1]) -> Pair
     requires known { count ≡ count_of (face_vertex (R.between_of rounding.now) p.now q.now) }
     requires p_fine { AllFine p.now }
     requires q_fine { AllFine q.now }

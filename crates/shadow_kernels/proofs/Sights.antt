@@ -12,7 +12,7 @@ use Rattle.side_terms.specs.Boxes.{IsBelow}
 use Rattle.shadow_kernels.specs.Counts.{shadow_of, first_spot, joined, lifted}
 use Rattle.shadow_kernels.specs.Order.{beats_greater, beats_smaller}
 use Rattle.shadow_kernels.specs.ShadowLaws.{ShadowTest, ShadowLaws}
-use Rattle.shadow_kernels.specs.Tallies.{IsTallyOf}
+use Rattle.shadow_kernels.specs.Bounds.{IsTallyOf}
 use Rattle.shadow_kernels.specs.Sizes.{met_holds}
 use Rattle.shadow_kernels.specs.Spots.{Between, beats, above_z, spot_between}
 

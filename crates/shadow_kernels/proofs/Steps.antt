@@ -8,8 +8,7 @@ use Rattle.shadow_kernels.specs.declared.Meet.{Meet}
 use Rattle.shadow_kernels.specs.declared.tally.Tally.{Tally}
 use Rattle.shadow_kernels.specs.Spots.{Between, no_spot}
 use Rattle.shadow_kernels.specs.Counts.{shadow_of, turned, chosen, first_spot, joined, lifted}
-use Rattle.shadow_kernels.specs.Bounds.{IsFineSpot, IsFinePair}
-use Rattle.shadow_kernels.specs.Tallies.{IsTallyOf, IsFineTally}
+use Rattle.shadow_kernels.specs.Bounds.{IsFineSpot, IsFinePair, IsTallyOf, IsFineTally}
 use Rattle.shadow_kernels.specs.Sizes.{turned_sized, turned_holds}
 use Rattle.shadow_kernels.specs.Entries.{Each, first_holds}
 

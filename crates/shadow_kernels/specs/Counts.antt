@@ -26,14 +26,10 @@ turned (Some m) = Some (record { count = neg_ℤ m.count; above = m.above; spot 
 unfoldable pub met : ℤ → Bool → Spot → Option Meet
 met count above spot = if int_eq count (pos 0) then None else Some (record { count = count; above = above; spot = spot })
 
--- 1 where the test holds
-abbrev pub bit : Bool → ℤ
-bit b = pos (one_if b)
-
 -- the answer of an edge and a vertex: whether P is beyond Q at the two ends, and the spot for either end being the one where it is
 unfoldable pub by_ends : Bool → Bool → Spot → Spot → Option Meet
 by_ends first second at_first at_second =
-    let spot = if first then at_first else at_second in met (bit first -ℤ bit second) (above_y spot) spot
+    let spot = if first then at_first else at_second in met (pos (one_if first) -ℤ pos (one_if second)) (above_y spot) spot
 
 -- the spot of an answer that is above, or is not; else the other spot
 abbrev pub chosen : Bool → Option Meet → Spot → Spot

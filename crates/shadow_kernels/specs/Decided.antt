@@ -8,9 +8,8 @@ use Rattle.side_terms.specs.Corners.{AllFine}
 use Rattle.side_terms.specs.Boxes.{IsBelow, AreApart}
 use Rattle.shadow_kernels.specs.declared.Spot.{Spot}
 use Rattle.shadow_kernels.specs.declared.Meet.{Meet}
-use Rattle.shadow_kernels.specs.Boxes.{IsInHull}
 use Rattle.shadow_kernels.specs.Counts.{count_of, shadow_of, turned, by_ends, first_spot}
-use Rattle.shadow_kernels.specs.ShadowLaws.{ShadowTest, ShadowLaws}
+use Rattle.shadow_kernels.specs.ShadowLaws.{IsInHull, ShadowTest, ShadowLaws}
 use Rattle.shadow_kernels.specs.Sizes.{IsSized, sized_bounds, sized_present, turned_sized, turned_holds}
 use Rattle.shadow_kernels.specs.Ends.{ends_sized, ends_same, ends_hold}
 use Rattle.shadow_kernels.specs.Entries.{Each, each_map, total_none, total_alike, first_own}

@@ -59,7 +59,7 @@ ends_hold P true false x y f g = f refl refl
 ends_hold P false true x y f g = g refl refl
 ends_hold P false false x y f g = tt
 
--- tests at the other side of the ends have the same difference
+-- the difference of two tests that fail where these hold, the other way round
 pub less_not : (s t : Bool) → less s t ≡ less (not t) (not s)
 less_not true true = refl
 less_not true false = refl

@@ -8,7 +8,7 @@ use Rattle.std.proofs.lemmas.List.{length-map}
 use Rattle.std.proofs.lemmas.List.Elements.{All-nil, All-cons}
 use Rattle.chain_terms.specs.Sums.{total}
 use Rattle.chain_laws.specs.Firsts.{first_of}
-use Rattle.chain_laws.specs.Sides.{counts_at}
+use Rattle.chain_laws.specs.Counted.{counts_at}
 use Rattle.chain_laws.specs.Sums.{IsWithin}
 use Rattle.chain_laws.specs.Signs.{number, whole, weight, weight_at, size_at, AllAre, number_all_above, number_none_above, number_sides, number_of_three, number_of_five, weight_of_units}
 use Rattle.shadow_kernels.specs.declared.Spot.{Spot}

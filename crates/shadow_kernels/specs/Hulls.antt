@@ -6,10 +6,10 @@ use Rattle.mb_base.specs.declared.point.Corner.{Corner}
 use Rattle.side_terms.specs.Fine.{IsFine, IsWeight, LiesBetween}
 use Rattle.side_terms.specs.Corners.{axis, up_on, corner_at, blank_corner, IsFineCorner, AllFine}
 use Rattle.side_terms.specs.Boxes.{IsInBox, IsBelow, AreApart}
+use Rattle.shadow_kernels.specs.ShadowLaws.{IsInHull}
 use Rattle.shadow_kernels.specs.declared.Spot.{Spot}
 use Rattle.shadow_kernels.specs.declared.Meet.{Meet}
 use Rattle.shadow_kernels.specs.Spots.{Between, beyond, beats, flag, above_y, above_z, edge_value, spot01, spot10}
-use Rattle.shadow_kernels.specs.Boxes.{IsInHull}
 use Rattle.shadow_kernels.specs.Order.{beats_greater, beats_smaller, beats_le, not_beats_le}
 use Rattle.shadow_kernels.specs.Bounds.{corner_in_box, box_between, box_below}
 

@@ -1,6 +1,5 @@
 pub mod Spots
 pub mod Counts
-pub mod Boxes
 pub mod ShadowLaws
 pub mod Shadows
 pub mod Order
@@ -14,4 +13,3 @@ pub mod Lifted
 pub mod Levels
 pub mod GridLaws
 pub mod FinePairs
-pub mod Tallies

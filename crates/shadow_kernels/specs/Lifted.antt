@@ -9,11 +9,11 @@ use Rattle.side_terms.specs.Corners.{AllFine}
 use Rattle.side_terms.specs.Boxes.{IsInBox}
 use Rattle.chain_terms.specs.Sums.{total}
 use Rattle.chain_laws.specs.Sums.{total-permutation}
-use Rattle.chain_laws.specs.Sides.{first_at-permutation}
+use Rattle.chain_laws.specs.Counted.{first_at-permutation}
+use Rattle.shadow_kernels.specs.ShadowLaws.{IsInHull}
 use Rattle.shadow_kernels.specs.declared.Spot.{Spot}
 use Rattle.shadow_kernels.specs.declared.Meet.{Meet}
 use Rattle.shadow_kernels.specs.Spots.{Between, gap, spot_between, no_spot, above_z}
-use Rattle.shadow_kernels.specs.Boxes.{IsInHull}
 use Rattle.shadow_kernels.specs.Counts.{count_of, shadow_of, turned, chosen, first_spot, joined, lifted}
 use Rattle.shadow_kernels.specs.Sizes.{IsSized, by_zero, met_none, met_count, met_sized, met_holds, met_turned, turned_shadow}
 use Rattle.shadow_kernels.specs.Entries.{Each, IsBalanced, balanced_size, entry, spot_of, number_is, whole_is, first_is}

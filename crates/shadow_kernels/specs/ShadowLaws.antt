@@ -2,14 +2,23 @@
 use Rattle.std.specs.Prelude.{◌≡◌, ◌≢◌, ℕ, ◌+◌, ◌<◌, pos, negsuc, ◌≤ℤ◌, true, false, Option, None, IfSome, List, length, swap}
 use Rattle.mb_base.specs.declared.point.Corner.{Corner}
 use Rattle.side_terms.specs.Corners.{AllFine}
-use Rattle.side_terms.specs.Boxes.{IsBelow, AreApart}
+use Rattle.side_terms.specs.Boxes.{IsInBox, IsBelow, AreApart}
+use Rattle.shadow_kernels.specs.declared.Spot.{Spot}
 use Rattle.shadow_kernels.specs.declared.Meet.{Meet}
-use Rattle.shadow_kernels.specs.Boxes.{IsInHull}
 use Rattle.shadow_kernels.specs.Counts.{count_of, turned}
 
 -- a shadow test: what it answers for the corners of p and of q
 abbrev pub ShadowTest : Type 0
 ShadowTest = List Corner → List Corner → Option Meet
+
+-- P's values of a spot lie in the box of ps, and Q's in the box of qs
+pub record IsInHull (ps qs : List Corner) (s : Spot) : Type 0 where
+  pub px : IsInBox 0 ps s.x
+  pub py : IsInBox 1 ps s.py
+  pub pz : IsInBox 2 ps s.pz
+  pub qx : IsInBox 0 qs s.x
+  pub qy : IsInBox 1 qs s.qy
+  pub qz : IsInBox 2 qs s.qz
 
 -- the laws of a test of simplices of P with m corners and of Q with n
 pub record ShadowLaws (m n : ℕ) (test : ShadowTest) : Type 0 where

@@ -3,7 +3,7 @@
 ghost use Rattle.std.specs.Prelude.{◌≡◌};
 ghost use Rattle.side_terms.specs.Corners.{corner_at, AllFine};
 ghost use Rattle.shadow_kernels.specs.Shadows.{boundary02, boundary11, boundary20, vertex_face, face_vertex, edge_edge};
-ghost use Rattle.shadow_kernels.specs.Tallies.{IsTallyOf, IsFineTally};
+ghost use Rattle.shadow_kernels.specs.Bounds.{IsTallyOf, IsFineTally};
 
 use crate::Meet;
 use crate::edges::{edge_vertex, vertex_edge};
@@ -74,11 +74,7 @@ pub(crate) fn face_vertex_tally<R: Rounding>(
 }
 
 /// The answer of two edges.
-pub(crate) fn edge_edge<R: Rounding>(
-    rounding: &R,
-    p: &[Corner; 2],
-    q: &[Corner; 2],
-) -> Option<Meet>
+pub(crate) fn edge_edge<R: Rounding>(rounding: &R, p: &[Corner; 2], q: &[Corner; 2]) -> Option<Meet>
     requires p_fine { AllFine p.now }
     requires q_fine { AllFine q.now }
     ensures { result ≡ edge_edge (R.between_of rounding.now) p.now q.now }

@@ -103,7 +103,12 @@ pub(crate) fn edge_value<R: Rounding>(
     requires axis { axis < 3 }
     ensures { result ≡ edge_value (R.between_of rounding.now) axis left.now right.now x }
 {
-    rounding.between(left.at[axis], right.at[axis], x - left.at[0], right.at[0] - x)
+    rounding.between(
+        left.at[axis],
+        right.at[axis],
+        x - left.at[0],
+        right.at[0] - x,
+    )
 }
 
 /// The spot of a vertex and an edge, where left is the end of the edge with the smaller x.

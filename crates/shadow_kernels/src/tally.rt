@@ -3,8 +3,7 @@
 ghost use Rattle.std.specs.Prelude.{◌≡◌, ◌≤◌, ◌∷◌, [], ◌+ℤ◌, pos, unsigned_abs, true, false};
 ghost use Rattle.shadow_kernels.specs.Spots.{no_spot, spot_between, above_z};
 ghost use Rattle.shadow_kernels.specs.Counts.{shadow_of, turned, chosen, joined};
-ghost use Rattle.shadow_kernels.specs.Bounds.{IsFinePair};
-ghost use Rattle.shadow_kernels.specs.Tallies.{IsTallyOf, IsFineTally};
+ghost use Rattle.shadow_kernels.specs.Bounds.{IsFinePair, IsTallyOf, IsFineTally};
 ghost use Rattle.shadow_kernels.specs.Sizes.{IsSized};
 
 use crate::spots::{exceeds, gap_of, mark_between, spot_between_spots, spot_of};

@@ -1,6 +1,6 @@
 use Rattle.std.proofs.Common.{[], ◌∷◌, refl}
 use Rattle.shadow_kernels.specs.Counts.{turned}
-use Rattle.shadow_kernels.specs.Tallies.{IsTallyOf}
+use Rattle.shadow_kernels.specs.Bounds.{IsTallyOf}
 use Rattle.shadow_kernels.proofs.Steps.{put_tally, fine_tally, fine_turned, same_tally}
 use Rattle.shadow_kernels.specs.Levels.{three}
 use Rattle.shadow_kernels.proofs.tally.tally_of_four.Goals as goal

@@ -1,7 +1,7 @@
 use Rattle.std.proofs.Common.{[], ◌∷◌, arith}
 use Rattle.std.proofs.lemmas.Int.{ints}
 use Rattle.shadow_kernels.specs.Sizes.{shadow_bounds}
-use Rattle.shadow_kernels.specs.Tallies.{IsTallyOf}
+use Rattle.shadow_kernels.specs.Bounds.{IsTallyOf}
 use Rattle.shadow_kernels.proofs.Steps.{no_tally, put_tally, fine_tally}
 use Rattle.shadow_kernels.proofs.tally.tally_of_three.Goals as goal
 
