@@ -1,12 +1,12 @@
 pub mod Areas
 pub mod Ascending
 pub mod Chains
+pub mod Counted
 pub mod Counts
 pub mod Firsts
 pub mod Identities
 pub mod Laws
 pub mod Products
-pub mod Sides
 pub mod Signs
 pub mod Sorting
 pub mod Squares

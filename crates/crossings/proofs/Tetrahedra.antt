@@ -5,8 +5,7 @@ use Rattle.rounding.specs.Nearest.{nearest, settle_nearest}
 use Rattle.shadow_kernels.specs.Counts.{met, by_ends, joined, lifted}
 use Rattle.shadow_kernels.specs.Shadows.{meet01, meet10, meet11, meet02, meet20}
 use Rattle.shadow_kernels.specs.Spots.{spot01, spot10, spot_between}
-use Rattle.edge_face.specs.Grids.{grid_cross23, grid_cross32}
-use Rattle.edge_face.specs.Points.{p_point, q_point, crossed, cross12, cross21}
+use Rattle.edge_face.specs.Crossings.{p_point, q_point, crossed, crossing, edge_face_crossing, face_edge_crossing}
 use Rattle.side_terms.specs.Sides.{Side, corners_of}
 use Rattle.crossings.specs.Hits.{CrossTest, hits_of}
 
@@ -31,17 +30,17 @@ abbrev high : Side
 high = tetrahedron (point (pos 1) (pos 1) (negsuc 1)) (point (pos 5) (pos 1) (negsuc 1)) (point (pos 1) (pos 5) (negsuc 1)) (point (pos 1) (pos 1) (pos 2))
 
 abbrev edge_test : CrossTest
-edge_test edge face = grid_cross23 nearest settle_nearest edge face
+edge_test edge face = edge_face_crossing nearest settle_nearest edge face
 
 abbrev face_test : CrossTest
-face_test edge face = grid_cross32 nearest settle_nearest face edge
+face_test edge face = face_edge_crossing nearest settle_nearest face edge
 
 -- the edge of the bottom under the slanted face goes in and out of the other
 low_hits : hits_of edge_test low high ≡ record { edge = 1; face = 1; number = pos 1; at = point (pos 3) (pos 1) (pos 0) } ∷ record { edge = 1; face = 3; number = negsuc 0; at = point (pos 1) (pos 3) (pos 0) } ∷ []
-unfolding cross12 crossed p_point meet02 meet11 meet10 meet01 lifted joined by_ends met spot01 spot10 spot_between
+unfolding crossing crossed p_point meet02 meet11 meet10 meet01 lifted joined by_ends met spot01 spot10 spot_between
 low_hits = refl
 
 -- the upright edge of the other comes in by the bottom and goes out by the slanted face
 high_hits : hits_of face_test high low ≡ record { edge = 5; face = 0; number = pos 1; at = point (pos 1) (pos 1) (pos 0) } ∷ record { edge = 5; face = 2; number = negsuc 0; at = point (pos 1) (pos 1) (pos 2) } ∷ []
-unfolding cross21 crossed q_point meet20 meet11 meet10 meet01 lifted joined by_ends met spot01 spot10 spot_between
+unfolding crossing crossed q_point meet20 meet11 meet10 meet01 lifted joined by_ends met spot01 spot10 spot_between
 high_hits = refl

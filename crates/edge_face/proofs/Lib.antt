@@ -1,6 +1,4 @@
 pub mod Kept
-pub mod Sums
 pub mod Placed
-pub mod Firsts
-pub mod Found
+pub mod Five
 mod Upright

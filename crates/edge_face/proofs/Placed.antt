@@ -6,14 +6,14 @@ use Rattle.mb_base.specs.declared.TheConstants.{UNIT}
 use Rattle.mesh_terms.specs.Points.{IsOnGrid}
 use Rattle.side_terms.specs.Fine.{IsFine, IsWeight}
 use Rattle.shadow_kernels.specs.Spots.{Between}
-use Rattle.edge_face.specs.Lawful.{IsSettling}
-use Rattle.edge_face.specs.Points.{Settle}
-use Rattle.edge_face.proofs.Kept.{seen}
+use Rattle.edge_face.specs.Crossings.{Settle}
+use Rattle.edge_face.specs.CrossLaws.{IsSettling}
+use Rattle.shadow_kernels.proofs.Values.{seen}
 
 -- a settled value between values by weights, all kept at their width
-pub kept_settled : (w : Between) (settle : Settle) (r u v a b g h : ℤ) → r ≡ settle (w (seen w64 u) (seen w64 v) (seen w64 a) (seen w64 b)) → IsFine u → IsFine v → IsWeight a → IsWeight b → a ≡ g → b ≡ h → FitsSigned w32 r →
+pub kept_settled : {r u v a b g h : ℤ} (w : Between) (settle : Settle) → r ≡ settle (w (seen w64 u) (seen w64 v) (seen w64 a) (seen w64 b)) → IsFine u → IsFine v → IsWeight a → IsWeight b → a ≡ g → b ≡ h → FitsSigned w32 r →
     seen w32 r ≡ settle (w u v g h)
-kept_settled w settle r u v a b g h e fu fv wa wb x y fits =
+kept_settled {r} {u} {v} {a} {b} {g} {h} w settle e fu fv wa wb x y fits =
     let kept : seen w32 r ≡ r = omega (arith, ints) in
     let u_kept : seen w64 u ≡ u = omega (arith, ints, fu.low, fu.high) in
     let v_kept : seen w64 v ≡ v = omega (arith, ints, fv.low, fv.high) in
@@ -40,9 +40,9 @@ pub kept_on : (r : ℤ) → IsOnGrid r → IsOnGrid (seen w32 r)
 kept_on r h = omega (arith, ints, h)
 
 -- a point that is there has its coordinates
-pub made_point : (o : Option (List ℤ)) (x y z a b c : ℤ) → IsSome o → IfSome o (λ p. p ≡ x ∷ y ∷ z ∷ []) → x ≡ a → y ≡ b → z ≡ c → o ≡ Some (a ∷ b ∷ c ∷ [])
-made_point None x y z a b c s h e f g = absurd (cc)
-made_point (Some p) x y z a b c s h e f g =
+pub made_point : (o : Option (List ℤ)) {x y z a b c : ℤ} → IsSome o → IfSome o (λ p. p ≡ x ∷ y ∷ z ∷ []) → x ≡ a → y ≡ b → z ≡ c → o ≡ Some (a ∷ b ∷ c ∷ [])
+made_point None s h e f g = absurd (cc)
+made_point (Some p) {x} {y} {z} {a} {b} {c} s h e f g =
     ap (λ (l : List ℤ). Some l) h
     ∙ ap (λ (n : ℤ). Some (n ∷ y ∷ z ∷ [])) e
     ∙ ap (λ (n : ℤ). Some (a ∷ n ∷ z ∷ [])) f

@@ -7,8 +7,7 @@ use Rattle.shadow_kernels.specs.Counts.{met, by_ends, joined, lifted}
 use Rattle.shadow_kernels.specs.Shadows.{meet01, meet10, meet11, meet02, meet20}
 use Rattle.shadow_kernels.specs.Spots.{spot01, spot10, spot_between}
 use Rattle.edge_face.specs.declared.Cross.{Cross}
-use Rattle.edge_face.specs.Grids.{grid_cross23, grid_cross32}
-use Rattle.edge_face.specs.Points.{p_point, q_point, crossed, cross12, cross21}
+use Rattle.edge_face.specs.Crossings.{p_point, q_point, crossed, crossing, edge_face_crossing, face_edge_crossing}
 
 -- a corner in grid steps, with its mark in z
 abbrev corner : ℤ → ℤ → ℤ → Bool → Corner
@@ -24,10 +23,10 @@ upright x a b up = corner x x a up ∷ corner x x b up ∷ []
 
 -- the crossing of an edge of P and the face of Q, and of the face of P and an edge of Q
 abbrev edge_crossing : List Corner → Option Cross
-edge_crossing edge = grid_cross23 nearest settle_nearest edge (face false)
+edge_crossing edge = edge_face_crossing nearest settle_nearest edge (face false)
 
 abbrev face_crossing : Bool → List Corner → Option Cross
-face_crossing up edge = grid_cross32 nearest settle_nearest (face up) edge
+face_crossing up edge = face_edge_crossing nearest settle_nearest (face up) edge
 
 -- a crossing at (1, 1, 0)
 abbrev once : ℤ → Option Cross
@@ -50,9 +49,9 @@ record FaceCrossings : Type 0 where
   moved : face_crossing true (upright (pos 1) (pos 0) (pos 2) false) ≡ once (pos 1)
 
 edges_cross : EdgeCrossings
-unfolding cross12 crossed p_point meet02 meet11 meet10 meet01 lifted joined by_ends met spot01 spot10 spot_between
+unfolding crossing crossed p_point meet02 meet11 meet10 meet01 lifted joined by_ends met spot01 spot10 spot_between
 edges_cross = record { up = refl; down = refl; past = refl; from = refl; moved = refl }
 
 faces_cross : FaceCrossings
-unfolding cross21 crossed q_point meet20 meet11 meet10 meet01 lifted joined by_ends met spot01 spot10 spot_between
+unfolding crossing crossed q_point meet20 meet11 meet10 meet01 lifted joined by_ends met spot01 spot10 spot_between
 faces_cross = record { up = refl; down = refl; past = refl; from = refl; moved = refl }

@@ -1,156 +1,133 @@
--- The laws of the crossings of an edge and a face under lawful tests, over lists of corners.
-use Rattle.std.specs.Prelude.{◌≡◌, ◌≢◌, ℕ, ◌<◌, ℤ, pos, negsuc, neg_ℤ, ◌≤ℤ◌, None, IfSome, List, [], ◌∷◌, length, swap}
-use Rattle.std.proofs.Common.{arith, ap, sym, ◌∙◌}
+-- The laws of the crossings of an edge and a face, for an edge of P and for one of Q alike.
+use Rattle.std.specs.Prelude.{◌≡◌, ◌≢◌, ℕ, ◌<◌, ℤ, pos, negsuc, neg_ℤ, ◌≤ℤ◌, Bool, true, false, None, IfSome, List, [], ◌∷◌, length, swap}
+use Rattle.std.proofs.Common.{arith, refl, sym, ap, subst, ◌∙◌}
+use Rattle.std.proofs.lemmas.Int.{ints}
 use Rattle.mb_base.specs.declared.point.Corner.{Corner}
-use Rattle.side_terms.specs.Corners.{corner_at, AllFine}
+use Rattle.side_terms.specs.Corners.{corner_at, AllFine, AllWhole}
+use Rattle.side_terms.specs.Boxes.{AreApart, IsPointIn}
+use Rattle.shadow_kernels.specs.declared.Spot.{Spot}
 use Rattle.shadow_kernels.specs.Spots.{Between}
-use Rattle.side_terms.specs.Boxes.{AreApart}
+use Rattle.shadow_kernels.specs.Counts.{first_spot}
+use Rattle.shadow_kernels.specs.ShadowLaws.{IsInHull, ShadowTest}
+use Rattle.shadow_kernels.specs.Shadows.{edge_edge, vertex_face, face_vertex}
+use Rattle.shadow_kernels.specs.Sizes.{IsSized, any_none, any_holds, any_number}
+use Rattle.shadow_kernels.specs.Entries.{each_map, five_size}
 use Rattle.shadow_kernels.specs.Hulls.{StaysBetween}
-use Rattle.edge_face.specs.Crossings.{number_of, number12, number21, Tests}
-use Rattle.edge_face.specs.Points.{Settle, p_point, q_point, cross12, cross21, cross23, cross32}
-use Rattle.side_terms.specs.Corners.{AllWhole}
-use Rattle.side_terms.specs.Boxes.{IsPointIn}
-use Rattle.edge_face.specs.Lawful.{AreLawful, IsSettling}
-use Rattle.edge_face.specs.Boundaries.{boundary12, boundary21, turn12, turn21}
-use Rattle.edge_face.specs.Answers.{answer_present, answer_number, answer_small, answer_apart, answer_at}
+use Rattle.shadow_kernels.specs.Decided.{IsDecided, apart_none, first_hull}
+use Rattle.edge_face.specs.declared.Cross.{Cross}
+use Rattle.edge_face.specs.Crossings.{Settle, number_of, mirror, edge_pairs, edge_number, p_point, q_point, crossed, crossing, edge_face_crossing, face_edge_crossing}
+use Rattle.edge_face.specs.CrossLaws.{CrossLaws, IsSettling}
+use Rattle.edge_face.specs.Boundaries.{AreMet, grid_edge_face, grid_face_edge, signed_pairs, number_signed, spots_signed, pairs_decided, pairs_whole, number_turned}
 use Rattle.edge_face.specs.Settled.{p_point_inside, q_point_inside}
 
--- what holds of every edge holds of every list of two
-by_two : (P : List Corner → Type 0) → ((a b : Corner) → P (a ∷ b ∷ [])) → (cs : List Corner) → length cs ≡ 2 → P cs
-by_two P f [] h = absurd (omega arith)
-by_two P f (a ∷ []) h = absurd (omega arith)
-by_two P f (a ∷ b ∷ []) h = f a b
-by_two P f (a ∷ b ∷ c ∷ cs) h = absurd (omega arith)
+-- there is no answer at number 0
+pub crossed_none : (n : ℤ) (at : List ℤ) → n ≡ pos 0 → crossed n at ≡ None
+unfolding crossed
+crossed_none n at e = any_none {X = Cross} n (record { number = n; at = at }) e
 
--- what holds of every face holds of every list of three
-by_three : (P : List Corner → Type 0) → ((u v t : Corner) → P (u ∷ v ∷ t ∷ [])) → (cs : List Corner) → length cs ≡ 3 → P cs
-by_three P f [] h = absurd (omega arith)
-by_three P f (u ∷ []) h = absurd (omega arith)
-by_three P f (u ∷ v ∷ []) h = absurd (omega arith)
-by_three P f (u ∷ v ∷ t ∷ []) h = f u v t
-by_three P f (u ∷ v ∷ t ∷ x ∷ cs) h = absurd (omega arith)
+-- what holds at every number that is not 0 holds of the answer
+crossed_holds : (P : Cross → Type 0) (n : ℤ) (at : List ℤ) → (n ≢ pos 0 → P (record { number = n; at = at })) → IfSome (crossed n at) P
+unfolding crossed
+crossed_holds P n at f = any_holds P n (record { number = n; at = at }) f
 
--- what holds of fine edges of P and faces of Q
-edge_face : (P : List Corner → List Corner → Type 0) → ((a b u v t : Corner) → AllFine (a ∷ b ∷ []) → AllFine (u ∷ v ∷ t ∷ []) → P (a ∷ b ∷ []) (u ∷ v ∷ t ∷ [])) →
-    (p q : List Corner) → length p ≡ 2 → length q ≡ 3 → AllFine p → AllFine q → P p q
-edge_face P f p q l m =
-    by_two (λ p. AllFine p → AllFine q → P p q) (λ a b. by_three (λ q. AllFine (a ∷ b ∷ []) → AllFine q → P (a ∷ b ∷ []) q) (λ u v t. f a b u v t) q m) p l
+-- an answer has the number that it was made of
+crossed_number : (n : ℤ) (at : List ℤ) → number_of (crossed n at) ≡ n
+unfolding crossed
+crossed_number n at = any_number number_of n (record { number = n; at = at }) refl refl
 
--- and of fine faces of P and edges of Q
-face_edge : (P : List Corner → List Corner → Type 0) → ((u v t c d : Corner) → AllFine (u ∷ v ∷ t ∷ []) → AllFine (c ∷ d ∷ []) → P (u ∷ v ∷ t ∷ []) (c ∷ d ∷ [])) →
-    (p q : List Corner) → length p ≡ 3 → length q ≡ 2 → AllFine p → AllFine q → P p q
-face_edge P f p q l m =
-    by_three (λ p. AllFine p → AllFine q → P p q) (λ u v t. by_two (λ q. AllFine (u ∷ v ∷ t ∷ []) → AllFine q → P (u ∷ v ∷ t ∷ []) q) (λ c d. f u v t c d) q m) p l
+-- so a crossing has its number, whatever the tests are
+pub lift : (ends edges : ShadowTest) (place : Spot → Spot → List ℤ) (a b u v w : Corner) → number_of (crossing ends edges place a b u v w) ≡ edge_number ends edges a b u v w
+unfolding crossing
+lift ends edges place a b u v w =
+    crossed_number (edge_number ends edges a b u v w) (place (first_spot false (edge_pairs ends edges a b u v w)) (first_spot true (edge_pairs ends edges a b u v w)))
 
--- the number of an answer is its definition
-pub lift12 : (t : Tests) (w : Between) (settle : Settle) (a b u v x : Corner) → number_of (cross12 t.vertex_face t.edge_edge w settle a b u v x) ≡ number12 t.vertex_face t.edge_edge a b u v x
-unfolding cross12
-lift12 t w settle a b u v x =
-    let ab = a ∷ b ∷ [] in
-    let face = u ∷ v ∷ x ∷ [] in
-    answer_number (p_point w settle) (t.vertex_face (a ∷ []) face) (t.vertex_face (b ∷ []) face) (t.edge_edge ab (u ∷ v ∷ [])) (t.edge_edge ab (v ∷ x ∷ [])) (t.edge_edge ab (x ∷ u ∷ []))
+-- and is there only where that is not 0
+pub present : (ends edges : ShadowTest) (place : Spot → Spot → List ℤ) (a b u v w : Corner) → IfSome (crossing ends edges place a b u v w) (λ c. c.number ≢ pos 0)
+unfolding crossing
+present ends edges place a b u v w =
+    crossed_holds (λ c. c.number ≢ pos 0) (edge_number ends edges a b u v w) (place (first_spot false (edge_pairs ends edges a b u v w)) (first_spot true (edge_pairs ends edges a b u v w))) (λ n. n)
 
-pub lift21 : (t : Tests) (w : Between) (settle : Settle) (u v x c d : Corner) → number_of (cross21 t.face_vertex t.edge_edge w settle u v x c d) ≡ number21 t.face_vertex t.edge_edge u v x c d
-unfolding cross21
-lift21 t w settle u v x c d =
-    let face = u ∷ v ∷ x ∷ [] in
-    let cd = c ∷ d ∷ [] in
-    answer_number (q_point w settle) (t.face_vertex face (c ∷ [])) (t.face_vertex face (d ∷ [])) (t.edge_edge (u ∷ v ∷ []) cd) (t.edge_edge (v ∷ x ∷ []) cd) (t.edge_edge (x ∷ u ∷ []) cd)
+-- the rest under lawful tests
+module _ {P Q : List Corner → List Corner → List Corner} {ends edges one other : ShadowTest} (h : AreMet P Q ends edges one other) (place : Spot → Spot → List ℤ)
+    (a b u v w : Corner) (fe : AllFine (a ∷ b ∷ [])) (ff : AllFine (u ∷ v ∷ w ∷ [])) where
+  pub number_size : (negsuc 1 ≤ℤ number_of (crossing ends edges place a b u v w)) × (number_of (crossing ends edges place a b u v w) ≤ℤ pos 2)
+  number_size =
+      let e = P (a ∷ b ∷ []) (u ∷ v ∷ w ∷ []) in
+      let f = Q (a ∷ b ∷ []) (u ∷ v ∷ w ∷ []) in
+      let ms = signed_pairs ends edges a b u v w in
+      let each = pairs_decided h a b u v w fe ff in
+      let k = five_size ms (each_map (IsDecided 2 e f) IsSized (λ m d. d.sized) ms each) (omega arith) (pairs_whole h a b u v w fe ff) in
+      (omega (arith, ints, lift ends edges place a b u v w, number_signed ends edges a b u v w, k.0), omega (arith, ints, lift ends edges place a b u v w, number_signed ends edges a b u v w, k.1))
 
--- the number of an answer is not 0
-pub present23 : (t : Tests) (w : Between) (settle : Settle) (p q : List Corner) → IfSome (cross23 t w settle p q) (λ c. c.number ≢ pos 0)
-unfolding cross12
-present23 t w settle p q =
-    let a = corner_at p 0 in
-    let b = corner_at p 1 in
-    let u = corner_at q 0 in
-    let v = corner_at q 1 in
-    let x = corner_at q 2 in
-    let face = u ∷ v ∷ x ∷ [] in
-    let ab = a ∷ b ∷ [] in
-    answer_present (p_point w settle) (t.vertex_face (a ∷ []) face) (t.vertex_face (b ∷ []) face) (t.edge_edge ab (u ∷ v ∷ [])) (t.edge_edge ab (v ∷ x ∷ [])) (t.edge_edge ab (x ∷ u ∷ []))
+  pub turned_crossing : number_of (crossing ends edges place b a u v w) ≡ neg_ℤ (number_of (crossing ends edges place a b u v w))
+  turned_crossing = lift ends edges place b a u v w ∙ number_turned h a b u v w fe ff ∙ ap neg_ℤ (sym (lift ends edges place a b u v w))
 
-pub present32 : (t : Tests) (w : Between) (settle : Settle) (p q : List Corner) → IfSome (cross32 t w settle p q) (λ c. c.number ≢ pos 0)
-unfolding cross21
-present32 t w settle p q =
-    let u = corner_at p 0 in
-    let v = corner_at p 1 in
-    let x = corner_at p 2 in
-    let c = corner_at q 0 in
-    let d = corner_at q 1 in
-    let face = u ∷ v ∷ x ∷ [] in
-    let cd = c ∷ d ∷ [] in
-    answer_present (q_point w settle) (t.face_vertex face (c ∷ [])) (t.face_vertex face (d ∷ [])) (t.edge_edge (u ∷ v ∷ []) cd) (t.edge_edge (v ∷ x ∷ []) cd) (t.edge_edge (x ∷ u ∷ []) cd)
+  pub apart_crossing : (i : ℕ) → i < 3 → AreApart i (P (a ∷ b ∷ []) (u ∷ v ∷ w ∷ [])) (Q (a ∷ b ∷ []) (u ∷ v ∷ w ∷ [])) → crossing ends edges place a b u v w ≡ None
+  unfolding crossing
+  apart_crossing i less apart =
+      let ms = signed_pairs ends edges a b u v w in
+      let none = apart_none 2 (P (a ∷ b ∷ []) (u ∷ v ∷ w ∷ [])) (Q (a ∷ b ∷ []) (u ∷ v ∷ w ∷ [])) ms (pairs_decided h a b u v w fe ff) (pairs_whole h a b u v w fe ff) i less apart in
+      crossed_none (edge_number ends edges a b u v w) (place (first_spot false (edge_pairs ends edges a b u v w)) (first_spot true (edge_pairs ends edges a b u v w))) (number_signed ends edges a b u v w ∙ none)
 
--- the number lies from -2 to 2
-abbrev pub IsSmall : ℤ → Type 0
-IsSmall n = (negsuc 1 ≤ℤ n) × (n ≤ℤ pos 2)
+  -- what holds of each point placed between spots in the boxes holds of the crossing's point
+  pub point_holds : (X : List ℤ → Type 0) →
+      ((d t : Spot) → IsInHull (P (a ∷ b ∷ []) (u ∷ v ∷ w ∷ [])) (Q (a ∷ b ∷ []) (u ∷ v ∷ w ∷ [])) d → IsInHull (P (a ∷ b ∷ []) (u ∷ v ∷ w ∷ [])) (Q (a ∷ b ∷ []) (u ∷ v ∷ w ∷ [])) t → X (place d t)) →
+      IfSome (crossing ends edges place a b u v w) (λ c. X c.at)
+  unfolding crossing
+  point_holds X each =
+      let e = P (a ∷ b ∷ []) (u ∷ v ∷ w ∷ []) in
+      let f = Q (a ∷ b ∷ []) (u ∷ v ∷ w ∷ []) in
+      let ms = signed_pairs ends edges a b u v w in
+      let in_hull : edge_number ends edges a b u v w ≢ pos 0 → (want : Bool) → IsInHull e f (first_spot want (edge_pairs ends edges a b u v w)) = λ n want.
+      subst (IsInHull e f) (sym (spots_signed ends edges a b u v w want))
+      (first_hull 2 e f ms (pairs_decided h a b u v w fe ff) (pairs_whole h a b u v w fe ff) (omega arith) (λ z. n (number_signed ends edges a b u v w ∙ z)) want) in
+      crossed_holds (λ c. X c.at) (edge_number ends edges a b u v w) (place (first_spot false (edge_pairs ends edges a b u v w)) (first_spot true (edge_pairs ends edges a b u v w)))
+      (λ n. each (first_spot false (edge_pairs ends edges a b u v w)) (first_spot true (edge_pairs ends edges a b u v w)) (in_hull n false) (in_hull n true))
 
-pub size23 : (t : Tests) → AreLawful t → (w : Between) (settle : Settle) (p q : List Corner) → length p ≡ 2 → length q ≡ 3 → AllFine p → AllFine q → IsSmall (number_of (cross23 t w settle p q))
-unfolding cross12
-size23 t h w settle p q l m fp fq = edge_face (λ p q. IsSmall (number_of (cross23 t w settle p q)))
-    (λ a b u v x fp fq.
-    let ab = a ∷ b ∷ [] in
-    let face = u ∷ v ∷ x ∷ [] in
-    answer_small (p_point w settle) ab face (t.vertex_face (a ∷ []) face) (t.vertex_face (b ∷ []) face) (t.edge_edge ab (u ∷ v ∷ [])) (t.edge_edge ab (v ∷ x ∷ [])) (t.edge_edge ab (x ∷ u ∷ []))
-    (boundary12 t h a b u v x fp fq)) p q l m fp fq
+-- what holds of fine edges and faces holds of every list of two and of three
+pub by_lists : (X : List Corner → List Corner → Type 0) → ((a b u v w : Corner) → AllFine (a ∷ b ∷ []) → AllFine (u ∷ v ∷ w ∷ []) → X (a ∷ b ∷ []) (u ∷ v ∷ w ∷ [])) →
+    (e f : List Corner) → length e ≡ 2 → length f ≡ 3 → AllFine e → AllFine f → X e f
+by_lists X each (a ∷ b ∷ []) (u ∷ v ∷ w ∷ []) two three fe ff = each a b u v w fe ff
+by_lists X each [] f two three fe ff = absurd (omega (arith, two))
+by_lists X each (a ∷ []) f two three fe ff = absurd (omega (arith, two))
+by_lists X each (a ∷ b ∷ c ∷ e) f two three fe ff = absurd (omega (arith, two))
+by_lists X each (a ∷ b ∷ []) [] two three fe ff = absurd (omega (arith, three))
+by_lists X each (a ∷ b ∷ []) (u ∷ []) two three fe ff = absurd (omega (arith, three))
+by_lists X each (a ∷ b ∷ []) (u ∷ v ∷ []) two three fe ff = absurd (omega (arith, three))
+by_lists X each (a ∷ b ∷ []) (u ∷ v ∷ w ∷ x ∷ f) two three fe ff = absurd (omega (arith, three))
 
-pub size32 : (t : Tests) → AreLawful t → (w : Between) (settle : Settle) (p q : List Corner) → length p ≡ 3 → length q ≡ 2 → AllFine p → AllFine q → IsSmall (number_of (cross32 t w settle p q))
-unfolding cross21
-size32 t h w settle p q l m fp fq = face_edge (λ p q. IsSmall (number_of (cross32 t w settle p q)))
-    (λ u v x c d fp fq.
-    let face = u ∷ v ∷ x ∷ [] in
-    let cd = c ∷ d ∷ [] in
-    answer_small (q_point w settle) face cd (t.face_vertex face (c ∷ [])) (t.face_vertex face (d ∷ [])) (t.edge_edge (u ∷ v ∷ []) cd) (t.edge_edge (v ∷ x ∷ []) cd) (t.edge_edge (x ∷ u ∷ []) cd)
-    (boundary21 t h u v x c d fp fq)) p q l m fp fq
+-- the crossings on the grid are lawful
+module _ (w : Between) (stays : StaysBetween w) (settle : Settle) (settling : IsSettling settle) where
+  pub edge_face_laws : CrossLaws 2 3 (edge_face_crossing w settle)
+  edge_face_laws =
+      let vf = vertex_face w in
+      let ee = edge_edge w in
+      let h = grid_edge_face w stays in
+      let place = p_point w settle in
+      let test = edge_face_crossing w settle in record {
+        present = λ p q l m fp fq. present vf ee place (corner_at p 0) (corner_at p 1) (corner_at q 0) (corner_at q 1) (corner_at q 2);
+        size = by_lists (λ p q. (negsuc 1 ≤ℤ number_of (test p q)) × (number_of (test p q) ≤ℤ pos 2)) (number_size h place);
+        turn_p = λ p q two. by_lists (λ p q. number_of (test (swap p 0 1) q) ≡ neg_ℤ (number_of (test p q))) (turned_crossing h place) p q;
+        turn_q = λ p q two. absurd (omega (arith, two));
+        apart = λ p q i l m fp fq. by_lists (λ p q. i < 3 → AreApart i p q → test p q ≡ None) (λ a b u v t fe ff. apart_crossing h place a b u v t fe ff i) p q l m fp fq;
+        inside_p = λ p q two l m fp fq whole also. by_lists (λ p q. AllWhole p → IfSome (test p q) (λ c. IsPointIn p c.at))
+            (λ a b u v t fe ff we. point_holds h place a b u v t fe ff (IsPointIn (a ∷ b ∷ [])) (λ d s. p_point_inside w stays settle settling a b (u ∷ v ∷ t ∷ []) d s fe ff we)) p q l m fp fq whole;
+        inside_q = λ p q two. absurd (omega (arith, two));
+      }
 
--- exchanging the ends of the edge turns the number
-pub turn23 : (t : Tests) → AreLawful t → (w : Between) (settle : Settle) (p q : List Corner) → length p ≡ 2 → length q ≡ 3 → AllFine p → AllFine q →
-    number_of (cross23 t w settle (swap p 0 1) q) ≡ neg_ℤ (number_of (cross23 t w settle p q))
-turn23 t h w settle p q l m fp fq = edge_face (λ p q. number_of (cross23 t w settle (swap p 0 1) q) ≡ neg_ℤ (number_of (cross23 t w settle p q)))
-    (λ a b u v x fp fq. lift12 t w settle b a u v x ∙ turn12 t h a b u v x fp fq ∙ ap neg_ℤ (sym (lift12 t w settle a b u v x))) p q l m fp fq
-
-pub turn32 : (t : Tests) → AreLawful t → (w : Between) (settle : Settle) (p q : List Corner) → length p ≡ 3 → length q ≡ 2 → AllFine p → AllFine q →
-    number_of (cross32 t w settle p (swap q 0 1)) ≡ neg_ℤ (number_of (cross32 t w settle p q))
-turn32 t h w settle p q l m fp fq = face_edge (λ p q. number_of (cross32 t w settle p (swap q 0 1)) ≡ neg_ℤ (number_of (cross32 t w settle p q)))
-    (λ u v x c d fp fq. lift21 t w settle u v x d c ∙ turn21 t h u v x c d fp fq ∙ ap neg_ℤ (sym (lift21 t w settle u v x c d))) p q l m fp fq
-
--- boxes strictly apart on an axis give no answer
-pub apart23 : (t : Tests) → AreLawful t → (w : Between) (settle : Settle) (p q : List Corner) (i : ℕ) → length p ≡ 2 → length q ≡ 3 → AllFine p → AllFine q → i < 3 → AreApart i p q → cross23 t w settle p q ≡ None
-unfolding cross12
-apart23 t h w settle p q i l m fp fq = edge_face (λ p q. i < 3 → AreApart i p q → cross23 t w settle p q ≡ None)
-    (λ a b u v x fp fq.
-    let ab = a ∷ b ∷ [] in
-    let face = u ∷ v ∷ x ∷ [] in
-    answer_apart (p_point w settle) ab face (t.vertex_face (a ∷ []) face) (t.vertex_face (b ∷ []) face) (t.edge_edge ab (u ∷ v ∷ [])) (t.edge_edge ab (v ∷ x ∷ [])) (t.edge_edge ab (x ∷ u ∷ []))
-    (boundary12 t h a b u v x fp fq) i) p q l m fp fq
-
-pub apart32 : (t : Tests) → AreLawful t → (w : Between) (settle : Settle) (p q : List Corner) (i : ℕ) → length p ≡ 3 → length q ≡ 2 → AllFine p → AllFine q → i < 3 → AreApart i p q → cross32 t w settle p q ≡ None
-unfolding cross21
-apart32 t h w settle p q i l m fp fq = face_edge (λ p q. i < 3 → AreApart i p q → cross32 t w settle p q ≡ None)
-    (λ u v x c d fp fq.
-    let face = u ∷ v ∷ x ∷ [] in
-    let cd = c ∷ d ∷ [] in
-    answer_apart (q_point w settle) face cd (t.face_vertex face (c ∷ [])) (t.face_vertex face (d ∷ [])) (t.edge_edge (u ∷ v ∷ []) cd) (t.edge_edge (v ∷ x ∷ []) cd) (t.edge_edge (x ∷ u ∷ []) cd)
-    (boundary21 t h u v x c d fp fq) i) p q l m fp fq
-
--- where the ends of the edge lie on the grid, so does the point in their box
-pub inside23 : (t : Tests) → AreLawful t → (w : Between) → StaysBetween w → (settle : Settle) → IsSettling settle → (p q : List Corner) → length p ≡ 2 → length q ≡ 3 → AllFine p → AllFine q → AllWhole p →
-    IfSome (cross23 t w settle p q) (λ c. IsPointIn p c.at)
-unfolding cross12
-inside23 t h w stays settle s p q l m fp fq = edge_face (λ p q. AllWhole p → IfSome (cross23 t w settle p q) (λ c. IsPointIn p c.at))
-    (λ a b u v x fp fq whole.
-    let ab = a ∷ b ∷ [] in
-    let face = u ∷ v ∷ x ∷ [] in
-    answer_at (p_point w settle) (IsPointIn ab) ab face (t.vertex_face (a ∷ []) face) (t.vertex_face (b ∷ []) face) (t.edge_edge ab (u ∷ v ∷ [])) (t.edge_edge ab (v ∷ x ∷ [])) (t.edge_edge ab (x ∷ u ∷ []))
-    (boundary12 t h a b u v x fp fq) (λ d e. p_point_inside w stays settle s a b face d e fp fq whole)) p q l m fp fq
-
-pub inside32 : (t : Tests) → AreLawful t → (w : Between) → StaysBetween w → (settle : Settle) → IsSettling settle → (p q : List Corner) → length p ≡ 3 → length q ≡ 2 → AllFine p → AllFine q → AllWhole q →
-    IfSome (cross32 t w settle p q) (λ c. IsPointIn q c.at)
-unfolding cross21
-inside32 t h w stays settle s p q l m fp fq = face_edge (λ p q. AllWhole q → IfSome (cross32 t w settle p q) (λ c. IsPointIn q c.at))
-    (λ u v x c d fp fq whole.
-    let face = u ∷ v ∷ x ∷ [] in
-    let cd = c ∷ d ∷ [] in
-    answer_at (q_point w settle) (IsPointIn cd) face cd (t.face_vertex face (c ∷ [])) (t.face_vertex face (d ∷ [])) (t.edge_edge (u ∷ v ∷ []) cd) (t.edge_edge (v ∷ x ∷ []) cd) (t.edge_edge (x ∷ u ∷ []) cd)
-    (boundary21 t h u v x c d fp fq) (λ e k. q_point_inside w stays settle s c d face e k fp fq whole)) p q l m fp fq
+  pub face_edge_laws : CrossLaws 3 2 (face_edge_crossing w settle)
+  face_edge_laws =
+      let vf = mirror (face_vertex w) in
+      let ee = mirror (edge_edge w) in
+      let h = grid_face_edge w stays in
+      let place = q_point w settle in
+      let test = face_edge_crossing w settle in record {
+        present = λ p q l m fp fq. present vf ee place (corner_at q 0) (corner_at q 1) (corner_at p 0) (corner_at p 1) (corner_at p 2);
+        size = λ p q l m fp fq. by_lists (λ q p. (negsuc 1 ≤ℤ number_of (test p q)) × (number_of (test p q) ≤ℤ pos 2)) (number_size h place) q p m l fq fp;
+        turn_p = λ p q two. absurd (omega (arith, two));
+        turn_q = λ p q two l m fp fq. by_lists (λ q p. number_of (test p (swap q 0 1)) ≡ neg_ℤ (number_of (test p q))) (turned_crossing h place) q p m l fq fp;
+        apart = λ p q i l m fp fq. by_lists (λ q p. i < 3 → AreApart i p q → test p q ≡ None) (λ a b u v t fe ff. apart_crossing h place a b u v t fe ff i) q p m l fq fp;
+        inside_p = λ p q two. absurd (omega (arith, two));
+        inside_q = λ p q two l m fp fq also whole. by_lists (λ q p. AllWhole q → IfSome (test p q) (λ c. IsPointIn q c.at))
+            (λ a b u v t fe ff we. point_holds h place a b u v t fe ff (IsPointIn (a ∷ b ∷ [])) (λ d s. q_point_inside w stays settle settling a b (u ∷ v ∷ t ∷ []) d s ff fe we)) q p m l fq fp whole;
+      }

@@ -1,15 +1,7 @@
--- definitions
 pub mod Crossings
-pub mod Points
-pub mod Grids
-pub mod Pairs
-pub mod Lawful
--- laws, which the traits' ghost members cite
+pub mod CrossLaws
 pub mod Parts
-pub mod Fives
-pub mod Numbers
-pub mod Boundaries
 pub mod Settled
-pub mod Answers
+pub mod Boundaries
 pub mod Laws
-pub mod GridLaws
+pub mod Pairs

@@ -1,13 +1,17 @@
 -- Parts of simplices: the ends of an edge and the edges of a face. What lies in the box of a part lies in that of the whole.
-use Rattle.std.specs.Prelude.{ℕ, ℤ, ◌≤ℤ◌, ◌<ℤ◌, List, [], ◌∷◌}
+use Rattle.std.specs.Prelude.{◌≡◌, ℕ, ◌+◌, ℤ, ◌≤ℤ◌, ◌<ℤ◌, Bool, true, false, Option, None, Some, IfSome, List, [], ◌∷◌, length}
 use Rattle.std.specs.List.{All}
-use Rattle.std.proofs.Common.{inl, inr}
-use Rattle.std.proofs.lemmas.List.Elements.{All-nil, All-cons, All-head, All-tail, All-weaker}
+use Rattle.std.proofs.Common.{arith, inl, inr}
+use Rattle.std.proofs.lemmas.List.Elements.{All-nil, All-cons, All-weaker}
 use Rattle.mb_base.specs.declared.point.Corner.{Corner}
-use Rattle.side_terms.specs.Corners.{axis}
+use Rattle.side_terms.specs.Corners.{axis, IsFineCorner, AllFine}
 use Rattle.shadow_kernels.specs.declared.Spot.{Spot}
 use Rattle.side_terms.specs.Boxes.{IsInBox, IsBelow, AreApart}
-use Rattle.shadow_kernels.specs.Boxes.{IsInHull}
+use Rattle.shadow_kernels.specs.declared.Meet.{Meet}
+use Rattle.shadow_kernels.specs.ShadowLaws.{IsInHull, ShadowTest, ShadowLaws}
+use Rattle.shadow_kernels.specs.Sizes.{sized_from}
+use Rattle.shadow_kernels.specs.Hulls.{IsBeyond}
+use Rattle.shadow_kernels.specs.Decided.{IsDecided}
 
 -- what holds of all corners of the whole holds of those of the part
 abbrev pub IsPart : List Corner → List Corner → Type 1
@@ -17,36 +21,27 @@ IsPart part whole = (P : Corner → Type 0) → All P whole → All P part
 pub itself : (cs : List Corner) → IsPart cs cs
 itself cs P h = h
 
--- the first, the second and the third of three
-first_of : (u v w : Corner) (P : Corner → Type 0) → All P (u ∷ v ∷ w ∷ []) → P u
-first_of u v w P h = All-head P u (v ∷ w ∷ []) h
-
-second_of : (u v w : Corner) (P : Corner → Type 0) → All P (u ∷ v ∷ w ∷ []) → P v
-second_of u v w P h = All-head P v (w ∷ []) (All-tail P u (v ∷ w ∷ []) h)
-
-third_of : (u v w : Corner) (P : Corner → Type 0) → All P (u ∷ v ∷ w ∷ []) → P w
-third_of u v w P h = All-head P w [] (All-tail P v (w ∷ []) (All-tail P u (v ∷ w ∷ []) h))
-
 -- two corners of which something holds
 pub both_of : (P : Corner → Type 0) (a b : Corner) → P a → P b → All P (a ∷ b ∷ [])
 both_of P a b h k = All-cons P a (b ∷ []) h (All-cons P b [] k (All-nil P))
 
 -- the start and the end of an edge
 pub start_of : (a b : Corner) → IsPart (a ∷ []) (a ∷ b ∷ [])
-start_of a b P h = All-cons P a [] (All-head P a (b ∷ []) h) (All-nil P)
+start_of a b P h = All-cons P a [] (h 0 a (omega arith)) (All-nil P)
 
 pub end_of : (a b : Corner) → IsPart (b ∷ []) (a ∷ b ∷ [])
-end_of a b P h = All-cons P b [] (All-head P b [] (All-tail P a (b ∷ []) h)) (All-nil P)
+end_of a b P h = All-cons P b [] (h 1 b (omega arith)) (All-nil P)
 
 -- the three edges of a face
-pub first_edge : (u v w : Corner) → IsPart (u ∷ v ∷ []) (u ∷ v ∷ w ∷ [])
-first_edge u v w P h = both_of P u v (first_of u v w P h) (second_of u v w P h)
+module _ (u v w : Corner) where
+  pub first_edge : IsPart (u ∷ v ∷ []) (u ∷ v ∷ w ∷ [])
+  first_edge P h = both_of P u v (h 0 u (omega arith)) (h 1 v (omega arith))
 
-pub second_edge : (u v w : Corner) → IsPart (v ∷ w ∷ []) (u ∷ v ∷ w ∷ [])
-second_edge u v w P h = both_of P v w (second_of u v w P h) (third_of u v w P h)
+  pub second_edge : IsPart (v ∷ w ∷ []) (u ∷ v ∷ w ∷ [])
+  second_edge P h = both_of P v w (h 1 v (omega arith)) (h 2 w (omega arith))
 
-pub third_edge : (u v w : Corner) → IsPart (w ∷ u ∷ []) (u ∷ v ∷ w ∷ [])
-third_edge u v w P h = both_of P w u (third_of u v w P h) (first_of u v w P h)
+  pub third_edge : IsPart (w ∷ u ∷ []) (u ∷ v ∷ w ∷ [])
+  third_edge P h = both_of P w u (h 2 w (omega arith)) (h 0 u (omega arith))
 
 -- the box of the part lies in the box of the whole
 pub wider_box : (i : ℕ) (part whole : List Corner) (z : ℤ) → IsPart part whole → IsInBox i part z → IsInBox i whole z
@@ -74,3 +69,28 @@ parts_below i p ps q qs sub_p sub_q h = record {
 pub parts_apart : (i : ℕ) (p ps q qs : List Corner) → IsPart p ps → IsPart q qs → AreApart i ps qs → AreApart i p q
 parts_apart i p ps q qs sub_p sub_q (inl h) = inl (parts_below i p ps q qs sub_p sub_q h)
 parts_apart i p ps q qs sub_p sub_q (inr h) = inr (parts_below i q qs p ps sub_q sub_p h)
+
+-- a spot in the boxes of parts is in those of the wholes
+widen : (p ps q qs : List Corner) → IsPart p ps → IsPart q qs → (m : Option Meet) → IfSome m (λ a. IsInHull p q a.spot) → IfSome m (λ a. IsInHull ps qs a.spot)
+widen p ps q qs sub_p sub_q None h = tt
+widen p ps q qs sub_p sub_q (Some a) h = wider_hull p ps q qs a.spot sub_p sub_q h
+
+-- parts of simplices strictly apart in z compare as these do
+decide : (p ps q qs : List Corner) → IsPart p ps → IsPart q qs → (m : Option Meet) → IfSome m (λ a. (IsBelow 2 p q → a.above ≡ false) × (IsBelow 2 q p → a.above ≡ true)) →
+    (b : Bool) → IsBeyond 2 ps qs b → IfSome m (λ a. a.above ≡ b)
+decide p ps q qs sub_p sub_q None h b s = tt
+decide p ps q qs sub_p sub_q (Some a) h true s = h.1 (parts_below 2 q qs p ps sub_q sub_p s)
+decide p ps q qs sub_p sub_q (Some a) h false s = h.0 (parts_below 2 p ps q qs sub_p sub_q s)
+
+-- so the answer of parts to a lawful test is decided in the boxes of the wholes
+pub decided_in : (m n : ℕ) (test : ShadowTest) → ShadowLaws m n test → m + n ≡ 4 → (p ps q qs : List Corner) → IsPart p ps → IsPart q qs → length p ≡ m → length q ≡ n → AllFine ps → AllFine qs →
+    IsDecided 2 ps qs (test p q)
+decided_in m n test h four p ps q qs sub_p sub_q k l fine_p fine_q =
+    let fp = sub_p IsFineCorner fine_p in
+    let fq = sub_q IsFineCorner fine_q in
+    record {
+      sized = sized_from (test p q) (h.size p q k l fp fq) (h.present p q k l fp fq);
+      hull = λ some. widen p ps q qs sub_p sub_q (test p q) (h.hull p q (omega (arith, four)) k l fp fq);
+      apart = λ i less apart. h.apart p q i k l fp fq (omega (arith, four, less)) (parts_apart i p ps q qs sub_p sub_q apart);
+      side = λ b s. decide p ps q qs sub_p sub_q (test p q) (h.side p q 2 k l fp fq (omega (arith, four))) b s;
+    }

@@ -4,16 +4,14 @@
 //! Manifold library.
 #![tactic(auto)]
 
-ghost use Rattle.std.specs.Prelude.{◌≡◌, ◌≢◌, ◌<◌, ◌∷◌, [], ℕ, ℤ, pos, negsuc, neg_ℤ, ◌≤ℤ◌, Option, None, IfSome, List, length, swap};
+ghost use Rattle.std.specs.Prelude.{◌≡◌, ◌∷◌, [], Option, List};
 ghost use Rattle.chain_terms.specs.Sums.{total};
 ghost use Rattle.mb_base.specs.declared.point.Corner.{Corner};
 ghost use Rattle.side_terms.specs.Corners.{AllFine};
-ghost use Rattle.side_terms.specs.Boxes.{AreApart};
 ghost use Rattle.shadow_kernels.specs.Counts.{count_of, shadow_of};
 ghost use Rattle.edge_face.specs.declared.Cross.{Cross};
-ghost use Rattle.edge_face.specs.Crossings.{number_of, face_edges, number12, number21};
-ghost use Rattle.side_terms.specs.Corners.{AllWhole};
-ghost use Rattle.side_terms.specs.Boxes.{IsPointIn};
+ghost use Rattle.edge_face.specs.Crossings.{number_of, face_edges, mirror, edge_number};
+ghost use Rattle.edge_face.specs.CrossLaws.{CrossLaws};
 
 use mb_base::{Corner, Point};
 use shadow_kernels::{Flats, Meets};
@@ -46,33 +44,10 @@ pub trait Crosses<const M: usize, const N: usize> {
         requires q_fine { AllFine q.now }
         ensures { result ≡ cross_of self.now p.now q.now };
 
-    /// The number of an answer is not 0.
-    ghost present: { (k : Self) (p q : List Corner) → length p ≡ M → length q ≡ N → AllFine p → AllFine q →
-        IfSome (cross_of k p q) (λ c. c.number ≢ pos 0) };
-
-    /// The number lies from -2 to 2.
-    ghost size: { (k : Self) (p q : List Corner) → length p ≡ M → length q ≡ N → AllFine p → AllFine q →
-        (negsuc 1 ≤ℤ number_of (cross_of k p q)) × (number_of (cross_of k p q) ≤ℤ pos 2) };
-
-    /// Exchanging the ends of P's edge turns the sign of the number.
-    ghost turn_p: { (k : Self) (p q : List Corner) → M ≡ 2 → length p ≡ M → length q ≡ N → AllFine p → AllFine q →
-        number_of (cross_of k (swap p 0 1) q) ≡ neg_ℤ (number_of (cross_of k p q)) };
-
-    /// Exchanging the ends of Q's edge does so too.
-    ghost turn_q: { (k : Self) (p q : List Corner) → N ≡ 2 → length p ≡ M → length q ≡ N → AllFine p → AllFine q →
-        number_of (cross_of k p (swap q 0 1)) ≡ neg_ℤ (number_of (cross_of k p q)) };
-
-    /// Where the boxes are strictly apart on an axis, there is no answer.
-    ghost apart: { (k : Self) (p q : List Corner) (i : ℕ) → length p ≡ M → length q ≡ N → AllFine p → AllFine q → i < 3 → AreApart i p q →
-        cross_of k p q ≡ None };
-
-    /// Where every coordinate is a multiple of `UNIT`, the point lies in the box of the edge: of P's.
-    ghost inside_p: { (k : Self) (p q : List Corner) → M ≡ 2 → length p ≡ M → length q ≡ N → AllFine p → AllFine q → AllWhole p → AllWhole q →
-        IfSome (cross_of k p q) (λ c. IsPointIn p c.at) };
-
-    /// Or of Q's.
-    ghost inside_q: { (k : Self) (p q : List Corner) → N ≡ 2 → length p ≡ M → length q ≡ N → AllFine p → AllFine q → AllWhole p → AllWhole q →
-        IfSome (cross_of k p q) (λ c. IsPointIn q c.at) };
+    /// The laws: the number of an answer is not 0 and lies from -2 to 2; exchanging the ends of the edge turns its sign; boxes
+    /// strictly apart on an axis give no answer; and where every coordinate is a multiple of `UNIT`, the point lies in the
+    /// box of the edge.
+    ghost laws: { (k : Self) → CrossLaws M N (cross_of k) };
 }
 
 /// All shadow tests and crossings. Their counts and numbers are the signed sums of the shadows of their boundary pairs.
@@ -90,10 +65,10 @@ pub trait Kernels: Flats + Meets<1, 3> + Meets<3, 1> + Crosses<2, 3> + Crosses<3
     /// An edge of P and a face of Q.
     ghost lift_12: { (k : Self) (a b u v w : Corner) → AllFine (a ∷ b ∷ []) → AllFine (u ∷ v ∷ w ∷ []) →
         number_of (⟦<Self as Crosses<2, 3>>⟧.cross_of k (a ∷ b ∷ []) (u ∷ v ∷ w ∷ []))
-        ≡ number12 (⟦<Self as Meets<1, 3>>⟧.meet_of k) (⟦<Self as Meets<2, 2>>⟧.meet_of k) a b u v w };
+        ≡ edge_number (⟦<Self as Meets<1, 3>>⟧.meet_of k) (⟦<Self as Meets<2, 2>>⟧.meet_of k) a b u v w };
 
     /// A face of P and an edge of Q.
     ghost lift_21: { (k : Self) (u v w c d : Corner) → AllFine (u ∷ v ∷ w ∷ []) → AllFine (c ∷ d ∷ []) →
         number_of (⟦<Self as Crosses<3, 2>>⟧.cross_of k (u ∷ v ∷ w ∷ []) (c ∷ d ∷ []))
-        ≡ number21 (⟦<Self as Meets<3, 1>>⟧.meet_of k) (⟦<Self as Meets<2, 2>>⟧.meet_of k) u v w c d };
+        ≡ edge_number (mirror (⟦<Self as Meets<3, 1>>⟧.meet_of k)) (mirror (⟦<Self as Meets<2, 2>>⟧.meet_of k)) c d u v w };
 }

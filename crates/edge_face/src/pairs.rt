@@ -1,12 +1,13 @@
 //! The five boundary pairs of an edge and a face. The shadows of vertices and edges below them are taken once each, and
-//! no spot is placed but where the boxes leave it open on which side a pair lies.
+//! no spot is placed but where the boxes leave it open whether a pair is above.
 
-ghost use Rattle.std.specs.Prelude.{◌≡◌, ◌≢◌, ◌↔◌, ◌≤◌, ◌∷◌, [], ◌+ℤ◌, ◌-ℤ◌, pos, unsigned_abs, IsTrue, if◌then◌else◌};
+ghost use Rattle.std.specs.Prelude.{◌≡◌, ◌+◌, ◌≤◌, ◌+ℤ◌, ◌-ℤ◌, unsigned_abs, map};
 ghost use Rattle.side_terms.specs.Corners.{corner_at, IsFineCorner, AllFine};
 ghost use Rattle.shadow_kernels.specs.Counts.{count_of, shadow_of};
-ghost use Rattle.shadow_kernels.specs.Shadows.{meet01, meet10, meet11, meet02, meet20};
-ghost use Rattle.edge_face.specs.Grids.{grid_pairs12, grid_pairs21};
-ghost use Rattle.edge_face.specs.Pairs.{IsPairOf, ArePairsOf, pair_shadow, pairs_number, number_if_any, number_at, AreSmall};
+ghost use Rattle.shadow_kernels.specs.Shadows.{vertex_edge, edge_vertex, edge_edge, vertex_face, face_vertex};
+ghost use Rattle.edge_face.specs.Crossings.{mirror, edge_face_pairs, face_edge_pairs};
+ghost use Rattle.edge_face.specs.Pairs.{IsPairOf, ArePairsOf, pair_shadow, pair_on, pairs_number, first_place};
+ghost use Rattle.edge_face.specs.Pairs.{number_at, AreSmall, AreCounts, vertex_rim, edge_corners};
 
 use crate::pair::{Pair, Pairs};
 use mb_base::Corner;
@@ -26,29 +27,48 @@ impl Pair {
     }
 
     /// Whether there is an answer that is above, or one that is not.
-    pub(crate) fn is_on(&self, above: bool) -> bool
-        ensures { IsTrue result ↔ ((self.now.count ≢ pos 0) × (self.now.above ≡ above)) }
+    fn is_on(&self, above: bool) -> bool
+        ensures { result ≡ pair_on above self.now }
     {
-        self.count != 0 && self.above == above
+        if self.count == 0 {
+            false
+        } else {
+            self.above == above
+        }
     }
 }
 
 impl Pairs {
-    /// The number of crossings, where it is not 0.
-    pub(crate) fn number(&self) -> Option<i8>
-        ensures { result ≡ number_if_any (pairs_number self.now) }
-    {
-        let number = self.sum();
-        if number == 0 { None } else { Some(number) }
-    }
-
-    /// The shadow of the end less that of the start, less those of the three edges.
-    fn sum(&self) -> i8
+    /// The number of crossings: the shadow of the end less that of the start, less those of the three edges.
+    pub(crate) fn number(&self) -> i8
         ensures { result ≡ pairs_number self.now }
     {
-        let sides = self.first.shadow() + (self.second.shadow() + self.third.shadow());
-        let ends = self.end.shadow() - self.start.shadow();
-        ends - sides
+        let edges = [
+            self.first.shadow(),
+            self.second.shadow(),
+            self.third.shadow(),
+        ];
+        let ends = less(self.end.shadow(), self.start.shadow());
+        less(ends, sum(&edges))
+    }
+
+    /// The place of the first pair that is above, or of the first that is not, from 0 to 4; 5 where there is none.
+    pub(crate) fn first_on(&self, above: bool) -> usize
+        ensures { result ≡ first_place above self.now }
+    {
+        if self.start.is_on(above) {
+            0
+        } else if self.end.is_on(above) {
+            1
+        } else if self.first.is_on(above) {
+            2
+        } else if self.second.is_on(above) {
+            3
+        } else if self.third.is_on(above) {
+            4
+        } else {
+            5
+        }
     }
 }
 
@@ -56,22 +76,18 @@ impl Pairs {
 pub(crate) fn edge_face_pairs<R: Rounding>(rounding: &R, p: &[Corner; 2], q: &[Corner; 3]) -> Pairs
     requires p_fine { AllFine p.now }
     requires q_fine { AllFine q.now }
-    ensures { ArePairsOf (grid_pairs12 (R.between_of rounding.now) p.now q.now) result }
+    ensures { ArePairsOf (edge_face_pairs (R.between_of rounding.now) p.now q.now) result }
 {
-    let [a, b] = p;
-    let [u, v, w] = q;
-    let start = vertex_edges(rounding, a, q);
-    let end = vertex_edges(rounding, b, q);
+    let start = vertex_edges(rounding, &p[0], q);
+    let end = vertex_edges(rounding, &p[1], q);
     let at = edge_vertices(rounding, p, q);
-    let first = lifted(end[0], start[0], at[1], at[0]);
-    let second = lifted(end[1], start[1], at[2], at[1]);
-    let third = lifted(end[2], start[2], at[0], at[2]);
+    let counts = counts(&start, &end, &at);
     Pairs {
-        start: vertex_face_pair(rounding, sum(&start), a, u, v, w),
-        end: vertex_face_pair(rounding, sum(&end), b, u, v, w),
-        first: edge_edge_pair(rounding, first, a, b, u, v),
-        second: edge_edge_pair(rounding, second, a, b, v, w),
-        third: edge_edge_pair(rounding, third, a, b, w, u),
+        start: vertex_face_pair(rounding, counts[0], &[p[0]], q),
+        end: vertex_face_pair(rounding, counts[1], &[p[1]], q),
+        first: edge_edge_pair(rounding, counts[2], p, &[q[0], q[1]]),
+        second: edge_edge_pair(rounding, counts[3], p, &[q[1], q[2]]),
+        third: edge_edge_pair(rounding, counts[4], p, &[q[2], q[0]]),
     }
 }
 
@@ -79,52 +95,74 @@ pub(crate) fn edge_face_pairs<R: Rounding>(rounding: &R, p: &[Corner; 2], q: &[C
 pub(crate) fn face_edge_pairs<R: Rounding>(rounding: &R, p: &[Corner; 3], q: &[Corner; 2]) -> Pairs
     requires p_fine { AllFine p.now }
     requires q_fine { AllFine q.now }
-    ensures { ArePairsOf (grid_pairs21 (R.between_of rounding.now) p.now q.now) result }
+    ensures { ArePairsOf (face_edge_pairs (R.between_of rounding.now) p.now q.now) result }
 {
-    let [u, v, w] = p;
-    let [c, d] = q;
-    let start = edges_vertex(rounding, p, c);
-    let end = edges_vertex(rounding, p, d);
+    let start = edges_vertex(rounding, p, &q[0]);
+    let end = edges_vertex(rounding, p, &q[1]);
     let at = vertices_edge(rounding, p, q);
-    let first = lifted(at[1], at[0], end[0], start[0]);
-    let second = lifted(at[2], at[1], end[1], start[1]);
-    let third = lifted(at[0], at[2], end[2], start[2]);
+    let counts = counts(&start, &end, &at);
     Pairs {
-        start: face_vertex_pair(rounding, sum(&start), u, v, w, c),
-        end: face_vertex_pair(rounding, sum(&end), u, v, w, d),
-        first: edge_edge_pair(rounding, first, u, v, c, d),
-        second: edge_edge_pair(rounding, second, v, w, c, d),
-        third: edge_edge_pair(rounding, third, w, u, c, d),
+        start: face_vertex_pair(rounding, counts[0], p, &[q[0]]),
+        end: face_vertex_pair(rounding, counts[1], p, &[q[1]]),
+        first: edge_edge_pair(rounding, counts[2], &[p[0], p[1]], q),
+        second: edge_edge_pair(rounding, counts[3], &[p[1], p[2]], q),
+        third: edge_edge_pair(rounding, counts[4], &[p[2], p[0]], q),
     }
 }
 
-/// The count of a vertex and a face, from the shadows on the three edges.
+/// The counts of the five pairs, from the shadows of the start and of the end with the three edges of the face, and of the
+/// edge at the three corners of the face.
+fn counts(start: &[i8; 3], end: &[i8; 3], at: &[i8; 3]) -> [i8; 5]
+    requires start_small { AreSmall start.now }
+    requires end_small { AreSmall end.now }
+    requires at_small { AreSmall at.now }
+    ensures { AreCounts start.now end.now at.now result }
+{
+    [
+        sum(start),
+        sum(end),
+        lifted(start[0], end[0], at[0], at[1]),
+        lifted(start[1], end[1], at[1], at[2]),
+        lifted(start[2], end[2], at[2], at[0]),
+    ]
+}
+
+/// The sum of the shadows with the three edges: the count of a vertex and a face.
 fn sum(shadows: &[i8; 3]) -> i8
     requires { AreSmall shadows.now }
-    ensures { result ≡ number_at shadows.now 0 +ℤ (number_at shadows.now 1 +ℤ (number_at shadows.now 2 +ℤ pos 0)) }
+    ensures value { result ≡ number_at shadows.now 0 +ℤ (number_at shadows.now 1 +ℤ number_at shadows.now 2) }
+    ensures small { unsigned_abs result ≤ 3 }
 {
     let [first, second, third] = *shadows;
     first + (second + third)
 }
 
-/// The count of two edges, from the shadows of the ends of each with the other.
-fn lifted(p_end: i8, p_start: i8, q_end: i8, q_start: i8) -> i8
-    requires p_end_small { unsigned_abs p_end ≤ 1 }
-    requires p_start_small { unsigned_abs p_start ≤ 1 }
-    requires q_end_small { unsigned_abs q_end ≤ 1 }
-    requires q_start_small { unsigned_abs q_start ≤ 1 }
-    ensures { result ≡ p_end -ℤ p_start +ℤ q_end -ℤ q_start }
+/// The difference of two small numbers.
+fn less(x: i8, y: i8) -> i8
+    requires x_small { unsigned_abs x ≤ 3 }
+    requires y_small { unsigned_abs y ≤ 3 }
+    ensures value { result ≡ x -ℤ y }
+    ensures small { unsigned_abs result ≤ unsigned_abs x + unsigned_abs y }
 {
-    let p_part = p_end - p_start;
-    let q_part = q_end - q_start;
-    p_part + q_part
+    x - y
 }
 
-/// The shadows of a vertex on the three edges of a face.
+/// The count of two edges, from the shadows of the ends of each with the other.
+fn lifted(start: i8, end: i8, from: i8, to: i8) -> i8
+    requires start_small { unsigned_abs start ≤ 1 }
+    requires end_small { unsigned_abs end ≤ 1 }
+    requires from_small { unsigned_abs from ≤ 1 }
+    requires to_small { unsigned_abs to ≤ 1 }
+    ensures { result ≡ (end -ℤ start) -ℤ (from -ℤ to) }
+{
+    less(less(end, start), less(from, to))
+}
+
+/// The shadows of a vertex with the three edges of a face.
 fn vertex_edges<R: Rounding>(rounding: &R, p: &Corner, q: &[Corner; 3]) -> [i8; 3]
     requires p_fine { IsFineCorner p.now }
     requires q_fine { AllFine q.now }
-    ensures value { result ≡ shadow_of (meet01 (R.between_of rounding.now) p.now (corner_at q.now 0) (corner_at q.now 1)) ∷ shadow_of (meet01 (R.between_of rounding.now) p.now (corner_at q.now 1) (corner_at q.now 2)) ∷ shadow_of (meet01 (R.between_of rounding.now) p.now (corner_at q.now 2) (corner_at q.now 0)) ∷ [] }
+    ensures value { result ≡ map shadow_of (vertex_rim (vertex_edge (R.between_of rounding.now)) p.now q.now) }
     ensures small { AreSmall result }
 {
     let [u, v, w] = q;
@@ -135,11 +173,11 @@ fn vertex_edges<R: Rounding>(rounding: &R, p: &Corner, q: &[Corner; 3]) -> [i8; 
     ]
 }
 
-/// The shadows of an edge on the three corners of a face.
+/// The shadows of an edge with the three corners of a face.
 fn edge_vertices<R: Rounding>(rounding: &R, p: &[Corner; 2], q: &[Corner; 3]) -> [i8; 3]
     requires p_fine { AllFine p.now }
     requires q_fine { AllFine q.now }
-    ensures value { result ≡ shadow_of (meet10 (R.between_of rounding.now) (corner_at p.now 0) (corner_at p.now 1) (corner_at q.now 0)) ∷ shadow_of (meet10 (R.between_of rounding.now) (corner_at p.now 0) (corner_at p.now 1) (corner_at q.now 1)) ∷ shadow_of (meet10 (R.between_of rounding.now) (corner_at p.now 0) (corner_at p.now 1) (corner_at q.now 2)) ∷ [] }
+    ensures value { result ≡ map shadow_of (edge_corners (edge_vertex (R.between_of rounding.now)) p.now q.now) }
     ensures small { AreSmall result }
 {
     let [a, b] = p;
@@ -151,11 +189,11 @@ fn edge_vertices<R: Rounding>(rounding: &R, p: &[Corner; 2], q: &[Corner; 3]) ->
     ]
 }
 
-/// The shadows of the three edges of a face on a vertex.
+/// The shadows of the three edges of a face with a vertex.
 fn edges_vertex<R: Rounding>(rounding: &R, p: &[Corner; 3], q: &Corner) -> [i8; 3]
     requires p_fine { AllFine p.now }
     requires q_fine { IsFineCorner q.now }
-    ensures value { result ≡ shadow_of (meet10 (R.between_of rounding.now) (corner_at p.now 0) (corner_at p.now 1) q.now) ∷ shadow_of (meet10 (R.between_of rounding.now) (corner_at p.now 1) (corner_at p.now 2) q.now) ∷ shadow_of (meet10 (R.between_of rounding.now) (corner_at p.now 2) (corner_at p.now 0) q.now) ∷ [] }
+    ensures value { result ≡ map shadow_of (vertex_rim (mirror (edge_vertex (R.between_of rounding.now))) q.now p.now) }
     ensures small { AreSmall result }
 {
     let [u, v, w] = p;
@@ -166,11 +204,11 @@ fn edges_vertex<R: Rounding>(rounding: &R, p: &[Corner; 3], q: &Corner) -> [i8; 
     ]
 }
 
-/// The shadows of the three corners of a face on an edge.
+/// The shadows of the three corners of a face with an edge.
 fn vertices_edge<R: Rounding>(rounding: &R, p: &[Corner; 3], q: &[Corner; 2]) -> [i8; 3]
     requires p_fine { AllFine p.now }
     requires q_fine { AllFine q.now }
-    ensures value { result ≡ shadow_of (meet01 (R.between_of rounding.now) (corner_at p.now 0) (corner_at q.now 0) (corner_at q.now 1)) ∷ shadow_of (meet01 (R.between_of rounding.now) (corner_at p.now 1) (corner_at q.now 0) (corner_at q.now 1)) ∷ shadow_of (meet01 (R.between_of rounding.now) (corner_at p.now 2) (corner_at q.now 0) (corner_at q.now 1)) ∷ [] }
+    ensures value { result ≡ map shadow_of (edge_corners (mirror (vertex_edge (R.between_of rounding.now))) q.now p.now) }
     ensures small { AreSmall result }
 {
     let [u, v, w] = p;
@@ -183,20 +221,11 @@ fn vertices_edge<R: Rounding>(rounding: &R, p: &[Corner; 3], q: &[Corner; 2]) ->
 }
 
 /// The pair of a vertex and a face, of which the count is known.
-fn vertex_face_pair<R: Rounding>(
-    rounding: &R,
-    count: i8,
-    p: &Corner,
-    u: &Corner,
-    v: &Corner,
-    w: &Corner,
-) -> Pair
-    requires known { count ≡ count_of (meet02 (R.between_of rounding.now) p.now u.now v.now w.now) }
-    requires p_fine { IsFineCorner p.now }
-    requires u_fine { IsFineCorner u.now }
-    requires v_fine { IsFineCorner v.now }
-    requires w_fine { IsFineCorner w.now }
-    ensures { IsPairOf (meet02 (R.between_of rounding.now) p.now u.now v.now w.now) result }
+fn vertex_face_pair<R: Rounding>(rounding: &R, count: i8, p: &[Corner; 1], q: &[Corner; 3]) -> Pair
+    requires known { count ≡ count_of (vertex_face (R.between_of rounding.now) p.now q.now) }
+    requires p_fine { AllFine p.now }
+    requires q_fine { AllFine q.now }
+    ensures { IsPairOf (vertex_face (R.between_of rounding.now) p.now q.now) result }
 {
     if count == 0 {
         return Pair {
@@ -204,25 +233,16 @@ fn vertex_face_pair<R: Rounding>(
             above: false,
         };
     }
-    let above = is_vertex_above_face(rounding, p, u, v, w);
+    let above = is_vertex_above_face(rounding, p, q);
     Pair { count, above }
 }
 
 /// The pair of a face and a vertex, of which the count is known.
-fn face_vertex_pair<R: Rounding>(
-    rounding: &R,
-    count: i8,
-    u: &Corner,
-    v: &Corner,
-    w: &Corner,
-    q: &Corner,
-) -> Pair
-    requires known { count ≡ count_of (meet20 (R.between_of rounding.now) u.now v.now w.now q.now) }
-    requires u_fine { IsFineCorner u.now }
-    requires v_fine { IsFineCorner v.now }
-    requires w_fine { IsFineCorner w.now }
-    requires q_fine { IsFineCorner q.now }
-    ensures { IsPairOf (meet20 (R.between_of rounding.now) u.now v.now w.now q.now) result }
+fn face_vertex_pair<R: Rounding>(rounding: &R, count: i8, p: &[Corner; 3], q: &[Corner; 1]) -> Pair
+    requires known { count ≡ count_of (face_vertex (R.between_of rounding.now) p.now q.now) }
+    requires p_fine { AllFine p.now }
+    requires q_fine { AllFine q.now }
+    ensures { IsPairOf (face_vertex (R.between_of rounding.now) p.now q.now) result }
 {
     if count == 0 {
         return Pair {
@@ -230,25 +250,16 @@ fn face_vertex_pair<R: Rounding>(
             above: false,
         };
     }
-    let above = is_face_above_vertex(rounding, u, v, w, q);
+    let above = is_face_above_vertex(rounding, p, q);
     Pair { count, above }
 }
 
-/// The pair of the edges from a to b and from c to d, of which the count is known.
-fn edge_edge_pair<R: Rounding>(
-    rounding: &R,
-    count: i8,
-    a: &Corner,
-    b: &Corner,
-    c: &Corner,
-    d: &Corner,
-) -> Pair
-    requires known { count ≡ count_of (meet11 (R.between_of rounding.now) a.now b.now c.now d.now) }
-    requires a_fine { IsFineCorner a.now }
-    requires b_fine { IsFineCorner b.now }
-    requires c_fine { IsFineCorner c.now }
-    requires d_fine { IsFineCorner d.now }
-    ensures { IsPairOf (meet11 (R.between_of rounding.now) a.now b.now c.now d.now) result }
+/// The pair of two edges, of which the count is known.
+fn edge_edge_pair<R: Rounding>(rounding: &R, count: i8, p: &[Corner; 2], q: &[Corner; 2]) -> Pair
+    requires known { count ≡ count_of (edge_edge (R.between_of rounding.now) p.now q.now) }
+    requires p_fine { AllFine p.now }
+    requires q_fine { AllFine q.now }
+    ensures { IsPairOf (edge_edge (R.between_of rounding.now) p.now q.now) result }
 {
     if count == 0 {
         return Pair {
@@ -256,6 +267,6 @@ fn edge_edge_pair<R: Rounding>(
             above: false,
         };
     }
-    let above = is_edge_above_edge(rounding, a, b, c, d);
+    let above = is_edge_above_edge(rounding, p, q);
     Pair { count, above }
 }

@@ -5,7 +5,7 @@ ghost use Rattle.mesh_terms.specs.Points.{IsOnGrid};
 ghost use Rattle.side_terms.specs.Fine.{IsFine, IsWeight};
 ghost use Rattle.shadow_kernels.specs.Spots.{gap};
 ghost use Rattle.shadow_kernels.specs.Bounds.{IsFineSpot};
-ghost use Rattle.edge_face.specs.Points.{p_point, q_point};
+ghost use Rattle.edge_face.specs.Crossings.{p_point, q_point};
 
 use mb_base::Point;
 use rounding::Rounding;

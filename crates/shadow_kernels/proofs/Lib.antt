@@ -1,5 +1,4 @@
 pub mod Values
 pub mod Branches
 pub mod Steps
-pub mod Sizes
 pub mod Sights

@@ -1,15 +1,17 @@
--- What lies in a box, and on which side of a box strictly apart.
-use Rattle.std.specs.Prelude.{ℕ, ◌<◌, ℤ, pos, neg_ℤ, ◌+ℤ◌, ◌-ℤ◌, ◌≤ℤ◌, ◌<ℤ◌, List, length, slice_index_or, Option, IfSome}
+-- What lies in a box, or is below one, and what the code keeps of boundary pairs.
+use Rattle.std.specs.Prelude.{◌≡◌, true, false, ℕ, ◌<◌, ℤ, pos, neg_ℤ, ◌+ℤ◌, ◌-ℤ◌, ◌≤ℤ◌, ◌<ℤ◌, List, length, slice_index_or, Option, IfSome}
 use Rattle.std.specs.List.{All}
 use Rattle.std.proofs.Common.{arith, inl, inr}
 use Rattle.std.proofs.lemmas.Int.{ints}
 use Rattle.mb_base.specs.declared.point.Corner.{Corner}
 use Rattle.side_terms.specs.Fine.{fine_edge, IsFine, LiesBetween}
 use Rattle.side_terms.specs.Corners.{axis, corner_at, blank_corner, AllFine}
+use Rattle.shadow_kernels.specs.ShadowLaws.{IsInHull}
 use Rattle.shadow_kernels.specs.declared.Spot.{Spot}
 use Rattle.shadow_kernels.specs.declared.Meet.{Meet}
+use Rattle.shadow_kernels.specs.declared.tally.Tally.{Tally}
+use Rattle.shadow_kernels.specs.Counts.{first_spot, lifted_count}
 use Rattle.side_terms.specs.Boxes.{IsInBox, IsBelow}
-use Rattle.shadow_kernels.specs.Boxes.{IsInHull}
 use Rattle.shadow_kernels.specs.Sizes.{IsSized}
 
 -- a corner of the list lies in the list's box
@@ -68,3 +70,14 @@ hull_fine ps qs s a b h = record {
 pub record IsFinePair (m : Option Meet) : Type 0 where
   pub sized : IsSized m
   pub fine : IfSome m (λ n. IsFineSpot n.spot)
+
+-- the sum of the shadows of boundary pairs, and the first spots that are not above and that are
+pub record IsTallyOf (ms : List (Option Meet)) (s : Tally) : Type 0 where
+  pub count : s.count ≡ lifted_count ms
+  pub below : s.below ≡ first_spot false ms
+  pub above : s.above ≡ first_spot true ms
+
+-- the two spots are fine
+pub record IsFineTally (s : Tally) : Type 0 where
+  pub below : IsFineSpot s.below
+  pub above : IsFineSpot s.above

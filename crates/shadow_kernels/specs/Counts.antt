@@ -2,6 +2,7 @@
 use Rattle.std.specs.Prelude.{ℤ, pos, neg_ℤ, ◌-ℤ◌, Option, None, Some, Bool, true, false, if◌then◌else◌, List, [], ◌∷◌}
 use Rattle.std.specs.Ordering.{int_eq}
 use Rattle.chain_terms.specs.Sums.{total}
+use Rattle.chain_terms.specs.Chains.{one_if}
 use Rattle.shadow_kernels.specs.declared.Spot.{Spot}
 use Rattle.shadow_kernels.specs.declared.Meet.{Meet}
 use Rattle.shadow_kernels.specs.Spots.{Between, spot_between, no_spot, above_y, above_z}
@@ -25,14 +26,10 @@ turned (Some m) = Some (record { count = neg_ℤ m.count; above = m.above; spot 
 unfoldable pub met : ℤ → Bool → Spot → Option Meet
 met count above spot = if int_eq count (pos 0) then None else Some (record { count = count; above = above; spot = spot })
 
--- 1 where the test holds
-abbrev pub bit : Bool → ℤ
-bit b = if b then pos 1 else pos 0
-
 -- the answer of an edge and a vertex: whether P is beyond Q at the two ends, and the spot for either end being the one where it is
 unfoldable pub by_ends : Bool → Bool → Spot → Spot → Option Meet
 by_ends first second at_first at_second =
-    let spot = if first then at_first else at_second in met (bit first -ℤ bit second) (above_y spot) spot
+    let spot = if first then at_first else at_second in met (pos (one_if first) -ℤ pos (one_if second)) (above_y spot) spot
 
 -- the spot of an answer that is above, or is not; else the other spot
 abbrev pub chosen : Bool → Option Meet → Spot → Spot

@@ -1,7 +1,7 @@
 -- What "beyond" says of the order of two values, and of the ends of an edge.
 use Rattle.std.specs.Prelude.{◌≡◌, ℤ, ◌≤ℤ◌, ◌<ℤ◌, Bool, true, false, ◌&&◌, ◌||◌, int_lt}
 use Rattle.std.specs.Ordering.{int_eq}
-use Rattle.std.proofs.Common.{arith, refl, sym, ap, ◌∙◌}
+use Rattle.std.proofs.Common.{arith, refl, ap, ◌∙◌}
 use Rattle.std.proofs.lemmas.Int.{ints, by_lt_z}
 use Rattle.std.proofs.lemmas.Bool.Decides.{Decides-int_eq}
 use Rattle.mb_base.specs.declared.point.Corner.{Corner}
@@ -31,12 +31,6 @@ beats_smaller p q up h =
     ap (λ (t : Bool). t || (int_eq p q && up)) (lt_false q p (omega (arith, ints)))
     ∙ ap (λ (t : Bool). t && up) (eq_false p q (int_eq p q) refl h)
 
--- an equal value is beyond where it is up
-pub beats_equal : (p q : ℤ) (up : Bool) → p ≡ q → beats p q up ≡ up
-beats_equal p q up e =
-    ap (λ (t : Bool). t || (int_eq p q && up)) (lt_false q p (omega (arith, ints)))
-    ∙ ap (λ (t : Bool). t && up) ((Decides-int_eq p q).1 e)
-
 -- a value beyond is no smaller
 pub beats_le : (p q : ℤ) (up : Bool) → beats p q up ≡ true → q ≤ℤ p
 beats_le p q up e = by_lt_z p q
@@ -59,15 +53,6 @@ order_of_ends p c d h k =
     let same : axis 0 c ≡ axis 0 d = omega (arith, ints) in
     let e = ap (λ (z : ℤ). beats (axis 0 p) z (up_on 0 p)) same in
     absurd (cc))
-
--- where only one of two vertices of P is beyond q, it is right of the other, or as far right and the only one that is up
-pub order_of_edge : (l r q : Corner) → beyond l q ≡ false → beyond r q ≡ true → axis 0 l ≡ axis 0 r → (up_on 0 l ≡ false) × (up_on 0 r ≡ true)
-order_of_edge l r q h k e =
-    let m = not_beats_le (axis 0 l) (axis 0 q) (up_on 0 l) h in
-    let n = beats_le (axis 0 r) (axis 0 q) (up_on 0 r) k in
-    let x = beats_equal (axis 0 l) (axis 0 q) (up_on 0 l) (omega (arith, ints)) in
-    let y = beats_equal (axis 0 r) (axis 0 q) (up_on 0 r) (omega (arith, ints)) in
-    (sym x ∙ h, sym y ∙ k)
 
 -- two vertices of P can't lie between c and d the one way and the other way round
 pub no_alternation : (a b c d : Corner) → beyond a c ≡ true → beyond a d ≡ false → beyond b c ≡ false → beyond b d ≡ true → ⊥

@@ -1,9 +1,11 @@
--- The answers of the six dimension pairs.
+-- The answers of the six dimension pairs, by their corners and by lists of corners.
 use Rattle.std.specs.Prelude.{pos, Option, Some, List, [], ◌∷◌}
 use Rattle.mb_base.specs.declared.point.Corner.{Corner}
+use Rattle.side_terms.specs.Corners.{corner_at}
 use Rattle.shadow_kernels.specs.declared.Meet.{Meet}
 use Rattle.shadow_kernels.specs.Spots.{Between, beyond, spot00, spot01, spot10}
 use Rattle.shadow_kernels.specs.Counts.{turned, by_ends, lifted}
+use Rattle.shadow_kernels.specs.ShadowLaws.{ShadowTest}
 
 -- the answer of two vertices
 abbrev pub meet00 : Corner → Corner → Option Meet
@@ -40,3 +42,22 @@ meet02 between p u v w = lifted between (boundary02 between p u v w)
 -- the answer of a face and a vertex, from the three edges
 unfoldable pub meet20 : Between → Corner → Corner → Corner → Corner → Option Meet
 meet20 between u v w q = lifted between (boundary20 between u v w q)
+
+-- the six by lists: a vertex is one corner, an edge two, a face three
+abbrev pub vertex_vertex : ShadowTest
+vertex_vertex p q = meet00 (corner_at p 0) (corner_at q 0)
+
+abbrev pub vertex_edge : Between → ShadowTest
+vertex_edge between p q = meet01 between (corner_at p 0) (corner_at q 0) (corner_at q 1)
+
+abbrev pub edge_vertex : Between → ShadowTest
+edge_vertex between p q = meet10 between (corner_at p 0) (corner_at p 1) (corner_at q 0)
+
+abbrev pub edge_edge : Between → ShadowTest
+edge_edge between p q = meet11 between (corner_at p 0) (corner_at p 1) (corner_at q 0) (corner_at q 1)
+
+abbrev pub vertex_face : Between → ShadowTest
+vertex_face between p q = meet02 between (corner_at p 0) (corner_at q 0) (corner_at q 1) (corner_at q 2)
+
+abbrev pub face_vertex : Between → ShadowTest
+face_vertex between p q = meet20 between (corner_at p 0) (corner_at p 1) (corner_at p 2) (corner_at q 0)

@@ -24,32 +24,49 @@ by_zero {A} c f g = by (int_eq c (pos 0)) refl where
   by true e = f ((Decides-int_eq c (pos 0)).0 e)
   by false e = g (λ z. let k = (Decides-int_eq c (pos 0)).1 z in absurd (cc))
 
+-- what is there unless a number is 0
+abbrev pub if_any : {X : Type 0} → ℤ → X → Option X
+if_any c x = if int_eq c (pos 0) then None else Some x
+
+pub any_none : {X : Type 0} (c : ℤ) (x : X) → c ≡ pos 0 → if_any c x ≡ None
+any_none c x e = ap (λ (t : Bool). if t then None else Some x) ((Decides-int_eq c (pos 0)).1 e)
+
+pub any_some : {X : Type 0} (c : ℤ) (x : X) → c ≢ pos 0 → if_any c x ≡ Some x
+any_some c x n = ap (λ (t : Bool). if t then None else Some x) (no (int_eq c (pos 0)) refl) where
+  no : (t : Bool) → int_eq c (pos 0) ≡ t → t ≡ false
+  no true e = absurd (n ((Decides-int_eq c (pos 0)).0 e))
+  no false e = refl
+
 -- there is no answer at count 0
 pub met_none : (c : ℤ) (above : Bool) (s : Spot) → c ≡ pos 0 → met c above s ≡ None
 unfolding met
-met_none c above s e = ap (λ (t : Bool). if t then None else Some (record { count = c; above = above; spot = s })) ((Decides-int_eq c (pos 0)).1 e)
-
--- a number that is not 0 is not equal to 0
-not_eq : (c : ℤ) (t : Bool) → int_eq c (pos 0) ≡ t → c ≢ pos 0 → t ≡ false
-not_eq c true e n = absurd (n ((Decides-int_eq c (pos 0)).0 e))
-not_eq c false e n = refl
+met_none c above s e = any_none c (record { count = c; above = above; spot = s }) e
 
 -- there is one at every other count
 pub met_some : (c : ℤ) (above : Bool) (s : Spot) → c ≢ pos 0 → met c above s ≡ Some (record { count = c; above = above; spot = s })
 unfolding met
-met_some c above s n = ap (λ (t : Bool). if t then None else Some (record { count = c; above = above; spot = s })) (not_eq c (int_eq c (pos 0)) refl n)
+met_some c above s n = any_some c (record { count = c; above = above; spot = s }) n
 
--- an answer has the count that it was made of
+-- what holds unless a number is 0 holds of what is there
+pub any_holds : {X : Type 0} (P : X → Type 0) (c : ℤ) (x : X) → (c ≢ pos 0 → P x) → IfSome (if_any c x) P
+any_holds P c x f = by_zero c
+    (λ e. rw (any_none c x e) tt)
+    (λ n. rw (any_some c x n) (f n))
+
+-- a number that is 0 where there is nothing is that of which the rest was made
+pub any_number : {X : Type 0} (number : Option X → ℤ) (c : ℤ) (x : X) → number None ≡ pos 0 → number (Some x) ≡ c → number (if_any c x) ≡ c
+any_number number c x none some = by_zero c
+    (λ e. ap number (any_none c x e) ∙ none ∙ sym e)
+    (λ n. ap number (any_some c x n) ∙ some)
+
+-- so an answer has its count, and what holds at every count that is not 0 holds of it
 pub met_count : (c : ℤ) (above : Bool) (s : Spot) → count_of (met c above s) ≡ c
-met_count c above s = by_zero c
-    (λ e. ap count_of (met_none c above s e) ∙ sym e)
-    (λ n. ap count_of (met_some c above s n))
+unfolding met
+met_count c above s = any_number count_of c (record { count = c; above = above; spot = s }) refl refl
 
--- what holds of the spot at every count that is not 0 holds of the answer
 pub met_holds : (P : Meet → Type 0) (c : ℤ) (above : Bool) (s : Spot) → (c ≢ pos 0 → P (record { count = c; above = above; spot = s })) → IfSome (met c above s) P
-met_holds P c above s f = by_zero c
-    (λ e. rw (met_none c above s e) tt)
-    (λ n. rw (met_some c above s n) (f n))
+unfolding met
+met_holds P c above s f = any_holds P c (record { count = c; above = above; spot = s }) f
 
 -- an answer at the count turned
 pub met_turned : (c : ℤ) (above : Bool) (s : Spot) → met (neg_ℤ c) above s ≡ turned (met c above s)
@@ -57,15 +74,21 @@ met_turned c above s = by_zero c
     (λ e. met_none (neg_ℤ c) above s (omega (arith, ints)) ∙ ap turned (sym (met_none c above s e)))
     (λ n. met_some (neg_ℤ c) above s (λ z. n (omega (arith, ints))) ∙ ap turned (sym (met_some c above s n)))
 
--- an answer of a count that is 0, 1 or -1 is sized
+-- a count from -1 to 1 that is not 0 is 1 or -1
+pub unit_from : (c : ℤ) → negsuc 0 ≤ℤ c → c ≤ℤ pos 1 → c ≢ pos 0 → IsUnit c
+unit_from (pos n) l h k = inl (omega (arith, ints))
+unit_from (negsuc n) l h k = inr (omega (arith, ints))
+
+-- so an answer with such counts is sized
+pub sized_from : (m : Option Meet) → (negsuc 0 ≤ℤ count_of m) × (count_of m ≤ℤ pos 1) → IfSome m (λ n. n.count ≢ pos 0) → IsSized m
+sized_from None h k = tt
+sized_from (Some m) h k = unit_from m.count h.0 h.1 k
+
+-- and one made of such a count
 pub met_sized : (c : ℤ) (above : Bool) (s : Spot) → negsuc 0 ≤ℤ c → c ≤ℤ pos 1 → IsSized (met c above s)
 met_sized c above s l h = by_zero c
     (λ e. rw (met_none c above s e) tt)
-    (λ n. rw (met_some c above s n) (units c l h n))
-  where
-    units : (c : ℤ) → negsuc 0 ≤ℤ c → c ≤ℤ pos 1 → c ≢ pos 0 → IsUnit c
-    units (pos n) l h k = inl (omega (arith, ints))
-    units (negsuc n) l h k = inr (omega (arith, ints))
+    (λ n. rw (met_some c above s n) (unit_from c l h n))
 
 -- a sized answer has a count of -1, 0 or 1
 pub sized_bounds : (m : Option Meet) → IsSized m → (negsuc 0 ≤ℤ count_of m) × (count_of m ≤ℤ pos 1)
@@ -107,12 +130,14 @@ turned_shadow (Some m) = by m.above m.count where
   by true n = refl
   by false n = refl
 
--- turning keeps what is said of the spot
-pub turned_holds : (P : Spot → Type 0) (m : Option Meet) → IfSome m (λ n. P n.spot) → IfSome (turned m) (λ n. P n.spot)
+-- turning keeps what is said of the spot and the mark above
+pub turned_holds : (P : Spot → Bool → Type 0) (m : Option Meet) → IfSome m (λ n. P n.spot n.above) → IfSome (turned m) (λ n. P n.spot n.above)
 turned_holds P None h = tt
 turned_holds P (Some m) h = h
 
--- turning keeps the mark above
-pub turned_above : (b : Bool) (m : Option Meet) → IfSome m (λ n. n.above ≡ b) → IfSome (turned m) (λ n. n.above ≡ b)
-turned_above b None h = tt
-turned_above b (Some m) h = h
+-- turning twice gives the answer back
+pub turned_twice : (m : Option Meet) → turned (turned m) ≡ m
+turned_twice None = refl
+turned_twice (Some m) = ap (λ (z : ℤ). Some (record { count = z; above = m.above; spot = m.spot })) (neg_twice m.count) where
+  neg_twice : (z : ℤ) → neg_ℤ (neg_ℤ z) ≡ z
+  neg_twice z = omega (arith, ints)

@@ -33,19 +33,20 @@ marks a b first second = mark a b (flag first 0) (flag second 0) ∷ mark a b (f
 abbrev pub spot00 : Corner → Corner → Spot
 spot00 p q = record { x = axis 0 p; py = axis 1 p; qy = axis 1 q; pz = axis 2 p; qz = axis 2 q; up = p.up }
 
--- a vertex and an edge whose left end is l: the edge's values are weighted by the distances in x
+-- the value on axis i of an edge whose left end is l, at x: weighted by the distances in x
+abbrev pub edge_value : Between → ℕ → Corner → Corner → ℤ → ℤ
+edge_value between i l r x = between (axis i l) (axis i r) (x -ℤ axis 0 l) (axis 0 r -ℤ x)
+
+-- a vertex and an edge whose left end is l
 unfoldable pub spot01 : Between → Corner → Corner → Corner → Spot
 spot01 between p l r =
-    let a = axis 0 p -ℤ axis 0 l in
-    let b = axis 0 r -ℤ axis 0 p in
-    record { x = axis 0 p; py = axis 1 p; qy = between (axis 1 l) (axis 1 r) a b; pz = axis 2 p; qz = between (axis 2 l) (axis 2 r) a b; up = p.up }
+    let on : ℕ → ℤ = λ i. edge_value between i l r (axis 0 p) in record { x = axis 0 p; py = axis 1 p; qy = on 1; pz = axis 2 p; qz = on 2; up = p.up }
 
 -- an edge whose left end is l, and a vertex: the marks follow the edge's values
 unfoldable pub spot10 : Between → Corner → Corner → Corner → Spot
 spot10 between l r q =
-    let a = axis 0 q -ℤ axis 0 l in
-    let b = axis 0 r -ℤ axis 0 q in
-    record { x = axis 0 q; py = between (axis 1 l) (axis 1 r) a b; qy = axis 1 q; pz = between (axis 2 l) (axis 2 r) a b; qz = axis 2 q; up = marks a b l.up r.up }
+    let on : ℕ → ℤ = λ i. edge_value between i l r (axis 0 q) in
+    record { x = axis 0 q; py = on 1; qy = axis 1 q; pz = on 2; qz = axis 2 q; up = marks (axis 0 q -ℤ axis 0 l) (axis 0 r -ℤ axis 0 q) l.up r.up }
 
 -- the difference without its sign
 abbrev pub gap : ℤ → ℤ → ℤ

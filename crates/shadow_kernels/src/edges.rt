@@ -2,6 +2,7 @@
 
 ghost use Rattle.std.specs.Prelude.{◌≡◌};
 ghost use Rattle.side_terms.specs.Corners.{IsFineCorner};
+ghost use Rattle.shadow_kernels.specs.Bounds.{IsFinePair};
 ghost use Rattle.shadow_kernels.specs.Spots.{above_y};
 ghost use Rattle.shadow_kernels.specs.Shadows.{meet01, meet10};
 
@@ -20,7 +21,8 @@ pub(crate) fn vertex_edge<R: Rounding>(
     requires p_fine { IsFineCorner p.now }
     requires c_fine { IsFineCorner c.now }
     requires d_fine { IsFineCorner d.now }
-    ensures { result ≡ meet01 (R.between_of rounding.now) p.now c.now d.now }
+    ensures value { result ≡ meet01 (R.between_of rounding.now) p.now c.now d.now }
+    ensures fine { IsFinePair result }
 {
     let over_c = is_beyond(p, c);
     let over_d = is_beyond(p, d);
@@ -43,7 +45,8 @@ pub(crate) fn edge_vertex<R: Rounding>(
     requires a_fine { IsFineCorner a.now }
     requires b_fine { IsFineCorner b.now }
     requires q_fine { IsFineCorner q.now }
-    ensures { result ≡ meet10 (R.between_of rounding.now) a.now b.now q.now }
+    ensures value { result ≡ meet10 (R.between_of rounding.now) a.now b.now q.now }
+    ensures fine { IsFinePair result }
 {
     let b_over = is_beyond(b, q);
     let a_over = is_beyond(a, q);

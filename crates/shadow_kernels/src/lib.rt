@@ -4,13 +4,12 @@
 //! J. M. Smith's thesis "Towards robust inexact geometric computation" and the Manifold library.
 #![tactic(auto)]
 
-ghost use Rattle.std.specs.Prelude.{◌≡◌, ◌≢◌, ◌+◌, ◌<◌, ◌∷◌, [], ℕ, ℤ, true, false, pos, negsuc, ◌-ℤ◌, ◌+ℤ◌, ◌≤ℤ◌, Option, None, IfSome, List, length, swap};
+ghost use Rattle.std.specs.Prelude.{◌≡◌, ◌∷◌, [], ℤ, ◌-ℤ◌, ◌+ℤ◌, Option, Some, List};
 ghost use Rattle.mb_base.specs.declared.point.Corner.{Corner};
 ghost use Rattle.side_terms.specs.Corners.{AllFine};
 ghost use Rattle.shadow_kernels.specs.declared.Meet.{Meet};
-ghost use Rattle.side_terms.specs.Boxes.{AreApart, IsBelow};
-ghost use Rattle.shadow_kernels.specs.Boxes.{IsInHull};
-ghost use Rattle.shadow_kernels.specs.Counts.{count_of, shadow_of, turned};
+ghost use Rattle.shadow_kernels.specs.Counts.{count_of, shadow_of};
+ghost use Rattle.shadow_kernels.specs.ShadowLaws.{ShadowLaws};
 
 pub use grid::Grid;
 use mb_base::Corner;
@@ -18,14 +17,14 @@ pub use shadows::{
     edge_vertex_shadow, is_edge_above_edge, is_face_above_vertex, is_vertex_above_face,
     vertex_edge_shadow,
 };
-pub use spots::gap_of;
+pub use spots::{gap_of, spot_of};
 
 mod edges;
 mod grid;
 mod pairs;
 mod shadows;
-mod sides;
 mod spots;
+mod tally;
 
 /// The values of P and of Q where the shadows of a pair of simplices meet, in fine steps, and on which axes P counts as
 /// moved up there.
@@ -68,33 +67,10 @@ pub trait Meets<const M: usize, const N: usize> {
         requires q_fine { AllFine q.now }
         ensures { result ≡ meet_of self.now p.now q.now };
 
-    /// Exchanging two corners of p turns the sign of the count, and keeps the rest.
-    ghost reverse_p: { (k : Self) (p q : List Corner) (i j : ℕ) → i < j → j < M → length p ≡ M → length q ≡ N → AllFine p → AllFine q →
-        meet_of k (swap p i j) q ≡ turned (meet_of k p q) };
-
-    /// Exchanging two corners of q does so too.
-    ghost reverse_q: { (k : Self) (p q : List Corner) (i j : ℕ) → i < j → j < N → length p ≡ M → length q ≡ N → AllFine p → AllFine q →
-        meet_of k p (swap q i j) ≡ turned (meet_of k p q) };
-
-    /// The count is -1, 0 or 1.
-    ghost size: { (k : Self) (p q : List Corner) → length p ≡ M → length q ≡ N → AllFine p → AllFine q →
-        (negsuc 0 ≤ℤ count_of (meet_of k p q)) × (count_of (meet_of k p q) ≤ℤ pos 1) };
-
-    /// The count of an answer is not 0.
-    ghost present: { (k : Self) (p q : List Corner) → length p ≡ M → length q ≡ N → AllFine p → AllFine q →
-        IfSome (meet_of k p q) (λ m. m.count ≢ pos 0) };
-
-    /// But for two vertices, P's values at the spot lie in the box of p, and Q's in the box of q.
-    ghost hull: { (k : Self) (p q : List Corner) → 2 < M + N → length p ≡ M → length q ≡ N → AllFine p → AllFine q →
-        IfSome (meet_of k p q) (λ m. IsInHull p q m.spot) };
-
-    /// Where the boxes are strictly apart on one of the first M + N - 2 axes, there is no answer.
-    ghost apart: { (k : Self) (p q : List Corner) (i : ℕ) → length p ≡ M → length q ≡ N → AllFine p → AllFine q → i + 2 < M + N → AreApart i p q →
-        meet_of k p q ≡ None };
-
-    /// Where they are strictly apart on the next axis, an answer says whether p lies on the greater side.
-    ghost side: { (k : Self) (p q : List Corner) (i : ℕ) → length p ≡ M → length q ≡ N → AllFine p → AllFine q → i + 2 ≡ M + N →
-        IfSome (meet_of k p q) (λ m. (IsBelow i p q → m.above ≡ false) × (IsBelow i q p → m.above ≡ true)) };
+    /// The laws: exchanging two corners turns the sign of the count and keeps the rest; the count is -1, 0 or 1, and not 0
+    /// in an answer; but for two vertices the spot lies in the boxes of both; boxes strictly apart on one of the first
+    /// M + N - 2 axes give no answer, and such on the next axis say whether p is beyond q.
+    ghost laws: { (k : Self) → ShadowLaws M N (meet_of k) };
 }
 
 /// The tests of vertices and edges. Their counts are the signed sums of the shadows of their boundary pairs.

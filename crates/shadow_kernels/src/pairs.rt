@@ -1,130 +1,98 @@
 //! The pairs whose answers are made from boundary pairs: two edges, a vertex and a face, a face and a vertex.
 
 ghost use Rattle.std.specs.Prelude.{◌≡◌};
-ghost use Rattle.side_terms.specs.Corners.{IsFineCorner};
-ghost use Rattle.shadow_kernels.specs.Shadows.{boundary02, boundary11, boundary20, meet02, meet11, meet20};
-ghost use Rattle.shadow_kernels.specs.Sides.{HasSides, IsFineSides};
+ghost use Rattle.side_terms.specs.Corners.{corner_at, AllFine};
+ghost use Rattle.shadow_kernels.specs.Shadows.{boundary02, boundary11, boundary20, vertex_face, face_vertex, edge_edge};
+ghost use Rattle.shadow_kernels.specs.Bounds.{IsTallyOf, IsFineTally};
 
 use crate::Meet;
 use crate::edges::{edge_vertex, vertex_edge};
-use crate::sides::{Sides, four_sides, joined_sides, three_sides};
+use crate::tally::{Tally, joined, tally_of_four, tally_of_three};
 use mb_base::Corner;
 use rounding::Rounding;
 
 /// The answer of a vertex and a face.
 pub(crate) fn vertex_face<R: Rounding>(
     rounding: &R,
-    p: &Corner,
-    u: &Corner,
-    v: &Corner,
-    w: &Corner,
+    p: &[Corner; 1],
+    q: &[Corner; 3],
 ) -> Option<Meet>
-    requires p_fine { IsFineCorner p.now }
-    requires u_fine { IsFineCorner u.now }
-    requires v_fine { IsFineCorner v.now }
-    requires w_fine { IsFineCorner w.now }
-    ensures { result ≡ meet02 (R.between_of rounding.now) p.now u.now v.now w.now }
+    requires p_fine { AllFine p.now }
+    requires q_fine { AllFine q.now }
+    ensures { result ≡ vertex_face (R.between_of rounding.now) p.now q.now }
 {
-    joined_sides(rounding, &vertex_face_sides(rounding, p, u, v, w))
+    joined(rounding, &vertex_face_tally(rounding, p, q))
 }
 
-/// The sides of a vertex with the three edges of a face.
-pub(crate) fn vertex_face_sides<R: Rounding>(
+/// The tally of a vertex with the three edges of a face.
+pub(crate) fn vertex_face_tally<R: Rounding>(
     rounding: &R,
-    p: &Corner,
-    u: &Corner,
-    v: &Corner,
-    w: &Corner,
-) -> Sides
-    requires p_fine { IsFineCorner p.now }
-    requires u_fine { IsFineCorner u.now }
-    requires v_fine { IsFineCorner v.now }
-    requires w_fine { IsFineCorner w.now }
-    ensures sides { HasSides (boundary02 (R.between_of rounding.now) p.now u.now v.now w.now) result }
-    ensures fine { IsFineSides result }
+    p: &[Corner; 1],
+    q: &[Corner; 3],
+) -> Tally
+    requires p_fine { AllFine p.now }
+    requires q_fine { AllFine q.now }
+    ensures tally { IsTallyOf (boundary02 (R.between_of rounding.now) (corner_at p.now 0) (corner_at q.now 0) (corner_at q.now 1) (corner_at q.now 2)) result }
+    ensures fine { IsFineTally result }
 {
-    three_sides(
-        &vertex_edge(rounding, p, u, v),
-        &vertex_edge(rounding, p, v, w),
-        &vertex_edge(rounding, p, w, u),
+    tally_of_three(
+        &vertex_edge(rounding, &p[0], &q[0], &q[1]),
+        &vertex_edge(rounding, &p[0], &q[1], &q[2]),
+        &vertex_edge(rounding, &p[0], &q[2], &q[0]),
     )
 }
 
 /// The answer of a face and a vertex.
 pub(crate) fn face_vertex<R: Rounding>(
     rounding: &R,
-    u: &Corner,
-    v: &Corner,
-    w: &Corner,
-    q: &Corner,
+    p: &[Corner; 3],
+    q: &[Corner; 1],
 ) -> Option<Meet>
-    requires u_fine { IsFineCorner u.now }
-    requires v_fine { IsFineCorner v.now }
-    requires w_fine { IsFineCorner w.now }
-    requires q_fine { IsFineCorner q.now }
-    ensures { result ≡ meet20 (R.between_of rounding.now) u.now v.now w.now q.now }
+    requires p_fine { AllFine p.now }
+    requires q_fine { AllFine q.now }
+    ensures { result ≡ face_vertex (R.between_of rounding.now) p.now q.now }
 {
-    joined_sides(rounding, &face_vertex_sides(rounding, u, v, w, q))
+    joined(rounding, &face_vertex_tally(rounding, p, q))
 }
 
-/// The sides of the three edges of a face with a vertex.
-pub(crate) fn face_vertex_sides<R: Rounding>(
+/// The tally of the three edges of a face with a vertex.
+pub(crate) fn face_vertex_tally<R: Rounding>(
     rounding: &R,
-    u: &Corner,
-    v: &Corner,
-    w: &Corner,
-    q: &Corner,
-) -> Sides
-    requires u_fine { IsFineCorner u.now }
-    requires v_fine { IsFineCorner v.now }
-    requires w_fine { IsFineCorner w.now }
-    requires q_fine { IsFineCorner q.now }
-    ensures sides { HasSides (boundary20 (R.between_of rounding.now) u.now v.now w.now q.now) result }
-    ensures fine { IsFineSides result }
+    p: &[Corner; 3],
+    q: &[Corner; 1],
+) -> Tally
+    requires p_fine { AllFine p.now }
+    requires q_fine { AllFine q.now }
+    ensures tally { IsTallyOf (boundary20 (R.between_of rounding.now) (corner_at p.now 0) (corner_at p.now 1) (corner_at p.now 2) (corner_at q.now 0)) result }
+    ensures fine { IsFineTally result }
 {
-    three_sides(
-        &edge_vertex(rounding, u, v, q),
-        &edge_vertex(rounding, v, w, q),
-        &edge_vertex(rounding, w, u, q),
+    tally_of_three(
+        &edge_vertex(rounding, &p[0], &p[1], &q[0]),
+        &edge_vertex(rounding, &p[1], &p[2], &q[0]),
+        &edge_vertex(rounding, &p[2], &p[0], &q[0]),
     )
 }
 
-/// The answer of the edges from a to b and from c to d.
-pub(crate) fn edge_edge<R: Rounding>(
-    rounding: &R,
-    a: &Corner,
-    b: &Corner,
-    c: &Corner,
-    d: &Corner,
-) -> Option<Meet>
-    requires a_fine { IsFineCorner a.now }
-    requires b_fine { IsFineCorner b.now }
-    requires c_fine { IsFineCorner c.now }
-    requires d_fine { IsFineCorner d.now }
-    ensures { result ≡ meet11 (R.between_of rounding.now) a.now b.now c.now d.now }
+/// The answer of two edges.
+pub(crate) fn edge_edge<R: Rounding>(rounding: &R, p: &[Corner; 2], q: &[Corner; 2]) -> Option<Meet>
+    requires p_fine { AllFine p.now }
+    requires q_fine { AllFine q.now }
+    ensures { result ≡ edge_edge (R.between_of rounding.now) p.now q.now }
 {
-    joined_sides(rounding, &edge_edge_sides(rounding, a, b, c, d))
+    joined(rounding, &edge_edge_tally(rounding, p, q))
 }
 
-/// The sides of the ends of two edges with the other edge.
-pub(crate) fn edge_edge_sides<R: Rounding>(
-    rounding: &R,
-    a: &Corner,
-    b: &Corner,
-    c: &Corner,
-    d: &Corner,
-) -> Sides
-    requires a_fine { IsFineCorner a.now }
-    requires b_fine { IsFineCorner b.now }
-    requires c_fine { IsFineCorner c.now }
-    requires d_fine { IsFineCorner d.now }
-    ensures sides { HasSides (boundary11 (R.between_of rounding.now) a.now b.now c.now d.now) result }
-    ensures fine { IsFineSides result }
+/// The tally of the ends of two edges with the other edge.
+pub(crate) fn edge_edge_tally<R: Rounding>(rounding: &R, p: &[Corner; 2], q: &[Corner; 2]) -> Tally
+    requires p_fine { AllFine p.now }
+    requires q_fine { AllFine q.now }
+    ensures tally { IsTallyOf (boundary11 (R.between_of rounding.now) (corner_at p.now 0) (corner_at p.now 1) (corner_at q.now 0) (corner_at q.now 1)) result }
+    ensures fine { IsFineTally result }
 {
-    four_sides(
-        &vertex_edge(rounding, b, c, d),
-        &vertex_edge(rounding, a, c, d),
-        &edge_vertex(rounding, a, b, d),
-        &edge_vertex(rounding, a, b, c),
+    tally_of_four(
+        &vertex_edge(rounding, &p[1], &q[0], &q[1]),
+        &vertex_edge(rounding, &p[0], &q[0], &q[1]),
+        &edge_vertex(rounding, &p[0], &p[1], &q[1]),
+        &edge_vertex(rounding, &p[0], &p[1], &q[0]),
     )
 }

@@ -1,12 +1,14 @@
 //! Spots, and the comparisons at them.
 
-ghost use Rattle.std.specs.Prelude.{◌≡◌, ◌≤ℤ◌, pos, ◌-ℤ◌};
+ghost use Rattle.std.specs.Prelude.{◌≡◌, ◌<◌};
 ghost use Rattle.side_terms.specs.Fine.{IsFine, IsWeight};
-ghost use Rattle.side_terms.specs.Corners.{axis, IsFineCorner};
-ghost use Rattle.shadow_kernels.specs.Spots.{beats, beyond, mark, marks, gap, spot00, spot01, spot10, spot_between};
+ghost use Rattle.side_terms.specs.Corners.{axis};
+ghost use Rattle.shadow_kernels.specs.Spots.{beats, beyond, mark, marks, gap, edge_value, spot00, spot01, spot10, spot_between};
 ghost use Rattle.shadow_kernels.specs.Bounds.{IsFineSpot};
+ghost use Rattle.shadow_kernels.specs.Entries.{spot_of};
+ghost use Rattle.shadow_kernels.specs.Hulls.{IsAlong};
 
-use crate::Spot;
+use crate::{Meet, Spot};
 use mb_base::Corner;
 use rounding::Rounding;
 
@@ -58,6 +60,23 @@ pub fn gap_of(p: i64, q: i64) -> i64
     (p - q).abs()
 }
 
+/// The spot of an answer; where there is none, one of zeros.
+pub fn spot_of(meet: &Option<Meet>) -> Spot
+    ensures { result ≡ spot_of meet.now }
+{
+    match meet {
+        None => Spot {
+            x: 0,
+            py: 0,
+            qy: 0,
+            pz: 0,
+            qz: 0,
+            up: [false; 3],
+        },
+        Some(m) => m.spot,
+    }
+}
+
 /// The spot of two vertices.
 pub(crate) fn vertex_vertex_spot(p: &Corner, q: &Corner) -> Spot
     ensures { result ≡ spot00 p.now q.now }
@@ -72,6 +91,26 @@ pub(crate) fn vertex_vertex_spot(p: &Corner, q: &Corner) -> Spot
     }
 }
 
+/// The value on an axis, y or z, of the edge between its left and its right end, at x.
+pub(crate) fn edge_value<R: Rounding>(
+    rounding: &R,
+    left: &Corner,
+    right: &Corner,
+    x: i64,
+    axis: usize,
+) -> i64
+    requires along { IsAlong left.now right.now x }
+    requires axis { axis < 3 }
+    ensures { result ≡ edge_value (R.between_of rounding.now) axis left.now right.now x }
+{
+    rounding.between(
+        left.at[axis],
+        right.at[axis],
+        x - left.at[0],
+        right.at[0] - x,
+    )
+}
+
 /// The spot of a vertex and an edge, where left is the end of the edge with the smaller x.
 pub(crate) fn vertex_edge_spot<R: Rounding>(
     rounding: &R,
@@ -79,23 +118,15 @@ pub(crate) fn vertex_edge_spot<R: Rounding>(
     left: &Corner,
     right: &Corner,
 ) -> Spot
-    requires p_fine { IsFineCorner p.now }
-    requires left_fine { IsFineCorner left.now }
-    requires right_fine { IsFineCorner right.now }
-    requires after_left { axis 0 left.now ≤ℤ axis 0 p.now }
-    requires before_right { axis 0 p.now ≤ℤ axis 0 right.now }
+    requires { IsAlong left.now right.now (axis 0 p.now) }
     ensures { result ≡ spot01 (R.between_of rounding.now) p.now left.now right.now }
 {
-    let before = p.at[0] - left.at[0];
-    let after = right.at[0] - p.at[0];
-    let qy = rounding.between(left.at[1], right.at[1], before, after);
-    let qz = rounding.between(left.at[2], right.at[2], before, after);
     Spot {
         x: p.at[0],
         py: p.at[1],
-        qy,
+        qy: edge_value(rounding, left, right, p.at[0], 1),
         pz: p.at[2],
-        qz,
+        qz: edge_value(rounding, left, right, p.at[0], 2),
         up: p.up,
     }
 }
@@ -108,25 +139,18 @@ pub(crate) fn edge_vertex_spot<R: Rounding>(
     right: &Corner,
     q: &Corner,
 ) -> Spot
-    requires left_fine { IsFineCorner left.now }
-    requires right_fine { IsFineCorner right.now }
-    requires q_fine { IsFineCorner q.now }
-    requires after_left { axis 0 left.now ≤ℤ axis 0 q.now }
-    requires before_right { axis 0 q.now ≤ℤ axis 0 right.now }
+    requires { IsAlong left.now right.now (axis 0 q.now) }
     ensures { result ≡ spot10 (R.between_of rounding.now) left.now right.now q.now }
 {
     let before = q.at[0] - left.at[0];
     let after = right.at[0] - q.at[0];
-    let py = rounding.between(left.at[1], right.at[1], before, after);
-    let pz = rounding.between(left.at[2], right.at[2], before, after);
-    let up = marks_between(before, after, &left.up, &right.up);
     Spot {
         x: q.at[0],
-        py,
+        py: edge_value(rounding, left, right, q.at[0], 1),
         qy: q.at[1],
-        pz,
+        pz: edge_value(rounding, left, right, q.at[0], 2),
         qz: q.at[2],
-        up,
+        up: marks_between(before, after, &left.up, &right.up),
     }
 }
 

@@ -8,7 +8,7 @@ use Rattle.mb_base.specs.declared.point.Corner.{Corner}
 use Rattle.side_terms.specs.Corners.{corner_at}
 use Rattle.rounding.specs.Nearest.{nearest}
 use Rattle.shadow_kernels.specs.Shadows.{meet02}
-use Rattle.edge_face.specs.Crossings.{ShadowTest}
+use Rattle.shadow_kernels.specs.ShadowLaws.{ShadowTest}
 use Rattle.side_terms.specs.Sides.{Side, corner_of, corners_of, face_of, side_of}
 use Rattle.lean.proofs.Corners.{corners_at}
 use Rattle.winding.specs.Windings.{face_shadow, winding, plain_corner, plain_shadow, winding_at}

@@ -7,7 +7,7 @@ use Rattle.rounding.specs.Nearest.{nearest}
 use Rattle.shadow_kernels.specs.Counts.{met, by_ends, joined, lifted}
 use Rattle.shadow_kernels.specs.Shadows.{meet01, meet10, meet02, meet20}
 use Rattle.shadow_kernels.specs.Spots.{spot01, spot10, spot_between}
-use Rattle.edge_face.specs.Crossings.{ShadowTest}
+use Rattle.shadow_kernels.specs.ShadowLaws.{ShadowTest}
 use Rattle.side_terms.specs.Sides.{Side, corner_of, corners_of}
 use Rattle.winding.specs.Windings.{winding, winding_back, winding_at}
 use Rattle.winding.proofs.Plain.{no_marks, nearest_test}

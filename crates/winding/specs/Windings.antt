@@ -6,7 +6,7 @@ use Rattle.mb_base.specs.declared.point.Corner.{Corner}
 use Rattle.rounding.specs.Nearest.{nearest}
 use Rattle.shadow_kernels.specs.Counts.{shadow_of}
 use Rattle.shadow_kernels.specs.Shadows.{meet02}
-use Rattle.edge_face.specs.Crossings.{ShadowTest}
+use Rattle.shadow_kernels.specs.ShadowLaws.{ShadowTest}
 use Rattle.side_terms.specs.Sides.{Side, corner_of, face_of}
 
 -- the shadow of a corner of P on a face of Q

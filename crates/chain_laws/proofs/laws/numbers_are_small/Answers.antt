@@ -1,5 +1,5 @@
 use Rattle.chain_laws.specs.Signs.{number_within}
-use Rattle.chain_laws.specs.Sides.{entry_at, counts_at-parts}
+use Rattle.chain_laws.specs.Counted.{entry_at, counts_at-parts}
 use Rattle.chain_laws.proofs.laws.numbers_are_small.Goals as goal
 
 pub returns-clause-within : goal.returns-clause-within

@@ -1,23 +1,16 @@
-use Rattle.std.proofs.Common.{arith, refl, [], ◌∷◌}
+use Rattle.std.proofs.Common.{rules, arith, refl, ap, [], ◌∷◌}
 use Rattle.std.proofs.lemmas.Int.{ints}
 use Rattle.shadow_kernels.specs.FinePairs.{fine_one, fine_two}
-use Rattle.shadow_kernels.proofs.Sizes.{shadow_at}
+use Rattle.shadow_kernels.specs.Counts.{shadow_of}
+use Rattle.shadow_kernels.specs.Sizes.{shadow_bounds, sized_from}
 use Rattle.shadow_kernels.proofs.tests.edge_shadow.Goals as goal
 
-pub returns-in-Some-clause-low : goal.returns-in-Some-clause-low
-returns-in-Some-clause-low g c =
+pub returns-in-Some : goal.returns-in-Some
+returns-in-Some g c =
     let a = c.args.a.now in
     let b = c.args.b.now in
     let q = c.args.q.now in
-    let size = g.met.K.Meets.size c.args.kernels.now (a ∷ b ∷ []) (q ∷ []) refl refl (fine_two a b c.requires.a_fine c.requires.b_fine) (fine_one q c.requires.q_fine) in
-    let s = shadow_at (g.K.Meets.meet_of c.args.kernels.now (a ∷ b ∷ []) (q ∷ [])) c.in-Some.m c.in-Some.ensures size in
-    omega (arith, ints, s)
-
-pub returns-in-Some-clause-high : goal.returns-in-Some-clause-high
-returns-in-Some-clause-high g c =
-    let a = c.args.a.now in
-    let b = c.args.b.now in
-    let q = c.args.q.now in
-    let size = g.met.K.Meets.size c.args.kernels.now (a ∷ b ∷ []) (q ∷ []) refl refl (fine_two a b c.requires.a_fine c.requires.b_fine) (fine_one q c.requires.q_fine) in
-    let s = shadow_at (g.K.Meets.meet_of c.args.kernels.now (a ∷ b ∷ []) (q ∷ [])) c.in-Some.m c.in-Some.ensures size in
-    omega (arith, ints, s)
+    let laws = g.met.K.Meets.laws c.args.kernels.now in
+    let s = shadow_bounds (g.K.Meets.meet_of c.args.kernels.now (a ∷ b ∷ []) (q ∷ [])) (sized_from (g.K.Meets.meet_of c.args.kernels.now (a ∷ b ∷ []) (q ∷ [])) (laws.size (a ∷ b ∷ []) (q ∷ []) refl refl (fine_two a b c.requires.a_fine c.requires.b_fine) (fine_one q c.requires.q_fine)) (laws.present (a ∷ b ∷ []) (q ∷ []) refl refl (fine_two a b c.requires.a_fine c.requires.b_fine) (fine_one q c.requires.q_fine))) in
+    let e = ap shadow_of c.in-Some.ensures in
+    record { value = search rules; low = omega (arith, ints, s, e); high = omega (arith, ints, s, e) }

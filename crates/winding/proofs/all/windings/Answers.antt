@@ -29,12 +29,12 @@ returns-clause-p_edge_identity g c =
     record {
       turns = λ x y.
           let edge = edge_of q.corners x y in
-          let reverse = ap shadow_of (g.met.K.Meets-4.reverse_q k (edge_of p.corners a b) edge 0 1 (omega arith) (omega arith) refl refl (edge_fine p.corners p_side.fine a b) (edge_fine q.corners q_side.fine x y)) in
+          let reverse = ap shadow_of ((g.met.K.Meets-4.laws k).reverse_q (edge_of p.corners a b) edge 0 1 (omega arith) (omega arith) refl refl (edge_fine p.corners p_side.fine a b) (edge_fine q.corners q_side.fine x y)) in
           let turn = turned_shadow (g.K.Meets-4.meet_of k (edge_of p.corners a b) edge) in
           omega (arith, ints, reverse, turn);
     } in
     edges_conserve p q test ends sides c.args.hits.now.x12.items (λ v. get_or c.in_ok-w03.w03.items v (pos 0)) p_side q_side
-    (λ t a b. g.met.K.Crosses-1.turn_p k (edge_of p.corners a b) (face_of q.corners t) refl refl refl (edge_fine p.corners p_side.fine a b) (face_fine q.corners q_side.fine t))
+    (λ t a b. (g.met.K.Crosses-1.laws k).turn_p (edge_of p.corners a b) (face_of q.corners t) refl refl refl (edge_fine p.corners p_side.fine a b) (face_fine q.corners q_side.fine t))
     (λ t a b. g.met.K.Kernels.lift_12 k (pc a) (pc b) (qc t.0) (qc t.1) (qc t.2) (edge_fine p.corners p_side.fine a b) (face_fine q.corners q_side.fine t))
     odd c.requires.x12
     (winding_listed (λ v. winding (g.K.Meets-5.meet_of k) v q) p.corners c.in_ok-w03.w03.items c.in_ok-w03.ensures.value)
@@ -56,12 +56,12 @@ returns-clause-q_edge_identity g c =
     record {
       turns = λ x y.
           let edge = edge_of p.corners x y in
-          let reverse = ap shadow_of (g.met.K.Meets-4.reverse_p k edge (edge_of q.corners a b) 0 1 (omega arith) (omega arith) refl refl (edge_fine p.corners p_side.fine x y) (edge_fine q.corners q_side.fine a b)) in
+          let reverse = ap shadow_of ((g.met.K.Meets-4.laws k).reverse_p edge (edge_of q.corners a b) 0 1 (omega arith) (omega arith) refl refl (edge_fine p.corners p_side.fine x y) (edge_fine q.corners q_side.fine a b)) in
           let turn = turned_shadow (g.K.Meets-4.meet_of k edge (edge_of q.corners a b)) in
           omega (arith, ints, reverse, turn);
     } in
     edges_conserve q p test ends sides c.args.hits.now.x21.items (λ v. get_or c.in_ok-w30.w30.items v (pos 0)) q_side p_side
-    (λ t a b. g.met.K.Crosses-2.turn_q k (face_of p.corners t) (edge_of q.corners a b) refl refl refl (face_fine p.corners p_side.fine t) (edge_fine q.corners q_side.fine a b))
+    (λ t a b. (g.met.K.Crosses-2.laws k).turn_q (face_of p.corners t) (edge_of q.corners a b) refl refl refl (face_fine p.corners p_side.fine t) (edge_fine q.corners q_side.fine a b))
     (λ t a b. g.met.K.Kernels.lift_21 k (pc t.0) (pc t.1) (pc t.2) (qc a) (qc b) (face_fine p.corners p_side.fine t) (edge_fine q.corners q_side.fine a b))
     odd c.requires.x21
     (winding_listed (λ v. winding_back (g.K.Meets-6.meet_of k) p v) q.corners c.in_ok-w30.w30.items c.in_ok-w30.ensures.value)

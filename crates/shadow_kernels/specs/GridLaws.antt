@@ -1,0 +1,102 @@
+-- The six shadow tests are lawful, under any rounding that stays between, and count as their boundary pairs do.
+use Rattle.std.specs.Prelude.{◌≡◌, ℕ, ◌<◌, pos, ◌+ℤ◌, ◌-ℤ◌, Bool, true, false, if◌then◌else◌, List, length}
+use Rattle.std.proofs.Common.{arith, refl, inl, ◌∙◌}
+use Rattle.std.proofs.lemmas.Int.{ints}
+use Rattle.mb_base.specs.declared.point.Corner.{Corner}
+use Rattle.side_terms.specs.Corners.{axis, up_on, corner_at, AllFine}
+use Rattle.chain_laws.specs.Squares.{less}
+use Rattle.shadow_kernels.specs.Spots.{Between, beyond}
+use Rattle.shadow_kernels.specs.Counts.{count_of, shadow_of}
+use Rattle.shadow_kernels.specs.ShadowLaws.{ShadowLaws}
+use Rattle.shadow_kernels.specs.Shadows.{meet00, meet01, meet10, meet11, meet02, meet20, boundary11, boundary02, boundary20, vertex_vertex, vertex_edge, edge_vertex, edge_edge, vertex_face, face_vertex}
+use Rattle.shadow_kernels.specs.Sizes.{turned_shadow}
+use Rattle.shadow_kernels.specs.Hulls.{StaysBetween, placed, beats_boxes}
+use Rattle.shadow_kernels.specs.Decided.{laws_of}
+use Rattle.shadow_kernels.specs.Lifted.{lifted_is}
+use Rattle.shadow_kernels.specs.Levels.{IsEdgewise, count01, count10, reverse01, reverse10, edgewise01, edgewise10, behind, face_decided, face_turned, edge_turned, edges_decided, edges_turned_p, edges_turned_q}
+
+-- of one corner no two can be exchanged
+no_two : {A : Type 0} (i j : ℕ) → i < j → j < 1 → A
+no_two i j l m = absurd (omega (arith, l, m))
+
+-- two vertices
+pub laws00 : ShadowLaws 1 1 vertex_vertex
+laws00 = laws_of 1 1 0 vertex_vertex refl (λ p q i j l m x y fp fq. no_two i j l m) (λ p q i j l m x y fp fq. no_two i j l m) (λ p q x y fp fq. record {
+  sized = inl refl;
+  hull = λ some. absurd (omega (arith, some));
+  apart = λ i less a. absurd (omega (arith, less));
+  side = λ b over. beats_boxes b 0 p q (axis 0 (corner_at p 0)) (axis 0 (corner_at q 0)) (up_on 0 (corner_at p 0)) over (placed p 0 fp (omega (arith, x))).x (placed q 0 fq (omega (arith, y))).x;
+})
+
+-- the difference of two shadows of vertices
+differ : (s t : Bool) → less s t ≡ (if s then pos 1 else pos 0) -ℤ (if t then pos 1 else pos 0)
+differ true true = refl
+differ true false = refl
+differ false true = refl
+differ false false = refl
+
+-- the tests with edges and faces
+module _ (w : Between) (stays : StaysBetween w) where
+  -- a vertex and an edge
+  pub laws01 : ShadowLaws 1 2 (vertex_edge w)
+  laws01 = laws_of 1 2 1 (vertex_edge w) refl (λ p q i j l m x y fp fq. no_two i j l m) (λ p q i j l m x y fp fq. edge_turned (meet01 w (corner_at p 0)) (reverse01 w (corner_at p 0)) q i j l m y)
+      (λ p q x y fp fq. (edgewise01 w stays p q (corner_at p 0) (placed p 0 fp (omega (arith, x)))).decided (corner_at q 0) (corner_at q 1) (placed q 0 fq (omega (arith, y))) (placed q 1 fq (omega (arith, y))))
+
+  -- an edge and a vertex
+  pub laws10 : ShadowLaws 2 1 (edge_vertex w)
+  laws10 = laws_of 2 1 1 (edge_vertex w) refl (λ p q i j l m x y fp fq. edge_turned (λ a b. meet10 w a b (corner_at q 0)) (λ a b. reverse10 w a b (corner_at q 0)) p i j l m x) (λ p q i j l m x y fp fq. no_two i j l m)
+      (λ p q x y fp fq. (edgewise10 w stays p q (corner_at q 0) (placed q 0 fq (omega (arith, y)))).decided (corner_at p 0) (corner_at p 1) (placed p 0 fp (omega (arith, x))) (placed p 1 fp (omega (arith, x))))
+
+  -- two edges
+  pub laws11 : ShadowLaws 2 2 (edge_edge w)
+  laws11 = laws_of 2 2 2 (edge_edge w) refl
+      (λ p q i j l m x y fp fq. edge_turned (λ a b. meet11 w a b (corner_at q 0) (corner_at q 1)) (λ a b. edges_turned_p w a b (corner_at q 0) (corner_at q 1)) p i j l m x)
+      (λ p q i j l m x y fp fq. edge_turned (meet11 w (corner_at p 0) (corner_at p 1)) (edges_turned_q w (corner_at p 0) (corner_at p 1)) q i j l m y)
+      (λ p q x y fp fq. edges_decided w (corner_at p 0) (corner_at p 1) (corner_at q 0) (corner_at q 1) stays p q fp fq
+      (placed p 0 fp (omega (arith, x))) (placed p 1 fp (omega (arith, x))) (placed q 0 fq (omega (arith, y))) (placed q 1 fq (omega (arith, y))))
+
+  -- the edges of a face of Q with a vertex of P, and of a face of P with a vertex of Q
+  edges02 : (p q : List Corner) → length p ≡ 1 → AllFine p → IsEdgewise p q q (meet01 w (corner_at p 0)) (beyond (corner_at p 0))
+  edges02 p q x fp = edgewise01 w stays p q (corner_at p 0) (placed p 0 fp (omega (arith, x)))
+
+  edges20 : (p q : List Corner) → length q ≡ 1 → AllFine q → IsEdgewise p q p (λ a b. meet10 w a b (corner_at q 0)) (behind (corner_at q 0))
+  edges20 p q y fq = edgewise10 w stays p q (corner_at q 0) (placed q 0 fq (omega (arith, y)))
+
+  -- a vertex and a face
+  pub laws02 : ShadowLaws 1 3 (vertex_face w)
+  unfolding meet02
+  laws02 = laws_of 1 3 2 (vertex_face w) refl (λ p q i j l m x y fp fq. no_two i j l m)
+      (λ p q i j l m x y fp fq. face_turned w p q q (meet01 w (corner_at p 0)) (beyond (corner_at p 0)) (edges02 p q x fp) q i j l m y)
+      (λ p q x y fp fq. face_decided w p q q (meet01 w (corner_at p 0)) (beyond (corner_at p 0)) (edges02 p q x fp) stays fp fq y fq)
+
+  -- a face and a vertex
+  pub laws20 : ShadowLaws 3 1 (face_vertex w)
+  unfolding meet20
+  laws20 = laws_of 3 1 2 (face_vertex w) refl
+      (λ p q i j l m x y fp fq. face_turned w p q p (λ a b. meet10 w a b (corner_at q 0)) (behind (corner_at q 0)) (edges20 p q y fq) p i j l m x) (λ p q i j l m x y fp fq. no_two i j l m)
+      (λ p q x y fp fq. face_decided w p q p (λ a b. meet10 w a b (corner_at q 0)) (behind (corner_at q 0)) (edges20 p q y fq) stays fp fq x fp)
+
+-- the counts, which a rounding leaves alone but for the shadows
+module _ (w : Between) where
+  -- a vertex and an edge: the count is the difference of the shadows of the ends
+  pub lift01 : (p c d : Corner) → count_of (meet01 w p c d) ≡ shadow_of (meet00 p c) -ℤ shadow_of (meet00 p d)
+  lift01 p c d = count01 w p c d ∙ differ (beyond p c) (beyond p d)
+
+  -- an edge and a vertex
+  pub lift10 : (a b q : Corner) → count_of (meet10 w a b q) ≡ shadow_of (meet00 b q) -ℤ shadow_of (meet00 a q)
+  lift10 a b q = count10 w a b q ∙ differ (beyond b q) (beyond a q)
+
+  -- two edges: the count is the signed sum of the shadows of the ends with the other edge
+  pub lift11 : (a b c d : Corner) → count_of (meet11 w a b c d) ≡ shadow_of (meet01 w b c d) -ℤ shadow_of (meet01 w a c d) +ℤ shadow_of (meet10 w a b d) -ℤ shadow_of (meet10 w a b c)
+  unfolding meet11
+  lift11 a b c d = let e = lifted_is w (boundary11 w a b c d) in omega (arith, ints, e, turned_shadow (meet01 w a c d), turned_shadow (meet10 w a b c))
+
+  -- a vertex and a face: the count is the sum of the shadows of the edges
+  pub lift02 : (p u v t : Corner) → count_of (meet02 w p u v t) ≡ shadow_of (meet01 w p u v) +ℤ (shadow_of (meet01 w p v t) +ℤ (shadow_of (meet01 w p t u) +ℤ pos 0))
+  unfolding meet02
+  lift02 p u v t = lifted_is w (boundary02 w p u v t)
+
+  -- a face and a vertex
+  pub lift20 : (u v t q : Corner) → count_of (meet20 w u v t q) ≡ shadow_of (meet10 w u v q) +ℤ (shadow_of (meet10 w v t q) +ℤ (shadow_of (meet10 w t u q) +ℤ pos 0))
+  unfolding meet20
+  lift20 u v t q = lifted_is w (boundary20 w u v t q)

@@ -1,0 +1,139 @@
+//! The tally of boundary pairs: the sum of their shadows, and the spots of those that are above and are not.
+
+ghost use Rattle.std.specs.Prelude.{◌≡◌, ◌≤◌, ◌∷◌, [], ◌+ℤ◌, pos, unsigned_abs, true, false};
+ghost use Rattle.shadow_kernels.specs.Spots.{no_spot, spot_between, above_z};
+ghost use Rattle.shadow_kernels.specs.Counts.{shadow_of, turned, chosen, joined};
+ghost use Rattle.shadow_kernels.specs.Bounds.{IsFinePair, IsTallyOf, IsFineTally};
+ghost use Rattle.shadow_kernels.specs.Sizes.{IsSized};
+
+use crate::spots::{exceeds, gap_of, mark_between, spot_between_spots, spot_of};
+use crate::{Meet, Spot};
+use rounding::Rounding;
+
+/// The sum of the shadows of boundary pairs, and the spots of the first pair that is not above and of the first that is.
+#[derive(Clone, Copy, Drop)]
+pub(crate) struct Tally {
+    count: i8,
+    below: Spot,
+    above: Spot,
+}
+
+impl Tally {
+    /// No pairs.
+    fn none() -> Tally
+        ensures { result ≡ record { count = pos 0; below = no_spot; above = no_spot } }
+    {
+        let nothing = spot_of(&None);
+        Tally {
+            count: 0,
+            below: nothing,
+            above: nothing,
+        }
+    }
+
+    /// Puts a pair before the others.
+    fn put(&mut self, pair: &Option<Meet>)
+        requires few { unsigned_abs self.old.count ≤ 3 }
+        requires sized { IsSized pair.now }
+        ensures count { self.new.count ≡ shadow_of pair.now +ℤ self.old.count }
+        ensures below { self.new.below ≡ chosen false pair.now self.old.below }
+        ensures above { self.new.above ≡ chosen true pair.now self.old.above }
+    {
+        if let Some(m) = pair {
+            if m.above {
+                self.count += m.count;
+                self.above = m.spot;
+            } else {
+                self.below = m.spot;
+            }
+        }
+    }
+}
+
+/// The answer with the sign of its count turned.
+fn turned(pair: &Option<Meet>) -> Option<Meet>
+    requires { IsSized pair.now }
+    ensures { result ≡ turned pair.now }
+{
+    match pair {
+        None => None,
+        Some(m) => Some(Meet {
+            count: -m.count,
+            above: m.above,
+            spot: m.spot,
+        }),
+    }
+}
+
+/// The tally of three boundary pairs. The last goes first, since each is put before the others.
+pub(crate) fn tally_of_three(
+    first: &Option<Meet>,
+    second: &Option<Meet>,
+    third: &Option<Meet>,
+) -> Tally
+    requires first_fine { IsFinePair first.now }
+    requires second_fine { IsFinePair second.now }
+    requires third_fine { IsFinePair third.now }
+    ensures tally { IsTallyOf (first.now ∷ second.now ∷ third.now ∷ []) result }
+    ensures fine { IsFineTally result }
+    ensures few { unsigned_abs result.count ≤ 3 }
+{
+    let mut tally = Tally::none();
+    tally.put(third);
+    tally.put(second);
+    tally.put(first);
+    tally
+}
+
+/// The tally of four boundary pairs, of which the second and the fourth count with the other sign.
+pub(crate) fn tally_of_four(
+    first: &Option<Meet>,
+    second: &Option<Meet>,
+    third: &Option<Meet>,
+    fourth: &Option<Meet>,
+) -> Tally
+    requires first_fine { IsFinePair first.now }
+    requires second_fine { IsFinePair second.now }
+    requires third_fine { IsFinePair third.now }
+    requires fourth_fine { IsFinePair fourth.now }
+    ensures tally { IsTallyOf (first.now ∷ turned second.now ∷ third.now ∷ turned fourth.now ∷ []) result }
+    ensures fine { IsFineTally result }
+{
+    let mut tally = tally_of_three(&turned(second), third, &turned(fourth));
+    tally.put(first);
+    tally
+}
+
+/// The answer of boundary pairs: none where their shadows add up to nothing, else at the spot between the two spots.
+pub(crate) fn joined<R: Rounding>(rounding: &R, tally: &Tally) -> Option<Meet>
+    requires { IsFineTally tally.now }
+    ensures { result ≡ joined (R.between_of rounding.now) tally.now.count tally.now.below tally.now.above }
+{
+    if tally.count == 0 {
+        return None;
+    }
+    let spot = spot_between_spots(rounding, &tally.below, &tally.above);
+    Some(met_in_z(tally.count, spot))
+}
+
+/// The answer of a count that is not 0 at a spot where z decides.
+fn met_in_z(count: i8, spot: Spot) -> Meet
+    ensures { result ≡ record { count = count; above = above_z spot; spot = spot } }
+{
+    let above = exceeds(spot.pz, spot.qz, spot.up[2]);
+    Meet { count, above, spot }
+}
+
+/// Whether P is beyond Q in z at the spot between the two spots.
+pub(crate) fn is_above_between<R: Rounding>(rounding: &R, tally: &Tally) -> bool
+    requires { IsFineTally tally.now }
+    ensures { result ≡ above_z (spot_between (R.between_of rounding.now) tally.now.below tally.now.above) }
+{
+    let below = &tally.below;
+    let above = &tally.above;
+    let a = gap_of(below.py, below.qy);
+    let b = gap_of(above.py, above.qy);
+    let pz = rounding.between(below.pz, above.pz, a, b);
+    let qz = rounding.between(below.qz, above.qz, a, b);
+    exceeds(pz, qz, mark_between(a, b, below.up[2], above.up[2]))
+}
