@@ -41,9 +41,9 @@ other_start e es v place once within here =
 
 -- an edge in front that starts elsewhere, with or without a mark
 goes_later : (e : ℕ × ℕ) (es : List (ℕ × ℕ)) (u : Bool) (used : List Bool) (v i : ℕ) → (e.0 == v) ≡ false → GoesOn es used v i → GoesOn (e ∷ es) (u ∷ used) v (suc i)
-goes_later e es true used v i other g = record { within = omega (arith, g.within); goes = g.goes; rest = g.rest }
+goes_later e es true used v i other g = record { within = omega (arith, g.within); from = g.from; goes = g.goes; rest = g.rest }
 goes_later e es false used v i other g =
-    record { within = omega (arith, g.within); goes = rw other g.goes; rest = rw other (ap (λ l. e ∷ l) g.rest) }
+    record { within = omega (arith, g.within); from = g.from; goes = rw other g.goes; rest = rw other (ap (λ l. e ∷ l) g.rest) }
 
 -- the only edge from v, where it has no mark
 pub goes_on : (es : List (ℕ × ℕ)) (used : List Bool) (v i : ℕ) → length used ≡ length es → i < length es → get_or used i false ≡ false → start es i ≡ v → out es v ≤ 1 → GoesOn es used v i
@@ -51,7 +51,7 @@ goes_on [] used v i full within free here once = absurd (omega (arith, within))
 goes_on (e ∷ es) [] v i full within free here once = absurd (omega (arith, full))
 goes_on (e ∷ es) (u ∷ used) v zero full within free here once =
     let y = eq-eqb e.0 v here in
-    rw free (record { within = omega arith; goes = rw y refl; rest = rw y refl })
+    rw free (record { within = omega arith; from = here; goes = rw y refl; rest = rw y refl })
 goes_on (e ∷ es) (u ∷ used) v (suc i) full within free here once =
     let other = other_start e es v i once (omega (arith, within)) here in
     goes_later e es u used v i other

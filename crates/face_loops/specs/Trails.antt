@@ -1,5 +1,6 @@
 -- The edges without a mark, and the loop that is followed through them.
-use Rattle.std.specs.Prelude.{◌≡◌, ℕ, ◌<◌, List, [], ◌∷◌, Bool, true, false, cond, length, get_or, set, Option, Some, None}
+use Rattle.std.specs.Prelude.{◌≡◌, ◌⊎◌, ℕ, ◌<◌, List, [], ◌∷◌, Bool, true, false, cond, length, get_or, set, Option, Some, None}
+use Rattle.std.specs.List.{Contains}
 use Rattle.chain_terms.specs.Cycles.{end_from, without_from, follow}
 use Rattle.chain_terms.specs.Ranks.{start, finish}
 
@@ -16,6 +17,7 @@ followed v es = follow (length es) v es
 -- the first edge without a mark that starts at v, and what a mark leaves
 pub record GoesOn (es : List (ℕ × ℕ)) (used : List Bool) (v place : ℕ) : Type 0 where
   pub within : place < length es
+  pub from : start es place ≡ v
   pub goes : end_from v (left es used) ≡ Some (finish es place)
   pub rest : without_from v (left es used) ≡ left es (set used place true)
 
@@ -30,3 +32,4 @@ pub record IsLoopFrom (es : List (ℕ × ℕ)) (first : ℕ) (old new : List Boo
   pub rest : left es new ≡ (followed (finish es first) (left es (set old first true))).1
   pub here : get_or new first false ≡ true
   pub others : (k : ℕ) → get_or old k false ≡ true → get_or new k false ≡ true
+  pub marked : (k : ℕ) → get_or new k false ≡ true → (get_or old k false ≡ true) ⊎ Contains vertices (start es k)

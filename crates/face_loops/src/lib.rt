@@ -7,7 +7,7 @@ ghost use Rattle.std.specs.List.{All, concat, flat_map};
 ghost use Rattle.chain_terms.specs.Chains.{dir};
 ghost use Rattle.chain_terms.specs.Cycles.{cycles};
 ghost use Rattle.chain_terms.specs.Paths.{round_edges};
-ghost use Rattle.face_loops.specs.Segments.{edges_of, IsOneToOne, AreDifferent};
+ghost use Rattle.face_loops.specs.Segments.{edges_of, IsOneToOne, AreDifferent, BeginInOrder};
 ghost use Rattle.face_loops.specs.Starts.{IsIndex};
 
 mod starts;
@@ -33,6 +33,7 @@ pub fn loops(alloc: Global, segments: &[Segment]) -> Result<Vec<Loop>, NoMemory>
     ensures value { IfOk result (λ loops. loops.items ≡ cycles (edges_of segments.now)) }
     ensures edges { IfOk result (λ loops. (a b : ℕ) → dir (flat_map round_edges loops.items) a b ≡ dir (edges_of segments.now) a b) }
     ensures different { IfOk result (λ loops. AreDifferent (concat loops.items)) }
+    ensures order { IfOk result (λ loops. BeginInOrder (edges_of segments.now) loops.items) }
     ensures not_empty { IfOk result (λ loops. All (λ vertices. 0 < length vertices) loops.items) }
 {
     let index = index_of(alloc, segments)?;
@@ -50,7 +51,8 @@ fn all_loops(
     requires one_to_one { IsOneToOne (edges_of segments.now) }
     requires index { IsIndex (edges_of segments.now) index.now }
     requires unused { used.old ≡ replicate (length segments.now) false }
-    ensures { IfOk result (λ loops. loops.items ≡ cycles (edges_of segments.now)) }
+    ensures value { IfOk result (λ loops. loops.items ≡ cycles (edges_of segments.now)) }
+    ensures order { IfOk result (λ loops. BeginInOrder (edges_of segments.now) loops.items) }
 {
     let mut loops = Vec::new(alloc);
     for first in 0..segments.len() {

@@ -30,7 +30,10 @@ loop-first-preserved c =
           rw (w.used-is, w.loops-is) pass
     ]
 
-pub returns : goal.returns
-returns c =
+pub returns-clause-value : goal.returns-clause-value
+returns-clause-value c =
     loops_end (edges_of c.args.segments.now) c.loop-first.first c.loop-first.used c.loop-first.loops.items c.loop-first.invariant
     (omega (arith, c.loop-first-test.false, length-edges_of c.args.segments.now))
+
+pub returns-clause-order : goal.returns-clause-order
+returns-clause-order c = c.loop-first.invariant.order
