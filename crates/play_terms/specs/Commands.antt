@@ -3,7 +3,7 @@ use Rattle.std.specs.Prelude.{ℕ, ℤ, List, if◌then◌else◌, nat_lt, lengt
 use Rattle.chain_terms.specs.Chains.{all_edges}
 use Rattle.mesh_terms.specs.Faults.{FileBytes, Fault}
 use Rattle.mesh_terms.specs.Limits.{Limits}
-use Rattle.mesh_terms.specs.Meshes.{Soup}
+use Rattle.mesh_terms.specs.Meshes.{Triple, Soup}
 use Rattle.mesh_terms.specs.OpenEdges.{open_pair}
 use Rattle.obj_terms.specs.Obj.{obj}
 use Rattle.obj_terms.specs.Written.{obj_text}
@@ -40,16 +40,16 @@ ask_file limits name files = record { actions = Ask name ∷ []; result = bytes_
 abbrev pub ask_mesh : ℕ → Limits → Bytes → Task Soup
 ask_mesh k limits name = then_task (ask_file limits name) (λ bytes. take (checked name (obj k limits bytes)))
 
--- a mesh is written
-abbrev pub write_mesh : ℕ → Bytes → Soup → Task (Unit {0})
-write_mesh k name m = act (Write name (obj_text k m.points m.triples))
+-- the text of a mesh is written under k digits
+abbrev pub write_mesh : ℕ → Bytes → List (List ℤ) → List Triple → Task (Unit {0})
+write_mesh k name points triples = act (Write name (obj_text k points triples))
 
 abbrev pub say : Bytes → Task (Unit {0})
 say line = act (Say line)
 
 -- a mesh is written and told
 abbrev pub copied_task : ℕ → Bytes → Soup → Task (Unit {0})
-copied_task k to m = then_task (write_mesh k to m) (λ _. say (copied_line to m))
+copied_task k to m = then_task (write_mesh k to m.points m.triples) (λ _. say (copied_line to m))
 
 abbrev pub copy_task : ℕ → Limits → Bytes → Bytes → Task (Unit {0})
 copy_task k limits from to = then_task (ask_mesh k limits from) (copied_task k to)

@@ -1,6 +1,6 @@
 -- How a run ends: the status, the line that tells it, and the counts of faults.
 use Rattle.std.specs.Prelude.{◌≡◌, ◌<◌, ℕ, [], Bool, false, ◌⊎◌, Result, Ok, Err}
-use Rattle.run_terms.specs.Files.{Bytes, Rose}
+use Rattle.run_terms.specs.Files.{Bytes, Grew}
 use Rattle.run_terms.specs.Tasks.{Cause, NoCommand, NoFile, FaultyMesh, PastLimit}
 use Rattle.run_terms.specs.Meets.{Why, Refused, Unread, Unwritten, Unsaid, Starved, Faults}
 use Rattle.play_terms.specs.Lines.{read_fault, write_fault, report_fault, no_memory}
@@ -38,7 +38,7 @@ ended_line (Err why) = why_line why
 -- reading failed; or no file is told, and a read gave nothing below the size that was stated
 abbrev pub ReadFailed : Bool → Faults → Faults → Type 0
 ReadFailed tells before now =
-    ((before.read < now.read) × (now.short ≡ before.short)) ⊎ ((tells ≡ false) × Rose before.short now.short × (now.read ≡ before.read))
+    ((before.read < now.read) × (now.short ≡ before.short)) ⊎ ((tells ≡ false) × Grew before.short now.short × (now.read ≡ before.read))
 
 -- writing a file failed, or the output did
 abbrev pub WriteFailed : Faults → Faults → Type 0

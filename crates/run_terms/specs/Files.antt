@@ -29,6 +29,11 @@ OthersStay name old new = (n : Bytes) → (n ≡ name → ⊥) → new n ≡ old
 abbrev pub Rose : ℕ → ℕ → Type 0
 Rose before after = min (before + 1) (2 ^ 64 - 1) ≤ after
 
+-- the count rose, or stood at its last value, and did not fall
+pub record Grew (before after : ℕ) : Type 0 where
+  pub later : before ≤ after
+  pub rose : Rose before after
+
 -- a refusal comes only where the count rose, and an Ok leaves the count
 pub record Counts {T E : Type 0} (before after : ℕ) (result : Result T E) : Type 0 where
   pub later : before ≤ after
@@ -58,7 +63,7 @@ pub record IsShort (stated at : ℕ) (into : Bytes) (count : ℕ) : Type 0 where
 
 -- the count of such reads rises by one of them, and by no other read
 pub record CountsShort (stated at : ℕ) (into : Bytes) (count before after : ℕ) : Type 0 where
-  pub short : IsShort stated at into count → Rose before after
+  pub short : IsShort stated at into count → Grew before after
   pub other : (IsShort stated at into count → ⊥) → after ≡ before
 
 -- as before or empty

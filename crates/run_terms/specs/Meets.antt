@@ -1,6 +1,6 @@
 -- A call against its task: how it ended, what stands then, and which counts of faults rose.
 use Rattle.std.specs.Prelude.{◌≡◌, ℕ, List, Bool, false, ◌⊎◌, IsTrue, Result, Ok, Err}
-use Rattle.run_terms.specs.Files.{Bytes, Rose}
+use Rattle.run_terms.specs.Files.{Bytes, Grew}
 use Rattle.run_terms.specs.Runs.{Action, Ask, Write, Say, World, done_all, StopsAt, StopsBefore}
 use Rattle.run_terms.specs.Tasks.{Refusal, Part, Task}
 
@@ -42,15 +42,15 @@ Does p w v (Err Starved) = StopsBefore p.actions w v
 -- the count of read faults rose; or no file is told, and a read gave nothing below the size that was stated
 abbrev pub ReadRose : Bool → Faults → Faults → Type 0
 ReadRose tells before now =
-    (Rose before.read now.read × (now.short ≡ before.short)) ⊎ ((tells ≡ false) × Rose before.short now.short × (now.read ≡ before.read))
+    (Grew before.read now.read × (now.short ≡ before.short)) ⊎ ((tells ≡ false) × Grew before.short now.short × (now.read ≡ before.read))
 
 -- the count of its kind rose, and no other
 abbrev pub Rises : {A : Type 0} → Bool → Faults → Faults → Result A Why → Type 0
 Rises tells before now (Ok a) = now ≡ before
 Rises tells before now (Err (Refused why)) = now ≡ before
 Rises tells before now (Err (Unread name)) = ReadRose tells before now × (now.write ≡ before.write) × (now.out ≡ before.out)
-Rises tells before now (Err (Unwritten name)) = Rose before.write now.write × (now.read ≡ before.read) × (now.short ≡ before.short) × (now.out ≡ before.out)
-Rises tells before now (Err Unsaid) = Rose before.out now.out × (now.read ≡ before.read) × (now.short ≡ before.short) × (now.write ≡ before.write)
+Rises tells before now (Err (Unwritten name)) = Grew before.write now.write × (now.read ≡ before.read) × (now.short ≡ before.short) × (now.out ≡ before.out)
+Rises tells before now (Err Unsaid) = Grew before.out now.out × (now.read ≡ before.read) × (now.short ≡ before.short) × (now.write ≡ before.write)
 Rises tells before now (Err Starved) = now ≡ before
 
 -- a call ended so, from what was seen before to what is seen now: where the files are told, by its task over them
