@@ -1,7 +1,7 @@
 use Rattle.std.proofs.Common.{◌++◌}
 use Rattle.std.proofs.lemmas.Result.{err_from_is_err_and, on_err_weaker}
 use Rattle.mb_outside.proofs.Adds.{part_after, part_longer}
-use Rattle.manifold_tool.proofs.report.say.Goals as goal
+use Rattle.report_lines.proofs.report.say.Goals as goal
 
 pub returns-in_err-write_all-clause-part : goal.returns-in_err-write_all-clause-part
 returns-in_err-write_all-clause-part g c =

@@ -3,13 +3,14 @@ ghost use Rattle.std.specs.Prelude.{◌≡◌, ◌≤◌, ◌+◌, ◌++◌, len
 ghost use Rattle.std.specs.Fmt.{signed_decimal};
 ghost use Rattle.arrayvec.specs.ArrayVec.{array_vec_len};
 ghost use Rattle.mb_base.specs.Faults.{counted_of, kind_number};
+ghost use Rattle.play_terms.specs.Ends.{why_line};
 ghost use Rattle.play_terms.specs.Lines.{kind_name, limit_name};
-ghost use Rattle.manifold_tool.specs.Tails.{stop_tail_of, copied_tail_of};
+ghost use Rattle.mesh_files.specs.Stops.{why_of};
 
-use crate::stop::Stop;
 use arrayvec::ArrayVec;
 use itoa::Buffer;
 use mb_base::{Counted, TextKind};
+use mesh_files::Stop;
 
 /// The end of a line.
 pub type Tail = ArrayVec<u8, 128>;
@@ -138,27 +139,31 @@ fn plain_tail(text: &[u8]) -> Tail
     tail
 }
 
-/// The end of the line that tells a stop, after the name of the file where it begins with one.
-pub fn stop_tail(stop: &Stop) -> Tail
-    ensures { result.items ≡ stop_tail_of stop.now }
+/// The line that tells a stop at a file, in two parts: the file's name where it begins with one, and its end.
+pub fn stop_line<'a>(name: &'a str, stop: &Stop) -> (&'a [u8], Tail)
+    ensures { result.0.now ++ result.1.items ≡ why_line (why_of name.now stop.now) }
 {
+    let name = name.as_bytes();
     match stop {
-        Stop::Usage => plain_tail(
-            b"usage: manifold_tool copy IN OUT, inside FILE X Y Z or run SCRIPT, each with --digits K\n",
+        Stop::Usage => (
+            b"",
+            plain_tail(
+                b"usage: manifold_tool copy IN OUT, inside FILE X Y Z or run SCRIPT, each with --digits K\n",
+            ),
         ),
-        Stop::Missing => plain_tail(b": missing\n"),
-        Stop::BadText { line, kind } => text_tail(*line, *kind),
-        Stop::BadEdge { from, to } => edge_tail(*from, *to),
-        Stop::Over { what, seen } => limit_tail(*what, *seen),
-        Stop::ReadFault => plain_tail(b": read fault\n"),
-        Stop::WriteFault => plain_tail(b": write fault\n"),
-        Stop::NoMemory => plain_tail(b"out of memory\n"),
+        Stop::Missing => (name, plain_tail(b": missing\n")),
+        Stop::BadText { line, kind } => (name, text_tail(*line, *kind)),
+        Stop::BadEdge { from, to } => (name, edge_tail(*from, *to)),
+        Stop::Over { what, seen } => (b"", limit_tail(*what, *seen)),
+        Stop::ReadFault => (name, plain_tail(b": read fault\n")),
+        Stop::WriteFault => (name, plain_tail(b": write fault\n")),
+        Stop::NoMemory => (b"", plain_tail(b"out of memory\n")),
     }
 }
 
 /// The end of the line that reports a copy.
 pub fn copied_tail(points: u64, triangles: u64, unused: u64) -> Tail
-    ensures { result.items ≡ copied_tail_of points triangles unused }
+    ensures { result.items ≡ codes ": points " ++ decimal points ++ codes ", triangles " ++ decimal triangles ++ codes ", unused " ++ decimal unused ++ codes "\n" }
 {
     let mut tail = Tail::new();
     put_pair(&mut tail, b": points ", points);

@@ -1,0 +1,22 @@
+// Where a command stopped.
+ghost use Rattle.std.specs.Prelude.{◌≡◌};
+
+use mb_outside::Failed;
+use mesh_files::Stop;
+
+/// Where a command stopped: at the file of this name, or as it reported on the output.
+#[derive(Clone, Copy, Debug, PartialEq, Eq, Drop)]
+pub enum Halt<'a> {
+    At { name: &'a str, stop: Stop },
+    Reporting,
+}
+
+impl<'a> From<Failed> for Halt<'a> {
+    ghost use Rattle.report_lines.specs.declared.halt.Halt.TheVariants.{Reporting};
+
+    ghost from_gives = { λ _ halt. halt ≡ Reporting };
+
+    fn from(_: Failed) -> Self {
+        Halt::Reporting
+    }
+}
