@@ -77,5 +77,6 @@ pub fn tell_halt<K: Sink>(halt: &Halt<'_>, sink: &mut K)
     match halt {
         Halt::At { name, stop } => tell_stop(name, stop, sink),
         Halt::Reporting => tell(b"", b"report: write fault\n", sink),
+        Halt::NoMemory => tell_stop("", &Stop::NoMemory, sink),
     }
 }
