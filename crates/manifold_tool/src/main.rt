@@ -14,7 +14,8 @@ mod inside;
 mod run;
 mod start;
 mod status;
-
+#[cfg(test)]
+mod tests;
 
 
 pub use mesh_files::{Read, Stop, read_mesh, save_mesh};

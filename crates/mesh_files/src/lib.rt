@@ -8,6 +8,8 @@
 mod reading;
 mod saving;
 mod stop;
+#[cfg(test)]
+mod tests;
 
 pub use reading::{Read, read_file, read_mesh};
 pub use saving::save_mesh;

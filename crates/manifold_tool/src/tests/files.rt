@@ -1,0 +1,38 @@
+// The files of the tests.
+pub const TETRAHEDRON: &[u8] =
+    b"v 0 0 0\nv 1 0 0\nv 0 1 0\nv 0 0 1\nf 1 3 2\nf 1 2 4\nf 2 3 4\nf 3 1 4\n";
+
+// A tetrahedron whose coordinates have two digits after the point.
+pub const FINE_TETRAHEDRON: &[u8] =
+    b"v 0 0 0\nv 1.26 0 0\nv 0 1.24 0\nv 0 0 -1.25\nf 1 2 3\nf 1 4 2\nf 2 4 3\nf 3 4 1\n";
+
+// A cube.
+pub const CUBE: &[u8] =
+    b"v 0 0 0\nv 10 0 0\nv 0 10 0\nv 10 10 0\nv 0 0 10\nv 10 0 10\nv 0 10 10\nv 10 10 10\nf 1 4 2\nf 1 3 4\nf 5 6 8\nf 5 8 7\nf 1 2 5\nf 2 6 5\nf 2 4 8\nf 2 8 6\nf 4 3 7\nf 4 7 8\nf 1 5 7\nf 1 7 3\n";
+
+// A cube with its inside out.
+pub const TURNED_CUBE: &[u8] =
+    b"v 0 0 0\nv 10 0 0\nv 0 10 0\nv 10 10 0\nv 0 0 10\nv 10 0 10\nv 0 10 10\nv 10 10 10\nf 1 2 4\nf 1 4 3\nf 5 8 6\nf 5 7 8\nf 1 5 2\nf 2 5 6\nf 2 8 4\nf 2 6 8\nf 4 7 3\nf 4 8 7\nf 1 7 5\nf 1 3 7\n";
+
+// A cube in a cube.
+pub const NESTED_CUBES: &[u8] =
+    b"v 0 0 0\nv 10 0 0\nv 0 10 0\nv 10 10 0\nv 0 0 10\nv 10 0 10\nv 0 10 10\nv 10 10 10\nv 2 2 2\nv 8 2 2\nv 2 8 2\nv 8 8 2\nv 2 2 8\nv 8 2 8\nv 2 8 8\nv 8 8 8\nf 1 4 2\nf 1 3 4\nf 5 6 8\nf 5 8 7\nf 1 2 5\nf 2 6 5\nf 2 4 8\nf 2 8 6\nf 4 3 7\nf 4 7 8\nf 1 5 7\nf 1 7 3\nf 9 12 10\nf 9 11 12\nf 13 14 16\nf 13 16 15\nf 9 10 13\nf 10 14 13\nf 10 12 16\nf 10 16 14\nf 12 11 15\nf 12 15 16\nf 9 13 15\nf 9 15 11\n";
+
+// A cube without one of its twelve triangles.
+pub const OPEN_CUBE: &[u8] =
+    b"v 0 0 0\nv 10 0 0\nv 0 10 0\nv 10 10 0\nv 0 0 10\nv 10 0 10\nv 0 10 10\nv 10 10 10\nf 1 4 2\nf 1 3 4\nf 5 6 8\nf 1 2 5\nf 2 6 5\nf 2 4 8\nf 2 8 6\nf 4 3 7\nf 4 7 8\nf 1 5 7\nf 1 7 3\n";
+
+// A cube, and two triangles back to back beside it.
+pub const CUBE_AND_FLAT: &[u8] =
+    b"v 0 0 0\nv 10 0 0\nv 0 10 0\nv 10 10 0\nv 0 0 10\nv 10 0 10\nv 0 10 10\nv 10 10 10\nv 50 0 0\nv 51 0 0\nv 50 1 0\nf 1 4 2\nf 1 3 4\nf 5 6 8\nf 5 8 7\nf 1 2 5\nf 2 6 5\nf 2 4 8\nf 2 8 6\nf 4 3 7\nf 4 7 8\nf 1 5 7\nf 1 7 3\nf 9 10 11\nf 9 11 10\n";
+
+// Two cubes that share one point.
+pub const CUBES_AT_A_CORNER: &[u8] =
+    b"v 0 0 0\nv 10 0 0\nv 0 10 0\nv 10 10 0\nv 0 0 10\nv 10 0 10\nv 0 10 10\nv 10 10 10\nv 20 10 10\nv 10 20 10\nv 20 20 10\nv 10 10 20\nv 20 10 20\nv 10 20 20\nv 20 20 20\nf 1 4 2\nf 1 3 4\nf 5 6 8\nf 5 8 7\nf 1 2 5\nf 2 6 5\nf 2 4 8\nf 2 8 6\nf 4 3 7\nf 4 7 8\nf 1 5 7\nf 1 7 3\nf 8 11 9\nf 8 10 11\nf 12 13 15\nf 12 15 14\nf 8 9 12\nf 9 13 12\nf 9 11 15\nf 9 15 13\nf 11 10 14\nf 11 14 15\nf 8 12 14\nf 8 14 10\n";
+
+// A cube as a modelling program writes it, and its copy.
+pub const MODELLED_CUBE: &[u8] =
+    b"# made by a modeller\nmtllib cube.mtl\no Cube\nv 0.000000 0.000000 0.000000\nv 10.000000 0.000000 0.000000\nv 0.000000 10.000000 0.000000\nv 10.000000 10.000000 0.000000\nv 0.000000 0.000000 10.000000\nv 10.000000 0.000000 10.000000\nv 0.000000 10.000000 10.000000\nv 10.000000 10.000000 10.000000\nvn 0.0000 0.0000 -1.0000\nvt 0.000000 0.000000\nusemtl Material\ns off\nf 1/1/1 3/1/1 4/1/1 2/1/1\nf 5//1 6//1 8//1 7//1\nf 1 2 6 5\nf 2/1 4/1 8/1 6/1\nf -5 -6 -2 \\\n-1\nf 1 5 7 3\n";
+
+pub const MODELLED_CUBE_COPIED: &[u8] =
+    b"v 0 0 0\nv 10 0 0\nv 0 10 0\nv 10 10 0\nv 0 0 10\nv 10 0 10\nv 0 10 10\nv 10 10 10\nf 1 3 4\nf 1 4 2\nf 5 6 8\nf 5 8 7\nf 1 2 6\nf 1 6 5\nf 2 4 8\nf 2 8 6\nf 4 3 7\nf 4 7 8\nf 1 5 7\nf 1 7 3\n";
