@@ -2,7 +2,7 @@
 ghost use Rattle.std.specs.Prelude.{◌≡◌, ◌≤◌, false, IsTrue, IfErr};
 ghost use Rattle.mesh_terms.specs.Limits.{IsLawful};
 ghost use Rattle.play_terms.specs.Commands.{ask_mesh, write_mesh};
-ghost use Rattle.mb_outside.specs.Seen.{MeetsOnShelf, on_shelf};
+ghost use Rattle.mb_outside.specs.Seen.{MeetsOnShelf};
 ghost use Rattle.mesh_files.specs.Stops.{soup_with};
 ghost use Rattle.report_lines.specs.Halts.{halted_by, is_past_words, is_unsaid};
 
@@ -22,8 +22,7 @@ pub fn ask<'a, S: Shelf>(
     shelf: &mut S,
 ) -> Result<Read, Halt<'a>>
     requires digits { digits ≤ 6 }
-    ensures meets {
-        MeetsOnShelf (ask_mesh digits limits.now name.now) (on_shelf S.Shelf shelf.old) (on_shelf S.Shelf shelf.new) (halted_by soup_with result) }
+    ensures meets { MeetsOnShelf S.Shelf (ask_mesh digits limits.now name.now) shelf.old shelf.new (halted_by soup_with result) }
     ensures words { IfErr result (λ halt. IsTrue (is_past_words halt)) }
     ensures unsaid { IfErr result (λ halt. is_unsaid halt ≡ false) }
     ensures lawful { IsLawful limits.now }
@@ -42,9 +41,7 @@ pub fn write<'a, S: Shelf>(
     shelf: &mut S,
 ) -> Result<(), Halt<'a>>
     requires digits { digits ≤ 6 }
-    ensures meets {
-        MeetsOnShelf (write_mesh digits name.now mesh.now.points mesh.now.triples)
-        (on_shelf S.Shelf shelf.old) (on_shelf S.Shelf shelf.new) (halted_by (λ done. done) result) }
+    ensures meets { MeetsOnShelf S.Shelf (write_mesh digits name.now mesh.now.points mesh.now.triples) shelf.old shelf.new (halted_by (λ done. done) result) }
     ensures words { IfErr result (λ halt. IsTrue (is_past_words halt)) }
 {
     match save_mesh(mesh, name, digits, shelf) {

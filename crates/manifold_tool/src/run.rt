@@ -1,16 +1,16 @@
 // The top call.
 ghost use Rattle.std.specs.Prelude.{◌≡◌, ◌≤◌, ◌<◌, ◌+◌, ℕ, ℤ, List, ◌^◌, ◌-◌, ◌↔◌, ◌⊎◌, All, IsTrue, Some, None, Ok};
 ghost use Rattle.play_terms.specs.Commands.{play};
-ghost use Rattle.play_terms.specs.Ends.{RiseWith, ended_line, ended_status};
+ghost use Rattle.play_terms.specs.Ends.{ended_line, ended_status};
 ghost use Rattle.play_terms.specs.Lines.{usage};
 ghost use Rattle.play_terms.specs.ReadingBack.{WritesReadable, digits_in};
-ghost use Rattle.play_terms.specs.Words.{CopyFile, InsideFile, command};
+ghost use Rattle.play_terms.specs.Words.{IsCopy, IsInside, command};
 ghost use Rattle.run_terms.specs.Files.{Bytes, Files};
-ghost use Rattle.mb_outside.specs.Seen.{on_output, seen_of};
+ghost use Rattle.mb_outside.specs.Seen.{on_output};
 ghost use Rattle.report_lines.specs.Halts.{halted_by};
 ghost use Rattle.report_lines.specs.Reports.{IsReported};
-ghost use Rattle.manifold_tool.specs.Playing.{MeetsPlay, meanings};
-ghost use Rattle.manifold_tool.specs.Statuses.{status_number};
+ghost use Rattle.manifold_tool.specs.Playing.{IsUntroubled, RiseOn, RunMeets, meanings};
+ghost use Rattle.manifold_tool.specs.Statuses.{IsDoneOrStarved, status_number};
 
 use crate::copy::copy;
 use crate::inside::inside;
@@ -74,16 +74,12 @@ pub fn run<S: Shelf, O: Sink, E: Sink, L: Ledger>(
     ensures refused { result ≡ Status.Usage → IsReported usage.line (on_output E.Sink err.old) (on_output E.Sink err.new) }
     ensures untouched { result ≡ Status.Usage → (shelf.new ≡ shelf.old) × (out.new ≡ out.old) }
     ensures quiet { result ≡ Status.Done → err.new ≡ err.old }
-    ensures play { MeetsPlay limits.now words.now (seen_of S.Shelf O.Sink shelf.old out.old) (seen_of S.Shelf O.Sink shelf.new out.new)
-        (status_number result) (on_output E.Sink err.old) (on_output E.Sink err.new) }
-    ensures counts { RiseWith (status_number result) (S.tells shelf.old)
-        (seen_of S.Shelf O.Sink shelf.old out.old).faults (seen_of S.Shelf O.Sink shelf.new out.new).faults }
-    ensures complete { IsTrue (S.tells shelf.old) → (play meanings limits.now words.now (S.files shelf.old)).result ≡ Ok tt →
-        S.read_faults shelf.new ≡ S.read_faults shelf.old → S.write_faults shelf.new ≡ S.write_faults shelf.old → O.faults out.new ≡ O.faults out.old →
-        (result ≡ Status.Done) ⊎ (result ≡ Status.NoMemory) }
+    ensures play { RunMeets S.Shelf O.Sink E.Sink limits.now words.now (shelf.old, out.old, err.old) (shelf.new, out.new, err.new) (status_number result) }
+    ensures counts { RiseOn S.Shelf O.Sink (shelf.old, out.old) (shelf.new, out.new) (status_number result) }
+    ensures complete { IsUntroubled S.Shelf O.Sink limits.now words.now (shelf.old, out.old) (shelf.new, out.new) → IsDoneOrStarved result }
     ensures back { (files : Files) → All (WritesReadable (digits_in (command words.now)) limits.now) (play meanings limits.now words.now files).actions }
-    ensures copies_uncounted { (k : ℕ) (from to : Bytes) → command words.now ≡ Some (CopyFile k from to) → steps.new ≡ steps.old }
-    ensures counted { (k : ℕ) (file : Bytes) (point : List ℤ) → command words.now ≡ Some (InsideFile k file point) → result ≡ Status.Done → steps.new ≡ steps.old + 1 }
+    ensures copies_uncounted { IsCopy (command words.now) → steps.new ≡ steps.old }
+    ensures counted { IsInside (command words.now) → result ≡ Status.Done → steps.new ≡ steps.old + 1 }
     ensures most { steps.new ≤ steps.old + 1 }
     ensures uncounted { (result ≡ Status.Done → ⊥) → (result ≡ Status.WriteFault → ⊥) → steps.new ≡ steps.old }
 {

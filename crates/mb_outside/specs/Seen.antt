@@ -29,8 +29,8 @@ abbrev pub seen_of : {S O : Type 0} → OfShelf S → OfSink O → S → O → S
 seen_of s o shelf out = seen (on_shelf s shelf) (o.told out) (o.faults out)
 
 -- a call that touches a shelf alone meets its task, whatever the output
-abbrev pub MeetsOnShelf : {A : Type 0} → Task A → OnShelf → OnShelf → Result A Why → Type 0
-MeetsOnShelf t before now ended = (told : Option Bytes) (outs : ℕ) → Meets t (seen before told outs) (seen now told outs) ended
+abbrev pub ShelfMeets : {A : Type 0} → Task A → OnShelf → OnShelf → Result A Why → Type 0
+ShelfMeets t before now ended = (told : Option Bytes) (outs : ℕ) → Meets t (seen before told outs) (seen now told outs) ended
 
 -- what an output holds where it tells that, and how often it failed
 pub record OnOutput : Type 0 where
@@ -41,5 +41,17 @@ abbrev pub on_output : {O : Type 0} → OfSink O → O → OnOutput
 on_output o out = record { told = o.told out; faults = o.faults out }
 
 -- a call that touches an output alone meets its task, whatever the shelf
-abbrev pub MeetsOnOutput : {A : Type 0} → Task A → OnOutput → OnOutput → Result A Why → Type 0
-MeetsOnOutput t before now ended = (on : OnShelf) → Meets t (seen on before.told before.faults) (seen on now.told now.faults) ended
+abbrev pub OutputMeets : {A : Type 0} → Task A → OnOutput → OnOutput → Result A Why → Type 0
+OutputMeets t before now ended = (on : OnShelf) → Meets t (seen on before.told before.faults) (seen on now.told now.faults) ended
+
+-- the same of a shelf of any type
+abbrev pub MeetsOnShelf : {S A : Type 0} → OfShelf S → Task A → S → S → Result A Why → Type 0
+MeetsOnShelf s t old new ended = ShelfMeets t (on_shelf s old) (on_shelf s new) ended
+
+-- the same of an output of any type
+abbrev pub MeetsOnOutput : {O A : Type 0} → OfSink O → Task A → O → O → Result A Why → Type 0
+MeetsOnOutput o t old new ended = OutputMeets t (on_output o old) (on_output o new) ended
+
+-- a call that touches a shelf and an output meets its task
+abbrev pub MeetsOn : {S O A : Type 0} → OfShelf S → OfSink O → Task A → S × O → S × O → Result A Why → Type 0
+MeetsOn s o t old new ended = Meets t (seen_of s o old.0 old.1) (seen_of s o new.0 new.1) ended

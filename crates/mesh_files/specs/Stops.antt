@@ -1,8 +1,8 @@
 -- Why a file was not read or saved, and what a call that ended so owes.
-use Rattle.std.specs.Prelude.{Bool, true, false, Result, Ok, Err}
+use Rattle.std.specs.Prelude.{ℕ, Bool, true, false, Result, Ok, Err}
 use Rattle.mb_base.specs.Faults.{counted_of, kind_number}
 use Rattle.mesh_terms.specs.Faults as faults
-use Rattle.mesh_terms.specs.Meshes.{Soup}
+use Rattle.mesh_terms.specs.Meshes.{Mesh, Soup}
 use Rattle.play_terms.specs.Lines.{usage, missing, fault_refusal, open_refusal, over}
 use Rattle.run_terms.specs.Files.{Bytes}
 use Rattle.run_terms.specs.Meets.{Why, Refused, Unread, Unwritten, Starved}
@@ -27,9 +27,13 @@ is_reading_stop Usage = false
 is_reading_stop WriteFault = false
 is_reading_stop _ = true
 
--- the mesh with the number of points that were dropped
+-- a mesh, with the number of points that were dropped
+abbrev pub soup_of : Mesh → ℕ → Soup
+soup_of mesh unused = record { points = mesh.points; triples = mesh.triples; unused = unused }
+
+-- the mesh that was read
 abbrev pub soup_with : Read → Soup
-soup_with read = record { points = read.mesh.points; triples = read.mesh.triples; unused = read.unused }
+soup_with read = soup_of read.mesh read.unused
 
 -- how a call at the file of this name ended, where its value counts as this
 abbrev pub ended_by : {T A : Type 0} → (T → A) → Bytes → Result T Stop → Result A Why

@@ -33,8 +33,7 @@ fn size_of<S: Shelf>(name: &str, limits: &Limits, shelf: &mut S) -> Result<usize
     ensures stated { IfOk result (λ size. S.tells shelf.old ≡ false → S.stated shelf.new ≡ size) }
     ensures same { OnOk result (on_shelf S.Shelf shelf.new ≡ on_shelf S.Shelf shelf.old) }
     ensures stop { IfErr result (λ stop. IsTrue (is_reading_stop stop)) }
-    ensures meets { IfErr result (λ stop.
-        MeetsOnShelf (ask_file limits.now name.now) (on_shelf S.Shelf shelf.old) (on_shelf S.Shelf shelf.new) (Err (why_of name.now stop))) }
+    ensures meets { IfErr result (λ stop. MeetsOnShelf S.Shelf (ask_file limits.now name.now) shelf.old shelf.new (Err (why_of name.now stop))) }
     ensures lawful { IsLawful limits.now }
     ensures spare { S.spare shelf.new ≡ S.spare shelf.old }
 {
@@ -96,8 +95,7 @@ fn read_to<S: Shelf>(
     ensures bytes { IfOk result (λ bytes. IsTrue (S.tells shelf.old) → text_of (S.files shelf.old name.now) ≡ bytes.items) }
     ensures same { OnOk result (on_shelf S.Shelf shelf.new ≡ on_shelf S.Shelf shelf.old) }
     ensures stop { IfErr result (λ stop. IsTrue (is_reading_stop stop)) }
-    ensures meets { IfErr result (λ stop.
-        MeetsOnShelf (ask_file limits.now name.now) (on_shelf S.Shelf shelf.old) (on_shelf S.Shelf shelf.new) (Err (why_of name.now stop))) }
+    ensures meets { IfErr result (λ stop. MeetsOnShelf S.Shelf (ask_file limits.now name.now) shelf.old shelf.new (Err (why_of name.now stop))) }
     ensures spare { S.spare shelf.new ≡ S.spare shelf.old }
 {
     let mut bytes = vec![in alloc; 0u8; size]?;
@@ -125,8 +123,7 @@ pub fn read_file<S: Shelf>(
     limits: &Limits,
     shelf: &mut S,
 ) -> Result<Vec<u8>, Stop>
-    ensures meets {
-        MeetsOnShelf (ask_file limits.now name.now) (on_shelf S.Shelf shelf.old) (on_shelf S.Shelf shelf.new) (ended_by (λ bytes. bytes.items) name.now result) }
+    ensures meets { MeetsOnShelf S.Shelf (ask_file limits.now name.now) shelf.old shelf.new (ended_by (λ bytes. bytes.items) name.now result) }
     ensures stop { IfErr result (λ stop. IsTrue (is_reading_stop stop)) }
     ensures lawful { IsLawful limits.now }
     ensures spare { S.spare shelf.new ≡ S.spare shelf.old }
@@ -159,8 +156,7 @@ pub fn read_mesh<S: Shelf>(
     shelf: &mut S,
 ) -> Result<Read, Stop>
     requires { digits ≤ 6 }
-    ensures meets {
-        MeetsOnShelf (ask_mesh digits limits.now name.now) (on_shelf S.Shelf shelf.old) (on_shelf S.Shelf shelf.new) (ended_by soup_with name.now result) }
+    ensures meets { MeetsOnShelf S.Shelf (ask_mesh digits limits.now name.now) shelf.old shelf.new (ended_by soup_with name.now result) }
     ensures stop { IfErr result (λ stop. IsTrue (is_reading_stop stop)) }
     ensures lawful { IsLawful limits.now }
     ensures spare { S.spare shelf.new ≡ S.spare shelf.old }

@@ -4,7 +4,7 @@ ghost use Rattle.obj_terms.specs.Written.{obj_text};
 ghost use Rattle.run_terms.specs.Files.{Counts};
 ghost use Rattle.run_terms.specs.Meets.{Meets};
 ghost use Rattle.play_terms.specs.Commands.{write_mesh};
-ghost use Rattle.mb_outside.specs.Seen.{MeetsOnShelf, on_shelf};
+ghost use Rattle.mb_outside.specs.Seen.{MeetsOnShelf};
 ghost use Rattle.mesh_writer.specs.Pages.{without};
 ghost use Rattle.mesh_files.specs.Pieces.{HasRoom, HoldsPart};
 ghost use Rattle.mesh_files.specs.Stops.{ended_by};
@@ -38,9 +38,7 @@ fn append_text<S: Shelf>(mesh: &Mesh, name: &str, digits: u8, shelf: &mut S) -> 
 /// room, the mesh is saved. It takes no memory.
 pub fn save_mesh<S: Shelf>(mesh: &Mesh, name: &str, digits: u8, shelf: &mut S) -> Result<(), Stop>
     requires { digits ≤ 6 }
-    ensures meets {
-        MeetsOnShelf (write_mesh digits name.now mesh.now.points mesh.now.triples)
-        (on_shelf S.Shelf shelf.old) (on_shelf S.Shelf shelf.new) (ended_by (λ done. done) name.now result) }
+    ensures meets { MeetsOnShelf S.Shelf (write_mesh digits name.now mesh.now.points mesh.now.triples) shelf.old shelf.new (ended_by (λ done. done) name.now result) }
     ensures stop { IfErr result (λ stop. stop ≡ Stop.WriteFault) }
     ensures sure { HasRoom (S.spare shelf.old) name.now (obj_text digits mesh.now.points mesh.now.triples) → IsOk result }
 {

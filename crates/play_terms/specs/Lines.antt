@@ -60,10 +60,13 @@ report_fault = line_of (codes "report: write fault")
 abbrev pub no_memory : Bytes
 no_memory = line_of (codes "out of memory")
 
+-- : points P, triangles T, unused U
+abbrev pub counts_text : ℕ → ℕ → ℕ → Bytes
+counts_text points triangles unused = codes ": points " ++ decimal points ++ codes ", triangles " ++ decimal triangles ++ codes ", unused " ++ decimal unused
+
 -- copied OUT: points P, triangles T, unused U
 abbrev pub copied_line : Bytes → Soup → Bytes
-copied_line to m =
-    line_of (codes "copied " ++ to ++ codes ": points " ++ decimal (length m.points) ++ codes ", triangles " ++ decimal (length m.triples) ++ codes ", unused " ++ decimal m.unused)
+copied_line to m = line_of (codes "copied " ++ to ++ counts_text (length m.points) (length m.triples) m.unused)
 
 -- winding W
 abbrev pub winding_line : ℤ → Bytes

@@ -4,7 +4,7 @@ ghost use Rattle.std.specs.Fmt.{signed_decimal};
 ghost use Rattle.arrayvec.specs.ArrayVec.{array_vec_len};
 ghost use Rattle.mb_base.specs.Faults.{counted_of, kind_number};
 ghost use Rattle.play_terms.specs.Ends.{why_line};
-ghost use Rattle.play_terms.specs.Lines.{kind_name, limit_name};
+ghost use Rattle.play_terms.specs.Lines.{counts_text, kind_name, limit_name};
 ghost use Rattle.mesh_files.specs.Stops.{why_of};
 
 use arrayvec::ArrayVec;
@@ -163,7 +163,7 @@ pub fn stop_line<'a>(name: &'a str, stop: &Stop) -> (&'a [u8], Tail)
 
 /// The end of the line that reports a copy.
 pub fn copied_tail(points: u64, triangles: u64, unused: u64) -> Tail
-    ensures { result.items ≡ codes ": points " ++ decimal points ++ codes ", triangles " ++ decimal triangles ++ codes ", unused " ++ decimal unused ++ codes "\n" }
+    ensures { result.items ≡ counts_text points triangles unused ++ codes "\n" }
 {
     let mut tail = Tail::new();
     put_pair(&mut tail, b": points ", points);

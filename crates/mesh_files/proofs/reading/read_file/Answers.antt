@@ -2,7 +2,7 @@ use Rattle.std.proofs.Common.{◌≡◌, ◌∙◌, Bool, Err, IsTrue, Vec, ℕ,
 use Rattle.std.proofs.lemmas.Result.{IfOk-weaker, err_from_is_err_and}
 use Rattle.run_terms.specs.Files.{text_of}
 use Rattle.play_terms.specs.Commands.{ask_file}
-use Rattle.mb_outside.specs.Seen.{OnShelf, MeetsOnShelf, on_shelf}
+use Rattle.mb_outside.specs.Seen.{OnShelf, ShelfMeets, on_shelf}
 use Rattle.mesh_files.specs.Stops.{ended_by}
 use Rattle.mesh_files.proofs.Ended.{file_read}
 use Rattle.mesh_files.proofs.Texts.{bytes_of_whole}
