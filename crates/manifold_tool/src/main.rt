@@ -17,14 +17,12 @@ mod status;
 #[cfg(test)]
 mod tests;
 
-
-pub use mesh_files::{Read, Stop, read_mesh, save_mesh};
-pub use run::run;
-pub use status::Status;
-
 use mb_base::ArgList;
 use mb_outside::{FolderShelf, Sink, StdSink};
+pub use mesh_files::{Read, Stop, read_mesh, save_mesh};
+pub use run::run;
 use start::start;
+pub use status::Status;
 use std::alloc::Global;
 use std::io::{self, ErrorKind};
 use std::marker::Brand;

@@ -182,7 +182,8 @@ fn the_folder_keeps_what_was_written(rt: HostRuntime) -> Result<(), Fail> {
 }
 
 // A name longer than any file's.
-const LONG: &str = "a_name_that_is_longer_than_that_of_any_file_a_name_that_is_longer_than_that_of_any_file_a_name_that_is_longer_than_that_of_any_file_a_name_that_is_longer_than_that_of_any_file_a_name_that_is_longer_than_that_of_any_file_a_name_that_is_longer_than_that_of_any_file";
+const LONG: &str =
+    "a_name_that_is_longer_than_that_of_any_file_a_name_that_is_longer_than_that_of_any_file_a_name_that_is_longer_than_that_of_any_file_a_name_that_is_longer_than_that_of_any_file_a_name_that_is_longer_than_that_of_any_file_a_name_that_is_longer_than_that_of_any_file";
 
 #[test]
 fn what_the_folder_has_no_place_for_fails(rt: HostRuntime) -> Result<(), Fail> {
@@ -204,8 +205,11 @@ fn what_the_folder_has_no_place_for_fails(rt: HostRuntime) -> Result<(), Fail> {
 #[test]
 fn a_writer_of_std_gets_what_was_written(rt: HostRuntime) -> Result<(), Fail> {
     let mut sink = StdSink::over(fs::create(&rt, "out.txt")?);
-    let rows: [(&[u8], Result<usize, Failed>); 3] =
-        [(b"said", Ok(4)), (b"", Ok(0)), (b", done\n", Ok(7))];
+    let rows: [(&[u8], Result<usize, Failed>); 3] = [
+        (b"said", Ok(4)),
+        (b"", Ok(0)),
+        (b", done\n", Ok(7)),
+    ];
     assert!(rt; takes(&mut sink, &rows));
     let mut into = *b"............";
     let read = [(Call::Read("out.txt", 0), Ok(Some(11)))];

@@ -1,9 +1,9 @@
 -- Decimal numbers are words of digits that spell them.
-use Rattle.std.proofs.Common.{◌≡◌, ℕ, ◌+◌, ◌*◌, ◌/◌, ◌%◌, ◌^◌, ◌-◌, ◌<◌, ◌&&◌, ◌==◌, if◌then◌else◌, Bool, List, [], ◌∷◌, ◌++◌, true, false, decimal, refl, ap, ◌∙◌, arith, length-append, Option, Some, None}
+use Rattle.std.proofs.Common.{◌≡◌, ℕ, ◌+◌, ◌*◌, ◌/◌, ◌%◌, ◌^◌, ◌-◌, ◌<◌, ◌&&◌, ◌==◌, if◌then◌else◌, Bool, List, [], ◌∷◌, ◌++◌, true, false, decimal, ap, ◌∙◌, arith, length-append, Option, Some, None}
 use Rattle.std.proofs.lemmas.Bool.Decides.{nat_tests}
 use Rattle.std.proofs.lemmas.Fmt.{decimal_by_steps}
 use Rattle.text_laws.proofs.Digits.{all_digits-append, value_from-append}
-use Rattle.text_terms.specs.Numbers.{is_digit, all_digits, is_digits, value_from, digits_value}
+use Rattle.text_terms.specs.Numbers.{all_digits, is_digits, digits_value}
 use Rattle.obj_terms.specs.Faces.{minus_first}
 use Rattle.obj_laws.proofs.Bytes.{Above-append, IsWord}
 

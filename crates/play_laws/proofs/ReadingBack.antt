@@ -1,8 +1,7 @@
 -- What the commands write is read again.
-use Rattle.std.proofs.Common.{◌≡◌, ◌≤◌, ℕ, ℤ, List, [], ◌∷◌, All, Option, Some, None, Result, Ok, Err, cond, length, ap, sym, ◌∙◌, refl, subst}
+use Rattle.std.proofs.Common.{◌≡◌, ◌≤◌, ℕ, ℤ, List, [], ◌∷◌, Option, Some, None, Result, Ok, Err, cond, length, ap, ◌∙◌, refl, subst}
 use Rattle.std.proofs.lemmas.Bool.{le-ltb}
 use Rattle.std.proofs.lemmas.List.Elements.{All-nil, All-cons}
-use Rattle.std.proofs.Math.Dec.{ltb}
 use Rattle.chain_terms.specs.Chains.{all_edges}
 use Rattle.mesh_terms.specs.Faults.{Fault, FileBytes}
 use Rattle.mesh_terms.specs.Limits.{Limits, IsLawful}
@@ -13,15 +12,14 @@ use Rattle.obj_terms.specs.Written.{obj_text}
 use Rattle.obj_laws.specs.ReadingBack.{ReadsBack}
 use Rattle.obj_laws.proofs.ReadMeshes.{files_give_meshes}
 use Rattle.obj_laws.proofs.SavedMeshes.{meshes_read_back}
-use Rattle.run_terms.specs.Files.{Bytes, Files}
-use Rattle.run_terms.specs.Runs.{Action, Ask, Write, Say}
-use Rattle.run_terms.specs.Tasks.{Refusal, Part, take, joined}
+use Rattle.run_terms.specs.Files.{Bytes}
+use Rattle.run_terms.specs.Runs.{Ask, Write, Say}
+use Rattle.run_terms.specs.Tasks.{Refusal, take, joined}
 use Rattle.run_laws.specs.Keeping.{Keeps}
 use Rattle.run_laws.proofs.Keeping.{keeps_take, keeps_act, keeps_then}
 use Rattle.play_terms.specs.Commands.{Meanings, ask_file, ask_mesh, bytes_in, checked, command_task, copied_task, copy_task, if_closed, inside_task, say, winding_task, write_mesh}
 use Rattle.play_terms.specs.Lines.{copied_line, over, usage, winding_line}
-use Rattle.play_terms.specs.ReadingBack.{IsReadable, WritesReadable, as_saved, digits_in}
-use Rattle.play_terms.specs.Words.{Command, CopyFile, InsideFile}
+use Rattle.play_terms.specs.ReadingBack.{IsReadable, WritesReadable, as_saved}
 
 -- a mesh that was taken had no open pair
 taken_closed : (name : Bytes) (s soup : Soup) (pair : Option (ℕ × ℕ)) → if_closed name s pair ≡ Ok soup → (s ≡ soup) × (pair ≡ None)

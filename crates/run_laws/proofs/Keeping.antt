@@ -1,7 +1,6 @@
 -- What all actions of a task keep, for tasks one after the other.
-use Rattle.std.proofs.Common.{◌≡◌, List, [], ◌++◌, Result, Ok, Err, All, refl}
+use Rattle.std.proofs.Common.{◌≡◌, List, [], Result, Ok, Err, All, refl}
 use Rattle.std.proofs.lemmas.List.Elements.{All-nil, All-cons, All-append}
-use Rattle.run_terms.specs.Files.{Files}
 use Rattle.run_terms.specs.Runs.{Action}
 use Rattle.run_terms.specs.Tasks.{Refusal, Part, Task, changed_all, take, act, joined, then_task}
 use Rattle.run_laws.specs.Keeping.{Keeps}

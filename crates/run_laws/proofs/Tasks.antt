@@ -1,9 +1,9 @@
 -- Tasks one after the other: the two outcomes of the first, and what stands before any.
-use Rattle.std.proofs.Common.{◌≡◌, ℕ, Bool, List, [], ◌∷◌, ◌++◌, Result, Ok, Err, IsTrue, append_assoc, append-nil, ap, sym, subst, ◌∙◌, refl}
-use Rattle.run_terms.specs.Files.{Bytes, Files}
+use Rattle.std.proofs.Common.{◌≡◌, Bool, List, [], ◌∷◌, ◌++◌, Result, Ok, Err, IsTrue, append_assoc, ap, sym, subst, ◌∙◌, refl}
+use Rattle.run_terms.specs.Files.{Files}
 use Rattle.run_terms.specs.Runs.{Action, Ask, Write, Say, World, done, done_all, Partial, StopsAt, StopsBefore}
 use Rattle.run_terms.specs.Tasks.{Refusal, Part, Task, changed, changed_all, joined, then_task}
-use Rattle.run_terms.specs.Meets.{Why, Refused, Unread, Unwritten, Unsaid, Starved, Faults, Seen, DoesAll, Does, Rises, Meets}
+use Rattle.run_terms.specs.Meets.{Why, Refused, Unread, Unwritten, Unsaid, Starved, Faults, Seen, Does, Rises, Meets}
 
 -- actions one after the other
 pub done_all-append : (xs ys : List Action) (w : World) → done_all (xs ++ ys) w ≡ done_all ys (done_all xs w)

@@ -1,7 +1,7 @@
 -- A call against its task: how it ended, what stands then, and which counts of faults rose.
-use Rattle.std.specs.Prelude.{◌≡◌, ℕ, List, Bool, false, ◌⊎◌, IsTrue, Result, Ok, Err}
+use Rattle.std.specs.Prelude.{◌≡◌, ℕ, Bool, false, ◌⊎◌, IsTrue, Result, Ok, Err}
 use Rattle.run_terms.specs.Files.{Bytes, Grew}
-use Rattle.run_terms.specs.Runs.{Action, Ask, Write, Say, World, done_all, StopsAt, StopsBefore}
+use Rattle.run_terms.specs.Runs.{Ask, Write, Say, World, done_all, StopsAt, StopsBefore}
 use Rattle.run_terms.specs.Tasks.{Refusal, Part, Task}
 
 -- why a call stopped: its task refuses, a file could not be read or written, a line could not be said, or memory ran out

@@ -1,5 +1,5 @@
 -- What a run does to the files and the output, and what stands after a part of it.
-use Rattle.std.specs.Prelude.{◌≡◌, ℕ, List, [], ◌∷◌, ◌++◌, ◌⊎◌, Option}
+use Rattle.std.specs.Prelude.{◌≡◌, List, [], ◌∷◌, ◌++◌, ◌⊎◌, Option}
 use Rattle.std.specs.Option.{option_map}
 use Rattle.run_terms.specs.Files.{Bytes, Files, put, IsPrefix}
 

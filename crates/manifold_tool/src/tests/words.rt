@@ -1,4 +1,6 @@
 // Words and digits in whole runs, and a start without words.
+ghost use Rattle.std.specs.Prelude.{◌≡◌, ◌<◌, ◌^◌, ◌-◌};
+
 use super::files::{CUBE, FINE_TETRAHEDRON};
 use super::{ROOM, USAGE, copied, judge, plain, sink};
 use crate::start::start;
@@ -10,8 +12,6 @@ use std::marker::Brand;
 use std::sync::ledger::{Blank, Ledger};
 use std::test::Fail;
 use steps::Steps;
-
-ghost use Rattle.std.specs.Prelude.{◌≡◌, ◌<◌, ◌^◌, ◌-◌};
 
 #[test]
 fn other_words_are_usage(rt: HostRuntime) -> Result<(), Fail> {

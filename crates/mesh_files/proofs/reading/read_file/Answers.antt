@@ -21,9 +21,9 @@ returns-clause-meets g c =
     let Told : OnShelf → Type 0 = λ on. IsTrue on.tells in
     file_read (λ bytes. bytes.items) c.args.limits.now name _ _ _ c.read_to.result sized.same c.read_to.ensures.same
     (IfOk-weaker c.read_to.result _ _
-        (λ bytes is told.
-            let size = sized.size told in
-            bytes_of_whole c.args.limits.now name bytes.items _ c.in_ok-size.size size.0 size.1
-            (ap (λ (on : OnShelf). text_of (on.files name)) (sym sized.same) ∙ is (subst Told (sym sized.same) told)))
-        c.read_to.ensures.bytes)
+    (λ bytes is told.
+    let size = sized.size told in
+    bytes_of_whole c.args.limits.now name bytes.items _ c.in_ok-size.size size.0 size.1
+    (ap (λ (on : OnShelf). text_of (on.files name)) (sym sized.same) ∙ is (subst Told (sym sized.same) told)))
+    c.read_to.ensures.bytes)
     c.read_to.ensures.meets

@@ -20,9 +20,9 @@ returns-in_default-append_text-clause-meets g c =
     unwritten c.args.digits c.args.name.now c.args.mesh.now.points c.args.mesh.now.triples _ _ (e.told ∙ begun.told) (e.reads ∙ begun.reads) (e.short ∙ begun.short)
     (subst Q (begun.writes.ok refl) (record { later = e.writes.later; rose = e.writes.failed refl }))
     (λ told.
-        let mid = subst P (sym begun.told) told in
-        let part = e.part mid in
-        inr (part.0, part.1, written_after c.args.name.now part.0 _ _ _ part.2 (begun.others told) (e.others mid)))
+    let mid = subst P (sym begun.told) told in
+    let part = e.part mid in
+    inr (part.0, part.1, written_after c.args.name.now part.0 _ _ _ part.2 (begun.others told) (e.others mid)))
 
 pub returns-clause-meets : goal.returns-clause-meets
 returns-clause-meets g c =

@@ -14,6 +14,6 @@ returns g c =
     let triples : length c.triples.result.now ≡ length m.triples = sym (length-map c.triples.result.now triple_of) ∙ ap length c.triples.ensures.value in
     let tail : Bytes = c.as_slice.result.now in
     let is : tail ≡ counts_text (length m.points) (length m.triples) m.unused ++ codes "\n" =
-        c.as_slice.ensures.value ∙ (rw (points, triples, c.from.ensures) at c.copied_tail-tail.ensures) in
+    c.as_slice.ensures.value ∙ (rw (points, triples, c.from.ensures) at c.copied_tail-tail.ensures) in
     let line = ap (λ name. codes "copied " ++ (name ++ tail)) c.as_bytes.ensures.value ∙ copied_parts to tail m is in
     record { meets = met_as (copied_line to m) _ _ _ c.say.result line c.say.ensures.added c.say.ensures.part c.say.ensures.count }
