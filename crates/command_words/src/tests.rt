@@ -1,6 +1,6 @@
 // What words are a command, and which one.
 use crate::{Command, read_command};
-use mb_base::{ArgList, NoMemory};
+use mb_base::{ArgList, NoMemory, Point};
 use std::alloc::Global;
 use std::test::Fail;
 
@@ -30,12 +30,25 @@ fn is_copy_with(alloc: Global, words: &[&str], wanted: u8) -> Result<bool, NoMem
     }
 }
 
+// Where a point is.
+fn is_at(point: &Point, at: [i32; 3]) -> bool {
+    let [x, y, z] = point.at();
+    x == at[0] && y == at[1] && z == at[2]
+}
+
 // Whether the words ask for this point of the grid in `c.obj`.
 fn is_inside_at(alloc: Global, words: &[&str], at: [i32; 3]) -> Result<bool, NoMemory> {
     let list = listed(alloc, words)?;
-    match read_command(&list) {
-        Some(Command::InsideFile { file, point, .. }) => Ok(file == "c.obj" && point.at() == at),
-        _ => Ok(false),
+    let Some(command) = read_command(&list) else {
+        return Ok(false);
+    };
+    match command {
+        Command::CopyFile { .. } => Ok(false),
+        Command::InsideFile {
+            digits,
+            file,
+            point,
+        } => Ok(digits <= 6 && file == "c.obj" && is_at(&point, at)),
     }
 }
 
