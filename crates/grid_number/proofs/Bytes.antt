@@ -5,6 +5,7 @@ use Rattle.std.proofs.lemmas.List.Elements.{All-append, All-nil, All-cons}
 use Rattle.std.proofs.Math.Nat.{div-le_self}
 use Rattle.std.proofs.lemmas.Bool.Decides.{nat_tests}
 use Rattle.std.proofs.lemmas.Nat.{mod_below, div_below, pow-add}
+use Rattle.text_laws.proofs.Digits.{both, left, right, all_digits-append}
 use Rattle.text_terms.specs.Numbers.{is_digit, all_digits, is_on_grid}
 use Rattle.text_terms.specs.Written.{last_digits, without_zeros, is_empty, written_rest, written_size, written}
 use Rattle.grid_number.specs.Bytes.{is_number_byte}
@@ -13,22 +14,6 @@ use Rattle.grid_number.proofs.KeptDigits.{ten_pow_pos, kept_digits, length-kept_
 -- the byte of a decimal digit
 pub is_digit-of : (d : ℕ) → d < 10 → is_digit (48 + d) ≡ true
 is_digit-of d small = grind (arith, nat_tests)
-
--- a list of digits, from its parts
-pub both : (a b : Bool) → a ≡ true → b ≡ true → (a && b) ≡ true
-both a b p q = grind arith
-
-pub left : (a b : Bool) → (a && b) ≡ true → a ≡ true
-left a b p = grind arith
-
-pub right : (a b : Bool) → (a && b) ≡ true → b ≡ true
-right a b p = grind arith
-
--- digits after digits
-pub all_digits-append : (xs ys : List ℕ) → all_digits xs ≡ true → all_digits ys ≡ true → all_digits (xs ++ ys) ≡ true
-all_digits-append [] ys p q = q
-all_digits-append (x ∷ xs) ys p q = both (is_digit x) (all_digits (xs ++ ys)) (left (is_digit x) (all_digits xs) p)
-    (all_digits-append xs ys (right (is_digit x) (all_digits xs) p) q)
 
 -- one digit
 all_digits-one : (d : ℕ) → d < 10 → all_digits ((48 + d) ∷ []) ≡ true

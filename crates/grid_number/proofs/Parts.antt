@@ -1,6 +1,7 @@
 -- The parts of a text whose runs of digits are known.
 use Rattle.std.proofs.Common.{◌≡◌, ℕ, ◌+◌, ◌<◌, ◌&&◌, cond, if◌then◌else◌, nat_lt, Bool, List, [], ◌∷◌, ◌++◌, true, false, length, refl, sym, ap, ◌∙◌, arith, append-nil, Option, Some, None, option_map, ℤ, nat_abs, MatchBool, suc, ◌≤◌, ◌*◌, ◌^◌, length-append}
 use Rattle.std.proofs.lemmas.Bool.Decides.{nat_tests}
+use Rattle.text_laws.proofs.Cuts.{cut_at-here, cut_at-past}
 use Rattle.text_terms.specs.Numbers.{Parts, is_digit, all_digits, cut_at, is_e, mantissa_ok, exponent_ok, exponent_of, or_empty, signed, number_parts}
 use Rattle.grid_number.specs.Reading.{parts_with, parts_from, parts_after, is_point, begins_digit, exponent_after, AfterPoint, saturated_size, saturated_parts}
 use Rattle.grid_number.proofs.Saturated.{saturated_size-within}
@@ -92,14 +93,6 @@ power-after c cs e = sym (ap
 no_power-after : (c : ℕ) (cs : List ℕ) → is_e c ≡ false → exponent_after (c ∷ cs) ≡ None
 no_power-after c cs e = ap (λ (b : Bool). if b then
     (if exponent_ok (Some cs) then Some (exponent_of (Some cs)) else None) else None) e
-
--- a cut at its first byte, and past it
-cut_at-here : (p : ℕ → Bool) (c : ℕ) (cs : List ℕ) → p c ≡ true → cut_at p (c ∷ cs) ≡ ([], Some cs)
-cut_at-here p c cs here = let r = cut_at p cs in ap (λ (b : Bool). cond b ([], Some cs) (c ∷ r.0, r.1)) here
-
-cut_at-past : (p : ℕ → Bool) (c : ℕ) (cs : List ℕ) → p c ≡ false →
-    cut_at p (c ∷ cs) ≡ (c ∷ (cut_at p cs).0, (cut_at p cs).1)
-cut_at-past p c cs past = let r = cut_at p cs in ap (λ (b : Bool). cond b ([], Some cs) (c ∷ r.0, r.1)) past
 
 -- something that is no point comes next
 parts-other : (negative : Bool) (ds : List ℕ) (c : ℕ) (cs : List ℕ) (e : Bool) → all_digits ds ≡ true →

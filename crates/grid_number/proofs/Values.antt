@@ -1,16 +1,12 @@
 -- The whole number that digits spell.
-use Rattle.std.proofs.Common.{◌≡◌, ℕ, zero, suc, ◌+◌, ◌*◌, ◌/◌, ◌%◌, ◌^◌, ◌-◌, ◌<◌, ◌&&◌, ◌==◌, if◌then◌else◌, Bool, List, [], ◌∷◌, ◌++◌, true, false, length, decimal, refl, sym, ap, ◌∙◌, arith}
+use Rattle.std.proofs.Common.{◌≡◌, ℕ, zero, suc, ◌+◌, ◌*◌, ◌/◌, ◌%◌, ◌^◌, ◌-◌, ◌<◌, ◌&&◌, ◌==◌, if◌then◌else◌, Bool, List, [], ◌∷◌, true, false, length, decimal, refl, sym, ap, ◌∙◌, arith}
 use Rattle.std.proofs.Math.Nat.{pow-suc, pow-succ', mod-one, mul_assoc}
 use Rattle.std.proofs.Math.Arith.{mod-mul}
 use Rattle.std.proofs.lemmas.Fmt.{decimal_by_steps}
+use Rattle.text_laws.proofs.Digits.{value_from-append}
 use Rattle.text_terms.specs.Numbers.{value_from, digits_value}
 use Rattle.text_terms.specs.Written.{last_digits, without_zeros, is_empty}
 use Rattle.grid_number.proofs.KeptDigits.{ten_pow_pos}
-
--- digits after digits
-pub value_from-append : (v : ℕ) (xs ys : List ℕ) → value_from v (xs ++ ys) ≡ value_from (value_from v xs) ys
-value_from-append v [] ys = refl
-value_from-append v (x ∷ xs) ys = value_from-append (v * 10 + (x - 48)) xs ys
 
 -- what is written of a whole number spells it
 pub digits_value-decimal : (n : ℕ) → n < 2 ^ 64 → digits_value (decimal n) ≡ n

@@ -1,10 +1,2 @@
-pub mod Commands
-pub mod Faults
-pub mod Halts
-pub mod Pieces
-pub mod Reports
-pub mod Saves
+pub mod Playing
 pub mod Statuses
-pub mod Stops
-pub mod Tails
-pub mod Winding

@@ -1,5 +1,5 @@
 -- The statuses of a run by number.
-use Rattle.std.specs.Prelude.{ℕ}
+use Rattle.std.specs.Prelude.{◌≡◌, ℕ, ◌⊎◌}
 use Rattle.manifold_tool.specs.declared.status.Status.{Status}
 use Rattle.manifold_tool.specs.declared.status.Status.TheVariants.{Done, Usage, BadScript, MissingFile, BadMesh, Limit, ReadFault, WriteFault, NoMemory}
 
@@ -13,3 +13,6 @@ status_number Limit = 5
 status_number ReadFault = 6
 status_number WriteFault = 7
 status_number NoMemory = 8
+
+abbrev pub IsDoneOrStarved : Status → Type 0
+IsDoneOrStarved status = (status ≡ Done) ⊎ (status ≡ NoMemory)

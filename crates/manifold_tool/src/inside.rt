@@ -1,69 +1,42 @@
 // The command inside.
-ghost use Rattle.std.specs.Prelude.{◌≡◌, ◌<◌, ◌^◌, ◌-◌, ◌+◌, ◌≤◌, [], IsTrue, OnOk, IfErr, Err};
-ghost use Rattle.play_terms.specs.Commands.{inside_play};
-ghost use Rattle.play_terms.specs.Meets.{RunMeets};
-ghost use Rattle.manifold_tool.specs.Halts.{halt_status, halt_line};
-ghost use Rattle.manifold_tool.specs.Reports.{world};
-ghost use Rattle.manifold_tool.specs.Stops.{is_reading_stop};
-ghost use Rattle.manifold_tool.specs.Winding.{winding_in};
-ghost use Rattle.manifold_tool.specs.declared.stop.Stop.{Stop};
+ghost use Rattle.std.specs.Prelude.{◌≡◌, ◌≤◌, ◌+◌, if◌then◌else◌, All, IsTrue, OnOk, IfErr};
+ghost use Rattle.play_terms.specs.Commands.{inside_task};
+ghost use Rattle.play_terms.specs.ReadingBack.{WritesReadable};
+ghost use Rattle.run_terms.specs.Files.{Files};
+ghost use Rattle.mb_outside.specs.Seen.{MeetsOn};
+ghost use Rattle.report_lines.specs.Halts.{halted_by, is_past_words, is_unsaid};
+ghost use Rattle.manifold_tool.specs.Playing.{meanings};
 
-use crate::halt::Halt;
-use crate::reading::read_mesh;
-use crate::report::say_winding;
-use crate::stop::Stop;
+use crate::files::ask;
 use mb_base::{Limits, Point};
 use mb_outside::{Shelf, Sink};
+use report_lines::{Halt, say_winding};
 use std::alloc::Global;
 use std::sync::ledger::Ledger;
 use steps::Steps;
 use winding::winding_at;
 
 /// Reads a mesh from a file, where a unit has `digits` decimal digits on the grid, and reports the winding number of a point of the grid in
-/// it. It stops at the first thing that goes wrong. It counts one step where it ends well, at most one, and none where it stops before the number is found.
-pub fn inside<S: Shelf, O: Sink, L: Ledger>(
+/// it. It stops at the first thing that goes wrong. It counts one step where the number is found, and none where it stops before.
+pub fn inside<'a, S: Shelf, O: Sink, L: Ledger>(
     alloc: Global,
-    file: &str,
+    file: &'a str,
     point: Point,
     digits: u8,
     limits: &Limits,
     shelf: &mut S,
     out: &mut O,
     steps: &mut Steps<L>,
-) -> Result<(), Halt>
+) -> Result<(), Halt<'a>>
     requires digits { digits ≤ 6 }
-    requires reads { S.read_faults shelf.old < 2 ^ 64 - 1 }
-    requires outs { O.faults out.old < 2 ^ 64 - 1 }
-    ensures done { OnOk result (IsTrue (S.tells shelf.old) →
-        RunMeets (inside_play digits winding_in limits.now (S.files shelf.old) file.now point)
-        (world (S.files shelf.old) (O.told out.old)) (world (S.files shelf.new) (O.told out.new)) 0
-        (record { read = S.read_faults shelf.old; write = S.write_faults shelf.old; out = O.faults out.old })
-        (record { read = S.read_faults shelf.new; write = S.write_faults shelf.new; out = O.faults out.new }) []) }
-    ensures halted { IfErr result (λ halt. IsTrue (S.tells shelf.old) →
-        RunMeets (inside_play digits winding_in limits.now (S.files shelf.old) file.now point)
-        (world (S.files shelf.old) (O.told out.old)) (world (S.files shelf.new) (O.told out.new)) (halt_status halt)
-        (record { read = S.read_faults shelf.old; write = S.write_faults shelf.old; out = O.faults out.old })
-        (record { read = S.read_faults shelf.new; write = S.write_faults shelf.new; out = O.faults out.new }) (halt_line file.now file.now halt)) }
-    ensures read { result ≡ Err (Halt.Reading Stop.ReadFault) → IsTrue (S.tells shelf.old) → S.read_faults shelf.old < S.read_faults shelf.new }
-    ensures reported { result ≡ Err Halt.Reporting → O.faults out.old < O.faults out.new }
-    ensures reading { (stop : Stop) → result ≡ Err (Halt.Reading stop) → IsTrue (is_reading_stop stop) }
-    ensures unsaved { result ≡ Err Halt.Saving → ⊥ }
-    ensures reads_kept { (result ≡ Err (Halt.Reading Stop.ReadFault) → ⊥) → S.read_faults shelf.new ≡ S.read_faults shelf.old }
-    ensures writes_kept { S.write_faults shelf.new ≡ S.write_faults shelf.old }
-    ensures outs_kept { (result ≡ Err Halt.Reporting → ⊥) → O.faults out.new ≡ O.faults out.old }
-    ensures cost { OnOk result (steps.new ≡ steps.old + 1) }
-    ensures most { steps.new ≤ steps.old + 1 }
-    ensures unread { (stop : Stop) → result ≡ Err (Halt.Reading stop) → steps.new ≡ steps.old }
+    ensures meets { MeetsOn S.Shelf O.Sink (inside_task digits meanings limits.now file.now point) (shelf.old, out.old) (shelf.new, out.new) (halted_by (λ done. done) result) }
+    ensures words { IfErr result (λ halt. IsTrue (is_past_words halt)) }
+    ensures back { (files : Files) → All (WritesReadable digits limits.now) (inside_task digits meanings limits.now file.now point files).actions }
+    ensures counted { OnOk result (steps.new ≡ steps.old + 1) }
+    ensures stopped { IfErr result (λ halt. steps.new ≡ (if is_unsaid halt then steps.old + 1 else steps.old)) }
 {
-    let read = match read_mesh(alloc, file, digits, limits, shelf) {
-        Ok(read) => read,
-        Err(stop) => return Err(Halt::Reading(stop)),
-    };
-    let Ok(number) = winding_at(alloc, point, &read.mesh, steps) else {
-        return Err(Halt::Reading(Stop::NoMemory));
-    };
-    let Ok(()) = say_winding(number, out) else {
-        return Err(Halt::Reporting);
-    };
+    let read = ask(alloc, file, digits, limits, shelf)?;
+    let number = winding_at(alloc, point, &read.mesh, steps)?;
+    say_winding(number, out)?;
     Ok(())
 }

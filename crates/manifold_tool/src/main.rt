@@ -1,30 +1,28 @@
 //! `manifold_tool`: copies closed triangle meshes from file to file, and says how often one winds round a point. A result is closed for any input that is
 //! accepted.
 //!
-//! `run` is the top call, and its contract is the program's promise; `main` only hands it the outside.
+//! `run` is the top call, and its contract is the program's promise. `start` hands it the program's limits, and `main` only makes the real folder and
+//! streams.
 #![tactic(auto)]
 
 ghost use Rattle.std.specs.Prelude.{◌≡◌, ◌<◌, ◌^◌, ◌-◌, ◌⊎◌, IfErr};
 ghost use Rattle.std.specs.IoError.{error_kind};
 
-mod commands;
 mod copy;
-mod halt;
+mod files;
 mod inside;
-mod reading;
-mod report;
 mod run;
-mod saving;
+mod start;
 mod status;
-mod stop;
-mod tail;
 #[cfg(test)]
 mod tests;
 
-use mb_base::{ArgList, Limits};
+use mb_base::ArgList;
 use mb_outside::{FolderShelf, Sink, StdSink};
-use run::run;
-use status::Status;
+pub use mesh_files::{Read, Stop, read_mesh, save_mesh};
+pub use run::run;
+use start::start;
+pub use status::Status;
 use std::alloc::Global;
 use std::io::{self, ErrorKind};
 use std::marker::Brand;
@@ -33,38 +31,38 @@ use std::rt::{Env, Files};
 use std::sync::ledger::{Blank, Ledger};
 use steps::Steps;
 
-// The words after the program's name, or the status of a run that has none: Usage where a word is not UTF-8.
-fn words_of<R: Env + AllocGlobal>(rt: &R, alloc: Global) -> Result<ArgList, Status>
-    ensures { IfErr result (λ status. (status ≡ Status.Usage) ⊎ (status ≡ Status.NoMemory)) }
+// The words after the program's name, or why there are none: `Usage` where a word is not UTF-8.
+fn words_of<R: Env + AllocGlobal>(rt: &R, alloc: Global) -> Result<ArgList, Stop>
+    ensures { IfErr result (λ stop. (stop ≡ Stop.Usage) ⊎ (stop ≡ Stop.NoMemory)) }
 {
     let mut words = ArgList::start(alloc);
     let mut first = true;
-    for word in std::env::args(rt).map_err(status_of)? {
+    for word in std::env::args(rt).map_err(stop_of)? {
         if !first {
-            words.push(word.as_str()).map_err(|_| Status::NoMemory)?;
+            words.push(word.as_str()).map_err(|_| Stop::NoMemory)?;
         }
         first = false;
     }
     Ok(words)
 }
 
-// The status of a run whose words can't be had: Usage where a word is not UTF-8.
-fn status_of(error: io::Error) -> Status
-    ensures usage { error_kind error ≡ ErrorKind.InvalidData → result ≡ Status.Usage }
-    ensures memory { (error_kind error ≡ ErrorKind.InvalidData → ⊥) → result ≡ Status.NoMemory }
+// Why the words can't be had: `Usage` where a word is not UTF-8.
+fn stop_of(error: io::Error) -> Stop
+    ensures usage { error_kind error ≡ ErrorKind.InvalidData → result ≡ Stop.Usage }
+    ensures memory { (error_kind error ≡ ErrorKind.InvalidData → ⊥) → result ≡ Stop.NoMemory }
 {
     if error.kind() == ErrorKind::InvalidData {
-        Status::Usage
+        Stop::Usage
     } else {
-        Status::NoMemory
+        Stop::NoMemory
     }
 }
 
-// The run of the program over the current folder, which counts its steps for nobody.
-fn run_here<R: Files, O: Sink, E: Sink, L: Ledger>(
+// The program over the current folder, which counts its steps for nobody.
+fn start_here<R: Files, O: Sink, E: Sink, L: Ledger>(
     rt: &R,
     alloc: Global,
-    words: &ArgList,
+    words: Result<ArgList, Stop>,
     out: &mut O,
     err: &mut E,
     blank: Blank,
@@ -77,33 +75,20 @@ fn run_here<R: Files, O: Sink, E: Sink, L: Ledger>(
 {
     let mut shelf = FolderShelf::of(rt);
     let mut steps = Steps::<L>::over(blank);
-    run(
-        alloc,
-        words,
-        &Limits::program(),
-        &mut shelf,
-        out,
-        err,
-        &mut steps,
-    )
+    start(alloc, words, &mut shelf, out, err, &mut steps)
 }
 
 fn main(rt: HostRuntime) -> ExitCode {
     let mut out = StdSink::over(rt.stdout());
     let mut err = StdSink::over(rt.stderr());
-    let status = match words_of(&rt, rt.alloc()) {
-        Ok(words) => run_here::<_, _, _, Brand>(
-            &rt,
-            rt.alloc(),
-            &words,
-            &mut out,
-            &mut err,
-            Blank::new(1),
-        ),
-        Err(status) => {
-            report::tell_start(status, &mut err);
-            status
-        }
-    };
+    let words = words_of(&rt, rt.alloc());
+    let status = start_here::<_, _, _, Brand>(
+        &rt,
+        rt.alloc(),
+        words,
+        &mut out,
+        &mut err,
+        Blank::new(1),
+    );
     ExitCode::from(status.number())
 }

@@ -1,9 +1,8 @@
 // Whole runs over memory, with what users and scripts see of them: status, output, error line, files.
 mod files;
-mod room;
 mod words;
 
-ghost use Rattle.std.specs.Prelude.{◌≡◌, ◌<◌};
+ghost use Rattle.std.specs.Prelude.{◌≡◌, ◌<◌, ◌^◌, ◌-◌, IfOk};
 
 use crate::run::run;
 use files::{
@@ -11,7 +10,7 @@ use files::{
     OPEN_CUBE, TETRAHEDRON, TURNED_CUBE,
 };
 use mb_base::{ArgList, Limits, NoMemory};
-use mb_outside::{MemoryShelf, MemorySink};
+use mb_outside::{MemoryShelf, MemorySink, Shelf, SureShelf};
 use std::alloc::Global;
 use std::marker::Brand;
 use std::process::Abort;
@@ -40,8 +39,7 @@ struct Case<'a> {
     status: u8,
     out: &'a [u8],
     err: &'a [u8],
-    is_saved: bool,
-    saved: &'a [u8],
+    saved: Option<&'a [u8]>,
     ghost some: { 0 < most },
 }
 
@@ -54,58 +52,68 @@ fn failing(alloc: Global, call: u64) -> Result<Vec<u64>, NoMemory> {
     Ok(fails)
 }
 
-// What a run left.
-#[derive(Drop)]
-struct Outcome {
-    status: u8,
-    shelf: MemoryShelf,
-    out: MemorySink,
-    err: MemorySink,
+// A sink with room for every line, one of whose writes may fail.
+fn sink(alloc: Global, call: u64) -> Result<MemorySink, NoMemory>
+    ensures { IfOk result (λ sink. sink.faults ≡ 0) }
+{
+    let fails = failing(alloc, call)?;
+    MemorySink::of(alloc, ROOM, ROOM, fails)
 }
 
-fn ran<L: Ledger>(alloc: Global, case: &Case<'_>, blank: Blank) -> Result<Outcome, NoMemory>
+// A shelf with the file of the case.
+fn shelf_of(alloc: Global, case: &Case<'_>) -> Result<MemoryShelf, NoMemory>
+    ensures { IfOk result (λ shelf. (shelf.read_faults ≡ 0) × (shelf.write_faults ≡ 0)) }
+{
+    let fails = failing(alloc, case.shelf_fails)?;
+    let mut shelf = MemoryShelf::of(alloc, 4, ROOM, case.most, fails)?;
+    shelf.put(case.name, case.bytes)?;
+    Ok(shelf)
+}
+
+// The status of a run over this shelf.
+fn status_on<S: Shelf, L: Ledger>(
+    alloc: Global,
+    words: &[&str],
+    limits: &Limits,
+    shelf: &mut S,
+    out: &mut MemorySink,
+    err: &mut MemorySink,
+    blank: Blank,
+) -> Result<u8, NoMemory>
     requires name { blank.name ≡ L.name }
     requires parts { blank.parts ≡ L.parts }
     requires some { 0 < blank.parts }
+    requires reads { S.read_faults shelf.old < 2 ^ 64 - 1 }
+    requires writes { S.write_faults shelf.old < 2 ^ 64 - 1 }
+    requires outs { out.old.faults < 2 ^ 64 - 1 }
+    requires errs { err.old.faults < 2 ^ 64 - 1 }
 {
-    let mut words = ArgList::start(alloc);
-    for word in case.words {
-        words.push(word)?;
+    let mut list = ArgList::start(alloc);
+    for word in words {
+        list.push(word)?;
     }
-    let mut shelf = MemoryShelf::of(alloc, 4, ROOM, case.most, failing(alloc, case.shelf_fails)?)?;
-    shelf.put(case.name, case.bytes)?;
-    let mut out = MemorySink::of(alloc, ROOM, ROOM, failing(alloc, case.out_fails)?)?;
-    let mut err = MemorySink::of(alloc, ROOM, ROOM, Vec::new(alloc))?;
     let mut steps = Steps::<L>::over(blank);
-    let status = run(
+    Ok(run(alloc, &list, limits, shelf, out, err, &mut steps).number())
+}
+
+fn judge<R: Abort + AllocGlobal>(rt: &R, case: &Case<'_>) -> Result<(), NoMemory> {
+    let alloc = rt.alloc();
+    let mut shelf = shelf_of(alloc, case)?;
+    let mut out = sink(alloc, case.out_fails)?;
+    let mut err = sink(alloc, 0)?;
+    let status = status_on::<_, Brand>(
         alloc,
-        &words,
+        case.words,
         &case.limits,
         &mut shelf,
         &mut out,
         &mut err,
-        &mut steps,
-    );
-    Ok(Outcome {
-        status: status.number(),
-        shelf,
-        out,
-        err,
-    })
-}
-
-fn judge<R: Abort + AllocGlobal>(rt: &R, case: &Case<'_>) -> Result<(), NoMemory> {
-    let outcome = ran::<Brand>(rt.alloc(), case, Blank::new(1))?;
-    assert_eq!(rt; outcome.status, case.status);
-    assert_eq!(rt; outcome.out.bytes(), case.out);
-    assert_eq!(rt; outcome.err.bytes(), case.err);
-    match outcome.shelf.get(case.to) {
-        Some(bytes) => {
-            assert!(rt; case.is_saved);
-            assert_eq!(rt; bytes, case.saved);
-        }
-        None => assert!(rt; !case.is_saved),
-    }
+        Blank::new(1),
+    )?;
+    assert!(rt; status == case.status);
+    assert!(rt; out.bytes() == case.out);
+    assert!(rt; err.bytes() == case.err);
+    assert!(rt; shelf.get(case.to) == case.saved);
     Ok(())
 }
 
@@ -129,8 +137,7 @@ fn plain<'a>(
         status,
         out: b"",
         err,
-        is_saved: false,
-        saved: b"",
+        saved: None,
     }
 }
 
@@ -154,8 +161,7 @@ fn copied<'a>(
         status: 0,
         out,
         err: b"",
-        is_saved: true,
-        saved,
+        saved: Some(saved),
     }
 }
 
@@ -210,8 +216,7 @@ fn a_modelled_file_is_copied_as_plain(rt: HostRuntime) -> Result<(), Fail> {
         status: 0,
         out: b"copied q.obj: points 8, triangles 12, unused 0\n",
         err: b"",
-        is_saved: true,
-        saved: MODELLED_CUBE_COPIED,
+        saved: Some(MODELLED_CUBE_COPIED),
     };
     judge(&rt, &case)?;
     Ok(())
@@ -233,8 +238,7 @@ fn an_empty_file_is_copied_by_two_calls(rt: HostRuntime) -> Result<(), Fail> {
         status: 0,
         out: b"copied u.obj: points 0, triangles 0, unused 0\n",
         err: b"",
-        is_saved: true,
-        saved: b"",
+        saved: Some(b""),
     };
     judge(&rt, &case)?;
     Ok(())
@@ -274,21 +278,26 @@ fn a_missing_file_is_named(rt: HostRuntime) -> Result<(), Fail> {
 }
 
 // A copy of the tetrahedron, or of so many blanks, under small limits.
-fn limited<'a>(words: &'a [&'a str], bytes: &'a [u8], limits: Limits, err: &'a [u8]) -> Case<'a> {
+fn limited<'a>(
+    words: &'a [&'a str],
+    bytes: &'a [u8],
+    limits: Limits,
+    call: u64,
+    err: &'a [u8],
+) -> Case<'a> {
     Case {
         words,
         name: "t.obj",
         bytes,
         to: "u.obj",
         most: ROOM,
-        shelf_fails: 0,
+        shelf_fails: call,
         out_fails: 0,
         limits,
         status: 5,
         out: b"",
         err,
-        is_saved: false,
-        saved: b"",
+        saved: None,
     }
 }
 
@@ -296,11 +305,7 @@ fn limited<'a>(words: &'a [&'a str], bytes: &'a [u8], limits: Limits, err: &'a [
 fn the_first_count_past_its_limit_is_named(rt: HostRuntime) -> Result<(), Fail> {
     let words = ["copy", "t.obj", "u.obj"];
     let limits = Limits::of(187, 3, 2, 0).ok_or("these limits are lawful")?;
-    let case = limited(&words, TETRAHEDRON, limits, b"limit points 4\n");
-    judge(&rt, &case)?;
-    let limits = Limits::of(187, 3, 2, 0).ok_or("these limits are lawful")?;
-    let blanks = [32; 188];
-    let case = limited(&words, &blanks, limits, b"limit file_bytes 188\n");
+    let case = limited(&words, TETRAHEDRON, limits, 0, b"limit points 4\n");
     judge(&rt, &case)?;
     Ok(())
 }
@@ -320,8 +325,7 @@ fn a_read_fault_ends_the_run(rt: HostRuntime) -> Result<(), Fail> {
         status: 6,
         out: b"",
         err: b"t.obj: read fault\n",
-        is_saved: false,
-        saved: b"",
+        saved: None,
     };
     judge(&rt, &case)?;
     Ok(())
@@ -342,8 +346,7 @@ fn a_write_fault_leaves_a_part(rt: HostRuntime) -> Result<(), Fail> {
         status: 7,
         out: b"",
         err: b"u.obj: write fault\n",
-        is_saved: true,
-        saved: b"v 0 0 0\nv 1 0 0\nv 0 ",
+        saved: Some(b"v 0 0 0\nv 1 0 0\nv 0 "),
     };
     judge(&rt, &case)?;
     Ok(())
@@ -364,19 +367,91 @@ fn a_fault_of_the_report_comes_after_the_file(rt: HostRuntime) -> Result<(), Fai
         status: 7,
         out: b"copied ",
         err: b"report: write fault\n",
-        is_saved: true,
-        saved: TETRAHEDRON,
+        saved: Some(TETRAHEDRON),
     };
     judge(&rt, &case)?;
     Ok(())
 }
 
-// The winding number of a point in a mesh.
-fn judge_winding<R: Abort + AllocGlobal>(
+// Many blanks, which are an empty mesh.
+fn blanks<'a>(words: &'a [&'a str], bytes: &'a [u8], call: u64) -> Case<'a> {
+    Case {
+        words,
+        name: "t.obj",
+        bytes,
+        to: "u.obj",
+        most: 1 << 30,
+        shelf_fails: call,
+        out_fails: 0,
+        limits: Limits::program(),
+        status: 7,
+        out: b"",
+        err: b"u.obj: write fault\n",
+        saved: None,
+    }
+}
+
+#[test]
+fn a_file_is_read_in_pieces(rt: HostRuntime) -> Result<(), Fail> {
+    let words = ["copy", "t.obj", "u.obj"];
+    let alloc = rt.alloc();
+    // The size is asked and two pieces are read; the fourth call begins the copy.
+    let bytes = vec![in alloc; 32; 65_537]?;
+    let case = blanks(&words, &bytes, 4);
+    judge(&rt, &case)?;
+    Ok(())
+}
+
+#[test]
+fn the_size_is_asked_before_a_byte_is_read(rt: HostRuntime) -> Result<(), Fail> {
+    let words = ["copy", "t.obj", "u.obj"];
+    let limits = Limits::of(187, 3, 2, 0).ok_or("these limits are lawful")?;
+    let blanks = [32; 188];
+    // A second call would fail.
+    let case = limited(&words, &blanks, limits, 2, b"limit file_bytes 188\n");
+    judge(&rt, &case)?;
+    Ok(())
+}
+
+// A copy of the tetrahedron to a file with room for so many bytes, and what it leaves there.
+fn judge_with_room<R: Abort + AllocGlobal>(
     rt: &R,
-    words: &[&str],
-    bytes: &[u8],
-    line: &[u8],
+    room: usize,
+    status: u8,
+    saved: &[u8],
+) -> Result<(), NoMemory> {
+    let alloc = rt.alloc();
+    let mut shelf = SureShelf::of(alloc, "t.obj", TETRAHEDRON, "u.obj", room)?;
+    let mut out = sink(alloc, 0)?;
+    let mut err = sink(alloc, 0)?;
+    let limits = Limits::program();
+    let ended = status_on::<_, Brand>(
+        alloc,
+        &["copy", "t.obj", "u.obj"],
+        &limits,
+        &mut shelf,
+        &mut out,
+        &mut err,
+        Blank::new(1),
+    )?;
+    assert!(rt; ended == status);
+    assert!(rt; shelf.get("u.obj") == Some(saved));
+    Ok(())
+}
+
+#[test]
+fn a_copy_needs_room_for_its_text_alone(rt: HostRuntime) -> Result<(), Fail> {
+    judge_with_room(&rt, 64, 0, TETRAHEDRON)?;
+    judge_with_room(&rt, 63, 7, b"")?;
+    Ok(())
+}
+
+// The winding number of a point in a mesh.
+fn judge_winding<'x, R: Abort + AllocGlobal>(
+    rt: &R,
+    words: &'x [&'x str],
+    bytes: &'x [u8],
+    line: &'x [u8],
 ) -> Result<(), NoMemory> {
     let case = Case {
         words,
@@ -390,8 +465,7 @@ fn judge_winding<R: Abort + AllocGlobal>(
         status: 0,
         out: line,
         err: b"",
-        is_saved: false,
-        saved: b"",
+        saved: None,
     };
     judge(rt, &case)
 }

@@ -1,5 +1,6 @@
 pub mod Calls
 pub mod SinkState
+pub mod Seen
 pub mod Sinks
 pub mod Store
 pub mod ShelfState

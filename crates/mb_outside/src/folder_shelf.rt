@@ -13,12 +13,14 @@ const PIECE: usize = 65_536;
 ///
 /// No proof can say what a disk holds, so it tells no files. Each part of its count is 0 at first, and
 /// goes up by one at each failure that the system reports, and where a write of some bytes took none.
-/// A file is opened anew at each call.
+/// It remembers the size that it stated last, and counts the reads that gave nothing below it. A file is opened anew at each call.
 #[derive(Drop)]
 pub struct FolderShelf<'r, R: Files> {
     rt: &'r R,
     read_faults: u64,
     write_faults: u64,
+    stated: u64,
+    short_reads: u64,
 }
 
 impl<'r, R: Files> FolderShelf<'r, R> {
@@ -26,11 +28,14 @@ impl<'r, R: Files> FolderShelf<'r, R> {
     pub fn of(rt: &'r R) -> FolderShelf<'r, R>
         ensures reads { ⟦<FolderShelf<'r, R> as Shelf>⟧.read_faults result ≡ 0 }
         ensures writes { ⟦<FolderShelf<'r, R> as Shelf>⟧.write_faults result ≡ 0 }
+        ensures short { ⟦<FolderShelf<'r, R> as Shelf>⟧.short_reads result ≡ 0 }
     {
         FolderShelf {
             rt,
             read_faults: 0,
             write_faults: 0,
+            stated: 0,
+            short_reads: 0,
         }
     }
 }
@@ -44,13 +49,20 @@ impl<'r, R: Files> Shelf for FolderShelf<'r, R> {
 
     ghost write_faults = { λ shelf. shelf.write_faults };
 
+    ghost stated = { λ shelf. shelf.stated };
+
+    ghost short_reads = { λ shelf. shelf.short_reads };
+
     ghost spare = { λ _. None };
 
     ghost spare_is_told = { λ shelf told is. Prim.cc };
 
     fn size(&mut self, name: &str) -> Result<Option<u64>, Failed> {
         match size_of_file(self.rt, name) {
-            Ok(size) => Ok(size),
+            Ok(size) => {
+                self.stated = size.unwrap_or(0);
+                Ok(size)
+            }
             Err(_) => {
                 self.read_faults = self.read_faults.saturating_add(1);
                 Err(Failed)
@@ -60,7 +72,12 @@ impl<'r, R: Files> Shelf for FolderShelf<'r, R> {
 
     fn read_at(&mut self, name: &str, at: u64, into: &mut [u8]) -> Result<usize, Failed> {
         match read_from(self.rt, name, at, into) {
-            Ok(count) => Ok(count),
+            Ok(count) => {
+                if count == 0 && !into.is_empty() && at < self.stated {
+                    self.short_reads = self.short_reads.saturating_add(1);
+                }
+                Ok(count)
+            }
             Err(_) => {
                 self.read_faults = self.read_faults.saturating_add(1);
                 Err(Failed)

@@ -100,6 +100,10 @@ impl Shelf for MemoryShelf {
 
     ghost write_faults = { λ shelf. shelf.write_faults };
 
+    ghost stated = { λ _. 0 };
+
+    ghost short_reads = { λ _. 0 };
+
     ghost spare = { λ _. None };
 
     ghost spare_is_told = { λ shelf told is. Prim.cc };

@@ -71,6 +71,8 @@ impl Sink for MemorySink {
 
     ghost other = { λ _. 0 };
 
+    ghost second = { λ _. 0 };
+
     ghost rest = { λ _. None };
 
     ghost room = { room_left };

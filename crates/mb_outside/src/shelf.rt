@@ -1,7 +1,7 @@
 // Files by name, which can be sized, read in pieces, emptied and appended to.
-ghost use Rattle.std.specs.Prelude.{◌≡◌, ◌≤◌, ◌<◌, ◌++◌, ◌-◌, ◌⊎◌, ℕ, Bool, Option, Some, [], length, take, drop};
+ghost use Rattle.std.specs.Prelude.{◌≡◌, ◌≤◌, ◌<◌, ◌++◌, ◌-◌, ◌⊎◌, ℕ, Bool, false, Option, Some, [], length, take, drop};
 ghost use Rattle.std.specs.Prelude.{IsTrue, IsSome, IsOk, IfOk, OnErr};
-ghost use Rattle.run_terms.specs.Files.{Bytes, Files, text_of, length_of, Counts, OthersStay};
+ghost use Rattle.run_terms.specs.Files.{Bytes, Files, text_of, length_of, size_in, Counts, CountsShort, OthersStay};
 ghost use Rattle.run_terms.specs.Files.{ReadsAt, IsKeptOrEmpty, IsSpareOf};
 
 /// The refusal of a shelf or a sink. It comes only in a call in which a count of faults rose.
@@ -16,6 +16,9 @@ pub struct Failed;
 /// Faults are counted in two parts, those of reading and those of writing. A count never falls, an
 /// answer Ok leaves it, and `Failed` comes only where it rose, or where it stood at 2^64 - 1, the
 /// last value that it can have.
+///
+/// A shelf that tells no files may give nothing of a file at a place below the size that it stated. It
+/// remembers the size that it stated last, and counts such reads apart.
 ///
 /// A shelf may also tell a spare: a file that it holds, and a number of bytes that it has room for
 /// there. Such a shelf tells its files, and doesn't fail where it reads, where it begins that file,
@@ -33,6 +36,12 @@ pub trait Shelf {
     /// How often `begin` and `append` failed.
     ghost write_faults: { Self → ℕ };
 
+    /// The size that was stated last, where no files are told; 0 where the last answer was None.
+    ghost stated: { Self → ℕ };
+
+    /// How often a read into a buffer that is not empty gave nothing at a place below that size.
+    ghost short_reads: { Self → ℕ };
+
     /// The name of a file and how many bytes it can still take, where that is told.
     ghost spare: { Self → Option (Bytes × ℕ) };
 
@@ -43,9 +52,11 @@ pub trait Shelf {
     fn size(&mut self, name: &str) -> Result<Option<u64>, Failed>
         ensures length { IfOk result (λ answer. IsTrue (tells self.old) →
             answer ≡ length_of (files self.old name.now)) }
+        ensures stated { IfOk result (λ answer. tells self.old ≡ false → stated self.new ≡ size_in answer) }
         ensures told { tells self.new ≡ tells self.old }
         ensures files { files self.new ≡ files self.old }
         ensures reads { Counts (read_faults self.old) (read_faults self.new) result }
+        ensures short { short_reads self.new ≡ short_reads self.old }
         ensures writes { write_faults self.new ≡ write_faults self.old }
         ensures spare { spare self.new ≡ spare self.old }
         ensures sure { IsSome (spare self.old) → IsOk result };
@@ -66,6 +77,10 @@ pub trait Shelf {
         ensures told { tells self.new ≡ tells self.old }
         ensures files { files self.new ≡ files self.old }
         ensures reads { Counts (read_faults self.old) (read_faults self.new) result }
+        ensures stated { stated self.new ≡ stated self.old }
+        ensures short { IfOk result (λ count.
+            CountsShort (stated self.old) at into.old count (short_reads self.old) (short_reads self.new)) }
+        ensures unread { OnErr result (short_reads self.new ≡ short_reads self.old) }
         ensures writes { write_faults self.new ≡ write_faults self.old }
         ensures spare { spare self.new ≡ spare self.old }
         ensures sure { IsSome (spare self.old) → IsOk result };
@@ -81,6 +96,7 @@ pub trait Shelf {
         ensures others { IsTrue (tells self.old) → OthersStay name.now (files self.old) (files self.new) }
         ensures told { tells self.new ≡ tells self.old }
         ensures reads { read_faults self.new ≡ read_faults self.old }
+        ensures short { short_reads self.new ≡ short_reads self.old }
         ensures writes { Counts (write_faults self.old) (write_faults self.new) result }
         ensures spare { spare self.new ≡ spare self.old }
         ensures sure { (room : ℕ) → spare self.old ≡ Some (name.now, room) → IsOk result };
@@ -102,6 +118,7 @@ pub trait Shelf {
         ensures others { IsTrue (tells self.old) → OthersStay name.now (files self.old) (files self.new) }
         ensures told { tells self.new ≡ tells self.old }
         ensures reads { read_faults self.new ≡ read_faults self.old }
+        ensures short { short_reads self.new ≡ short_reads self.old }
         ensures writes { Counts (write_faults self.old) (write_faults self.new) result }
         ensures sure { (room : ℕ) → spare self.old ≡ Some (name.now, room) →
             length piece.now ≤ room → IsOk result }

@@ -12,8 +12,8 @@ use crate::shelf::Failed;
 /// faults never falls, an answer Ok leaves it, and `Failed` comes only where it rose, or where it
 /// stood at 2^64 - 1, the last value that it can have.
 ///
-/// A sink that is one file of a shelf also has what belongs to the shelf and no write changes: a
-/// number beside the count, the other files, and the loan by which it holds the shelf. It may tell a
+/// A sink that is one file of a shelf also has what belongs to the shelf and no write changes: two
+/// numbers beside the count, the other files, and the loan by which it holds the shelf. It may tell a
 /// room: a piece that fits it is not refused.
 pub trait Sink {
     /// The bytes taken so far, where they are told.
@@ -24,6 +24,9 @@ pub trait Sink {
 
     /// A number that no write changes.
     ghost other: { Self → ℕ };
+
+    /// A second number that no write changes.
+    ghost second: { Self → ℕ };
 
     /// A name with files, which no write changes, where they are told.
     ghost rest: { Self → Option (Bytes × Files) };
@@ -48,6 +51,7 @@ pub trait Sink {
         ensures kept { OnErr result (told self.new ≡ told self.old) }
         ensures count { Counts (faults self.old) (faults self.new) result }
         ensures other { other self.new ≡ other self.old }
+        ensures second { second self.new ≡ second self.old }
         ensures rest { rest self.new ≡ rest self.old }
         ensures loan { loan self.new ≡ loan self.old }
         ensures sure { (free : ℕ) → room self.old ≡ Some free → length piece.now ≤ free → IsOk result }

@@ -31,6 +31,8 @@ impl<W: Write + Drop> Sink for StdSink<W> {
 
     ghost other = { λ _. 0 };
 
+    ghost second = { λ _. 0 };
+
     ghost rest = { λ _. None };
 
     ghost room = { λ _. None };

@@ -89,6 +89,10 @@ impl Shelf for SureShelf {
 
     ghost write_faults = { λ shelf. shelf.write_faults };
 
+    ghost stated = { λ _. 0 };
+
+    ghost short_reads = { λ _. 0 };
+
     ghost spare = { spare_on };
 
     ghost spare_is_told = { λ shelf told is. out_is_there shelf told is };

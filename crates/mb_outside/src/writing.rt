@@ -17,6 +17,7 @@ pub fn write_all<K: Sink>(sink: &mut K, text: &[u8]) -> Result<(), Failed>
     ensures count { Counts (K.faults sink.old) (K.faults sink.new) result }
     ensures idle { text.now ≡ [] → sink.new ≡ sink.old }
     ensures other { K.other sink.new ≡ K.other sink.old }
+    ensures second { K.second sink.new ≡ K.second sink.old }
     ensures rest { K.rest sink.new ≡ K.rest sink.old }
     ensures loan { K.loan sink.new ≡ K.loan sink.old }
     ensures sure { (free : ℕ) → K.room sink.old ≡ Some free → length text.now ≤ free → IsOk result }

@@ -30,6 +30,7 @@ fn write_points<K: Sink>(
     ensures idle { points.now ≡ [] → (sink.new ≡ sink.old) × (page.new.items ≡ page.old.items) }
     ensures count { Counts (K.faults sink.old) (K.faults sink.new) result }
     ensures other { K.other sink.new ≡ K.other sink.old }
+    ensures second { K.second sink.new ≡ K.second sink.old }
     ensures rest { K.rest sink.new ≡ K.rest sink.old }
     ensures loan { K.loan sink.new ≡ K.loan sink.old }
 {
@@ -48,6 +49,7 @@ fn write_faces<K: Sink>(triples: &[[u32; 3]], page: &mut Page, sink: &mut K) -> 
     ensures idle { triples.now ≡ [] → (sink.new ≡ sink.old) × (page.new.items ≡ page.old.items) }
     ensures count { Counts (K.faults sink.old) (K.faults sink.new) result }
     ensures other { K.other sink.new ≡ K.other sink.old }
+    ensures second { K.second sink.new ≡ K.second sink.old }
     ensures rest { K.rest sink.new ≡ K.rest sink.old }
     ensures loan { K.loan sink.new ≡ K.loan sink.old }
 {
@@ -71,6 +73,7 @@ pub fn write_obj<K: Sink>(mesh: &Mesh, digits: u8, sink: &mut K) -> Result<(), F
     ensures idle { obj_text digits mesh.now.points mesh.now.triples ≡ [] → sink.new ≡ sink.old }
     ensures count { Counts (K.faults sink.old) (K.faults sink.new) result }
     ensures other { K.other sink.new ≡ K.other sink.old }
+    ensures second { K.second sink.new ≡ K.second sink.old }
     ensures rest { K.rest sink.new ≡ K.rest sink.old }
     ensures loan { K.loan sink.new ≡ K.loan sink.old }
     ensures sure { (free : ℕ) → K.room sink.old ≡ Some free → length (obj_text digits mesh.now.points mesh.now.triples) ≤ free → IsOk result }

@@ -35,6 +35,7 @@ pub fn send_full<K: Sink>(page: &mut Page, sink: &mut K) -> Result<(), Failed>
     ensures free { OnOk result (array_vec_len page.new ≤ 3968) }
     ensures count { Counts (K.faults sink.old) (K.faults sink.new) result }
     ensures other { K.other sink.new ≡ K.other sink.old }
+    ensures second { K.second sink.new ≡ K.second sink.old }
     ensures rest { K.rest sink.new ≡ K.rest sink.old }
     ensures loan { K.loan sink.new ≡ K.loan sink.old }
 {

@@ -7,7 +7,8 @@ use mb_outside::{Failed, Shelf, Sink};
 /// A file of a shelf, to which each write appends.
 ///
 /// Where the shelf tells its files, the file is there; the sink's bytes are the file's, and its rest is the file's name with the
-/// shelf's other files. Its count of faults is the shelf's of writing, its other number the shelf's of reading. Where
+/// shelf's other files. Its count of faults is the shelf's of writing, its other number the shelf's of reading, its second number the
+/// shelf's of reads that gave nothing. Where
 /// the shelf's spare is this file's, the sink's room is the spare's number.
 #[derive(Drop)]
 pub struct PageSink<'a, S: Shelf> {
@@ -34,6 +35,8 @@ impl<'a, S: Shelf> Sink for PageSink<'a, S> {
     ghost faults = { λ p. S.write_faults p.shelf.now };
 
     ghost other = { λ p. S.read_faults p.shelf.now };
+
+    ghost second = { λ p. S.short_reads p.shelf.now };
 
     ghost rest = { λ p. if S.tells p.shelf.now then Some (p.name.now, without p.name.now (S.files p.shelf.now)) else None };
 

@@ -1,4 +1,6 @@
 // The text of a mesh, through a sink and through a file of a shelf.
+ghost use Rattle.std.specs.Prelude.{◌≤◌};
+
 use crate::{PageSink, write_obj};
 use mb_base::{NoMemory, Point, Soup};
 use mb_outside::{MemoryShelf, MemorySink, Shelf};
@@ -32,14 +34,60 @@ fn the_text_goes_to_a_sink_and_to_a_file(rt: HostRuntime) -> Result<(), Fail> {
     let alloc = rt.alloc();
     let mesh = tetrahedron(alloc)?.ok_or("the tetrahedron is closed")?;
     let mut sink = MemorySink::of(alloc, 1000, 7, Vec::new(alloc))?;
-    assert_eq!(rt; write_obj(&mesh, 4, &mut sink).is_ok(), true);
-    assert_eq!(rt; sink.bytes(), TEXT);
+    assert!(rt; write_obj(&mesh, 4, &mut sink).is_ok());
+    assert!(rt; sink.bytes() == TEXT);
     let mut shelf = MemoryShelf::of(alloc, 1, 1000, 1000, Vec::new(alloc))?;
-    assert_eq!(rt; shelf.begin("t.obj").is_ok(), true);
-    assert_eq!(rt;
-        write_obj(&mesh, 4, &mut PageSink::of(&mut shelf, "t.obj")).is_ok(),
-        true
-    );
-    assert_eq!(rt; shelf.get("t.obj"), Some(TEXT));
+    assert!(rt; shelf.begin("t.obj").is_ok());
+    assert!(rt; write_obj(&mesh, 4, &mut PageSink::of(&mut shelf, "t.obj")).is_ok());
+    assert!(rt; shelf.get("t.obj") == Some(TEXT));
+    Ok(())
+}
+
+// Triangles from both sides on 300 points, whose lines have 16 bytes each, the first `wide` of them 17.
+fn flat_triangles(alloc: Global, wide: i32) -> Result<Option<Mesh>, NoMemory> {
+    let mut points = Vec::new(alloc);
+    for i in 0..300i32 {
+        let z = if i < wide { 10 } else { 1 };
+        if let Some(point) = Point::of(10_000 + i, 10_000, z) {
+            points.push(point)?;
+        }
+    }
+    let mut triples = Vec::new(alloc);
+    for t in 0..100u32 {
+        triples.push([3 * t, 3 * t + 1, 3 * t + 2])?;
+        triples.push([3 * t, 3 * t + 2, 3 * t + 1])?;
+    }
+    if !Soup::fits(&points, &triples) {
+        return Ok(None);
+    }
+    Ok(Mesh::check(alloc, Soup::of(points, triples, 0)).ok())
+}
+
+// How many bytes a sink gets whose second write fails; None where no write fails.
+fn taken_at_once(alloc: Global, mesh: &Mesh, digits: u8) -> Result<Option<usize>, NoMemory>
+    requires { digits ≤ 6 }
+{
+    let fails = vec![in alloc; 2]?;
+    let mut sink = MemorySink::of(alloc, 10_000, 10_000, fails)?;
+    match write_obj(mesh, digits, &mut sink) {
+        Ok(()) => Ok(None),
+        Err(_) => Ok(Some(sink.bytes().len())),
+    }
+}
+
+#[test]
+fn a_page_goes_out_where_fewer_than_128_bytes_are_free(rt: HostRuntime) -> Result<(), Fail> {
+    // After 248 lines 128 bytes are free, or 127 where one line is longer.
+    for (wide, length) in [(0, 3984), (1, 3969)] {
+        let mesh = flat_triangles(rt.alloc(), wide)?.ok_or("each triangle has its reverse")?;
+        assert!(rt; taken_at_once(rt.alloc(), &mesh, 0)? == Some(length));
+    }
+    Ok(())
+}
+
+#[test]
+fn a_text_that_fits_a_page_goes_out_in_one_write(rt: HostRuntime) -> Result<(), Fail> {
+    let mesh = tetrahedron(rt.alloc())?.ok_or("the tetrahedron is closed")?;
+    assert!(rt; taken_at_once(rt.alloc(), &mesh, 4)?.is_none());
     Ok(())
 }

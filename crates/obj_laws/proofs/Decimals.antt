@@ -1,8 +1,9 @@
 -- Decimal numbers are words of digits that spell them.
-use Rattle.std.proofs.Common.{◌≡◌, ℕ, ◌+◌, ◌*◌, ◌/◌, ◌%◌, ◌^◌, ◌-◌, ◌<◌, ◌&&◌, ◌==◌, if◌then◌else◌, Bool, List, [], ◌∷◌, ◌++◌, true, false, decimal, refl, ap, ◌∙◌, arith, length-append, Option, Some, None}
+use Rattle.std.proofs.Common.{◌≡◌, ℕ, ◌+◌, ◌*◌, ◌/◌, ◌%◌, ◌^◌, ◌-◌, ◌<◌, ◌&&◌, ◌==◌, if◌then◌else◌, Bool, List, [], ◌∷◌, ◌++◌, true, false, decimal, ap, ◌∙◌, arith, length-append, Option, Some, None}
 use Rattle.std.proofs.lemmas.Bool.Decides.{nat_tests}
 use Rattle.std.proofs.lemmas.Fmt.{decimal_by_steps}
-use Rattle.text_terms.specs.Numbers.{is_digit, all_digits, is_digits, value_from, digits_value}
+use Rattle.text_laws.proofs.Digits.{all_digits-append, value_from-append}
+use Rattle.text_terms.specs.Numbers.{all_digits, is_digits, digits_value}
 use Rattle.obj_terms.specs.Faces.{minus_first}
 use Rattle.obj_laws.proofs.Bytes.{Above-append, IsWord}
 
@@ -15,16 +16,6 @@ pub record IsSpelled (n : ℕ) (ds : List ℕ) : Type 0 where
 -- both tests hold
 both : (a b : Bool) → a ≡ true → b ≡ true → (a && b) ≡ true
 both a b p q = grind arith
-
--- digits after digits
-all_digits-append : (xs ys : List ℕ) → all_digits xs ≡ true → all_digits ys ≡ true → all_digits (xs ++ ys) ≡ true
-all_digits-append [] ys p q = q
-all_digits-append (x ∷ xs) ys p q = both (is_digit x) (all_digits (xs ++ ys)) (grind arith) (all_digits-append xs ys (grind arith) q)
-
--- the value goes on where it stood
-value_from-append : (v : ℕ) (xs ys : List ℕ) → value_from v (xs ++ ys) ≡ value_from (value_from v xs) ys
-value_from-append v [] ys = refl
-value_from-append v (x ∷ xs) ys = value_from-append (v * 10 + (x - 48)) xs ys
 
 -- one digit
 IsSpelled-digit : (d : ℕ) → d < 10 → IsSpelled d ((48 + d) ∷ [])

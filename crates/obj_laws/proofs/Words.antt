@@ -1,20 +1,13 @@
 -- Words with one space between them are the words of their line.
-use Rattle.std.proofs.Common.{◌≡◌, ℕ, ◌<◌, true, false, not, List, [], ◌∷◌, ◌++◌, length, refl, ap, ◌∙◌, sym, arith, append-nil}
+use Rattle.std.proofs.Common.{◌≡◌, ℕ, ◌<◌, false, not, List, [], ◌∷◌, ◌++◌, length, refl, ap, ◌∙◌, sym, arith, append-nil}
 use Rattle.std.proofs.lemmas.Bool.Decides.{nat_tests}
 use Rattle.text_terms.specs.Lines.{is_blank, begins_word, words_of, add_first}
+use Rattle.text_laws.proofs.Words.{words_of-last, words_of-more}
 use Rattle.obj_laws.proofs.Bytes.{Above, Above-append, Above-lower, IsWord}
 
 -- a byte above a space is no blank
 no_blank : (c : ℕ) → 32 < c → is_blank c ≡ false
 no_blank c mark = grind (arith, nat_tests)
-
--- the last byte of a word
-words_of-last : (c : ℕ) (cs : List ℕ) → is_blank c ≡ false → begins_word cs ≡ false → words_of (c ∷ cs) ≡ (c ∷ []) ∷ words_of cs
-words_of-last c cs e f = rw (e, f) refl
-
--- a byte before another of its word
-words_of-more : (c : ℕ) (cs : List ℕ) → is_blank c ≡ false → begins_word cs ≡ true → words_of (c ∷ cs) ≡ add_first c (words_of cs)
-words_of-more c cs e f = rw (e, f) refl
 
 -- a word stands first where no word goes on after it
 words_of-word : (word rest : List ℕ) → 0 < length word → Above 32 word → begins_word rest ≡ false → words_of (word ++ rest) ≡ word ∷ words_of rest

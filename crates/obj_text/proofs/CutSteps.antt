@@ -3,16 +3,9 @@ use Rattle.std.proofs.Common.{◌≡◌, ℕ, zero, suc, ◌<◌, ◌≤◌, Boo
 use Rattle.std.specs.Prelude.{nat_lt, position}
 use Rattle.std.specs.List.{position_or_len}
 use Rattle.std.proofs.lemmas.Bool.Decides.{nat_tests}
+use Rattle.text_laws.proofs.Cuts.{cut_at-here, cut_at-past}
 use Rattle.text_terms.specs.Numbers.{cut_at}
 use Rattle.obj_text.proofs.Positions.{position_or_len-here, position_or_len-past}
-
--- a byte that passes cuts
-cut_at-here : (p : ℕ → Bool) (c : ℕ) (cs : List ℕ) → p c ≡ true → cut_at p (c ∷ cs) ≡ ([], Some cs)
-cut_at-here p c cs e = rw e refl
-
--- another stands in front
-cut_at-past : (p : ℕ → Bool) (c : ℕ) (cs : List ℕ) → p c ≡ false → cut_at p (c ∷ cs) ≡ (c ∷ (cut_at p cs).0, (cut_at p cs).1)
-cut_at-past p c cs e = rw e refl
 
 -- where no byte passes all of the text stands before the cut
 cut_at-none : (p : ℕ → Bool) (xs : List ℕ) → length xs ≤ position_or_len p xs → cut_at p xs ≡ (xs, None)

@@ -7,7 +7,8 @@ use Rattle.text_terms.specs.Lines.{is_blank, begins_word, words_of, add_first, l
 use Rattle.obj_terms.specs.Obj.{word_lines}
 use Rattle.obj_text.specs.Lines.{first_words, words_left, lines_past}
 use Rattle.obj_text.proofs.Positions.{position_or_len-past}
-use Rattle.obj_text.proofs.WordSteps.{words_of-blank, words_of-last, words_of-more, words_of-first}
+use Rattle.obj_text.proofs.WordSteps.{words_of-blank, words_of-first}
+use Rattle.text_laws.proofs.Words.{words_of-last, words_of-more}
 
 -- the last byte
 pub last_is-end : (b c : ℕ) (front : List ℕ) → last_is b (front ++ c ∷ []) ≡ (c == b)

@@ -2,6 +2,7 @@
 use Rattle.std.proofs.Common.{◌≡◌, ℕ, ◌<◌, Bool, true, false, not, List, [], ◌∷◌, length, refl, ap, ◌∙◌, sym, arith, drop, take}
 use borrow.Author.Tests.{not-true, not-false}
 use Rattle.std.specs.List.{position_or_len}
+use Rattle.text_laws.proofs.Words.{words_of-last, words_of-more}
 use Rattle.text_terms.specs.Lines.{is_blank, begins_word, words_of, add_first}
 use Rattle.obj_text.proofs.Positions.{position_or_len-here, position_or_len-past}
 
@@ -28,14 +29,6 @@ begins_word-past_blanks (c ∷ cs) h = by_blank (is_blank c) refl (begins_word-p
   by_blank : (b : Bool) → is_blank c ≡ b → (0 < length (drop (position_or_len is_mark cs) cs) → begins_word (drop (position_or_len is_mark cs) cs) ≡ true) → 0 < length (drop (position_or_len is_mark (c ∷ cs)) (c ∷ cs)) → begins_word (drop (position_or_len is_mark (c ∷ cs)) (c ∷ cs)) ≡ true
   by_blank true e i h = rw (position_or_len-past is_mark c cs (ap not e)) (i (rw (position_or_len-past is_mark c cs (ap not e)) at h))
   by_blank false e i h = rw (position_or_len-here is_mark c cs (ap not e)) (ap not e)
-
--- the byte of a word before a blank or the end is the last of its word
-pub words_of-last : (c : ℕ) (cs : List ℕ) → is_blank c ≡ false → begins_word cs ≡ false → words_of (c ∷ cs) ≡ (c ∷ []) ∷ words_of cs
-words_of-last c cs e f = rw (e, f) refl
-
--- the byte of a word before another of its bytes stands first in the word
-pub words_of-more : (c : ℕ) (cs : List ℕ) → is_blank c ≡ false → begins_word cs ≡ true → words_of (c ∷ cs) ≡ add_first c (words_of cs)
-words_of-more c cs e f = rw (e, f) refl
 
 -- before no word stands a blank or the end
 position_or_len-no_word : (cs : List ℕ) → begins_word cs ≡ false → position_or_len is_blank cs ≡ 0

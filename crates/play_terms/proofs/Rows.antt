@@ -1,12 +1,13 @@
 -- The plays of small command lines over one file, computed.
-use Rattle.std.specs.Prelude.{◌≡◌, pos, negsuc, get_or, List, [], ◌∷◌, ◌++◌, if◌then◌else◌, codes, bytes_eq, Some, None}
+use Rattle.std.specs.Prelude.{◌≡◌, pos, negsuc, get_or, List, [], ◌∷◌, ◌++◌, if◌then◌else◌, codes, bytes_eq, Some, None, Ok, Err}
 use Rattle.std.proofs.Common.{refl}
 use Rattle.std.specs.Fmt.{digits}
 use Rattle.mesh_terms.specs.Limits.{Limits}
 use Rattle.obj_terms.specs.Written.{line_of}
 use Rattle.run_terms.specs.Files.{Bytes, Files}
-use Rattle.run_terms.specs.Runs.{Ask, Write, Say, Done, Refused, Refusal, Play}
-use Rattle.play_terms.specs.Commands.{Winding, play}
+use Rattle.run_terms.specs.Runs.{Ask, Write, Say}
+use Rattle.run_terms.specs.Tasks.{NoCommand, NoFile, FaultyMesh, Refusal, Part}
+use Rattle.play_terms.specs.Commands.{Meanings, play}
 use Rattle.play_terms.specs.Words.{CopyFile, InsideFile, given, command}
 
 abbrev program : Limits
@@ -38,19 +39,19 @@ abbrev plain_cube : Bytes
 plain_cube = codes "v 0 0 0\nv 10 0 0\nv 0 10 0\nv 10 10 0\nv 0 0 10\nv 10 0 10\nv 0 10 10\nv 10 10 10\nf 1 3 4\nf 1 4 2\nf 5 6 8\nf 5 8 7\nf 1 2 6\nf 1 6 5\nf 2 4 8\nf 2 8 6\nf 4 3 7\nf 4 7 8\nf 1 5 7\nf 1 7 3\n"
 
 -- a winding number that is told by the first coordinate alone
-abbrev told : Winding
-told p m = get_or p 0 (pos 0)
+abbrev told : Meanings
+told = record { winding = λ p m. get_or p 0 (pos 0) }
 
-abbrev play_on : Bytes → Play
-play_on bytes = play told copying (only (codes "t.obj") bytes) program
+abbrev play_on : Bytes → Part (Unit {0})
+play_on bytes = play told program copying (only (codes "t.obj") bytes)
 
 -- it ends so after the file was asked for
-abbrev stopped : Refusal → Play
-stopped why = record { actions = Ask (codes "t.obj") ∷ []; end = Refused why }
+abbrev stopped : Refusal → Part (Unit {0})
+stopped why = record { actions = Ask (codes "t.obj") ∷ []; result = Err why }
 
 -- a file that is refused with this line
-abbrev faulty : Bytes → Play
-faulty text = stopped (record { status = 4; line = line_of text })
+abbrev faulty : Bytes → Part (Unit {0})
+faulty text = stopped (record { cause = FaultyMesh; line = line_of text })
 
 -- a line of each kind of fault after the tetrahedron, whose file has eight lines
 record FaultsAreTold : Type 0 where
@@ -62,23 +63,23 @@ record FaultsAreTold : Type 0 where
   index : play_on (tetrahedron ++ line_of (codes "f 1 2 5")) ≡ faulty (codes "t.obj:9: 6 BadIndex")
   repeated : play_on (tetrahedron ++ line_of (codes "f 1 2 -4")) ≡ faulty (codes "t.obj:9: 7 FaceRepeatsVertex")
 
-copies_the_tetrahedron : play_on tetrahedron ≡ record { actions = Ask (codes "t.obj") ∷ Write (codes "u.obj") tetrahedron ∷ Say (line_of (codes "copied u.obj: points 4, triangles 4, unused 0")) ∷ []; end = Done }
+copies_the_tetrahedron : play_on tetrahedron ≡ record { actions = Ask (codes "t.obj") ∷ Write (codes "u.obj") tetrahedron ∷ Say (line_of (codes "copied u.obj: points 4, triangles 4, unused 0")) ∷ []; result = Ok tt }
 unfolding digits
 copies_the_tetrahedron = refl
 
-copies_an_empty_file : play_on [] ≡ record { actions = Ask (codes "t.obj") ∷ Write (codes "u.obj") [] ∷ Say (line_of (codes "copied u.obj: points 0, triangles 0, unused 0")) ∷ []; end = Done }
+copies_an_empty_file : play_on [] ≡ record { actions = Ask (codes "t.obj") ∷ Write (codes "u.obj") [] ∷ Say (line_of (codes "copied u.obj: points 0, triangles 0, unused 0")) ∷ []; result = Ok tt }
 unfolding digits
 copies_an_empty_file = refl
 
-refuses_an_open_mesh : play_on (corners ++ three_faces) ≡ stopped (record { status = 4; line = line_of (codes "t.obj: 11 OpenEdge 1 3") })
+refuses_an_open_mesh : play_on (corners ++ three_faces) ≡ stopped (record { cause = FaultyMesh; line = line_of (codes "t.obj: 11 OpenEdge 1 3") })
 unfolding digits
 refuses_an_open_mesh = refl
 
-drops_an_unused_point : play_on (corners ++ line_of (codes "v 5 5 5") ++ three_faces ++ line_of (codes "f 3 1 4")) ≡ record { actions = Ask (codes "t.obj") ∷ Write (codes "u.obj") tetrahedron ∷ Say (line_of (codes "copied u.obj: points 4, triangles 4, unused 1")) ∷ []; end = Done }
+drops_an_unused_point : play_on (corners ++ line_of (codes "v 5 5 5") ++ three_faces ++ line_of (codes "f 3 1 4")) ≡ record { actions = Ask (codes "t.obj") ∷ Write (codes "u.obj") tetrahedron ∷ Say (line_of (codes "copied u.obj: points 4, triangles 4, unused 1")) ∷ []; result = Ok tt }
 unfolding digits
 drops_an_unused_point = refl
 
-copies_a_modelled_cube : play_on modelled_cube ≡ record { actions = Ask (codes "t.obj") ∷ Write (codes "u.obj") plain_cube ∷ Say (line_of (codes "copied u.obj: points 8, triangles 12, unused 0")) ∷ []; end = Done }
+copies_a_modelled_cube : play_on modelled_cube ≡ record { actions = Ask (codes "t.obj") ∷ Write (codes "u.obj") plain_cube ∷ Say (line_of (codes "copied u.obj: points 8, triangles 12, unused 0")) ∷ []; result = Ok tt }
 unfolding digits
 copies_a_modelled_cube = refl
 
@@ -90,13 +91,13 @@ refuses_a_cut_file : play_on (corners ++ three_faces ++ codes "f 3 1") ≡ fault
 unfolding digits
 refuses_a_cut_file = refl
 
-refuses_a_missing_file : play told copying (λ n. None) program ≡ stopped (record { status = 3; line = line_of (codes "t.obj: missing") })
+refuses_a_missing_file : play told program copying (λ n. None) ≡ stopped (record { cause = NoFile; line = line_of (codes "t.obj: missing") })
 refuses_a_missing_file = refl
 
-refuses_other_words : play told (codes "copy" ∷ codes "t.obj" ∷ []) (λ n. None) program ≡ record { actions = []; end = Refused (record { status = 1; line = line_of (codes "usage: manifold_tool copy IN OUT, inside FILE X Y Z or run SCRIPT, each with --digits K") }) }
+refuses_other_words : play told program (codes "copy" ∷ codes "t.obj" ∷ []) (λ n. None) ≡ record { actions = []; result = Err (record { cause = NoCommand; line = line_of (codes "usage: manifold_tool copy IN OUT, inside FILE X Y Z or run SCRIPT, each with --digits K") }) }
 refuses_other_words = refl
 
-says_a_winding_number : play told (codes "inside" ∷ codes "t.obj" ∷ codes "2" ∷ codes "07" ∷ codes "0" ∷ []) (only (codes "t.obj") tetrahedron) program ≡ record { actions = Ask (codes "t.obj") ∷ Say (line_of (codes "winding 20000")) ∷ []; end = Done }
+says_a_winding_number : play told program (codes "inside" ∷ codes "t.obj" ∷ codes "2" ∷ codes "07" ∷ codes "0" ∷ []) (only (codes "t.obj") tetrahedron) ≡ record { actions = Ask (codes "t.obj") ∷ Say (line_of (codes "winding 20000")) ∷ []; result = Ok tt }
 unfolding digits
 says_a_winding_number = refl
 

@@ -1,64 +1,72 @@
--- What the commands do: the file is asked for, read and checked; then a copy is written and reported, or a winding number is said.
-use Rattle.std.specs.Prelude.{ℕ, ℤ, List, [], ◌∷◌, ◌++◌, if◌then◌else◌, nat_lt, length, Option, Some, None, Result, Ok, Err}
+-- What the commands do: a file is asked for, read and checked; then a copy is written and told, or a winding number is told.
+use Rattle.std.specs.Prelude.{ℕ, ℤ, List, if◌then◌else◌, nat_lt, length, Option, Some, None, Result, Ok, Err, [], ◌∷◌}
 use Rattle.chain_terms.specs.Chains.{all_edges}
 use Rattle.mesh_terms.specs.Faults.{FileBytes, Fault}
 use Rattle.mesh_terms.specs.Limits.{Limits}
-use Rattle.mesh_terms.specs.Meshes.{Soup}
+use Rattle.mesh_terms.specs.Meshes.{Triple, Soup}
 use Rattle.mesh_terms.specs.OpenEdges.{open_pair}
 use Rattle.obj_terms.specs.Obj.{obj}
 use Rattle.obj_terms.specs.Written.{obj_text}
-use Rattle.run_terms.specs.Files.{Bytes, Files}
-use Rattle.run_terms.specs.Runs.{Action, Ask, Write, Say, Refusal, Done, Refused, Play}
+use Rattle.run_terms.specs.Files.{Bytes}
+use Rattle.run_terms.specs.Runs.{Ask, Write, Say}
+use Rattle.run_terms.specs.Tasks.{Refusal, Task, take, act, then_task}
 use Rattle.play_terms.specs.Lines.{usage, missing, over, fault_refusal, open_refusal, copied_line, winding_line}
 use Rattle.play_terms.specs.Words.{Command, CopyFile, InsideFile, command}
 
--- no action, and the refusal
-abbrev pub refused : Refusal → Play
-refused why = record { actions = []; end = Refused why }
+-- what the commands need of geometry: the winding number of a point in a mesh
+pub record Meanings : Type 0 where
+  pub winding : List ℤ → Soup → ℤ
 
--- the first actions, and where they gave a value the others
-abbrev pub played : {A : Type 0} → List Action → Result A Refusal → (A → List Action) → Play
-played first (Err why) others = record { actions = first; end = Refused why }
-played first (Ok a) others = record { actions = first ++ others a; end = Done }
+-- the bytes of a file of this name: refused where it is not there or too long
+abbrev pub bytes_in : Limits → Bytes → Option Bytes → Result Bytes Refusal
+bytes_in limits name None = Err (missing name)
+bytes_in limits name (Some bytes) = if nat_lt limits.file_bytes (length bytes) then Err (over FileBytes (length bytes)) else Ok bytes
 
 -- an open mesh is refused by its least open pair
 abbrev pub if_closed : Bytes → Soup → Option (ℕ × ℕ) → Result Soup Refusal
 if_closed name soup None = Ok soup
 if_closed name soup (Some e) = Err (open_refusal name e)
 
+-- a text is refused by its first fault, and then by its edges
 abbrev pub checked : Bytes → Result Soup Fault → Result Soup Refusal
 checked name (Err fault) = Err (fault_refusal name fault)
 checked name (Ok soup) = if_closed name soup (open_pair (all_edges soup.triples))
 
--- the mesh of a file under k digits: refused where the file is not there or too long, by its text, or by its edges
-abbrev pub mesh_of : ℕ → Limits → Bytes → Option Bytes → Result Soup Refusal
-mesh_of k limits name None = Err (missing name)
-mesh_of k limits name (Some bytes) =
-    if nat_lt limits.file_bytes (length bytes) then Err (over FileBytes (length bytes))
-    else checked name (obj k limits bytes)
+-- a file is read
+abbrev pub ask_file : Limits → Bytes → Task Bytes
+ask_file limits name files = record { actions = Ask name ∷ []; result = bytes_in limits name (files name) }
 
-abbrev pub copy_actions : ℕ → Bytes → Soup → List Action
-copy_actions k to m = Write to (obj_text k m.points m.triples) ∷ Say (copied_line to m) ∷ []
+-- a mesh is read under k digits: a file, and then its text and its edges
+abbrev pub ask_mesh : ℕ → Limits → Bytes → Task Soup
+ask_mesh k limits name = then_task (ask_file limits name) (λ bytes. take (checked name (obj k limits bytes)))
 
-abbrev pub copy_play : ℕ → Limits → Files → Bytes → Bytes → Play
-copy_play k limits files from to = played (Ask from ∷ []) (mesh_of k limits from (files from)) (copy_actions k to)
+-- the text of a mesh is written under k digits
+abbrev pub write_mesh : ℕ → Bytes → List (List ℤ) → List Triple → Task (Unit {0})
+write_mesh k name points triples = act (Write name (obj_text k points triples))
 
--- the winding number of a point in a mesh
-abbrev pub Winding : Type 0
-Winding = List ℤ → Soup → ℤ
+abbrev pub say : Bytes → Task (Unit {0})
+say line = act (Say line)
 
-abbrev pub inside_actions : Winding → List ℤ → Soup → List Action
-inside_actions winding p m = Say (winding_line (winding p m)) ∷ []
+-- a mesh is written and told
+abbrev pub copied_task : ℕ → Bytes → Soup → Task (Unit {0})
+copied_task k to m = then_task (write_mesh k to m.points m.triples) (λ _. say (copied_line to m))
 
-abbrev pub inside_play : ℕ → Winding → Limits → Files → Bytes → List ℤ → Play
-inside_play k winding limits files name p = played (Ask name ∷ []) (mesh_of k limits name (files name)) (inside_actions winding p)
+abbrev pub copy_task : ℕ → Limits → Bytes → Bytes → Task (Unit {0})
+copy_task k limits from to = then_task (ask_mesh k limits from) (copied_task k to)
 
--- the play of a command over the files
-abbrev pub play_of : Winding → Limits → Files → Option Command → Play
-play_of winding limits files None = refused usage
-play_of winding limits files (Some (CopyFile k from to)) = copy_play k limits files from to
-play_of winding limits files (Some (InsideFile k file p)) = inside_play k winding limits files file p
+-- the winding number of a point is told
+abbrev pub winding_task : Meanings → List ℤ → Soup → Task (Unit {0})
+winding_task meanings p m = say (winding_line (meanings.winding p m))
 
--- the play of the words
-abbrev pub play : Winding → List Bytes → Files → Limits → Play
-play winding words files limits = play_of winding limits files (command words)
+abbrev pub inside_task : ℕ → Meanings → Limits → Bytes → List ℤ → Task (Unit {0})
+inside_task k meanings limits name p = then_task (ask_mesh k limits name) (winding_task meanings p)
+
+-- the task of a command; words of no command are refused
+abbrev pub command_task : Meanings → Limits → Option Command → Task (Unit {0})
+command_task meanings limits None = take (Err usage)
+command_task meanings limits (Some (CopyFile k from to)) = copy_task k limits from to
+command_task meanings limits (Some (InsideFile k file p)) = inside_task k meanings limits file p
+
+-- the task of the words
+abbrev pub play : Meanings → Limits → List Bytes → Task (Unit {0})
+play meanings limits words = command_task meanings limits (command words)

@@ -1,4 +1,5 @@
 pub mod Commands
+pub mod Ends
 pub mod Lines
-pub mod Meets
+pub mod ReadingBack
 pub mod Words

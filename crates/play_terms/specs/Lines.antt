@@ -5,16 +5,17 @@ use Rattle.mesh_terms.specs.Faults.{Counted, FileBytes, Points, Triangles, Halfe
 use Rattle.mesh_terms.specs.Meshes.{Soup}
 use Rattle.obj_terms.specs.Written.{line_of}
 use Rattle.run_terms.specs.Files.{Bytes}
-use Rattle.run_terms.specs.Runs.{Refusal}
+use Rattle.run_terms.specs.Tasks.{Cause, NoCommand, NoFile, FaultyMesh, PastLimit, Refusal}
 
-abbrev pub refusal : ℕ → Bytes → Refusal
-refusal status text = record { status = status; line = line_of text }
+-- a refusal with the line of this text
+abbrev pub refusal : Cause → Bytes → Refusal
+refusal cause text = record { cause = cause; line = line_of text }
 
 abbrev pub usage : Refusal
-usage = refusal 1 (codes "usage: manifold_tool copy IN OUT, inside FILE X Y Z or run SCRIPT, each with --digits K")
+usage = refusal NoCommand (codes "usage: manifold_tool copy IN OUT, inside FILE X Y Z or run SCRIPT, each with --digits K")
 
 abbrev pub missing : Bytes → Refusal
-missing name = refusal 3 (name ++ codes ": missing")
+missing name = refusal NoFile (name ++ codes ": missing")
 
 -- the name of a kind of fault by its number
 abbrev pub kind_name : ℕ → Bytes
@@ -36,16 +37,16 @@ limit_name Halfedges = codes "halfedges"
 
 -- limit WHAT SEEN
 abbrev pub over : Counted → ℕ → Refusal
-over what seen = refusal 5 (codes "limit " ++ limit_name what ++ codes " " ++ decimal seen)
+over what seen = refusal PastLimit (codes "limit " ++ limit_name what ++ codes " " ++ decimal seen)
 
 -- FILE:LINE: NUMBER KIND
 abbrev pub fault_refusal : Bytes → Fault → Refusal
-fault_refusal name (Bad line kind) = refusal 4 (name ++ codes ":" ++ decimal line ++ codes ": " ++ decimal kind ++ codes " " ++ kind_name kind)
+fault_refusal name (Bad line kind) = refusal FaultyMesh (name ++ codes ":" ++ decimal line ++ codes ": " ++ decimal kind ++ codes " " ++ kind_name kind)
 fault_refusal name (Over what seen) = over what seen
 
 -- FILE: 11 OpenEdge FROM TO, counted from 1
 abbrev pub open_refusal : Bytes → (ℕ × ℕ) → Refusal
-open_refusal name e = refusal 4 (name ++ codes ": 11 OpenEdge " ++ decimal (e.0 + 1) ++ codes " " ++ decimal (e.1 + 1))
+open_refusal name e = refusal FaultyMesh (name ++ codes ": 11 OpenEdge " ++ decimal (e.0 + 1) ++ codes " " ++ decimal (e.1 + 1))
 
 abbrev pub read_fault : Bytes → Bytes
 read_fault name = line_of (name ++ codes ": read fault")
@@ -59,10 +60,13 @@ report_fault = line_of (codes "report: write fault")
 abbrev pub no_memory : Bytes
 no_memory = line_of (codes "out of memory")
 
+-- : points P, triangles T, unused U
+abbrev pub counts_text : ℕ → ℕ → ℕ → Bytes
+counts_text points triangles unused = codes ": points " ++ decimal points ++ codes ", triangles " ++ decimal triangles ++ codes ", unused " ++ decimal unused
+
 -- copied OUT: points P, triangles T, unused U
 abbrev pub copied_line : Bytes → Soup → Bytes
-copied_line to m =
-    line_of (codes "copied " ++ to ++ codes ": points " ++ decimal (length m.points) ++ codes ", triangles " ++ decimal (length m.triples) ++ codes ", unused " ++ decimal m.unused)
+copied_line to m = line_of (codes "copied " ++ to ++ counts_text (length m.points) (length m.triples) m.unused)
 
 -- winding W
 abbrev pub winding_line : ℤ → Bytes

@@ -1,5 +1,5 @@
 -- The words of a command line: a command, operands and options, where after the first -- every word is an operand.
-use Rattle.std.specs.Prelude.{ℕ, ◌-◌, ℤ, nat_le, List, [], ◌∷◌, ◌++◌, Bool, not, ◌&&◌, ◌||◌, if◌then◌else◌, length, take, drop, codes, bytes_eq, Option, Some, None}
+use Rattle.std.specs.Prelude.{◌≡◌, ℕ, ◌-◌, ℤ, nat_le, List, [], ◌∷◌, ◌++◌, Bool, not, ◌&&◌, ◌||◌, if◌then◌else◌, length, take, drop, codes, bytes_eq, Option, Some, None}
 use Rattle.std.specs.Option.{option_and_then}
 use Rattle.text_terms.specs.Numbers.{grid_number, is_on_grid}
 use Rattle.obj_terms.specs.Written.{is_obj}
@@ -9,6 +9,12 @@ use Rattle.run_terms.specs.Files.{Bytes}
 pub data Command : Type 0 where
   CopyFile : (digits : ℕ) → (from : Bytes) → (to : Bytes) → Command
   InsideFile : (digits : ℕ) → (file : Bytes) → (point : List ℤ) → Command
+
+abbrev pub IsCopy : Option Command → Type 0
+IsCopy o = (k : ℕ) × (from : Bytes) × (to : Bytes) × (o ≡ Some (CopyFile k from to))
+
+abbrev pub IsInside : Option Command → Type 0
+IsInside o = (k : ℕ) × (file : Bytes) × (point : List ℤ) × (o ≡ Some (InsideFile k file point))
 
 abbrev pub is_option_end : Bytes → Bool
 is_option_end word = bytes_eq word (codes "--")

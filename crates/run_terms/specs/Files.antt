@@ -1,5 +1,5 @@
 -- Files by name, what the calls of a shelf and of a sink do to them, and counts of faults.
-use Rattle.std.specs.Prelude.{◌≡◌, ℕ, List, [], ◌++◌, ◌⊎◌, ◌≤◌, ◌^◌, ◌-◌, ◌+◌, min, if◌then◌else◌, bytes_eq, length, take, drop, Option, Some, None, Result, IsOk, IsErr}
+use Rattle.std.specs.Prelude.{◌≡◌, ℕ, List, [], ◌++◌, ◌⊎◌, ◌≤◌, ◌<◌, ◌^◌, ◌-◌, ◌+◌, min, if◌then◌else◌, bytes_eq, length, take, drop, Option, Some, None, Result, IsOk, IsErr}
 
 abbrev pub Bytes : Type 0
 Bytes = List ℕ
@@ -29,6 +29,11 @@ OthersStay name old new = (n : Bytes) → (n ≡ name → ⊥) → new n ≡ old
 abbrev pub Rose : ℕ → ℕ → Type 0
 Rose before after = min (before + 1) (2 ^ 64 - 1) ≤ after
 
+-- the count rose, or stood at its last value, and did not fall
+pub record Grew (before after : ℕ) : Type 0 where
+  pub later : before ≤ after
+  pub rose : Rose before after
+
 -- a refusal comes only where the count rose, and an Ok leaves the count
 pub record Counts {T E : Type 0} (before after : ℕ) (result : Result T E) : Type 0 where
   pub later : before ≤ after
@@ -44,6 +49,22 @@ pub record ReadsAt (text : Bytes) (at : ℕ) (old new : Bytes) (count : ℕ) : T
   pub there : count ≤ length (drop at text)
   pub bytes : new ≡ take count (drop at text) ++ drop count old
   pub end : count ≡ 0 → (length old ≡ 0) ⊎ (length text ≤ at)
+
+-- the size that an answer states; none counts as 0
+abbrev pub size_in : Option ℕ → ℕ
+size_in None = 0
+size_in (Some size) = size
+
+-- a read into some space gave nothing, at a place below the size that was stated
+pub record IsShort (stated at : ℕ) (into : Bytes) (count : ℕ) : Type 0 where
+  pub nothing : count ≡ 0
+  pub space : 0 < length into
+  pub below : at < stated
+
+-- the count of such reads rises by one of them, and by no other read
+pub record CountsShort (stated at : ℕ) (into : Bytes) (count before after : ℕ) : Type 0 where
+  pub short : IsShort stated at into count → Grew before after
+  pub other : (IsShort stated at into count → ⊥) → after ≡ before
 
 -- as before or empty
 abbrev pub IsKeptOrEmpty : Option Bytes → Option Bytes → Type 0

@@ -1,2 +1,4 @@
 pub mod Files
+pub mod Meets
 pub mod Runs
+pub mod Tasks

@@ -1,4 +1,4 @@
 use Rattle.manifold_tool.proofs.main.Given as goal
 
-abbrev pub ghosts-run_here : goal.ghosts-run_here
-ghosts-run_here a = record { name = a.blank.name; parts = a.blank.parts }
+abbrev pub ghosts-start_here : goal.ghosts-start_here
+ghosts-start_here a = record { name = a.blank.name; parts = a.blank.parts }

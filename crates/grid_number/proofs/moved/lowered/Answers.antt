@@ -3,10 +3,9 @@ use Rattle.std.proofs.lemmas.List.{length-append, length-drop, take-append-drop}
 use Rattle.std.proofs.Math.ListN.{get_or-append}
 use Rattle.text_terms.specs.Numbers.{all_digits, digits_value, value_from, scaled}
 use Rattle.grid_number.specs.Reading.{saturated}
-use Rattle.grid_number.proofs.Bytes.{all_digits-append}
 use Rattle.grid_number.proofs.Dropped.{rounded-is, scaled-nothing}
 use Rattle.grid_number.proofs.Saturated.{all_digits-take, all_digits-drop, saturated-value_from}
-use Rattle.grid_number.proofs.Values.{value_from-append}
+use Rattle.text_laws.proofs.Digits.{all_digits-append, value_from-append}
 use Rattle.grid_number.proofs.moved.lowered.Goals as goal
 
 -- the digits of both parts

@@ -12,6 +12,7 @@ loop-done-preserved g c =
       told = told_on _ _ _ c.args.text.now _ c.loop-done.done c.in_ok-done.field-0 c.split_at.ensures.back inv.told e.added;
       count = e.count.ok (search rules) ∙ inv.count;
       other = e.other ∙ inv.other;
+      second = e.second ∙ inv.second;
       rest = e.rest ∙ inv.rest;
       loan = e.loan ∙ inv.loan;
       room = λ free is fits.

@@ -9,6 +9,7 @@ invariant-loop-done g l = record {
   told : g.K.Sink.told l.sink ≡ option_map (λ held. held ++ take l.done l.text) (g.K.Sink.told l.initial.sink);
   count : g.K.Sink.faults l.sink ≡ g.K.Sink.faults l.initial.sink;
   other : g.K.Sink.other l.sink ≡ g.K.Sink.other l.initial.sink;
+  second : g.K.Sink.second l.sink ≡ g.K.Sink.second l.initial.sink;
   rest : g.K.Sink.rest l.sink ≡ g.K.Sink.rest l.initial.sink;
   loan : g.K.Sink.loan l.sink ≡ g.K.Sink.loan l.initial.sink;
   room : (free : ℕ) → g.K.Sink.room l.initial.sink ≡ Some free → length l.text ≤ free → g.K.Sink.room l.sink ≡ Some (free - l.done);

@@ -12,6 +12,7 @@ loop-triple-init g c = record {
   passed = passed-none c.args.page.now.items (g.K.Sink.told c.args.sink.now) (g.K.Sink.room c.args.sink.now);
   count = search rules;
   other = search rules;
+  second = search rules;
   rest = search rules;
   loan = search rules;
 }
@@ -26,6 +27,7 @@ loop-triple-preserved g c =
       passed = line_passed (λ t. face_line (triple_of t)) c.args.triples.now c.loop-triple.triple-index [] (get_or c.args.triples.now c.loop-triple.triple-index []) refl c.loop-triple-test.true _ _ _ _ _ _ _ _ _ _ inv.passed c.put_face.ensures e.passed;
       count = e.count.ok (search rules) ∙ inv.count;
       other = e.other ∙ inv.other;
+      second = e.second ∙ inv.second;
       rest = e.rest ∙ inv.rest;
       loan = e.loan ∙ inv.loan;
     }

@@ -13,6 +13,7 @@ invariant-loop-triple g l = record {
   passed : Passed (flat_map (λ t. face_line (triple_of t)) (take l.triple-index l.triples)) l.initial.page.items l.page.items (g.K.Sink.told l.initial.sink) (g.K.Sink.told l.sink) (g.K.Sink.room l.initial.sink) (g.K.Sink.room l.sink);
   count : g.K.Sink.faults l.sink ≡ g.K.Sink.faults l.initial.sink;
   other : g.K.Sink.other l.sink ≡ g.K.Sink.other l.initial.sink;
+  second : g.K.Sink.second l.sink ≡ g.K.Sink.second l.initial.sink;
   rest : g.K.Sink.rest l.sink ≡ g.K.Sink.rest l.initial.sink;
   loan : g.K.Sink.loan l.sink ≡ g.K.Sink.loan l.initial.sink;
 }

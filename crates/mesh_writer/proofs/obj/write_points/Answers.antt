@@ -11,6 +11,7 @@ loop-point-init g c = record {
   passed = passed-none c.args.page.now.items (g.K.Sink.told c.args.sink.now) (g.K.Sink.room c.args.sink.now);
   count = search rules;
   other = search rules;
+  second = search rules;
   rest = search rules;
   loan = search rules;
 }
@@ -25,6 +26,7 @@ loop-point-preserved g c =
       passed = line_passed (point_line c.args.digits) c.args.points.now c.loop-point.point-index c.point-item.result c.point-item.result c.point-item.is c.loop-point-test.true _ _ _ _ _ _ _ _ _ _ inv.passed c.put_point.ensures e.passed;
       count = e.count.ok (search rules) ∙ inv.count;
       other = e.other ∙ inv.other;
+      second = e.second ∙ inv.second;
       rest = e.rest ∙ inv.rest;
       loan = e.loan ∙ inv.loan;
     }

@@ -1,0 +1,177 @@
+// What words are a command, and which one.
+use crate::{Command, read_command};
+use mb_base::{ArgList, NoMemory, Point};
+use std::alloc::Global;
+use std::test::Fail;
+
+// The words as a list.
+fn listed(alloc: Global, words: &[&str]) -> Result<ArgList, NoMemory> {
+    let mut list = ArgList::start(alloc);
+    for word in words {
+        list.push(word)?;
+    }
+    Ok(list)
+}
+
+// Whether the words are of no command.
+fn is_no_command(alloc: Global, words: &[&str]) -> Result<bool, NoMemory> {
+    let list = listed(alloc, words)?;
+    Ok(read_command(&list).is_none())
+}
+
+// Whether the words are a copy of `a.obj` to `b.obj` with so many digits.
+fn is_copy_with(alloc: Global, words: &[&str], wanted: u8) -> Result<bool, NoMemory> {
+    let list = listed(alloc, words)?;
+    match read_command(&list) {
+        Some(Command::CopyFile { digits, from, to }) => {
+            Ok(digits == wanted && from == "a.obj" && to == "b.obj")
+        }
+        _ => Ok(false),
+    }
+}
+
+// Where a point is.
+fn is_at(point: &Point, at: [i32; 3]) -> bool {
+    let [x, y, z] = point.at();
+    x == at[0] && y == at[1] && z == at[2]
+}
+
+// Whether the words ask for this point of the grid in `c.obj`.
+fn is_inside_at(alloc: Global, words: &[&str], at: [i32; 3]) -> Result<bool, NoMemory> {
+    let list = listed(alloc, words)?;
+    let Some(command) = read_command(&list) else {
+        return Ok(false);
+    };
+    match command {
+        Command::CopyFile { .. } => Ok(false),
+        Command::InsideFile {
+            digits,
+            file,
+            point,
+        } => Ok(digits <= 6 && file == "c.obj" && is_at(&point, at)),
+    }
+}
+
+#[test]
+fn other_words_are_no_command(rt: HostRuntime) -> Result<(), Fail> {
+    let others: [&[&str]; 12] = [
+        &[],
+        &["--help"],
+        &["--version"],
+        &["run", "s.txt"],
+        &["--", "copy", "c.obj", "u.obj"],
+        &["copy", "c.obj"],
+        &["copy", "c.obj", "u.ply"],
+        &["copy", "c.obj", "u.stl"],
+        &["copy", "c.obj", "u.obj", "v.obj"],
+        &["copy", "c.obj", "u.obj", ""],
+        &["copy", "-c.obj", "u.obj"],
+        &["copy", "--", "c.obj", "--", "u.obj"],
+    ];
+    for words in others {
+        assert!(rt; is_no_command(rt.alloc(), words)?);
+    }
+    Ok(())
+}
+
+#[test]
+fn other_digits_are_no_command(rt: HostRuntime) -> Result<(), Fail> {
+    let others: [&[&str]; 13] = [
+        &["copy", "--digits", "7", "c.obj", "u.obj"],
+        &["copy", "--digits=7", "c.obj", "u.obj"],
+        &["copy", "--digits=07", "c.obj", "u.obj"],
+        &["copy", "--digits=", "c.obj", "u.obj"],
+        &["copy", "--digits", "", "c.obj", "u.obj"],
+        &["copy", "--digit=3", "c.obj", "u.obj"],
+        &["copy", "--digits", "-", "c.obj", "u.obj"],
+        &["copy", "c.obj", "u.obj", "--digits"],
+        &["copy", "--digits", "--", "4", "c.obj", "u.obj"],
+        &["copy", "--digits=3", "c.obj", "u.obj", "--digits=3"],
+        &["copy", "--digits", "3", "--digits", "3", "c.obj", "u.obj"],
+        &["copy", "c.obj", "u.obj", "--", "--digits=3"],
+        &["--digits", "3", "copy", "c.obj", "u.obj"],
+    ];
+    for words in others {
+        assert!(rt; is_no_command(rt.alloc(), words)?);
+    }
+    Ok(())
+}
+
+#[test]
+fn a_point_has_three_numbers_on_the_grid(rt: HostRuntime) -> Result<(), Fail> {
+    let others: [&[&str]; 9] = [
+        &["inside", "5", "4", "3"],
+        &["inside", "c.obj", "5", "4"],
+        &["inside", "c.obj", "5", "4", "3", "2"],
+        &["inside", "c.ply", "5", "4", "3"],
+        &["inside", "c.obj", "-5", "4", "3"],
+        &["inside", "c.obj", "5", "4", "3e"],
+        &["inside", "c.obj", "5", "4", ""],
+        &["inside", "c.obj", "5", "4", "107374.18245"],
+        &["inside", "--digits=6", "c.obj", "5", "4", "1073.7418245"],
+    ];
+    for words in others {
+        assert!(rt; is_no_command(rt.alloc(), words)?);
+    }
+    Ok(())
+}
+
+#[test]
+fn a_point_is_read_as_the_digits_say(rt: HostRuntime) -> Result<(), Fail> {
+    let points: [(&[&str], [i32; 3]); 8] = [
+        (
+            &["inside", "c.obj", "--", "-5", "4", "3"],
+            [-50_000, 40_000, 30_000],
+        ),
+        (
+            &["inside", "--", "c.obj", "+5", "4.25", "3e0"],
+            [50_000, 42_500, 30_000],
+        ),
+        (
+            &["inside", "c.obj", "05", ".5", "1E1"],
+            [50_000, 5_000, 100_000],
+        ),
+        (
+            &["inside", "c.obj", "5", "4", "10.00004"],
+            [50_000, 40_000, 100_000],
+        ),
+        (
+            &["inside", "c.obj", "5", "4", "10.00005"],
+            [50_000, 40_000, 100_001],
+        ),
+        (
+            &["inside", "c.obj", "--digits", "0", "5", "4", "10.4"],
+            [5, 4, 10],
+        ),
+        (
+            &["inside", "c.obj", "5", "4", "10.4", "--digits=1"],
+            [50, 40, 104],
+        ),
+        (
+            &["inside", "c.obj", "5", "4", "107374.1824"],
+            [50_000, 40_000, 1_073_741_824],
+        ),
+    ];
+    for (words, at) in points {
+        assert!(rt; is_inside_at(rt.alloc(), words, at)?);
+    }
+    Ok(())
+}
+
+#[test]
+fn digits_stand_anywhere_before_the_end_of_options(rt: HostRuntime) -> Result<(), Fail> {
+    let taken: [(&[&str], u8); 8] = [
+        (&["copy", "a.obj", "b.obj"], 4),
+        (&["copy", "a.obj", "b.obj", "--digits", "0"], 0),
+        (&["copy", "a.obj", "--digits", "6", "b.obj"], 6),
+        (&["copy", "--digits=5", "a.obj", "--", "b.obj"], 5),
+        (&["copy", "--digits", "1", "--", "a.obj", "b.obj"], 1),
+        (&["copy", "a.obj", "b.obj", "--digits=2", "--"], 2),
+        (&["copy", "--", "a.obj", "b.obj"], 4),
+        (&["copy", "a.obj", "--", "b.obj"], 4),
+    ];
+    for (words, digits) in taken {
+        assert!(rt; is_copy_with(rt.alloc(), words, digits)?);
+    }
+    Ok(())
+}

@@ -1,0 +1,42 @@
+-- A run against the task of its words.
+use Rattle.std.specs.Prelude.{◌≡◌, ℕ, List, IsTrue, Result, Ok}
+use Rattle.mesh_terms.specs.Limits.{Limits}
+use Rattle.run_terms.specs.Files.{Bytes}
+use Rattle.run_terms.specs.Meets.{Why, Seen, Meets}
+use Rattle.play_terms.specs.Commands.{Meanings, play}
+use Rattle.play_terms.specs.Ends.{RiseWith, ended_line, ended_status}
+use Rattle.mb_outside.specs.Seen.{OnOutput, on_output, seen_of}
+use Rattle.mb_outside.specs.declared.shelf.Shelf.{Ghosts as OfShelf}
+use Rattle.mb_outside.specs.declared.sink.Sink.{Ghosts as OfSink}
+use Rattle.report_lines.specs.Reports.{IsReported}
+use Rattle.winding.specs.Windings.{winding_at}
+
+-- the winding number is that under the kernels of the grid and rounding to the nearest
+abbrev pub meanings : Meanings
+meanings = record { winding = λ point soup. winding_at point (record { points = soup.points; triples = soup.triples }) }
+
+-- the run met the task of the words in some end, whose status it has and whose line it told on standard error
+abbrev pub MeetsPlay : Limits → List Bytes → Seen → Seen → ℕ → OnOutput → OnOutput → Type 0
+MeetsPlay limits words before now status told_before told_now =
+    (ended : Result (Unit {0}) Why) × Meets (play meanings limits words) before now ended × (status ≡ ended_status ended) × IsReported (ended_line ended) told_before told_now
+
+-- the same of a shelf, an output and standard error of any type
+abbrev pub RunMeets : {S O E : Type 0} → OfShelf S → OfSink O → OfSink E → Limits → List Bytes → S × O × E → S × O × E → ℕ → Type 0
+RunMeets s o e limits words old new status =
+    MeetsPlay limits words (seen_of s o old.0 old.1) (seen_of s o new.0 new.1) status (on_output e old.2) (on_output e new.2)
+
+-- the counts rise with the status
+abbrev pub RiseOn : {S O : Type 0} → OfShelf S → OfSink O → S × O → S × O → ℕ → Type 0
+RiseOn s o old new status = RiseWith status (s.tells old.0) (seen_of s o old.0 old.1).faults (seen_of s o new.0 new.1).faults
+
+-- the files are told, the task of the words refuses nothing over them, and no count rose
+pub record IsUntroubled {S O : Type 0} (s : OfShelf S) (o : OfSink O) (limits : Limits) (words : List Bytes) (old new : S × O) : Type 0 where
+  pub told : IsTrue (s.tells old.0)
+  pub whole : (play meanings limits words (s.files old.0)).result ≡ Ok tt
+  pub reads : s.read_faults new.0 ≡ s.read_faults old.0
+  pub writes : s.write_faults new.0 ≡ s.write_faults old.0
+  pub outs : o.faults new.1 ≡ o.faults old.1
+
+-- a file of 1 GiB, 15,000,000 points, 10,000,000 triangles, and 6,000,000 half-edges of an operation
+abbrev pub program_limits : Limits
+program_limits = record { file_bytes = 1073741824; points = 15000000; triangles = 10000000; halfedges = 6000000 }

@@ -1,0 +1,51 @@
+// The files of a command: what stops at one of them carries its name.
+ghost use Rattle.std.specs.Prelude.{◌≡◌, ◌≤◌, false, IsTrue, IfErr};
+ghost use Rattle.mesh_terms.specs.Limits.{IsLawful};
+ghost use Rattle.play_terms.specs.Commands.{ask_mesh, write_mesh};
+ghost use Rattle.mb_outside.specs.Seen.{MeetsOnShelf};
+ghost use Rattle.mesh_files.specs.Stops.{soup_with};
+ghost use Rattle.report_lines.specs.Halts.{halted_by, is_past_words, is_unsaid};
+
+use mb_base::Limits;
+use mb_outside::Shelf;
+use mesh_check::Mesh;
+use mesh_files::{Read, read_mesh, save_mesh};
+use report_lines::Halt;
+use std::alloc::Global;
+
+/// Reads a mesh from a file, as `read_mesh` does.
+pub fn ask<'a, S: Shelf>(
+    alloc: Global,
+    name: &'a str,
+    digits: u8,
+    limits: &Limits,
+    shelf: &mut S,
+) -> Result<Read, Halt<'a>>
+    requires digits { digits ≤ 6 }
+    ensures meets { MeetsOnShelf S.Shelf (ask_mesh digits limits.now name.now) shelf.old shelf.new (halted_by soup_with result) }
+    ensures words { IfErr result (λ halt. IsTrue (is_past_words halt)) }
+    ensures unsaid { IfErr result (λ halt. is_unsaid halt ≡ false) }
+    ensures lawful { IsLawful limits.now }
+{
+    match read_mesh(alloc, name, digits, limits, shelf) {
+        Ok(read) => Ok(read),
+        Err(stop) => Err(Halt::At { name, stop }),
+    }
+}
+
+/// Saves a mesh to a file, as `save_mesh` does.
+pub fn write<'a, S: Shelf>(
+    mesh: &Mesh,
+    name: &'a str,
+    digits: u8,
+    shelf: &mut S,
+) -> Result<(), Halt<'a>>
+    requires digits { digits ≤ 6 }
+    ensures meets { MeetsOnShelf S.Shelf (write_mesh digits name.now mesh.now.points mesh.now.triples) shelf.old shelf.new (halted_by (λ done. done) result) }
+    ensures words { IfErr result (λ halt. IsTrue (is_past_words halt)) }
+{
+    match save_mesh(mesh, name, digits, shelf) {
+        Ok(()) => Ok(()),
+        Err(stop) => Err(Halt::At { name, stop }),
+    }
+}

@@ -1,0 +1,50 @@
+// The start of the program, over any shelf and any outputs.
+ghost use Rattle.std.specs.Prelude.{◌≡◌, ◌<◌, ◌^◌, ◌-◌, ◌↔◌, [], None, IfOk, IfErr};
+ghost use Rattle.play_terms.specs.Ends.{why_line, why_status};
+ghost use Rattle.play_terms.specs.Words.{command};
+ghost use Rattle.mb_outside.specs.Seen.{on_output};
+ghost use Rattle.mesh_files.specs.Stops.{why_of};
+ghost use Rattle.report_lines.specs.Reports.{IsReported};
+ghost use Rattle.manifold_tool.specs.Playing.{RiseOn, RunMeets, program_limits};
+ghost use Rattle.manifold_tool.specs.Statuses.{status_number};
+
+use crate::run::run;
+use crate::status::{Status, status_at};
+use mb_base::{ArgList, Limits};
+use mb_outside::{Shelf, Sink};
+use mesh_files::Stop;
+use report_lines::tell_stop;
+use std::alloc::Global;
+use std::sync::ledger::Ledger;
+use steps::Steps;
+
+/// Runs the program on its words, under its limits. Where the words could not be had, it tells why on `err`, and does nothing else: they
+/// are no text, which is `Usage`, or there was no memory for them.
+pub fn start<S: Shelf, O: Sink, E: Sink, L: Ledger>(
+    alloc: Global,
+    words: Result<ArgList, Stop>,
+    shelf: &mut S,
+    out: &mut O,
+    err: &mut E,
+    steps: &mut Steps<L>,
+) -> Status
+    requires reads { S.read_faults shelf.old < 2 ^ 64 - 1 }
+    requires writes { S.write_faults shelf.old < 2 ^ 64 - 1 }
+    requires outs { O.faults out.old < 2 ^ 64 - 1 }
+    requires errs { E.faults err.old < 2 ^ 64 - 1 }
+    ensures usage { IfOk words (λ words. (result ≡ Status.Usage) ↔ (command words ≡ None)) }
+    ensures play { IfOk words (λ words.
+        RunMeets S.Shelf O.Sink E.Sink program_limits words (shelf.old, out.old, err.old) (shelf.new, out.new, err.new) (status_number result)) }
+    ensures counts { IfOk words (λ _. RiseOn S.Shelf O.Sink (shelf.old, out.old) (shelf.new, out.new) (status_number result)) }
+    ensures status { IfErr words (λ stop. status_number result ≡ why_status (why_of [] stop)) }
+    ensures report { IfErr words (λ stop. IsReported (why_line (why_of [] stop)) (on_output E.Sink err.old) (on_output E.Sink err.new)) }
+    ensures untouched { IfErr words (λ _. (shelf.new ≡ shelf.old) × (out.new ≡ out.old)) }
+{
+    match words {
+        Ok(words) => run(alloc, &words, &Limits::program(), shelf, out, err, steps),
+        Err(stop) => {
+            tell_stop("", &stop, err);
+            status_at(&stop)
+        }
+    }
+}

@@ -1,0 +1,108 @@
+-- Calls of a shelf that met the asking for a file, or the writing of one.
+use Rattle.std.proofs.Common.{◌≡◌, ℕ, List, [], ◌∷◌, Bool, false, Option, Result, Ok, Err, IsTrue, IfOk, IfErr, OnOk, ◌⊎◌, inl, inr, ap, sym, subst, refl, ◌∙◌, ℤ}
+use Rattle.mesh_terms.specs.Limits.{Limits}
+use Rattle.mesh_terms.specs.Meshes.{Triple}
+use Rattle.obj_terms.specs.Obj.{obj}
+use Rattle.obj_terms.specs.Written.{obj_text}
+use Rattle.run_terms.specs.Files.{Bytes, Files, Grew, put}
+use Rattle.run_terms.specs.Runs.{World, Write, Partial, done_all}
+use Rattle.run_terms.specs.Tasks.{Refusal, take}
+use Rattle.run_terms.specs.Meets.{Why, Refused, Unread, Unwritten, Starved, ReadRose, Seen, Meets}
+use Rattle.play_terms.specs.Commands.{ask_file, ask_mesh, bytes_in, checked, write_mesh}
+use Rattle.mb_outside.specs.Seen.{OnShelf, ShelfMeets, seen}
+use Rattle.mesh_files.specs.Stops.{ended_by, soup_with, why_of}
+use Rattle.mesh_files.specs.declared.reading.Read.{Read}
+use Rattle.mesh_files.specs.declared.stop.Stop.{Stop}
+use Rattle.mesh_files.proofs.Saved.{IsSavedInPart}
+use Rattle.run_laws.proofs.Tasks.{meets_then, meets_stop, meets_starved}
+
+-- a value or a refusal that was to be had
+pub taken : {A : Type 0} (result : Result A Refusal) (a : A) (now : Seen) → result ≡ Ok a → Meets (take result) now now (Ok a)
+taken result a now is = record { tells = refl; faults = refl; does = λ told. record { gives = is; all_done = refl } }
+
+abbrev world_of : Files → Option Bytes → World
+world_of files told = record { files = files; out = told }
+
+-- the file could not be read
+pub unread : (limits : Limits) (name : Bytes) (before now : OnShelf) → now.tells ≡ before.tells → now.files ≡ before.files → now.write ≡ before.write
+    → (Grew before.read now.read × (now.short ≡ before.short)) ⊎ ((before.tells ≡ false) × Grew before.short now.short × (now.read ≡ before.read))
+    → ShelfMeets (ask_file limits name) before now (Err (Unread name))
+unread limits name before now tells files write rose told outs =
+    record {
+      tells = tells;
+      faults = (rose, write, refl);
+      does = λ t. record { whole = []; later = []; split = refl; part = ap (λ f. world_of f told) files };
+    }
+
+-- memory ran out
+pub starved : (limits : Limits) (name : Bytes) (before now : OnShelf) → now ≡ before → ShelfMeets (ask_file limits name) before now (Err Starved)
+starved limits name before now same told outs =
+    let P : OnShelf → Type 0 = λ on. Meets (ask_file limits name) (seen before told outs) (seen on told outs) (Err Starved) in
+    subst P (sym same) (meets_starved (ask_file limits name) (seen before told outs))
+
+-- the file was read
+pub read_whole : (limits : Limits) (name bytes : Bytes) (before now : OnShelf) → now ≡ before → (IsTrue before.tells → bytes_in limits name (before.files name) ≡ Ok bytes)
+    → ShelfMeets (ask_file limits name) before now (Ok bytes)
+read_whole limits name bytes before now same is told outs =
+    let P : OnShelf → Type 0 = λ on. Meets (ask_file limits name) (seen before told outs) (seen on told outs) (Ok bytes) in
+    subst P (sym same) (record { tells = refl; faults = refl; does = λ t. record { gives = is t; all_done = refl } })
+
+-- what was met from an equal shelf on
+pub met_from : (limits : Limits) (name : Bytes) (before mid now : OnShelf) (ended : Result Bytes Why) → mid ≡ before
+    → ShelfMeets (ask_file limits name) mid now ended → ShelfMeets (ask_file limits name) before now ended
+met_from limits name before mid now ended same meets told outs =
+    let P : OnShelf → Type 0 = λ on. Meets (ask_file limits name) (seen on told outs) (seen now told outs) ended in
+    subst P same (meets told outs)
+
+-- a file was read or not, after its size
+pub file_read : {T : Type 0} (value : T → Bytes) (limits : Limits) (name : Bytes) (before mid now : OnShelf) (r : Result T Stop) → mid ≡ before
+    → OnOk r (now ≡ mid) → IfOk r (λ x. IsTrue before.tells → bytes_in limits name (before.files name) ≡ Ok (value x))
+    → IfErr r (λ stop. ShelfMeets (ask_file limits name) mid now (Err (why_of name stop)))
+    → ShelfMeets (ask_file limits name) before now (ended_by value name r)
+file_read value limits name before mid now (Ok x) same stays is meets = read_whole limits name (value x) before now (stays ∙ same) is
+file_read value limits name before mid now (Err stop) same stays is meets = met_from limits name before mid now (Err (why_of name stop)) same meets
+
+-- a mesh was read or not, after its file
+pub mesh_read : (k : ℕ) (limits : Limits) (name bytes : Bytes) (before now : OnShelf) (r : Result Read Stop)
+    → ShelfMeets (ask_file limits name) before now (Ok bytes) → ((now : Seen) → Meets (take (checked name (obj k limits bytes))) now now (ended_by soup_with name r))
+    → ShelfMeets (ask_mesh k limits name) before now (ended_by soup_with name r)
+mesh_read k limits name bytes before now r file mesh told outs =
+    meets_then (ask_file limits name) (λ bytes. take (checked name (obj k limits bytes))) bytes (ended_by soup_with name r) (seen before told outs) (seen now told outs) (seen now told outs)
+    (file told outs) (mesh (seen now told outs))
+
+-- a mesh was not read, since its file was not
+pub mesh_unread : (k : ℕ) (limits : Limits) (name : Bytes) (before now : OnShelf) (stop : Stop)
+    → ShelfMeets (ask_file limits name) before now (Err (why_of name stop)) → ShelfMeets (ask_mesh k limits name) before now (Err (why_of name stop))
+mesh_unread k limits name before now stop file told outs =
+    meets_stop (ask_file limits name) (λ bytes. take (checked name (obj k limits bytes))) (why_of name stop) (seen before told outs) (seen now told outs) (file told outs)
+
+-- a file that was saved in part left a part of the writing
+saved_in_part : (name text : Bytes) (fw fv : Files) (told : Option Bytes) → IsSavedInPart name text fw fv
+    → Partial (Write name text) (record { files = fw; out = told }) (record { files = fv; out = told })
+saved_in_part name text fw fv told (inl same) = inl (rw same refl)
+saved_in_part name text fw fv told (inr part) = inr (part.0, part.1, rw part.2 refl)
+
+-- the file could not be written
+pub unwritten : (k : ℕ) (name : Bytes) (points : List (List ℤ)) (triples : List Triple) (before now : OnShelf)
+    → now.tells ≡ before.tells → now.read ≡ before.read → now.short ≡ before.short → Grew before.write now.write
+    → (IsTrue before.tells → IsSavedInPart name (obj_text k points triples) before.files now.files)
+    → ShelfMeets (write_mesh k name points triples) before now (Err (Unwritten name))
+unwritten k name points triples before now tells read short grew part told outs =
+    let text = obj_text k points triples in
+    record {
+      tells = tells;
+      faults = (grew, read, short, refl);
+      does = λ t. (text, record { whole = []; later = []; split = refl; part = saved_in_part name text before.files now.files told (part t) });
+    }
+
+-- the file was written
+pub written_whole : (k : ℕ) (name : Bytes) (points : List (List ℤ)) (triples : List Triple) (before now : OnShelf)
+    → now.tells ≡ before.tells → now.read ≡ before.read → now.short ≡ before.short → now.write ≡ before.write
+    → (IsTrue before.tells → now.files ≡ put name (obj_text k points triples) before.files)
+    → ShelfMeets (write_mesh k name points triples) before now (Ok tt)
+written_whole k name points triples before now tells read short write files told outs =
+    record {
+      tells = tells;
+      faults = rw (read, short, write) refl;
+      does = λ t. record { gives = refl; all_done = rw (files t) refl };
+    }

@@ -1,0 +1,33 @@
+use Rattle.std.proofs.Common.{IsTrue, Bool, ℕ, subst, sym, inr, refl, ◌∙◌}
+use Rattle.run_terms.specs.Files.{Grew}
+use Rattle.mesh_files.proofs.Ended.{unwritten, written_whole}
+use Rattle.mesh_files.proofs.Saved.{begun_in_part, written_after}
+use Rattle.mesh_files.proofs.saving.save_mesh.Goals as goal
+
+pub returns-in_default-clause-meets : goal.returns-in_default-clause-meets
+returns-in_default-clause-meets g c =
+    let e = c.in_default.ensures in
+    unwritten c.args.digits c.args.name.now c.args.mesh.now.points c.args.mesh.now.triples _ _ e.told e.reads e.short
+    (record { later = e.writes.later; rose = e.writes.failed refl })
+    (λ told. begun_in_part c.args.name.now _ _ _ (e.kept told) (e.others told))
+
+pub returns-in_default-append_text-clause-meets : goal.returns-in_default-append_text-clause-meets
+returns-in_default-append_text-clause-meets g c =
+    let P : Bool → Type 0 = λ b. IsTrue b in
+    let begun = c.in-Ok.ensures in
+    let e = c.in_default-append_text.ensures in
+    let Q : ℕ → Type 0 = λ before. Grew before (g.S.Shelf.write_faults c.append_text.new.shelf) in
+    unwritten c.args.digits c.args.name.now c.args.mesh.now.points c.args.mesh.now.triples _ _ (e.told ∙ begun.told) (e.reads ∙ begun.reads) (e.short ∙ begun.short)
+    (subst Q (begun.writes.ok refl) (record { later = e.writes.later; rose = e.writes.failed refl }))
+    (λ told.
+    let mid = subst P (sym begun.told) told in
+    let part = e.part mid in
+    inr (part.0, part.1, written_after c.args.name.now part.0 _ _ _ part.2 (begun.others told) (e.others mid)))
+
+pub returns-clause-meets : goal.returns-clause-meets
+returns-clause-meets g c =
+    let P : Bool → Type 0 = λ b. IsTrue b in
+    let begun = c.in-Ok.ensures in
+    let e = c.in-Ok-append_text.ensures in
+    written_whole c.args.digits c.args.name.now c.args.mesh.now.points c.args.mesh.now.triples _ _ (e.told ∙ begun.told) (e.reads ∙ begun.reads) (e.short ∙ begun.short) (e.writes.ok refl ∙ begun.writes.ok refl)
+    (λ told. let mid = subst P (sym begun.told) told in written_after c.args.name.now _ _ _ _ (e.text mid) (begun.others told) (e.others mid))

@@ -1,0 +1,166 @@
+// Reading a file, and the mesh in it, from a shelf.
+ghost use Rattle.std.specs.Prelude.{◌≡◌, ◌≤◌, ◌<◌, ◌+◌, ◌⊎◌, ◌↔◌, ℕ, Option, Some, None, Ok, Err, false, length, take, IsTrue, IfOk, OnErr, OnOk, IfErr, IsErrOf, vec_len};
+ghost use Rattle.mesh_terms.specs.Limits.{IsLawful};
+ghost use Rattle.run_terms.specs.Files.{Bytes, text_of, Counts, CountsShort, IsShort, Grew};
+ghost use Rattle.run_terms.specs.Meets.{Seen, Meets};
+ghost use Rattle.run_terms.specs.Tasks.{take as give};
+ghost use Rattle.obj_terms.specs.Obj.{obj};
+ghost use Rattle.play_terms.specs.Commands.{ask_file, ask_mesh, checked};
+ghost use Rattle.mb_outside.specs.Seen.{MeetsOnShelf, on_shelf};
+ghost use Rattle.mesh_files.specs.Pieces.{ReadsOn, IsSized};
+ghost use Rattle.mesh_files.specs.Stops.{ended_by, is_reading_stop, soup_with, why_of};
+
+use crate::stop::Stop;
+use mb_base::{Counted, Limits};
+use mb_outside::{Failed, Shelf};
+use mesh_check::Mesh;
+use obj_text::read_obj;
+use std::alloc::Global;
+
+/// How many bytes one read asks for at most.
+const PIECE: usize = 65_536;
+
+/// A mesh that was read, and how many points of its file no triangle uses.
+#[derive(Drop)]
+pub struct Read {
+    pub mesh: Mesh,
+    pub unused: u32,
+}
+
+// The size of a file within the limit.
+fn size_of<S: Shelf>(name: &str, limits: &Limits, shelf: &mut S) -> Result<usize, Stop>
+    ensures size { IfOk result (λ size. IsTrue (S.tells shelf.old) → IsSized limits.now (S.files shelf.old name.now) size) }
+    ensures stated { IfOk result (λ size. S.tells shelf.old ≡ false → S.stated shelf.new ≡ size) }
+    ensures same { OnOk result (on_shelf S.Shelf shelf.new ≡ on_shelf S.Shelf shelf.old) }
+    ensures stop { IfErr result (λ stop. IsTrue (is_reading_stop stop)) }
+    ensures meets { IfErr result (λ stop. MeetsOnShelf S.Shelf (ask_file limits.now name.now) shelf.old shelf.new (Err (why_of name.now stop))) }
+    ensures lawful { IsLawful limits.now }
+    ensures spare { S.spare shelf.new ≡ S.spare shelf.old }
+{
+    let most = limits.file_bytes();
+    let Ok(answer) = shelf.size(name) else {
+        return Err(Stop::ReadFault);
+    };
+    let Some(size) = answer else {
+        return Err(Stop::Missing);
+    };
+    if size > most {
+        return Err(Stop::Over {
+            what: Counted::FileBytes,
+            seen: size,
+        });
+    }
+    Ok(size as usize)
+}
+
+// Reads one piece more of a file, into these places, and answers how many bytes came.
+fn read_piece<S: Shelf>(
+    shelf: &mut S,
+    name: &str,
+    bytes: &mut Vec<u8>,
+    have: usize,
+    end: usize,
+) -> Result<usize, Failed>
+    requires some { have < end }
+    requires within { end ≤ vec_len bytes.old }
+    ensures within { IfOk result (λ count. have + count ≤ end) }
+    ensures bytes { IfOk result (λ count. IsTrue (S.tells shelf.old) →
+        ReadsOn (text_of (S.files shelf.old name.now)) have count bytes.old.items bytes.new.items) }
+    ensures end { IfOk result (λ count. count ≡ 0 → IsTrue (S.tells shelf.old) → length (text_of (S.files shelf.old name.now)) ≤ have) }
+    ensures length { vec_len bytes.new ≡ vec_len bytes.old }
+    ensures short { IfOk result (λ count. (count ≡ 0) × (have < S.stated shelf.old) → Grew (S.short_reads shelf.old) (S.short_reads shelf.new)) }
+    ensures whole { IfOk result (λ count. 0 < count → S.short_reads shelf.new ≡ S.short_reads shelf.old) }
+    ensures unread { OnErr result (S.short_reads shelf.new ≡ S.short_reads shelf.old) }
+    ensures stated { S.stated shelf.new ≡ S.stated shelf.old }
+    ensures reads { Counts (S.read_faults shelf.old) (S.read_faults shelf.new) result }
+    ensures files { S.files shelf.new ≡ S.files shelf.old }
+    ensures told { S.tells shelf.new ≡ S.tells shelf.old }
+    ensures writes { S.write_faults shelf.new ≡ S.write_faults shelf.old }
+    ensures spare { S.spare shelf.new ≡ S.spare shelf.old }
+{
+    let count = shelf.read_at(name, have as u64, &mut bytes[have..end])?;
+    Ok(count)
+}
+
+// Reads the first bytes of a file, as many as its size.
+fn read_to<S: Shelf>(
+    alloc: Global,
+    name: &str,
+    limits: &Limits,
+    size: usize,
+    shelf: &mut S,
+) -> Result<Vec<u8>, Stop>
+    requires size { IsTrue (S.tells shelf.old) → length (text_of (S.files shelf.old name.now)) ≡ size }
+    requires stated { S.tells shelf.old ≡ false → S.stated shelf.old ≡ size }
+    ensures bytes { IfOk result (λ bytes. IsTrue (S.tells shelf.old) → text_of (S.files shelf.old name.now) ≡ bytes.items) }
+    ensures same { OnOk result (on_shelf S.Shelf shelf.new ≡ on_shelf S.Shelf shelf.old) }
+    ensures stop { IfErr result (λ stop. IsTrue (is_reading_stop stop)) }
+    ensures meets { IfErr result (λ stop. MeetsOnShelf S.Shelf (ask_file limits.now name.now) shelf.old shelf.new (Err (why_of name.now stop))) }
+    ensures spare { S.spare shelf.new ≡ S.spare shelf.old }
+{
+    let mut bytes = vec![in alloc; 0u8; size]?;
+    let mut have = 0;
+    while have < size {
+        let end = have + PIECE.min(size - have);
+        let Ok(count) = read_piece(shelf, name, &mut bytes, have, end) else {
+            return Err(Stop::ReadFault);
+        };
+        if count == 0 {
+            return Err(Stop::ReadFault);
+        }
+        have += count;
+    }
+    Ok(bytes)
+}
+
+/// Reads a whole file of a shelf. It asks for the size, and then for pieces of at most 65,536 bytes until it has as many. It
+/// stops with the first thing that is wrong, in this order: the shelf fails, no file has the name, the file is longer than the
+/// limit. `ReadFault` comes only where the shelf's count of read faults rose; or, over a shelf that tells no files, where a read
+/// gave nothing below the size that was stated. No file changes, nor does the shelf's spare. It takes memory for the bytes.
+pub fn read_file<S: Shelf>(
+    alloc: Global,
+    name: &str,
+    limits: &Limits,
+    shelf: &mut S,
+) -> Result<Vec<u8>, Stop>
+    ensures meets { MeetsOnShelf S.Shelf (ask_file limits.now name.now) shelf.old shelf.new (ended_by (λ bytes. bytes.items) name.now result) }
+    ensures stop { IfErr result (λ stop. IsTrue (is_reading_stop stop)) }
+    ensures lawful { IsLawful limits.now }
+    ensures spare { S.spare shelf.new ≡ S.spare shelf.old }
+{
+    let size = size_of(name, limits, shelf)?;
+    read_to(alloc, name, limits, size, shelf)
+}
+
+// The mesh of a text.
+fn mesh_of_text(alloc: Global, bytes: &[u8], digits: u8, limits: &Limits) -> Result<Read, Stop>
+    requires { digits ≤ 6 }
+    ensures meets { (name : Bytes) (now : Seen) → Meets (give (checked name (obj digits limits.now bytes.now))) now now (ended_by soup_with name result) }
+    ensures stop { IfErr result (λ stop. IsTrue (is_reading_stop stop)) }
+{
+    let soup = read_obj(alloc, bytes, digits, limits)?;
+    let unused = soup.unused();
+    let mesh = Mesh::check(alloc, soup)?;
+    Ok(Read { mesh, unused })
+}
+
+/// Reads a mesh from a file of a shelf, where a unit has `digits` decimal digits on the grid: the file, as `read_file` does, then
+/// its text, and then whether the mesh is closed. After the stops of `read_file` come those of the text, first line first: a line that is
+/// wrong, or a count of points or triangles past its limit; and then the least edge without its reverse. It takes
+/// memory for the file's bytes and the mesh.
+pub fn read_mesh<S: Shelf>(
+    alloc: Global,
+    name: &str,
+    digits: u8,
+    limits: &Limits,
+    shelf: &mut S,
+) -> Result<Read, Stop>
+    requires { digits ≤ 6 }
+    ensures meets { MeetsOnShelf S.Shelf (ask_mesh digits limits.now name.now) shelf.old shelf.new (ended_by soup_with name.now result) }
+    ensures stop { IfErr result (λ stop. IsTrue (is_reading_stop stop)) }
+    ensures lawful { IsLawful limits.now }
+    ensures spare { S.spare shelf.new ≡ S.spare shelf.old }
+{
+    let bytes = read_file(alloc, name, limits, shelf)?;
+    mesh_of_text(alloc, &bytes, digits, limits)
+}

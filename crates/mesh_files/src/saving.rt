@@ -1,0 +1,52 @@
+// Saving a mesh to a shelf.
+ghost use Rattle.std.specs.Prelude.{◌≡◌, ◌≤◌, Some, [], IsTrue, IsOk, OnErr, OnOk, IfErr};
+ghost use Rattle.obj_terms.specs.Written.{obj_text};
+ghost use Rattle.run_terms.specs.Files.{Counts};
+ghost use Rattle.run_terms.specs.Meets.{Meets};
+ghost use Rattle.play_terms.specs.Commands.{write_mesh};
+ghost use Rattle.mb_outside.specs.Seen.{MeetsOnShelf};
+ghost use Rattle.mesh_writer.specs.Pages.{without};
+ghost use Rattle.mesh_files.specs.Pieces.{HasRoom, HoldsPart};
+ghost use Rattle.mesh_files.specs.Stops.{ended_by};
+
+use crate::stop::Stop;
+use mb_outside::{Failed, Shelf};
+use mesh_check::Mesh;
+use mesh_writer::{PageSink, write_obj};
+
+// Appends the text of a mesh to a file that is there.
+fn append_text<S: Shelf>(mesh: &Mesh, name: &str, digits: u8, shelf: &mut S) -> Result<(), Failed>
+    requires digits { digits ≤ 6 }
+    requires empty { IsTrue (S.tells shelf.old) → S.files shelf.old name.now ≡ Some [] }
+    ensures text { OnOk result (IsTrue (S.tells shelf.old) → S.files shelf.new name.now ≡ Some (obj_text digits mesh.now.points mesh.now.triples)) }
+    ensures part { OnErr result (IsTrue (S.tells shelf.old) → HoldsPart (S.files shelf.new name.now) (obj_text digits mesh.now.points mesh.now.triples)) }
+    ensures others { IsTrue (S.tells shelf.old) → without name.now (S.files shelf.new) ≡ without name.now (S.files shelf.old) }
+    ensures writes { Counts (S.write_faults shelf.old) (S.write_faults shelf.new) result }
+    ensures reads { S.read_faults shelf.new ≡ S.read_faults shelf.old }
+    ensures short { S.short_reads shelf.new ≡ S.short_reads shelf.old }
+    ensures told { S.tells shelf.new ≡ S.tells shelf.old }
+    ensures sure { HasRoom (S.spare shelf.old) name.now (obj_text digits mesh.now.points mesh.now.triples) → IsOk result }
+{
+    let mut sink = PageSink::of(shelf, name);
+    write_obj(mesh, digits, &mut sink)
+}
+
+/// Saves a mesh as the OBJ text of a file of a shelf, where a unit has `digits` decimal digits on the grid.
+///
+/// The only stop is `WriteFault`, which comes only where the shelf's count of write faults rose. The file then holds a first part
+/// of its text, or what it held. No other file changes. Where the shelf's spare is this file's and the text fits its
+/// room, the mesh is saved. It takes no memory.
+pub fn save_mesh<S: Shelf>(mesh: &Mesh, name: &str, digits: u8, shelf: &mut S) -> Result<(), Stop>
+    requires { digits ≤ 6 }
+    ensures meets { MeetsOnShelf S.Shelf (write_mesh digits name.now mesh.now.points mesh.now.triples) shelf.old shelf.new (ended_by (λ done. done) name.now result) }
+    ensures stop { IfErr result (λ stop. stop ≡ Stop.WriteFault) }
+    ensures sure { HasRoom (S.spare shelf.old) name.now (obj_text digits mesh.now.points mesh.now.triples) → IsOk result }
+{
+    let Ok(()) = shelf.begin(name) else {
+        return Err(Stop::WriteFault);
+    };
+    let Ok(()) = append_text(mesh, name, digits, shelf) else {
+        return Err(Stop::WriteFault);
+    };
+    Ok(())
+}

@@ -1,0 +1,90 @@
+-- What the commands write is read again.
+use Rattle.std.proofs.Common.{◌≡◌, ◌≤◌, ℕ, ℤ, List, [], ◌∷◌, Option, Some, None, Result, Ok, Err, cond, length, ap, ◌∙◌, refl, subst}
+use Rattle.std.proofs.lemmas.Bool.{le-ltb}
+use Rattle.std.proofs.lemmas.List.Elements.{All-nil, All-cons}
+use Rattle.chain_terms.specs.Chains.{all_edges}
+use Rattle.mesh_terms.specs.Faults.{Fault, FileBytes}
+use Rattle.mesh_terms.specs.Limits.{Limits, IsLawful}
+use Rattle.mesh_terms.specs.Meshes.{Soup}
+use Rattle.mesh_terms.specs.OpenEdges.{open_pair}
+use Rattle.obj_terms.specs.Obj.{obj}
+use Rattle.obj_terms.specs.Written.{obj_text}
+use Rattle.obj_laws.specs.ReadingBack.{ReadsBack}
+use Rattle.obj_laws.proofs.ReadMeshes.{files_give_meshes}
+use Rattle.obj_laws.proofs.SavedMeshes.{meshes_read_back}
+use Rattle.run_terms.specs.Files.{Bytes}
+use Rattle.run_terms.specs.Runs.{Ask, Write, Say}
+use Rattle.run_terms.specs.Tasks.{Refusal, take, joined}
+use Rattle.run_laws.specs.Keeping.{Keeps}
+use Rattle.run_laws.proofs.Keeping.{keeps_take, keeps_act, keeps_then}
+use Rattle.play_terms.specs.Commands.{Meanings, ask_file, ask_mesh, bytes_in, checked, command_task, copied_task, copy_task, if_closed, inside_task, say, winding_task, write_mesh}
+use Rattle.play_terms.specs.Lines.{copied_line, over, usage, winding_line}
+use Rattle.play_terms.specs.ReadingBack.{IsReadable, WritesReadable, as_saved}
+
+-- a mesh that was taken had no open pair
+taken_closed : (name : Bytes) (s soup : Soup) (pair : Option (ℕ × ℕ)) → if_closed name s pair ≡ Ok soup → (s ≡ soup) × (pair ≡ None)
+taken_closed name s soup None is = (cc, refl)
+taken_closed name s soup (Some e) is = cc
+
+-- a text that was taken is the mesh's, and the mesh is closed
+taken_checked : (name : Bytes) (r : Result Soup Fault) (soup : Soup) → checked name r ≡ Ok soup → (r ≡ Ok soup) × (open_pair (all_edges soup.triples) ≡ None)
+taken_checked name (Err fault) soup is = cc
+taken_checked name (Ok s) soup is =
+    let taken = taken_closed name s soup (open_pair (all_edges s.triples)) is in
+    let P : Soup → Type 0 = λ t. open_pair (all_edges t.triples) ≡ None in
+    (ap Ok taken.0, subst P taken.0 taken.1)
+
+-- where a file holds a text that reads back, and the mesh is closed, the mesh is read of it
+text_is_taken : (k : ℕ) (limits : Limits) (m : Soup) → ReadsBack k limits m.points m.triples → open_pair (all_edges m.triples) ≡ None → IsReadable k limits m
+text_is_taken k limits m back closed name files is =
+    let text = obj_text k m.points m.triples in
+    let read : Result Bytes Refusal → Result Soup Refusal = λ r. (joined (Ask name ∷ []) r (λ bytes. take (checked name (obj k limits bytes)) files)).result in
+    let short = le-ltb limits.file_bytes (length text) back.fits in
+    ap (λ file. read (bytes_in limits name file)) is
+    ∙ ap (λ b. read (cond b (Err (over FileBytes (length text))) (Ok text))) short
+    ∙ ap (checked name) back.reads
+    ∙ ap (if_closed name (as_saved m)) closed
+
+-- a mesh that was read is read again where its text is written
+pub read_again : (k : ℕ) (limits : Limits) (name bytes : Bytes) (m : Soup) → k ≤ 6 → IsLawful limits → checked name (obj k limits bytes) ≡ Ok m → IsReadable k limits m
+read_again k limits name bytes m few lawful is =
+    let taken = taken_checked name (obj k limits bytes) m is in
+    let within = files_give_meshes k limits lawful bytes m taken.0 in
+    text_is_taken k limits m (meshes_read_back k few limits lawful m.points m.triples within) taken.1
+
+-- a file is asked for
+asked : (k : ℕ) (limits : Limits) (name : Bytes) → Keeps (WritesReadable k limits) (λ _. Unit {0}) (ask_file limits name)
+asked k limits name = record { actions = λ files. All-cons (WritesReadable k limits) (Ask name) [] tt (All-nil (WritesReadable k limits)); value = λ files a is. tt }
+
+-- the mesh that is read is read again where it is written
+pub mesh_asked : (k : ℕ) (limits : Limits) (name : Bytes) → k ≤ 6 → IsLawful limits → Keeps (WritesReadable k limits) (IsReadable k limits) (ask_mesh k limits name)
+mesh_asked k limits name few lawful =
+    keeps_then (WritesReadable k limits) (λ _. Unit {0}) (IsReadable k limits) (ask_file limits name) (λ bytes. take (checked name (obj k limits bytes))) (asked k limits name)
+    (λ bytes _. keeps_take (WritesReadable k limits) (IsReadable k limits) (checked name (obj k limits bytes)) (λ m is. read_again k limits name bytes m few lawful is))
+
+-- a line
+said : (k : ℕ) (limits : Limits) (line : Bytes) → Keeps (WritesReadable k limits) (λ _. Unit {0}) (say line)
+said k limits line = keeps_act (WritesReadable k limits) (Say line) tt
+
+-- a mesh that is read again is written and told
+mesh_copied : (k : ℕ) (limits : Limits) (to : Bytes) (m : Soup) → IsReadable k limits m → Keeps (WritesReadable k limits) (λ _. Unit {0}) (copied_task k to m)
+mesh_copied k limits to m readable =
+    keeps_then (WritesReadable k limits) (λ _. Unit {0}) (λ _. Unit {0}) (write_mesh k to m.points m.triples) (λ _. say (copied_line to m))
+    (keeps_act (WritesReadable k limits) (Write to (obj_text k m.points m.triples)) (m, refl, readable))
+    (λ _ _. said k limits (copied_line to m))
+
+-- what a copy writes is read again
+pub copy_keeps : (k : ℕ) (limits : Limits) (from to : Bytes) → k ≤ 6 → IsLawful limits → Keeps (WritesReadable k limits) (λ _. Unit {0}) (copy_task k limits from to)
+copy_keeps k limits from to few lawful =
+    keeps_then (WritesReadable k limits) (IsReadable k limits) (λ _. Unit {0}) (ask_mesh k limits from) (copied_task k to) (mesh_asked k limits from few lawful) (mesh_copied k limits to)
+
+-- a point in a mesh writes nothing
+pub inside_keeps : (k : ℕ) (meanings : Meanings) (limits : Limits) (name : Bytes) (point : List ℤ) → k ≤ 6 → IsLawful limits
+    → Keeps (WritesReadable k limits) (λ _. Unit {0}) (inside_task k meanings limits name point)
+inside_keeps k meanings limits name point few lawful =
+    keeps_then (WritesReadable k limits) (IsReadable k limits) (λ _. Unit {0}) (ask_mesh k limits name) (winding_task meanings point) (mesh_asked k limits name few lawful)
+    (λ m _. said k limits (winding_line (meanings.winding point m)))
+
+-- words of no command write nothing
+pub refused_keeps : (k : ℕ) (meanings : Meanings) (limits : Limits) → Keeps (WritesReadable k limits) (λ _. Unit {0}) (command_task meanings limits None)
+refused_keeps k meanings limits = keeps_take (WritesReadable k limits) (λ _. Unit {0}) (Err usage) (λ a is. tt)

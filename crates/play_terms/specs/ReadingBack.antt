@@ -1,0 +1,29 @@
+-- What is written can be read.
+use Rattle.std.specs.Prelude.{◌≡◌, ℕ, Option, Some, None, Ok}
+use Rattle.mesh_terms.specs.Limits.{Limits}
+use Rattle.mesh_terms.specs.Meshes.{Soup}
+use Rattle.obj_terms.specs.Written.{obj_text}
+use Rattle.run_terms.specs.Files.{Bytes, Files}
+use Rattle.run_terms.specs.Runs.{Action, Ask, Write, Say}
+use Rattle.play_terms.specs.Commands.{ask_mesh}
+use Rattle.play_terms.specs.Words.{Command, CopyFile, InsideFile}
+
+-- the points and triples of a mesh, all points used: what is to be read where the mesh was written
+abbrev pub as_saved : Soup → Soup
+as_saved m = record { points = m.points; triples = m.triples; unused = 0 }
+
+-- wherever a file holds the text of the mesh, the mesh is read of it
+abbrev pub IsReadable : ℕ → Limits → Soup → Type 0
+IsReadable k limits m = (name : Bytes) (files : Files) → files name ≡ Some (obj_text k m.points m.triples) → (ask_mesh k limits name files).result ≡ Ok (as_saved m)
+
+-- what is written is the text of a mesh that is read of it
+abbrev pub WritesReadable : ℕ → Limits → Action → Type 0
+WritesReadable k limits (Ask name) = Unit {0}
+WritesReadable k limits (Write name text) = (m : Soup) × (text ≡ obj_text k m.points m.triples) × IsReadable k limits m
+WritesReadable k limits (Say line) = Unit {0}
+
+-- the digits of a command, and 4 where there is none
+abbrev pub digits_in : Option Command → ℕ
+digits_in None = 4
+digits_in (Some (CopyFile k from to)) = k
+digits_in (Some (InsideFile k file p)) = k

@@ -1,0 +1,9 @@
+//! The lines that the program says on its output and on standard error: each goes out whole, or in part where the output fails.
+#![tactic(auto)]
+
+mod halt;
+mod report;
+mod tail;
+
+pub use halt::Halt;
+pub use report::{say_copied, say_winding, tell_halt, tell_stop};

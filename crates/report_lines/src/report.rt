@@ -1,0 +1,80 @@
+// Lines on the output and on standard error.
+ghost use Rattle.std.specs.Prelude.{◌≡◌, ◌<◌, ◌^◌, ◌-◌, ◌++◌, OnOk, OnErr};
+ghost use Rattle.std.specs.Option.{option_map};
+ghost use Rattle.run_terms.specs.Files.{Counts};
+ghost use Rattle.mb_outside.specs.Seen.{MeetsOnOutput, on_output};
+ghost use Rattle.mb_outside.specs.Sinks.{AddsPart};
+ghost use Rattle.play_terms.specs.Commands.{say as saying};
+ghost use Rattle.play_terms.specs.Ends.{why_line};
+ghost use Rattle.play_terms.specs.Lines.{copied_line, winding_line};
+ghost use Rattle.mesh_files.specs.Stops.{soup_of, why_of};
+ghost use Rattle.report_lines.specs.Halts.{why_in};
+ghost use Rattle.report_lines.specs.Reports.{IsReported, said};
+
+use crate::halt::Halt;
+use crate::tail::{copied_tail, stop_line, winding_tail};
+use mb_outside::{Failed, Sink, write_all};
+use mesh_check::Mesh;
+use mesh_files::Stop;
+
+// Writes three texts one after the other.
+fn say<K: Sink>(head: &[u8], name: &[u8], tail: &[u8], sink: &mut K) -> Result<(), Failed>
+    ensures added { OnOk result (K.told sink.new ≡ option_map (λ held. held ++ (head.now ++ (name.now ++ tail.now))) (K.told sink.old)) }
+    ensures part { OnErr result (AddsPart (head.now ++ (name.now ++ tail.now)) (K.told sink.old) (K.told sink.new)) }
+    ensures count { Counts (K.faults sink.old) (K.faults sink.new) result }
+{
+    write_all(sink, head)?;
+    write_all(sink, name)?;
+    write_all(sink, tail)
+}
+
+/// Reports a copy: `copied OUT: points P, triangles T, unused U`. After `Failed`, which comes only where the sink's count rose, it
+/// has a first part of the line.
+pub fn say_copied<K: Sink>(to: &str, mesh: &Mesh, unused: u32, sink: &mut K) -> Result<(), Failed>
+    ensures meets { MeetsOnOutput K.Sink (saying (copied_line to.now (soup_of mesh.now unused))) sink.old sink.new (said result) }
+{
+    let points = mesh.points().len() as u64;
+    let triangles = mesh.triples().len() as u64;
+    let tail = copied_tail(points, triangles, u64::from(unused));
+    say(b"copied ", to.as_bytes(), tail.as_slice(), sink)
+}
+
+/// Reports a winding number: `winding W`. After `Failed`, which comes only where the sink's count rose, it has a first part of the line.
+pub fn say_winding<K: Sink>(number: i64, sink: &mut K) -> Result<(), Failed>
+    ensures meets { MeetsOnOutput K.Sink (saying (winding_line number)) sink.old sink.new (said result) }
+{
+    let tail = winding_tail(number);
+    say(b"winding ", b"", tail.as_slice(), sink)
+}
+
+// Writes a line of two texts as far as the sink takes it.
+fn tell<K: Sink>(name: &[u8], tail: &[u8], sink: &mut K)
+    requires { K.faults sink.old < 2 ^ 64 - 1 }
+    ensures { IsReported (name.now ++ tail.now) (on_output K.Sink sink.old) (on_output K.Sink sink.new) }
+{
+    match say(b"", name, tail, sink) {
+        Ok(()) => (),
+        Err(Failed) => (),
+    }
+}
+
+/// Writes the line that tells a stop at a file, as far as the sink takes it.
+pub fn tell_stop<K: Sink>(name: &str, stop: &Stop, sink: &mut K)
+    requires { K.faults sink.old < 2 ^ 64 - 1 }
+    ensures { IsReported (why_line (why_of name.now stop.now)) (on_output K.Sink sink.old) (on_output K.Sink sink.new) }
+{
+    let (front, tail) = stop_line(name, stop);
+    tell(front, tail.as_slice(), sink);
+}
+
+/// Writes the line that tells where a command stopped, as far as the sink takes it.
+pub fn tell_halt<K: Sink>(halt: &Halt<'_>, sink: &mut K)
+    requires { K.faults sink.old < 2 ^ 64 - 1 }
+    ensures { IsReported (why_line (why_in halt.now)) (on_output K.Sink sink.old) (on_output K.Sink sink.new) }
+{
+    match halt {
+        Halt::At { name, stop } => tell_stop(name, stop, sink),
+        Halt::Reporting => tell(b"", b"report: write fault\n", sink),
+        Halt::NoMemory => tell_stop("", &Stop::NoMemory, sink),
+    }
+}

@@ -1,0 +1,185 @@
+// The ends of the lines that the program says.
+ghost use Rattle.std.specs.Prelude.{◌≡◌, ◌≤◌, ◌+◌, ◌++◌, length, decimal, codes};
+ghost use Rattle.std.specs.Fmt.{signed_decimal};
+ghost use Rattle.arrayvec.specs.ArrayVec.{array_vec_len};
+ghost use Rattle.mb_base.specs.Faults.{counted_of, kind_number};
+ghost use Rattle.play_terms.specs.Ends.{why_line};
+ghost use Rattle.play_terms.specs.Lines.{counts_text, kind_name, limit_name};
+ghost use Rattle.mesh_files.specs.Stops.{why_of};
+
+use arrayvec::ArrayVec;
+use itoa::Buffer;
+use mb_base::{Counted, TextKind};
+use mesh_files::Stop;
+
+/// The end of a line.
+pub type Tail = ArrayVec<u8, 128>;
+
+// Adds a text.
+fn put(tail: &mut Tail, text: &[u8])
+    requires { array_vec_len tail.old + length text.now ≤ 128 }
+    ensures text { tail.new.items ≡ tail.old.items ++ text.now }
+    ensures len { array_vec_len tail.new ≡ array_vec_len tail.old + length text.now }
+{
+    match tail.try_extend_from_slice(text) {
+        Ok(()) => (),
+        Err(_) => unreachable!(),
+    }
+}
+
+// Adds a number.
+fn put_number(tail: &mut Tail, number: u64)
+    requires { array_vec_len tail.old ≤ 108 }
+    ensures text { tail.new.items ≡ tail.old.items ++ decimal number }
+    ensures len { array_vec_len tail.new ≤ array_vec_len tail.old + 20 }
+{
+    let mut buffer = Buffer::new();
+    put(tail, buffer.format(number).as_bytes());
+}
+
+// Adds a text and a number.
+fn put_pair(tail: &mut Tail, text: &[u8], number: u64)
+    requires { array_vec_len tail.old + length text.now ≤ 108 }
+    ensures text { tail.new.items ≡ tail.old.items ++ (text.now ++ decimal number) }
+    ensures len { array_vec_len tail.new ≤ array_vec_len tail.old + length text.now + 20 }
+{
+    put(tail, text);
+    put_number(tail, number);
+}
+
+// The name of a kind of fault.
+fn kind_text(kind: TextKind) -> &'static [u8]
+    ensures text { result.now ≡ kind_name (kind_number kind) }
+    ensures short { length result.now ≤ 17 }
+{
+    match kind {
+        TextKind::UnknownLine => b"UnknownLine",
+        TextKind::BadVertex => b"BadVertex",
+        TextKind::BadNumber => b"BadNumber",
+        TextKind::OutOfGrid => b"OutOfGrid",
+        TextKind::BadFace => b"BadFace",
+        TextKind::BadIndex => b"BadIndex",
+        TextKind::FaceRepeatsVertex => b"FaceRepeatsVertex",
+        TextKind::NotStl => b"NotStl",
+    }
+}
+
+// The number of a kind of fault.
+fn kind_code(kind: TextKind) -> u64
+    ensures { result ≡ kind_number kind }
+{
+    match kind {
+        TextKind::UnknownLine => 1,
+        TextKind::BadVertex => 2,
+        TextKind::BadNumber => 3,
+        TextKind::OutOfGrid => 4,
+        TextKind::BadFace => 5,
+        TextKind::BadIndex => 6,
+        TextKind::FaceRepeatsVertex => 7,
+        TextKind::NotStl => 10,
+    }
+}
+
+// The name of a counted thing.
+fn limit_text(what: Counted) -> &'static [u8]
+    ensures text { result.now ≡ limit_name (counted_of what) }
+    ensures short { length result.now ≤ 10 }
+{
+    match what {
+        Counted::FileBytes => b"file_bytes",
+        Counted::Points => b"points",
+        Counted::Triangles => b"triangles",
+        Counted::Halfedges => b"halfedges",
+    }
+}
+
+// The end of the line of a faulty text.
+fn text_tail(line: u64, kind: TextKind) -> Tail
+    ensures { result.items ≡ codes ":" ++ decimal line ++ codes ": " ++ decimal (kind_number kind) ++ codes " " ++ kind_name (kind_number kind) ++ codes "\n" }
+{
+    let mut tail = Tail::new();
+    put_pair(&mut tail, b":", line);
+    put_pair(&mut tail, b": ", kind_code(kind));
+    put(&mut tail, b" ");
+    put(&mut tail, kind_text(kind));
+    put(&mut tail, b"\n");
+    tail
+}
+
+// The end of the line of an open mesh.
+fn edge_tail(from: u32, to: u32) -> Tail
+    ensures { result.items ≡ codes ": 11 OpenEdge " ++ decimal (from + 1) ++ codes " " ++ decimal (to + 1) ++ codes "\n" }
+{
+    let mut tail = Tail::new();
+    put_pair(&mut tail, b": 11 OpenEdge ", u64::from(from) + 1);
+    put_pair(&mut tail, b" ", u64::from(to) + 1);
+    put(&mut tail, b"\n");
+    tail
+}
+
+// The line of a count past its limit.
+fn limit_tail(what: Counted, seen: u64) -> Tail
+    ensures { result.items ≡ codes "limit " ++ limit_name (counted_of what) ++ codes " " ++ decimal seen ++ codes "\n" }
+{
+    let mut tail = Tail::new();
+    put(&mut tail, b"limit ");
+    put(&mut tail, limit_text(what));
+    put_pair(&mut tail, b" ", seen);
+    put(&mut tail, b"\n");
+    tail
+}
+
+// A line that is said as it is.
+fn plain_tail(text: &[u8]) -> Tail
+    requires { length text.now ≤ 128 }
+    ensures { result.items ≡ text.now }
+{
+    let mut tail = Tail::new();
+    put(&mut tail, text);
+    tail
+}
+
+/// The line that tells a stop at a file, in two parts: the file's name where it begins with one, and its end.
+pub fn stop_line<'a>(name: &'a str, stop: &Stop) -> (&'a [u8], Tail)
+    ensures { result.0.now ++ result.1.items ≡ why_line (why_of name.now stop.now) }
+{
+    let name = name.as_bytes();
+    match stop {
+        Stop::Usage => (
+            b"",
+            plain_tail(
+                b"usage: manifold_tool copy IN OUT, inside FILE X Y Z or run SCRIPT, each with --digits K\n",
+            ),
+        ),
+        Stop::Missing => (name, plain_tail(b": missing\n")),
+        Stop::BadText { line, kind } => (name, text_tail(*line, *kind)),
+        Stop::BadEdge { from, to } => (name, edge_tail(*from, *to)),
+        Stop::Over { what, seen } => (b"", limit_tail(*what, *seen)),
+        Stop::ReadFault => (name, plain_tail(b": read fault\n")),
+        Stop::WriteFault => (name, plain_tail(b": write fault\n")),
+        Stop::NoMemory => (b"", plain_tail(b"out of memory\n")),
+    }
+}
+
+/// The end of the line that reports a copy.
+pub fn copied_tail(points: u64, triangles: u64, unused: u64) -> Tail
+    ensures { result.items ≡ counts_text points triangles unused ++ codes "\n" }
+{
+    let mut tail = Tail::new();
+    put_pair(&mut tail, b": points ", points);
+    put_pair(&mut tail, b", triangles ", triangles);
+    put_pair(&mut tail, b", unused ", unused);
+    put(&mut tail, b"\n");
+    tail
+}
+
+/// The end of the line that reports a winding number.
+pub fn winding_tail(number: i64) -> Tail
+    ensures { result.items ≡ signed_decimal number ++ codes "\n" }
+{
+    let mut tail = Tail::new();
+    let mut buffer = Buffer::new();
+    put(&mut tail, buffer.format(number).as_bytes());
+    put(&mut tail, b"\n");
+    tail
+}
