@@ -4,7 +4,7 @@ ghost use Rattle.play_terms.specs.Commands.{copy_task};
 ghost use Rattle.play_terms.specs.ReadingBack.{WritesReadable};
 ghost use Rattle.run_terms.specs.Files.{Files};
 ghost use Rattle.mb_outside.specs.Seen.{MeetsOn};
-ghost use Rattle.report_lines.specs.Halts.{halted_by, is_past_words};
+ghost use Rattle.report_lines.specs.Halts.{halted, is_past_words};
 
 use crate::files::{ask, write};
 use mb_base::Limits;
@@ -24,7 +24,7 @@ pub fn copy<'a, S: Shelf, O: Sink>(
     out: &mut O,
 ) -> Result<(), Halt<'a>>
     requires digits { digits ≤ 6 }
-    ensures meets { MeetsOn S.Shelf O.Sink (copy_task digits limits.now from.now to.now) (shelf.old, out.old) (shelf.new, out.new) (halted_by (λ done. done) result) }
+    ensures meets { MeetsOn S.Shelf O.Sink (copy_task digits limits.now from.now to.now) (shelf.old, out.old) (shelf.new, out.new) (halted result) }
     ensures words { IfErr result (λ halt. IsTrue (is_past_words halt)) }
     ensures back { (files : Files) → All (WritesReadable digits limits.now) (copy_task digits limits.now from.now to.now files).actions }
 {

@@ -4,7 +4,7 @@ ghost use Rattle.mesh_terms.specs.Limits.{IsLawful};
 ghost use Rattle.play_terms.specs.Commands.{ask_mesh, write_mesh};
 ghost use Rattle.mb_outside.specs.Seen.{MeetsOnShelf};
 ghost use Rattle.mesh_files.specs.Stops.{soup_with};
-ghost use Rattle.report_lines.specs.Halts.{halted_by, is_past_words, is_unsaid};
+ghost use Rattle.report_lines.specs.Halts.{halted, halted_by, is_past_words, is_unsaid};
 
 use mb_base::Limits;
 use mb_outside::Shelf;
@@ -41,7 +41,7 @@ pub fn write<'a, S: Shelf>(
     shelf: &mut S,
 ) -> Result<(), Halt<'a>>
     requires digits { digits ≤ 6 }
-    ensures meets { MeetsOnShelf S.Shelf (write_mesh digits name.now mesh.now.points mesh.now.triples) shelf.old shelf.new (halted_by (λ done. done) result) }
+    ensures meets { MeetsOnShelf S.Shelf (write_mesh digits name.now mesh.now.points mesh.now.triples) shelf.old shelf.new (halted result) }
     ensures words { IfErr result (λ halt. IsTrue (is_past_words halt)) }
 {
     match save_mesh(mesh, name, digits, shelf) {

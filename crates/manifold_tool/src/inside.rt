@@ -4,7 +4,7 @@ ghost use Rattle.play_terms.specs.Commands.{inside_task};
 ghost use Rattle.play_terms.specs.ReadingBack.{WritesReadable};
 ghost use Rattle.run_terms.specs.Files.{Files};
 ghost use Rattle.mb_outside.specs.Seen.{MeetsOn};
-ghost use Rattle.report_lines.specs.Halts.{halted_by, is_past_words, is_unsaid};
+ghost use Rattle.report_lines.specs.Halts.{halted, is_past_words, is_unsaid};
 ghost use Rattle.manifold_tool.specs.Playing.{meanings};
 
 use crate::files::ask;
@@ -29,7 +29,7 @@ pub fn inside<'a, S: Shelf, O: Sink, L: Ledger>(
     steps: &mut Steps<L>,
 ) -> Result<(), Halt<'a>>
     requires digits { digits ≤ 6 }
-    ensures meets { MeetsOn S.Shelf O.Sink (inside_task digits meanings limits.now file.now point) (shelf.old, out.old) (shelf.new, out.new) (halted_by (λ done. done) result) }
+    ensures meets { MeetsOn S.Shelf O.Sink (inside_task digits meanings limits.now file.now point) (shelf.old, out.old) (shelf.new, out.new) (halted result) }
     ensures words { IfErr result (λ halt. IsTrue (is_past_words halt)) }
     ensures back { (files : Files) → All (WritesReadable digits limits.now) (inside_task digits meanings limits.now file.now point files).actions }
     ensures counted { OnOk result (steps.new ≡ steps.old + 1) }

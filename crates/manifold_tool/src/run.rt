@@ -7,7 +7,7 @@ ghost use Rattle.play_terms.specs.ReadingBack.{WritesReadable, digits_in};
 ghost use Rattle.play_terms.specs.Words.{IsCopy, IsInside, command};
 ghost use Rattle.run_terms.specs.Files.{Bytes, Files};
 ghost use Rattle.mb_outside.specs.Seen.{on_output};
-ghost use Rattle.report_lines.specs.Halts.{halted_by};
+ghost use Rattle.report_lines.specs.Halts.{halted};
 ghost use Rattle.report_lines.specs.Reports.{IsReported};
 ghost use Rattle.manifold_tool.specs.Playing.{IsUntroubled, RiseOn, RunMeets, meanings};
 ghost use Rattle.manifold_tool.specs.Statuses.{IsDoneOrStarved, status_number};
@@ -27,8 +27,8 @@ use steps::Steps;
 // The status of a command that ended well or stopped, with the line on `err` that tells a stop.
 fn concluded<E: Sink>(ended: Result<(), Halt<'_>>, err: &mut E) -> Status
     requires { E.faults err.old < 2 ^ 64 - 1 }
-    ensures status { status_number result ≡ ended_status (halted_by (λ done. done) ended.entry) }
-    ensures report { IsReported (ended_line (halted_by (λ done. done) ended.entry)) (on_output E.Sink err.old) (on_output E.Sink err.new) }
+    ensures status { status_number result ≡ ended_status (halted ended.entry) }
+    ensures report { IsReported (ended_line (halted ended.entry)) (on_output E.Sink err.old) (on_output E.Sink err.new) }
     ensures quiet { result ≡ Status.Done → err.new ≡ err.old }
 {
     match ended {

@@ -5,7 +5,7 @@ ghost use Rattle.play_terms.specs.Words.{command};
 ghost use Rattle.mb_outside.specs.Seen.{on_output};
 ghost use Rattle.mesh_files.specs.Stops.{why_of};
 ghost use Rattle.report_lines.specs.Reports.{IsReported};
-ghost use Rattle.manifold_tool.specs.Playing.{RiseOn, RunMeets, program_limits};
+ghost use Rattle.manifold_tool.specs.Playing.{ProgramMeets, RiseOn};
 ghost use Rattle.manifold_tool.specs.Statuses.{status_number};
 
 use crate::run::run;
@@ -34,7 +34,7 @@ pub fn start<S: Shelf, O: Sink, E: Sink, L: Ledger>(
     requires errs { E.faults err.old < 2 ^ 64 - 1 }
     ensures usage { IfOk words (λ words. (result ≡ Status.Usage) ↔ (command words ≡ None)) }
     ensures play { IfOk words (λ words.
-        RunMeets S.Shelf O.Sink E.Sink program_limits words (shelf.old, out.old, err.old) (shelf.new, out.new, err.new) (status_number result)) }
+        ProgramMeets S.Shelf O.Sink E.Sink words (shelf.old, out.old, err.old) (shelf.new, out.new, err.new) (status_number result)) }
     ensures counts { IfOk words (λ _. RiseOn S.Shelf O.Sink (shelf.old, out.old) (shelf.new, out.new) (status_number result)) }
     ensures status { IfErr words (λ stop. status_number result ≡ why_status (why_of [] stop)) }
     ensures report { IfErr words (λ stop. IsReported (why_line (why_of [] stop)) (on_output E.Sink err.old) (on_output E.Sink err.new)) }

@@ -39,3 +39,7 @@ soup_with read = soup_of read.mesh read.unused
 abbrev pub ended_by : {T A : Type 0} → (T → A) → Bytes → Result T Stop → Result A Why
 ended_by value name (Ok x) = Ok (value x)
 ended_by value name (Err stop) = Err (why_of name stop)
+
+-- how a saving ended
+abbrev pub saved : Bytes → Result (Unit {0}) Stop → Result (Unit {0}) Why
+saved name result = ended_by (λ done. done) name result

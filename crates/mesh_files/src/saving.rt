@@ -7,7 +7,7 @@ ghost use Rattle.play_terms.specs.Commands.{write_mesh};
 ghost use Rattle.mb_outside.specs.Seen.{MeetsOnShelf};
 ghost use Rattle.mesh_writer.specs.Pages.{without};
 ghost use Rattle.mesh_files.specs.Pieces.{HasRoom, HoldsPart};
-ghost use Rattle.mesh_files.specs.Stops.{ended_by};
+ghost use Rattle.mesh_files.specs.Stops.{saved};
 
 use crate::stop::Stop;
 use mb_outside::{Failed, Shelf};
@@ -38,7 +38,7 @@ fn append_text<S: Shelf>(mesh: &Mesh, name: &str, digits: u8, shelf: &mut S) -> 
 /// room, the mesh is saved. It takes no memory.
 pub fn save_mesh<S: Shelf>(mesh: &Mesh, name: &str, digits: u8, shelf: &mut S) -> Result<(), Stop>
     requires { digits ≤ 6 }
-    ensures meets { MeetsOnShelf S.Shelf (write_mesh digits name.now mesh.now.points mesh.now.triples) shelf.old shelf.new (ended_by (λ done. done) name.now result) }
+    ensures meets { MeetsOnShelf S.Shelf (write_mesh digits name.now mesh.now.points mesh.now.triples) shelf.old shelf.new (saved name.now result) }
     ensures stop { IfErr result (λ stop. stop ≡ Stop.WriteFault) }
     ensures sure { HasRoom (S.spare shelf.old) name.now (obj_text digits mesh.now.points mesh.now.triples) → IsOk result }
 {

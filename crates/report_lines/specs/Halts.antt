@@ -26,3 +26,7 @@ is_unsaid _ = false
 abbrev pub halted_by : {T A : Type 0} → (T → A) → Result T Halt → Result A Why
 halted_by value (Ok x) = Ok (value x)
 halted_by value (Err halt) = Err (why_in halt)
+
+-- how a command without a value ended
+abbrev pub halted : Result (Unit {0}) Halt → Result (Unit {0}) Why
+halted result = halted_by (λ done. done) result
