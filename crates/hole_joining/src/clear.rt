@@ -1,5 +1,5 @@
 // Clear bridges.
-ghost use Rattle.std.specs.Prelude.{◌≡◌, ◌∷◌, ◌+◌, ◌<◌, length, get_or, []};
+ghost use Rattle.std.specs.Prelude.{◌≡◌, ◌∷◌, ◌<◌, ◌≤◌, length, get_or, []};
 ghost use Rattle.std.specs.List.{list_any};
 ghost use Rattle.hole_joining.specs.Seen.{plane_at, clear_of, asked_edges};
 ghost use Rattle.face_plane.specs.Rings.{vertex_at, vertex_before, vertex_after};
@@ -27,7 +27,7 @@ fn in_cone(flat: &FlatPoints, psn: [u32; 3], t: u32) -> bool
 
 // A vertex of a loop with those before and after it.
 fn corner(ring: &[u32], place: usize) -> [u32; 3]
-    requires { place < length ring.now + 1 }
+    requires { place ≤ length ring.now }
     ensures { result ≡ vertex_before ring.now place ∷ vertex_at ring.now place ∷ vertex_after ring.now place ∷ [] }
 {
     [
