@@ -20,7 +20,7 @@ use Rattle.retained_verts.proofs.Units.{above, below, unit_parts}
 use Rattle.retained_verts.proofs.Ways.{at_same_is, same_few, way_round_within, way_within}
 
 -- equal members
-total-replicate : {X : Type 0} (f : X → ℤ) (n : ℕ) (x : X) → total f (replicate n x) ≡ pos n *ℤ f x
+pub total-replicate : {X : Type 0} (f : X → ℤ) (n : ℕ) (x : X) → total f (replicate n x) ≡ pos n *ℤ f x
 total-replicate f zero x = omega (arith, ints)
 total-replicate f (suc n) x = omega (arith, ints, total-replicate f n x)
 

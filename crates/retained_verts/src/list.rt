@@ -1,7 +1,7 @@
 // The prescribed vertices of an operation.
 ghost use Rattle.std.specs.Prelude.{◌≡◌, ◌≤◌, ◌+◌, ◌∷◌, [], length, map, slice_index, IfErr, IfOk};
 ghost use Rattle.assembly_terms.specs.Prescribed.{crossing_count, p_kept, prescribed_halfedges, q_kept};
-ghost use Rattle.assembly_terms.specs.Standing.{AreConserved, IsBalanced, StandInLists};
+ghost use Rattle.assembly_terms.specs.Standing.{AreConserved, IsBalanced, StandInLists, count_all_starts};
 ghost use Rattle.chain_terms.specs.Chains.{all_edges};
 ghost use Rattle.retained_verts.specs.Faults.{IsFaultAt};
 ghost use Rattle.retained_verts.specs.Handed.{copies, numbers};
@@ -86,6 +86,7 @@ pub fn prescribe(
 
     // How the copies stand in the lists of the faces, and where these have as many starts as ends.
     ensures two_lists { IfOk result (λ _. StandInLists p.now q.now (copies op p.now q.now windings.now hits.now)) }
+    ensures all_starts { IfOk result (λ r. r.halfedges ≡ count_all_starts p.now q.now (copies op p.now q.now windings.now hits.now)) }
     ensures balance { AreConserved p.now q.now (numbers windings.now hits.now) → IfOk result (λ _. IsBalanced p.now q.now (copies op p.now q.now windings.now hits.now)) }
 {
     let counts = count(op, p, q, windings, hits);
