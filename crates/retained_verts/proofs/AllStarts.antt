@@ -1,5 +1,5 @@
 -- The starts of all lists of all faces are as many as the prescribed half-edges.
-use Rattle.std.proofs.Common.{◌≡◌, ℕ, ◌+◌, ◌*◌, ◌/◌, ◌<◌, Bool, true, false, cond, ◌==◌, ℤ, pos, ◌+ℤ◌, ◌*ℤ◌, List, [], ◌++◌, map, length, get_or, nat_abs, int_lt, count_by, inl, inr, refl, arith, ap, sym, ◌∙◌}
+use Rattle.std.proofs.Common.{◌≡◌, ℕ, ◌+◌, ◌*◌, ◌/◌, ◌<◌, Bool, ℤ, pos, ◌+ℤ◌, ◌*ℤ◌, List, [], ◌++◌, length, get_or, nat_abs, int_lt, inl, inr, refl, arith, ap, sym, ◌∙◌}
 use Rattle.std.specs.List.{All, flat_map, sum_by}
 use Rattle.std.proofs.lemmas.Int.{ints}
 use Rattle.std.proofs.lemmas.Bool.{cases_Bool}

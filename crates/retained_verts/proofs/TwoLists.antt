@@ -1,12 +1,10 @@
 -- Each copy stands in none or two of the lists of each source face, and in two of some face.
-use Rattle.std.proofs.Common.{◌≡◌, ◌≢◌, ℕ, zero, suc, ◌+◌, ◌*◌, ◌/◌, ◌<◌, ◌≤◌, ◌⊎◌, inl, inr, Bool, true, false, cond, ◌==◌, ◌||◌, ℤ, pos, neg_ℤ, List, [], ◌∷◌, ◌++◌, map, length, get_or, int_lt, count_by, refl, arith, ap, sym, ◌∙◌, subst}
-use Rattle.std.specs.List.{All}
+use Rattle.std.proofs.Common.{◌≡◌, ℕ, ◌+◌, ◌*◌, ◌/◌, ◌<◌, ◌≤◌, ◌⊎◌, inl, inr, Bool, true, false, cond, ◌==◌, ◌||◌, ℤ, pos, neg_ℤ, List, length, get_or, int_lt, count_by, refl, arith, ap, sym, ◌∙◌, subst}
 use Rattle.std.proofs.lemmas.Int.{ints}
 use Rattle.std.proofs.lemmas.Bool.{cases_eq, eq-eqb, ne_eqb, eqb-false, eqb-true, or_cases, or_parts}
-use Rattle.std.proofs.lemmas.List.Elements.{All-get_or, All-weaker}
+use Rattle.std.proofs.lemmas.List.Elements.{All-weaker}
 use Rattle.chain_terms.specs.Chains.{all_edges, one_if}
 use Rattle.chain_terms.specs.Ranks.{twin}
-use Rattle.chain_terms.specs.Sums.{total, upto}
 use Rattle.chain_laws.specs.Counts.{total-count_by}
 use Rattle.chain_laws.specs.Sums.{total-same}
 use Rattle.halfedge.proofs.Around.{pair_up}
@@ -17,11 +15,11 @@ use Rattle.mb_base.specs.declared.results.Origin.{Origin}
 use Rattle.mb_base.specs.declared.results.Origin.TheVariants.{PVertex, QVertex, PEdge, QEdge}
 use Rattle.side_terms.specs.Hits.{AreHits}
 use Rattle.side_terms.specs.Sides.{Side, IsSide}
-use Rattle.assembly_terms.specs.Lists.{Copy, ListName, HalfP, HalfQ, PairP, PairQ, at_end, incidence, lists_of_p, lists_of_q, standing, way, way_round}
+use Rattle.assembly_terms.specs.Lists.{Copy, ListName, HalfP, HalfQ, PairP, PairQ, incidence, lists_of_p, lists_of_q, way_round}
 use Rattle.assembly_terms.specs.Prescribed.{Numbers, prescribed}
-use Rattle.assembly_terms.specs.Standing.{StandInLists, StandsInNone, StandsInTwo, StandsSomewhere, end_count, start_count}
+use Rattle.assembly_terms.specs.Standing.{StandInLists, StandsInNone, StandsInTwo, StandsSomewhere, start_count}
 use Rattle.retained_verts.proofs.Faces.{CountsTo, at_most_one, counted_none, edge_counts, face_counts, vertex_counts}
-use Rattle.retained_verts.proofs.Origins.{IsFrom, Passes, all_from, passes}
+use Rattle.retained_verts.proofs.Origins.{IsFrom, all_from, passes}
 use Rattle.retained_verts.proofs.Units.{above_neg, below_neg}
 use Rattle.retained_verts.proofs.Ways.{not_both, same, same_few, same_no, same_yes}
 
