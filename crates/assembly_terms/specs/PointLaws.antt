@@ -1,8 +1,8 @@
 -- The corners of points lie at those points.
-use Rattle.std.specs.Prelude.{◌≡◌, ℕ, ℤ, pos, negsuc, ◌*ℤ◌, Bool, List, [], ◌∷◌, length}
+use Rattle.std.specs.Prelude.{◌≡◌, ℤ, pos, negsuc, ◌*ℤ◌, Bool, List, [], ◌∷◌, length}
 use Rattle.std.specs.Int.{int_div_euclid}
 use Rattle.std.specs.List.{All}
-use Rattle.std.proofs.Common.{arith, refl, ap}
+use Rattle.std.proofs.Common.{arith, refl}
 use Rattle.std.proofs.lemmas.Int.{ints}
 use Rattle.std.proofs.lemmas.List.Elements.{All-head, All-tail}
 use Rattle.mb_base.specs.declared.TheConstants.{UNIT}

@@ -1,5 +1,5 @@
 -- Prescribed vertices: what is included, how often, and the copies in order.
-use Rattle.std.specs.Prelude.{ℕ, ◌+◌, ◌*◌, ℤ, pos, ◌+ℤ◌, ◌*ℤ◌, List, [], ◌∷◌, ◌++◌, map, replicate, length, get_or, nat_abs, int_lt, count_by}
+use Rattle.std.specs.Prelude.{ℕ, ◌+◌, ◌*◌, ℤ, pos, ◌+ℤ◌, ◌*ℤ◌, List, [], ◌++◌, map, replicate, length, get_or, nat_abs, int_lt, count_by}
 use Rattle.std.specs.List.{flat_map, sum_by}
 use Rattle.chain_terms.specs.Sums.{upto}
 use Rattle.mesh_terms.specs.Meshes.{Triple, has}

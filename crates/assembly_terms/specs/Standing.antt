@@ -1,7 +1,8 @@
 -- How the copies of prescribed vertices stand in the lists of two sides.
-use Rattle.std.specs.Prelude.{◌≡◌, ℕ, ◌<◌, ◌⊎◌, pos, List, length, get_or, int_lt, count_by}
-use Rattle.std.specs.List.{All}
+use Rattle.std.specs.Prelude.{◌≡◌, ℕ, ◌+◌, ◌<◌, ◌⊎◌, pos, List, length, get_or, int_lt, count_by}
+use Rattle.std.specs.List.{All, sum_by}
 use Rattle.chain_terms.specs.Chains.{all_edges}
+use Rattle.chain_terms.specs.Sums.{upto}
 use Rattle.side_terms.specs.Conservation.{half_number, EdgeIdentity, PairIdentity}
 use Rattle.side_terms.specs.Sides.{Side}
 use Rattle.assembly_terms.specs.Lists.{Copy, ListName, IsListOf, ends, lists_of_p, lists_of_q, standing, starts}
@@ -34,6 +35,15 @@ pub record StandInLists (p q : Side) (cs : List Copy) : Type 0 where
   pub p_faces : (f : ℕ) → f < length p.triples → All (λ c. StandsInNone p q (lists_of_p (length q.triples) f) c ⊎ StandsInTwo p q (lists_of_p (length q.triples) f) c) cs
   pub q_faces : (g : ℕ) → g < length q.triples → All (λ c. StandsInNone p q (lists_of_q (length p.triples) g) c ⊎ StandsInTwo p q (lists_of_q (length p.triples) g) c) cs
   pub somewhere : All (StandsSomewhere p q) cs
+
+-- the starts of some lists, counted
+abbrev pub count_starts : Side → Side → List Copy → List ListName → ℕ
+count_starts p q cs names = sum_by (λ name. length (starts (all_edges p.triples) (all_edges q.triples) cs name)) names
+
+-- those of all lists of all source faces
+abbrev pub count_all_starts : Side → Side → List Copy → ℕ
+count_all_starts p q cs =
+    sum_by (λ f. count_starts p q cs (lists_of_p (length q.triples) f)) (upto (length p.triples)) + sum_by (λ g. count_starts p q cs (lists_of_q (length p.triples) g)) (upto (length q.triples))
 
 -- each list has as many starts as ends
 pub record IsBalanced (p q : Side) (cs : List Copy) : Type 0 where

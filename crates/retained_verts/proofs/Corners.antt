@@ -1,16 +1,14 @@
 -- The half-edges at vertices, counted by the corners of triangles.
-use Rattle.std.proofs.Common.{◌≡◌, ◌≢◌, ℕ, zero, suc, ◌+◌, ◌*◌, ◌<◌, ◌≤◌, ◌==◌, ◌||◌, Bool, true, false, cond, ℤ, pos, ◌+ℤ◌, List, [], ◌∷◌, ◌++◌, length, take, get_or, arith, inl, inr, refl, ap, sym, ◌∙◌, count_by}
-use Rattle.std.specs.List.{All, sum_by}
+use Rattle.std.proofs.Common.{◌≡◌, ℕ, ◌+◌, ◌*◌, ◌==◌, ◌||◌, Bool, true, false, cond, ℤ, pos, ◌+ℤ◌, List, [], ◌∷◌, ◌++◌, arith, inl, inr, refl, ap, sym, ◌∙◌}
+use Rattle.std.specs.List.{sum_by}
 use Rattle.std.proofs.lemmas.Int.{ints}
-use Rattle.std.proofs.lemmas.Bool.{cases_Bool, cases_eq, eq-eqb, ne_eqb}
+use Rattle.std.proofs.lemmas.Bool.{cases_eq, eq-eqb, ne_eqb}
 use Rattle.std.proofs.lemmas.List.Sums.{sum_by-cons, sum_by_push}
-use Rattle.chain_terms.specs.Chains.{one_if}
 use Rattle.chain_terms.specs.Sums.{total, upto}
 use Rattle.chain_laws.specs.Sums.{total-add, total-same}
-use Rattle.chain_laws.specs.Counts.{one_if-cond}
-use Rattle.chain_laws.proofs.Places.{total-upto_same, where_same, where_same-at, where_same-apart, one_hit_of}
+use Rattle.chain_laws.proofs.Places.{where_same, where_same-at, where_same-apart, one_hit_of}
 use Rattle.mesh_terms.specs.Meshes.{Triple, HasThree, IsBelow, has}
-use Rattle.assembly_terms.specs.Prescribed.{triples_at, vertex_halfedges}
+use Rattle.assembly_terms.specs.Prescribed.{triples_at}
 
 -- a sum of natural numbers is one of whole numbers
 pub total_pos : {X : Type 0} (f : X → ℕ) (xs : List X) → total (λ x. pos (f x)) xs ≡ pos (sum_by f xs)

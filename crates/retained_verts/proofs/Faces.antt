@@ -1,18 +1,16 @@
 -- A copy stands in none or two of the lists of a source face.
-use Rattle.std.proofs.Common.{◌≡◌, ◌≢◌, ℕ, zero, suc, ◌+◌, ◌*◌, ◌/◌, ◌<◌, ◌≤◌, ◌⊎◌, inl, inr, Bool, true, false, cond, ◌==◌, ℤ, pos, negsuc, neg_ℤ, ◌-ℤ◌, ◌+ℤ◌, List, [], ◌∷◌, ◌++◌, map, length, get_or, int_lt, count_by, refl, arith, ap, sym, ◌∙◌}
-use Rattle.std.specs.List.{All}
+use Rattle.std.proofs.Common.{◌≡◌, ℕ, zero, suc, ◌+◌, ◌*◌, ◌/◌, ◌<◌, ◌≤◌, inl, inr, Bool, true, false, cond, ◌==◌, ℤ, pos, negsuc, neg_ℤ, ◌-ℤ◌, List, ◌++◌, map, length, get_or, int_lt, count_by, refl, arith, ap, sym, ◌∙◌}
 use Rattle.std.proofs.lemmas.Int.{ints}
 use Rattle.std.proofs.lemmas.Bool.{cases_eq, eq-eqb, ne_eqb, le-ltb}
-use Rattle.chain_terms.specs.Chains.{all_edges, one_if}
-use Rattle.chain_terms.specs.Ranks.{start, finish, twin}
+use Rattle.chain_terms.specs.Chains.{all_edges}
+use Rattle.chain_terms.specs.Ranks.{twin}
 use Rattle.chain_terms.specs.Sums.{upto}
-use Rattle.chain_laws.specs.Counts.{total-count_by}
-use Rattle.chain_laws.specs.Sums.{total-same, IsWithin}
+use Rattle.chain_laws.specs.Sums.{IsWithin}
 use Rattle.lean.proofs.Triangles.{half_of_face}
 use Rattle.mesh_terms.specs.Meshes.{Triple, HasThree}
 use Rattle.assembly_terms.specs.Lists.{ListName, at_same, at_end, way, way_round}
-use Rattle.retained_verts.proofs.Units.{above, above_neg, below, below_neg, count_lists, count_none, count_one, count_same, unit_parts}
-use Rattle.retained_verts.proofs.Ways.{at_same_is, not_both, one_of_three, same, same_few, same_no, same_yes, way_is, way_round_is, way_round_within, way_within}
+use Rattle.retained_verts.proofs.Units.{above, above_neg, below, below_neg, count_lists, count_none, count_one, unit_parts}
+use Rattle.retained_verts.proofs.Ways.{at_same_is, not_both, one_of_three, same, same_few, same_no, same_yes, way_is, way_round_is}
 
 -- of so many lists the value is above 0, and of as many below
 pub record CountsTo (value : ListName → ℤ) (names : List ListName) (s : ℕ) : Type 0 where

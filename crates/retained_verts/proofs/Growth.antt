@@ -1,5 +1,5 @@
 -- How the lists of prescribed vertices grow.
-use Rattle.std.proofs.Common.{◌≡◌, ℕ, zero, suc, ◌+◌, ◌<◌, ℤ, pos, List, [], ◌∷◌, ◌++◌, map, replicate, length, take, get_or, nat_abs, refl, ap, sym, ◌∙◌, append-nil, append_assoc}
+use Rattle.std.proofs.Common.{◌≡◌, ℕ, zero, suc, ◌+◌, ◌<◌, ℤ, pos, List, [], ◌∷◌, ◌++◌, map, replicate, length, take, get_or, nat_abs, refl, ap, ◌∙◌, append-nil, append_assoc}
 use Rattle.std.specs.List.{flat_map}
 use Rattle.std.proofs.lemmas.List.{map-append, map_push, take_more}
 use Rattle.std.proofs.lemmas.List.Concat.{flat_map-append}

@@ -1,19 +1,18 @@
 -- Numbers by half-edge as sums over the hits.
-use Rattle.std.proofs.Common.{◌≡◌, ℕ, zero, suc, ◌+◌, ◌*◌, ◌<◌, ◌≤◌, inl, inr, Bool, true, false, cond, ◌==◌, ◌&&◌, if◌then◌else◌, ℤ, pos, neg_ℤ, ◌+ℤ◌, ◌-ℤ◌, ◌*ℤ◌, List, [], ◌∷◌, length, refl, arith, ap, sym, ◌∙◌}
-use Rattle.std.specs.List.{All}
+use Rattle.std.proofs.Common.{◌≡◌, ℕ, ◌+◌, ◌*◌, ◌<◌, ◌≤◌, inl, inr, Bool, true, false, cond, ◌==◌, ◌&&◌, if◌then◌else◌, ℤ, pos, neg_ℤ, ◌*ℤ◌, List, length, refl, arith, ap, sym, ◌∙◌}
 use Rattle.std.proofs.lemmas.Int.{ints}
 use Rattle.std.proofs.lemmas.Bool.{cases_eq, cases_lt, eq-eqb, ne_eqb, lt-ltb, le-ltb}
 use Rattle.std.proofs.lemmas.List.Elements.{All-weaker}
 use Rattle.chain_terms.specs.Ranks.{twin}
 use Rattle.chain_terms.specs.Sums.{total, upto}
-use Rattle.chain_laws.specs.Products.{mul-neg, total-times}
+use Rattle.chain_laws.specs.Products.{total-times}
 use Rattle.chain_laws.specs.Sums.{total-neg, total-same, total-same_all, total-swap, total-zero}
 use Rattle.chain_laws.proofs.Places.{one_hit, total-upto_same, where_same, where_same-apart, where_same-at}
 use Rattle.mb_base.specs.declared.results.Hit.{Hit}
 use Rattle.side_terms.specs.Conservation.{half_number, hit_number}
 use Rattle.side_terms.specs.Hits.{AreHits}
 use Rattle.assembly_terms.specs.Lists.{way, way_round}
-use Rattle.retained_verts.proofs.Ways.{same, same_no, same_yes, way_is}
+use Rattle.retained_verts.proofs.Ways.{same_no, same_yes, way_is}
 
 -- a value where two are the same, named the other way round
 pub turned : (a b : ℕ) (z : ℤ) → cond (a == b) z (pos 0) ≡ where_same b a z

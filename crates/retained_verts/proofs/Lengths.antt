@@ -1,5 +1,5 @@
 -- How many copies there are: as many as are kept and crossings, and no more than half-edges.
-use Rattle.std.proofs.Common.{◌≡◌, ℕ, zero, suc, ◌+◌, ◌*◌, ◌<◌, ◌≤◌, true, cond, ℤ, pos, List, [], ◌∷◌, ◌++◌, map, length, get_or, nat_abs, refl, arith, ap, sym, ◌∙◌}
+use Rattle.std.proofs.Common.{◌≡◌, ℕ, zero, suc, ◌+◌, ◌*◌, ◌<◌, ◌≤◌, true, cond, ℤ, pos, List, [], ◌∷◌, ◌++◌, length, get_or, nat_abs, refl, arith, ap, sym}
 use Rattle.std.specs.List.{flat_map, sum_by}
 use Rattle.std.proofs.Math.Nat.{mul-le-mul_left}
 use Rattle.std.proofs.lemmas.Int.{ints}

@@ -1,3 +1,4 @@
+pub mod AllStarts
 pub mod Balance
 pub mod Bounds
 pub mod Corners

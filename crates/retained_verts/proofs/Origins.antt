@@ -1,11 +1,9 @@
 -- The origins of prescribed vertices are vertices and hits of the two sides.
-use Rattle.std.proofs.Common.{◌≡◌, ℕ, zero, suc, ◌+◌, ◌*◌, ◌<◌, ◌≤◌, inl, inr, Bool, true, false, ℤ, pos, List, [], ◌∷◌, ◌++◌, map, length, get_or, nat_abs, refl, arith, ap, sym, ◌∙◌, subst}
+use Rattle.std.proofs.Common.{◌≡◌, ℕ, suc, ◌<◌, inl, inr, Bool, true, ℤ, pos, List, [], ◌∷◌, ◌++◌, length, get_or, nat_abs, arith}
 use Rattle.std.specs.List.{All, flat_map, list_any}
 use Rattle.std.proofs.lemmas.Bool.{or_cases}
 use Rattle.std.proofs.lemmas.List.Elements.{All-append, All-from_get_or, All-head, All-map, All-nil, All-replicate, All-tail, All-weaker}
-use Rattle.std.proofs.lemmas.List.{get_or-map, length-map}
 use Rattle.chain_terms.specs.Chains.{all_edges}
-use Rattle.chain_terms.specs.Ranks.{twin}
 use Rattle.chain_terms.specs.Sums.{upto}
 use Rattle.chain_laws.proofs.Places.{get_or-up_from, length-up_from}
 use Rattle.mb_base.specs.declared.op.Op.{Op}
@@ -14,7 +12,6 @@ use Rattle.mb_base.specs.declared.results.Origin.{Origin}
 use Rattle.mb_base.specs.declared.results.Origin.TheVariants.{PVertex, QVertex, PEdge, QEdge}
 use Rattle.side_terms.specs.Hits.{AreHits}
 use Rattle.side_terms.specs.Sides.{Side}
-use Rattle.assembly_terms.specs.Lists.{Copy}
 use Rattle.assembly_terms.specs.Points.{points_of}
 use Rattle.assembly_terms.specs.Prescribed.{Included, Numbers, copies_of, hit_number_of, included_hits, included_vertices, p_hits, p_number, p_vertices, prescribed, q_hits, q_number, q_vertices}
 

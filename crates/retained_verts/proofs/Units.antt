@@ -1,11 +1,11 @@
 -- Numbers from -1 to 1: whether they are above or below 0, and counts of such tests.
-use Rattle.std.proofs.Common.{◌≡◌, ℕ, zero, suc, ◌+◌, ◌<◌, ◌≤◌, ◌⊎◌, inl, inr, Bool, true, false, cond, ◌==◌, ℤ, pos, negsuc, neg_ℤ, ◌-ℤ◌, ◌+ℤ◌, List, [], ◌∷◌, ◌++◌, map, int_lt, count_by, refl, arith, ap, sym, ◌∙◌}
+use Rattle.std.proofs.Common.{◌≡◌, ℕ, zero, suc, ◌+◌, ◌<◌, ◌≤◌, inl, inr, Bool, false, cond, ◌==◌, ℤ, pos, negsuc, neg_ℤ, ◌-ℤ◌, List, [], ◌∷◌, ◌++◌, map, int_lt, count_by, refl, arith, ap, sym, ◌∙◌}
 use Rattle.std.proofs.lemmas.Int.{ints}
 use Rattle.std.proofs.lemmas.Bool.{cases_eq, eq-eqb, ne_eqb, lt-ltb, le-ltb}
 use Rattle.chain_terms.specs.Chains.{one_if}
-use Rattle.chain_terms.specs.Sums.{total, upto}
+use Rattle.chain_terms.specs.Sums.{upto}
 use Rattle.chain_laws.specs.Counts.{count_by-cons, count_by-map, total-count_by}
-use Rattle.chain_laws.specs.Sums.{total-same, IsWithin}
+use Rattle.chain_laws.specs.Sums.{IsWithin}
 use Rattle.chain_laws.proofs.Places.{where_same, where_same-at, where_same-apart, one_hit, total-upto_same}
 
 -- 1 where the number is above 0, and where it is below

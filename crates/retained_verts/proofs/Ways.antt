@@ -1,5 +1,5 @@
 -- The half-edges of faces against edges, as numbers of 0 and 1.
-use Rattle.std.proofs.Common.{◌≡◌, ◌≢◌, ℕ, zero, suc, ◌+◌, ◌*◌, ◌/◌, ◌<◌, ◌≤◌, inl, inr, Bool, true, false, cond, ◌==◌, ℤ, pos, neg_ℤ, ◌-ℤ◌, ◌+ℤ◌, List, refl, arith, ap, sym, ◌∙◌}
+use Rattle.std.proofs.Common.{◌≡◌, ℕ, ◌+◌, ◌*◌, ◌/◌, ◌≤◌, inl, inr, true, false, cond, ◌==◌, pos, ◌-ℤ◌, List, refl, arith, ap, sym, ◌∙◌}
 use Rattle.std.proofs.lemmas.Int.{ints}
 use Rattle.std.proofs.lemmas.Bool.{cases_eq, eq-eqb, ne_eqb}
 use Rattle.chain_terms.specs.Chains.{one_if}

@@ -1,5 +1,5 @@
 -- Sums of weights: what the copies of one item, of vertices and of hits add up to in a list.
-use Rattle.std.proofs.Common.{◌≡◌, ℕ, zero, suc, ◌+◌, ◌*◌, ◌<◌, ◌≤◌, inl, inr, Bool, true, false, cond, ◌==◌, ℤ, pos, negsuc, neg_ℤ, ◌+ℤ◌, ◌-ℤ◌, ◌*ℤ◌, List, [], ◌∷◌, ◌++◌, map, filter, replicate, length, get_or, nat_abs, int_lt, count_by, refl, arith, ap, sym, ◌∙◌}
+use Rattle.std.proofs.Common.{◌≡◌, ℕ, zero, suc, ◌<◌, inl, inr, Bool, true, false, cond, ◌==◌, ℤ, pos, negsuc, neg_ℤ, ◌-ℤ◌, ◌*ℤ◌, List, [], ◌∷◌, filter, replicate, length, get_or, nat_abs, int_lt, count_by, refl, arith, ap, sym, ◌∙◌}
 use Rattle.std.specs.List.{flat_map}
 use Rattle.std.proofs.lemmas.Int.{ints}
 use Rattle.std.proofs.lemmas.Bool.{cases_eq, eq-eqb, ne_eqb, le-ltb}
@@ -9,18 +9,18 @@ use Rattle.chain_terms.specs.Ranks.{start, finish}
 use Rattle.chain_terms.specs.Sums.{total, upto}
 use Rattle.chain_laws.specs.Counts.{count_by-cons, total-count_by}
 use Rattle.chain_laws.specs.Products.{mul-assoc, mul-neg, mul-sub, neg-mul, total-times}
-use Rattle.chain_laws.specs.Sums.{IsWithin, total-append, total-flat_map, total-map, total-neg, total-same, total-sub, total-zero}
+use Rattle.chain_laws.specs.Sums.{IsWithin, total-flat_map, total-map, total-neg, total-same, total-sub, total-zero}
 use Rattle.chain_laws.proofs.Places.{one_hit_of, total-places, where_same, where_same-apart, where_same-at}
 use Rattle.mb_base.specs.declared.results.Hit.{Hit}
 use Rattle.mb_base.specs.declared.results.Origin.{Origin}
 use Rattle.mb_base.specs.declared.results.Origin.TheVariants.{PVertex, QVertex, PEdge, QEdge}
 use Rattle.assembly_terms.specs.Lists.{Copy, ListName, HalfP, HalfQ, PairP, PairQ, at_end, at_same, ends, in_half_p, in_half_q, in_pair, incidence, no_copy, standing, starts, way, way_round}
 use Rattle.assembly_terms.specs.Prescribed.{Included, copies_of, copy_of, included_hits, included_vertices}
-use Rattle.retained_verts.proofs.Units.{above, below, unit_parts}
+use Rattle.retained_verts.proofs.Units.{unit_parts}
 use Rattle.retained_verts.proofs.Ways.{at_same_is, same_few, way_round_within, way_within}
 
 -- equal members
-total-replicate : {X : Type 0} (f : X → ℤ) (n : ℕ) (x : X) → total f (replicate n x) ≡ pos n *ℤ f x
+pub total-replicate : {X : Type 0} (f : X → ℤ) (n : ℕ) (x : X) → total f (replicate n x) ≡ pos n *ℤ f x
 total-replicate f zero x = omega (arith, ints)
 total-replicate f (suc n) x = omega (arith, ints, total-replicate f n x)
 

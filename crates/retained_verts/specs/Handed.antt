@@ -2,6 +2,7 @@
 use Rattle.std.specs.Prelude.{List}
 use Rattle.assembly_terms.specs.Lists.{Copy}
 use Rattle.assembly_terms.specs.Prescribed.{Numbers, prescribed}
+use Rattle.assembly_terms.specs.Standing.{IsBalanced}
 use Rattle.mb_base.specs.declared.op.Op.{Op}
 use Rattle.mb_base.specs.declared.results.Hits.{Hits}
 use Rattle.mb_base.specs.declared.results.Windings.{Windings}
@@ -14,3 +15,7 @@ numbers windings hits = record { w03 = windings.w03.items; w30 = windings.w30.it
 -- the prescribed vertices
 abbrev pub copies : Op → Side → Side → Windings → Hits → List Copy
 copies op p q windings hits = prescribed op p q (numbers windings hits)
+
+-- each list has as many starts as ends among them
+abbrev pub AreBalanced : Op → Side → Side → Windings → Hits → Type 0
+AreBalanced op p q windings hits = IsBalanced p q (copies op p q windings hits)

@@ -1,10 +1,10 @@
 // The prescribed vertices of an operation.
 ghost use Rattle.std.specs.Prelude.{◌≡◌, ◌≤◌, ◌+◌, ◌∷◌, [], length, map, slice_index, IfErr, IfOk};
 ghost use Rattle.assembly_terms.specs.Prescribed.{crossing_count, p_kept, prescribed_halfedges, q_kept};
-ghost use Rattle.assembly_terms.specs.Standing.{AreConserved, IsBalanced, StandInLists};
+ghost use Rattle.assembly_terms.specs.Standing.{AreConserved, StandInLists, count_all_starts};
 ghost use Rattle.chain_terms.specs.Chains.{all_edges};
 ghost use Rattle.retained_verts.specs.Faults.{IsFaultAt};
-ghost use Rattle.retained_verts.specs.Handed.{copies, numbers};
+ghost use Rattle.retained_verts.specs.Handed.{AreBalanced, copies, numbers};
 ghost use Rattle.retained_verts.specs.Small.{AreSmallWindings};
 ghost use Rattle.side_terms.specs.Hits.{AreHits};
 
@@ -84,9 +84,10 @@ pub fn prescribe(
     ensures within { IfOk result (λ r. r.halfedges ≤ limits.now.halfedges) }
     ensures too_large { IfErr result (IsFaultAt limits.now.halfedges (prescribed_halfedges op p.now q.now (numbers windings.now hits.now))) }
 
-    // How the copies stand in the lists of the faces, and where these have as many starts as ends.
+    // How the copies stand in the lists of the faces: each half-edge is a start, and conserved numbers balance every list.
     ensures two_lists { IfOk result (λ _. StandInLists p.now q.now (copies op p.now q.now windings.now hits.now)) }
-    ensures balance { AreConserved p.now q.now (numbers windings.now hits.now) → IfOk result (λ _. IsBalanced p.now q.now (copies op p.now q.now windings.now hits.now)) }
+    ensures all_starts { IfOk result (λ r. r.halfedges ≡ count_all_starts p.now q.now (copies op p.now q.now windings.now hits.now)) }
+    ensures balance { AreConserved p.now q.now (numbers windings.now hits.now) → IfOk result (λ _. AreBalanced op p.now q.now windings.now hits.now) }
 {
     let counts = count(op, p, q, windings, hits);
     if counts.halfedges > u64::from(limits.halfedges()) {

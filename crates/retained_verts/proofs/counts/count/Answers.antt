@@ -1,5 +1,4 @@
-use Rattle.std.proofs.Common.{◌≡◌, length, arith, ap, sym, ◌∙◌, subst}
-use Rattle.side_terms.specs.Sides.{IsSide}
+use Rattle.std.proofs.Common.{◌≡◌, length, arith, ap, ◌∙◌}
 use Rattle.mesh_terms.specs.Meshes.{triples_of}
 use Rattle.assembly_terms.specs.Prescribed.{hit_count, p_number, q_number, vertex_halfedges}
 use Rattle.retained_verts.specs.Handed.{numbers}

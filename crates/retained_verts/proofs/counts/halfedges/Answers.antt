@@ -1,4 +1,4 @@
-use Rattle.std.proofs.Common.{ℕ, ◌≡◌, ◌+◌, ◌*◌, ◌≤◌, ◌++◌, [], ◌∷◌, length, pos, nat_abs, get_or, take, arith, refl, ap, sym, ◌∙◌}
+use Rattle.std.proofs.Common.{ℕ, [], length, pos, nat_abs, get_or, take, arith, refl, ap, sym, ◌∙◌}
 use Rattle.std.proofs.lemmas.List.{take_all}
 use Rattle.chain_terms.specs.Sums.{upto}
 use Rattle.lean.proofs.Triangles.{triple_at, triples_more}

@@ -1,4 +1,4 @@
-use Rattle.std.proofs.Common.{◌≡◌, ◌+◌, ◌++◌, ℤ, List, [], length, map, arith, ap, sym, ◌∙◌}
+use Rattle.std.proofs.Common.{◌≡◌, ◌+◌, ◌++◌, ℤ, List, [], length, map, arith, ap, ◌∙◌}
 use Rattle.std.specs.Prelude.{slice_index}
 use Rattle.std.proofs.lemmas.List.{length-map}
 use Rattle.std.specs.List.{flat_map}
@@ -8,6 +8,7 @@ use Rattle.assembly_terms.specs.Points.{points_of}
 use Rattle.assembly_terms.specs.Prescribed.{Included, copies_of, hit_number_of, included_hits, included_vertices, crossing_count, p_hits, p_kept, p_number, p_vertices, q_hits, q_kept, q_number, q_vertices}
 use Rattle.mb_base.specs.declared.results.Origin.TheVariants.{PVertex, QVertex, PEdge, QEdge}
 use Rattle.retained_verts.specs.Handed.{copies, numbers}
+use Rattle.retained_verts.proofs.AllStarts.{all_starts}
 use Rattle.retained_verts.proofs.Balance.{balanced}
 use Rattle.retained_verts.proofs.Growth.{in_order}
 use Rattle.retained_verts.proofs.Lengths.{all_copies_counted, few_copies}
@@ -67,3 +68,8 @@ pub returns-clause-few : goal.returns-clause-few
 returns-clause-few c =
     let few = few_copies c.args.op c.args.p.now c.args.q.now (numbers c.args.windings.now c.args.hits.now) c.corners.ensures.side c.corners-2.ensures.side c.requires.w03 c.requires.w30 in
     omega (arith, counted c, few, c.count-counts.ensures.halfedges)
+
+pub returns-clause-all_starts : goal.returns-clause-all_starts
+returns-clause-all_starts c =
+    c.count-counts.ensures.halfedges
+    ∙ all_starts c.args.op c.args.p.now c.args.q.now (numbers c.args.windings.now c.args.hits.now) c.corners.ensures.side c.corners-2.ensures.side c.requires.w03 c.requires.w30 c.requires.x12 c.requires.x21

@@ -1,7 +1,5 @@
-use Rattle.std.proofs.Common.{◌≡◌, ◌+◌, ◌++◌, [], ◌∷◌, take, get_or, nat_abs, arith, ap, refl, sym, ◌∙◌}
-use Rattle.std.proofs.lemmas.Int.{ints}
+use Rattle.std.proofs.Common.{◌≡◌, ◌+◌, ◌++◌, [], ◌∷◌, take, get_or, nat_abs, arith, ap, refl, ◌∙◌}
 use Rattle.mb_base.specs.declared.results.Hit.{Hit}
-use Rattle.assembly_terms.specs.Lists.{Copy}
 use Rattle.assembly_terms.specs.Prescribed.{Included, hit_number_of, included_hits}
 use Rattle.retained_verts.specs.Parts.{edge_origin}
 use Rattle.side_terms.specs.Hits.{IsNumber}

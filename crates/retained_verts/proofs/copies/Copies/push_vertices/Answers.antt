@@ -1,8 +1,6 @@
-use Rattle.std.proofs.Common.{◌≡◌, ℤ, ◌+◌, [], pos, take, get_or, nat_abs, arith, ap, refl, sym, ◌∙◌}
-use Rattle.std.proofs.lemmas.Int.{ints}
+use Rattle.std.proofs.Common.{◌≡◌, ◌+◌, [], pos, get_or, nat_abs, arith, ap, sym, ◌∙◌}
 use Rattle.std.proofs.lemmas.List.{get_or-map}
 use Rattle.side_terms.specs.Corners.{blank_corner}
-use Rattle.assembly_terms.specs.Lists.{Copy}
 use Rattle.assembly_terms.specs.Points.{point_of, points_of}
 use Rattle.assembly_terms.specs.Prescribed.{Included, included_vertices}
 use Rattle.retained_verts.specs.Parts.{vertex_number, vertex_origin}
