@@ -77,13 +77,14 @@ vertex_fans points ts accepted clean = record {
   one_each = length-map (upto n) (start es) ∙ length-up_from 0 n;
   steps = λ h below. at (around es h) (inverse.below h below) ∙ (go_around ts accepted.mesh.three accepted.closed).start_stays h below ∙ sym (at h below);
   numbered = λ h below. subst (λ v. v < length firsts) (sym (at h below)) (omega (arith, vertex_below h below, count));
-  first_in = λ k low. let is = first_of k (omega (arith, low, count)) in
-  (subst (λ h. h < n) (sym (first_is k (omega (arith, low, count)))) is.0,
-  ap (λ h. get_or ofs h 0) (first_is k (omega (arith, low, count))) ∙ at (first_at es k) is.0 ∙ is.1);
+  first_in = λ k low. let is = first_of k (omega (arith, low, count)) in (
+    subst (λ h. h < n) (sym (first_is k (omega (arith, low, count)))) is.0,
+    ap (λ h. get_or ofs h 0) (first_is k (omega (arith, low, count))) ∙ at (first_at es k) is.0 ∙ is.1,
+  );
   reached = λ h below. let is = first_of (start es h) (vertex_below h below) in
-  subst (λ f. SameFan es f h) (sym (mine h below)) (clean (first_at es (start es h)) h is.0 below is.1);
+      subst (λ f. SameFan es f h) (sym (mine h below)) (clean (first_at es (start es h)) h is.0 below is.1);
   returns = λ k low. let is = first_of k (omega (arith, low, count)) in
-  subst (λ f. (m : ℕ) × (0 < m) × (around_times es m f ≡ f)) (sym (first_is k (omega (arith, low, count)))) (round (first_at es k) (returns (around es) (λ g. twin es (prev_half g)) n inverse (first_at es k) is.0));
+      subst (λ f. (m : ℕ) × (0 < m) × (around_times es m f ≡ f)) (sym (first_is k (omega (arith, low, count)))) (round (first_at es k) (returns (around es) (λ g. twin es (prev_half g)) n inverse (first_at es k) is.0));
   least = λ h below. subst (λ f. f ≤ h) (sym (mine h below)) (first_found es (start es h) h below refl).least;
   by_start = λ j k less low. omega (arith, less, starts_at j (omega (arith, less, low, count)), starts_at k (omega (arith, low, count)));
   by_half = λ j k less low same. absurd (omega (arith, less, same, starts_at j (omega (arith, less, low, count)), starts_at k (omega (arith, low, count))));

@@ -148,7 +148,7 @@ pub fan_is_number : (points : ℕ) (ts : List Triple) (of first : List ℕ) → 
 fan_is_number points ts of first accepted known h below =
     ap (position_or_len test) (sym (first_is_all points ts of first accepted known))
     ∙ position_or_len_is test first k 0 (omega (arith, number)) (λ j less. ne_eqb (get_or first j 0) (least_of_fan (old ts) h) (λ same. before j less (same ∙ mine)))
-        (λ _. eq-eqb (get_or first k 0) (least_of_fan (old ts) h) (sym mine))
+    (λ _. eq-eqb (get_or first k 0) (least_of_fan (old ts) h) (sym mine))
   where
     k : ℕ
     k = fan of h

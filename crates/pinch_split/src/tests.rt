@@ -70,19 +70,38 @@ const CUBES: [[u32; 3]; 24] = [
     [7, 13, 9],
 ];
 
+// Both of them apart: the first as it was, the numbers of the second one higher.
+const CUBES_APART: [[u32; 3]; 24] = [
+    [0, 3, 1],
+    [0, 2, 3],
+    [4, 5, 7],
+    [4, 7, 6],
+    [0, 1, 4],
+    [1, 5, 4],
+    [1, 3, 7],
+    [1, 7, 5],
+    [3, 2, 6],
+    [3, 6, 7],
+    [0, 4, 6],
+    [0, 6, 2],
+    [8, 11, 9],
+    [8, 10, 11],
+    [12, 13, 15],
+    [12, 15, 14],
+    [8, 9, 12],
+    [9, 13, 12],
+    [9, 11, 15],
+    [9, 15, 13],
+    [11, 10, 14],
+    [11, 14, 15],
+    [8, 12, 14],
+    [8, 14, 10],
+];
+
 #[test]
 fn a_shared_vertex_becomes_two(rt: HostRuntime) -> Result<(), Fail> {
-    let split = split_line(rt.alloc(), 15, &CUBES)?;
-    assert_eq!(rt; split.mesh.points().len(), 16);
-    assert_eq!(rt; split.mesh.triples().len(), 24);
-    assert_eq!(rt;
-        split.from.as_slice(),
-        [0, 1, 2, 3, 4, 5, 6, 7, 7, 8, 9, 10, 11, 12, 13, 14].as_slice()
-    );
-    // The first cube keeps its numbers; each of the second cube's goes up by one.
-    assert_eq!(rt; split.mesh.triples()[..12], CUBES[..12]);
-    assert_eq!(rt; split.mesh.triples()[12], [8, 11, 9]);
-    assert_eq!(rt; split.mesh.triples()[23], [8, 14, 10]);
+    let from = [0, 1, 2, 3, 4, 5, 6, 7, 7, 8, 9, 10, 11, 12, 13, 14];
+    assert!(rt; splits_into(rt.alloc(), 15, &CUBES, &from, &CUBES_APART)?);
     Ok(())
 }
 

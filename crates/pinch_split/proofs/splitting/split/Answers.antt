@@ -1,12 +1,14 @@
-use Rattle.std.proofs.Common.{◌≡◌, length, sym, ◌∙◌, ap, subst}
+use Rattle.std.proofs.Common.{◌≡◌, ◌≤◌, ◌*◌, Result, Ok, Err, IfOk, length, sym, ◌∙◌, ap, subst, arith}
 use Rattle.std.proofs.lemmas.Result.{IfOk-weaker}
 use Rattle.chain_terms.specs.Chains.{all_edges}
+use Rattle.chain_terms.specs.Sums.{upto}
 use Rattle.mesh_terms.specs.Meshes.{IsAccepted, triples_of}
 use Rattle.mesh_terms.specs.Twins.{twins_of}
 use Rattle.halfedge.specs.Clean.{IsClean}
 use Rattle.pinch_split.specs.Split.{split_from, split_points, split_triples}
 use Rattle.pinch_split.specs.Given.{corners, starts_of, points_of}
 use Rattle.pinch_split.proofs.Clean.{clean_anew}
+use Rattle.pinch_split.proofs.CleanFans.{unchanged}
 use Rattle.pinch_split.proofs.FanLists.{starts_are_from, corners_are_split}
 use Rattle.pinch_split.proofs.TwinsStay.{twins_stay}
 use Rattle.pinch_split.proofs.Whole.{has_fans}
@@ -63,3 +65,46 @@ returns-clause-twins c =
     let known = has_fans (length c.args.points.now) ts of first accepted c.in_ok-fans.ensures.fans in
     IfOk-weaker c.split_by.result (λ s. s.mesh.triples ≡ corners of (length ts)) (λ s. twins_of s.mesh.triples ≡ twins_of (triples_of c.args.triples.now))
     (λ s same. ap twins_of same ∙ twins_stay ts of first known ∙ ap twins_of c.in_ok-twins.ensures) c.split_by.ensures.triples
+
+-- what is known of the value both ways
+both : {X Y : Type 0} (r : Result X Y) (P Q : X → Type 0) → IfOk r P → IfOk r Q → IfOk r (λ x. P x × Q x)
+both (Ok x) P Q p q = (p, q)
+both (Err e) P Q p q = tt
+
+pub returns-then-branch-clause-points : goal.returns-then-branch-clause-points
+returns-then-branch-clause-points c =
+    let points = c.args.points.now in
+    let ts = c.in_ok-twins.twins.triples in
+    let same = unchanged points ts (subst (IsAccepted (length points)) (sym c.in_ok-twins.ensures) c.requires) (c.in_ok-are_clean.ensures.0 c.if-branch.true) in
+    IfOk-weaker c.whole.result (λ s. s.mesh.points ≡ points) (λ s. s.mesh.points ≡ split_points points (triples_of c.args.triples.now)) (λ s is. is ∙ same.same_points ∙ ap (split_points points) c.in_ok-twins.ensures) c.whole.ensures.points
+
+pub returns-then-branch-clause-triples : goal.returns-then-branch-clause-triples
+returns-then-branch-clause-triples c =
+    let points = c.args.points.now in
+    let ts = c.in_ok-twins.twins.triples in
+    let same = unchanged points ts (subst (IsAccepted (length points)) (sym c.in_ok-twins.ensures) c.requires) (c.in_ok-are_clean.ensures.0 c.if-branch.true) in
+    IfOk-weaker c.whole.result (λ s. s.mesh.triples ≡ ts) (λ s. s.mesh.triples ≡ split_triples (length points) (triples_of c.args.triples.now))
+    (λ s is. is ∙ same.triples ∙ ap (split_triples (length points)) c.in_ok-twins.ensures) c.whole.ensures.triples
+
+pub returns-then-branch-clause-from : goal.returns-then-branch-clause-from
+returns-then-branch-clause-from c =
+    let points = c.args.points.now in
+    let ts = c.in_ok-twins.twins.triples in
+    let same = unchanged points ts (subst (IsAccepted (length points)) (sym c.in_ok-twins.ensures) c.requires) (c.in_ok-are_clean.ensures.0 c.if-branch.true) in
+    IfOk-weaker c.whole.result (λ s. s.from.items ≡ upto (length points)) (λ s. s.from.items ≡ split_from (length points) (triples_of c.args.triples.now))
+    (λ s is. is ∙ same.from ∙ ap (split_from (length points)) c.in_ok-twins.ensures) c.whole.ensures.from
+
+pub returns-then-branch-clause-clean : goal.returns-then-branch-clause-clean
+returns-then-branch-clause-clean c =
+    let ts = c.in_ok-twins.twins.triples in
+    let clean = c.in_ok-are_clean.ensures.0 c.if-branch.true in
+    IfOk-weaker c.whole.result (λ s. s.mesh.triples ≡ ts) (λ s. IsClean (all_edges s.mesh.triples)) (λ s is. subst (λ l. IsClean (all_edges l)) (sym is) clean) c.whole.ensures.triples
+
+pub returns-then-branch-clause-few : goal.returns-then-branch-clause-few
+returns-then-branch-clause-few c =
+    let points = c.args.points.now in
+    let ts = c.in_ok-twins.twins.triples in
+    let same = unchanged points ts (subst (IsAccepted (length points)) (sym c.in_ok-twins.ensures) c.requires) (c.in_ok-are_clean.ensures.0 c.if-branch.true) in
+    let few = same.few in
+    IfOk-weaker c.whole.result (λ s. (s.mesh.points ≡ points) × (s.mesh.triples ≡ ts)) (λ s. 2 * length s.mesh.points ≤ 3 * length s.mesh.triples)
+    (λ s is. omega (arith, few, ap length is.0, ap length is.1)) (both c.whole.result (λ s. s.mesh.points ≡ points) (λ s. s.mesh.triples ≡ ts) c.whole.ensures.points c.whole.ensures.triples)

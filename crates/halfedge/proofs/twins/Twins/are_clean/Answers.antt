@@ -61,9 +61,10 @@ returns-then-index-2 c =
     let low = vertex_below c.args.points ts c.requires.below h c.start-vertex.result below c.start-vertex.ensures in
     let none : get_or c.loop-half.of.items h 0 ≡ no_fan = entry c.loop-half.of.items h c.index.result.now 0 no_fan (omega (arith, below, inv.marks.full)) c.index.ensures c.if-index.true in
     let is : get_or c.loop-half.seen.items c.start-vertex.result false ≡ true =
-    entry c.loop-half.seen.items c.start-vertex.result c.index-then-index.result.now false true (omega (arith, low, inv.room)) c.index-then-index.ensures c.if-index-2.true in
-    ((λ wrong. absurd (false≢true wrong)),
-    (λ clean. absurd (not_clean ts c.triples.ensures.twinned.closed c.loop-half.of.items c.loop-half.seen.items inv.marks h below none (ap (λ v. get_or c.loop-half.seen.items v false) (sym c.start-vertex.ensures) ∙ is) clean)))
+    entry c.loop-half.seen.items c.start-vertex.result c.index-then-index.result.now false true (omega (arith, low, inv.room)) c.index-then-index.ensures c.if-index-2.true in (
+      (λ wrong. absurd (false≢true wrong)),
+      (λ clean. absurd (not_clean ts c.triples.ensures.twinned.closed c.loop-half.of.items c.loop-half.seen.items inv.marks h below none (ap (λ v. get_or c.loop-half.seen.items v false) (sym c.start-vertex.ensures) ∙ is) clean)),
+    )
 
 pub index_mut-requires : goal.index_mut-requires
 index_mut-requires c =
@@ -155,7 +156,8 @@ loop-half-preserved c = elim c.if-index.branch [
 pub returns : goal.returns
 returns c =
     let ts = c.args.self.now.triples in
-    let inv = c.loop-half.invariant in
-    ((λ _. clean_from_marks (all_edges ts) c.loop-half.of.items c.loop-half.seen.items inv.marks
-    (λ h below. inv.done h (omega (arith, below, c.loop-half-test.false, length-map c.triples-2.result.now triple_of, ap length c.triples-2.ensures.value, length-all_edges ts)))),
-    (λ _. refl))
+    let inv = c.loop-half.invariant in (
+      (λ _. clean_from_marks (all_edges ts) c.loop-half.of.items c.loop-half.seen.items inv.marks
+          (λ h below. inv.done h (omega (arith, below, c.loop-half-test.false, length-map c.triples-2.result.now triple_of, ap length c.triples-2.ensures.value, length-all_edges ts)))),
+      (λ _. refl),
+    )
