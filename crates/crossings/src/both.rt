@@ -3,7 +3,7 @@ ghost use Rattle.std.specs.Prelude.{◌≡◌, IfOk, length};
 ghost use Rattle.chain_terms.specs.Chains.{all_edges};
 ghost use Rattle.side_terms.specs.Hits.{AllCross, AreHits};
 ghost use Rattle.crossings.specs.Hits.{hits_of};
-ghost use Rattle.side_terms.specs.Conservation.{half_number, PairIdentity};
+ghost use Rattle.crossings.specs.Agreement.{PairsAgree};
 
 use crate::hits::hits_of;
 use crate::pairs::{PEdges, QEdges};
@@ -32,7 +32,7 @@ pub fn crossings<K: Kernels>(
 
     // An upper half-edge has the number of its edge, turned. Round a face of p, the numbers with a face of q add up to
     // the same as round that face of q with this one.
-    ensures pair_identity { IfOk result (λ hits. PairIdentity (length p.now.triples) (length q.now.triples) (half_number (all_edges p.now.triples) hits.x12.items) (half_number (all_edges q.now.triples) hits.x21.items)) }
+    ensures pair_identity { IfOk result (λ hits. PairsAgree p.now q.now hits.x12.items hits.x21.items) }
 {
     // Read so that what sides keep is known here.
     let _ = p.twins();

@@ -17,8 +17,7 @@ pub trait VertexFace {
         requires vertex_fine { IsFineCorner vertex.now }
         requires face_fine { AllFine face.now }
         ensures value { result ≡ vertex_shadow self.now vertex.now face.now }
-        ensures low { negsuc 0 ≤ℤ result }
-        ensures high { result ≤ℤ pos 1 };
+        ensures size { (negsuc 0 ≤ℤ result) × (result ≤ℤ pos 1) };
 }
 
 /// The vertices of P and the faces of Q.

@@ -1,9 +1,7 @@
 // The winding number of a corner of one side in the other.
-ghost use Rattle.std.specs.Prelude.{◌≡◌, ◌≤◌, ◌+◌, neg_ℤ, nat_abs, length};
-ghost use Rattle.chain_terms.specs.Sums.{total};
+ghost use Rattle.std.specs.Prelude.{◌≡◌, ◌≤◌, ◌+◌, nat_abs, length};
 ghost use Rattle.side_terms.specs.Corners.{IsFineCorner};
-ghost use Rattle.side_terms.specs.Sides.{face_of};
-ghost use Rattle.winding.specs.Windings.{winding, winding_back};
+ghost use Rattle.winding.specs.Windings.{minus_shadows, winding, winding_back};
 
 use crate::shadows::{PVertices, QVertices, VertexFace};
 use edge_face::Kernels;
@@ -45,15 +43,15 @@ pub fn winding_sum_back<K: Kernels, L: Ledger>(
     minus_shadows(q, p, &QVertices(kernels), steps)
 }
 
-// Minus the sum of the shadows of a vertex and all faces of a side, counted as one step.
-fn minus_shadows<S: VertexFace, L: Ledger>(
+/// Minus the sum of the shadows of a vertex and all faces of a side, counted as one step.
+pub fn minus_shadows<S: VertexFace, L: Ledger>(
     vertex: &Corner,
     faces: &Side,
     shadows: &S,
     steps: &mut Steps<L>,
 ) -> i64
     requires { IsFineCorner vertex.now }
-    ensures value { result ≡ neg_ℤ (total (λ t. S.vertex_shadow shadows.now vertex.now (face_of faces.now.corners t)) faces.now.triples) }
+    ensures value { result ≡ minus_shadows (S.vertex_shadow shadows.now vertex.now) faces.now }
     ensures size { nat_abs result ≤ length faces.now.triples }
     ensures cost { steps.new ≡ steps.old + 1 }
 {

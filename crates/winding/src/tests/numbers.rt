@@ -1,7 +1,7 @@
 // The hits and winding numbers of two sides.
-ghost use Rattle.std.specs.Prelude.{◌≡◌, ◌<◌, pos, IfOk, get_or, length};
-ghost use Rattle.chain_terms.specs.Chains.{all_edges};
-ghost use Rattle.side_terms.specs.Conservation.{half_number, PairIdentity, EdgeIdentity};
+ghost use Rattle.std.specs.Prelude.{◌≡◌, ◌<◌, IfOk};
+ghost use Rattle.crossings.specs.Agreement.{PairsAgree};
+ghost use Rattle.winding.specs.Windings.{EdgesConserve};
 
 use crate::windings;
 use crossings::crossings;
@@ -25,9 +25,9 @@ pub fn numbers_of<K: Kernels, L: Ledger>(
     requires name { blank.name ≡ L.name }
     requires parts { blank.parts ≡ L.parts }
     requires some { 0 < blank.parts }
-    ensures pair_identity { IfOk result (λ r. PairIdentity (length p.now.triples) (length q.now.triples) (half_number (all_edges p.now.triples) r.0.x12.items) (half_number (all_edges q.now.triples) r.0.x21.items)) }
-    ensures p_edge_identity { IfOk result (λ r. EdgeIdentity (all_edges p.now.triples) (length q.now.triples) (λ v. get_or r.1.w03.items v (pos 0)) (half_number (all_edges p.now.triples) r.0.x12.items)) }
-    ensures q_edge_identity { IfOk result (λ r. EdgeIdentity (all_edges q.now.triples) (length p.now.triples) (λ v. get_or r.1.w30.items v (pos 0)) (half_number (all_edges q.now.triples) r.0.x21.items)) }
+    ensures pairs { IfOk result (λ r. PairsAgree p.now q.now r.0.x12.items r.0.x21.items) }
+    ensures p_edges { IfOk result (λ r. EdgesConserve p.now q.now r.1.w03.items r.0.x12.items) }
+    ensures q_edges { IfOk result (λ r. EdgesConserve q.now p.now r.1.w30.items r.0.x21.items) }
 {
     let mut steps = Steps::<L>::over(blank);
     let hits = crossings(alloc, p, q, kernels)?;

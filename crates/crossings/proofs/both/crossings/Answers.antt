@@ -8,7 +8,7 @@ use Rattle.side_terms.specs.Sides.{IsSide, edge_at, edge_of, face_at, face_of}
 use Rattle.lean.proofs.Corners.{edge_fine, face_fine}
 use Rattle.side_terms.specs.Hits.{AreHits, AllCross}
 use Rattle.crossings.specs.Hits.{CrossTest, hits_of}
-use Rattle.side_terms.specs.Conservation.{half_number, PairIdentity}
+use Rattle.crossings.specs.Agreement.{PairsAgree}
 use Rattle.crossings.proofs.Order.{all_listed, hits_in_order}
 use Rattle.crossings.proofs.Rounds.{pairs_agree}
 use Rattle.crossings.proofs.both.crossings.Goals as goal
@@ -56,4 +56,4 @@ returns-clause-pair_identity g c =
     (λ t a b. (g.met.K.Crosses-2.laws k).turn_q (face_of p.corners t) (edge_of q.corners a b) refl refl refl (face_fine p.corners p_side.fine t) (edge_fine q.corners q_side.fine a b))
     (λ t a b. g.met.K.Kernels.lift_12 k (pc a) (pc b) (qc t.0) (qc t.1) (qc t.2) (edge_fine p.corners p_side.fine a b) (face_fine q.corners q_side.fine t))
     (λ t a b. g.met.K.Kernels.lift_21 k (pc t.0) (pc t.1) (pc t.2) (qc a) (qc b) (face_fine p.corners p_side.fine t) (edge_fine q.corners q_side.fine a b)) in
-    subst (λ (l : List Hit × List Hit). PairIdentity (length p.triples) (length q.triples) (half_number (all_edges p.triples) l.0) (half_number (all_edges q.triples) l.1)) (sym (ap (λ (l : List Hit). (l, c.in_ok-x21.x21.items)) c.in_ok-x12.ensures ∙ ap (λ (l : List Hit). (hits_of test12 p q, l)) c.in_ok-x21.ensures)) agree
+    subst (λ (l : List Hit × List Hit). PairsAgree p q l.0 l.1) (sym (ap (λ (l : List Hit). (l, c.in_ok-x21.x21.items)) c.in_ok-x12.ensures ∙ ap (λ (l : List Hit). (hits_of test12 p q, l)) c.in_ok-x21.ensures)) agree

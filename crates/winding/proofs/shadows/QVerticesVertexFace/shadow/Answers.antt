@@ -5,20 +5,11 @@ use Rattle.shadow_kernels.specs.FinePairs.{fine_one}
 use Rattle.winding.proofs.Steps.{shadow_within}
 use Rattle.winding.proofs.shadows.QVerticesVertexFace.shadow.Goals as goal
 
-pub returns-clause-low : goal.returns-clause-low
-returns-clause-low g c =
+pub returns-clause-size : goal.returns-clause-size
+returns-clause-size g c =
     let q = c.args.vertex.now ∷ [] in
     let face = c.args.face.now in
     let kernels = c.args.self.now.0.now in
     let s = shadow_within (g.K.Meets.meet_of kernels face q) ((g.met.K.Meets.laws kernels).size face q c.told-face refl c.requires.face_fine (fine_one c.args.vertex.now c.requires.vertex_fine)) in
     let is : c.shadow_of.result ≡ shadow_of (g.K.Meets.meet_of kernels face q) = c.shadow_of.ensures ∙ ap shadow_of c.meet.ensures in
-    omega (arith, ints, s, is)
-
-pub returns-clause-high : goal.returns-clause-high
-returns-clause-high g c =
-    let q = c.args.vertex.now ∷ [] in
-    let face = c.args.face.now in
-    let kernels = c.args.self.now.0.now in
-    let s = shadow_within (g.K.Meets.meet_of kernels face q) ((g.met.K.Meets.laws kernels).size face q c.told-face refl c.requires.face_fine (fine_one c.args.vertex.now c.requires.vertex_fine)) in
-    let is : c.shadow_of.result ≡ shadow_of (g.K.Meets.meet_of kernels face q) = c.shadow_of.ensures ∙ ap shadow_of c.meet.ensures in
-    omega (arith, ints, s, is)
+    (omega (arith, ints, s, is), omega (arith, ints, s, is))
