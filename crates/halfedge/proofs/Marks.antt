@@ -1,5 +1,5 @@
 -- Fans marked one after the other, at most one at each vertex.
-use Rattle.std.proofs.Common.{◌≡◌, ◌≢◌, ◌<◌, ◌≤◌, ◌+◌, ◌-◌, ◌*◌, ◌⊎◌, inl, inr, ℕ, zero, suc, Bool, true, false, List, length, get_or, slice_set, replicate, refl, sym, ◌∙◌, ap, subst, arith}
+use Rattle.std.proofs.Common.{◌≡◌, ◌≢◌, ◌<◌, ◌≤◌, ◌+◌, ◌-◌, ◌*◌, ◌⊎◌, inl, inr, ℕ, zero, suc, Bool, true, false, List, length, get_or, slice_set, replicate, refl, sym, ◌∙◌, ap, arith}
 use Rattle.std.proofs.lemmas.Bool.{cases_eq, false≢true}
 use Rattle.std.proofs.lemmas.List.{get_or-replicate, get_or-set_same, get_or-set_other, length-replicate}
 use Rattle.chain_terms.specs.Chains.{all_edges, IsClosed}
@@ -7,8 +7,8 @@ use Rattle.chain_terms.specs.Permutations.{times}
 use Rattle.chain_terms.specs.Ranks.{start, twin}
 use Rattle.chain_laws.proofs.Walks.{times-add, returns}
 use Rattle.mesh_terms.specs.Meshes.{Triple}
-use Rattle.mesh_terms.specs.Halves.{prev_half, around, around_times, SameFan}
-use Rattle.halfedge.specs.Numbering.{no_fan, AreKeptAround, IsFanNumbered}
+use Rattle.mesh_terms.specs.Halves.{prev_half, around, SameFan}
+use Rattle.halfedge.specs.Numbering.{no_fan, IsFanNumbered}
 use Rattle.halfedge.specs.Clean.{IsClean, IsMarked, AreMarked}
 use Rattle.halfedge.proofs.Around.{around_inverse, times_start}
 use Rattle.halfedge.proofs.FanSteps.{same_in_fan}

@@ -1,6 +1,7 @@
 // Small meshes, with twins and fans known from outside.
 use crate::{TwinFault, Twins};
-use samples::TETRAHEDRON;
+use samples::{TETRAHEDRON, soup_of};
+use std::alloc::Global;
 use std::test::Fail;
 
 #[test]
@@ -83,6 +84,24 @@ fn a_shared_vertex_has_two_fans(rt: HostRuntime) -> Result<(), Fail> {
     // The first cube's half-edges at vertex 7 begin with 8, the second's with 36.
     assert_eq!(rt; fans.first[7], 8);
     assert_eq!(rt; fans.first[8], 36);
+    Ok(())
+}
+
+// Whether each of so many vertices has one fan.
+fn is_clean(alloc: Global, count: i32, triples: &[[u32; 3]]) -> Result<bool, Fail> {
+    let mut rows = Vec::new(alloc);
+    for x in 0..count {
+        rows.push([x, 0, 0])?;
+    }
+    let soup = soup_of(alloc, &rows, triples)?;
+    let twins = Twins::of(alloc, soup.triples())?;
+    Ok(twins.are_clean(alloc, soup.points().len())?)
+}
+
+#[test]
+fn a_shared_vertex_is_found(rt: HostRuntime) -> Result<(), Fail> {
+    assert!(rt; is_clean(rt.alloc(), 4, &TETRAHEDRON)?);
+    assert!(rt; !is_clean(rt.alloc(), 15, &CUBES)?);
     Ok(())
 }
 

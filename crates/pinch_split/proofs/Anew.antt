@@ -1,6 +1,6 @@
 -- The triangles whose corners are the fans: where their half-edges start and end, and that they make a closed mesh.
-use Rattle.std.proofs.Common.{◌≡◌, ◌≢◌, ◌<◌, ◌≤◌, ◌+◌, ◌*◌, ◌/◌, ◌%◌, ℕ, zero, suc, ℤ, neg_ℤ, Bool, true, false, List, [], ◌∷◌, map, length, get_or, refl, sym, subst, ◌∙◌, ap, arith}
-use Rattle.std.specs.Prelude.{◌||◌, ◌==◌, pos, ◌+ℤ◌}
+use Rattle.std.proofs.Common.{◌≡◌, ◌≢◌, ◌<◌, ◌+◌, ◌*◌, ℕ, zero, suc, ℤ, neg_ℤ, Bool, true, false, List, [], ◌∷◌, map, length, get_or, refl, sym, subst, ◌∙◌, ap, arith}
+use Rattle.std.specs.Prelude.{◌||◌, ◌==◌, pos}
 use Rattle.std.specs.List.{All}
 use Rattle.std.proofs.lemmas.Bool.{eq-eqb}
 use Rattle.std.proofs.lemmas.Int.{ints}
@@ -15,7 +15,7 @@ use Rattle.chain_laws.proofs.Inverses.{inverse_sum}
 use Rattle.chain_laws.proofs.Places.{total-places, total-upto_same, get_or-up_from, length-up_from}
 use Rattle.chain_laws.proofs.Twins.{twin_runs_back, twin_twin, twins_inverse}
 use Rattle.mesh_terms.specs.Fans.{AreFans}
-use Rattle.mesh_terms.specs.Halves.{next_half, around, SameFan}
+use Rattle.mesh_terms.specs.Halves.{next_half, SameFan}
 use Rattle.mesh_terms.specs.Meshes.{Triple, HasThree, IsBelow, has, is_used}
 use Rattle.halfedge.proofs.Around.{times_start}
 use Rattle.halfedge.proofs.Edges.{length-all_edges, next_starts, not_back}

@@ -1,9 +1,8 @@
 -- The new triangles are clean, and each fan has at least two half-edges.
-use Rattle.std.proofs.Common.{◌≡◌, ◌≢◌, ◌<◌, ◌≤◌, ◌+◌, ◌-◌, ◌*◌, inl, inr, ℕ, zero, suc, Bool, true, false, cond, List, length, get_or, refl, sym, ◌∙◌, ap, subst, arith}
+use Rattle.std.proofs.Common.{◌≡◌, ◌≢◌, ◌<◌, ◌≤◌, ◌-◌, ◌*◌, inl, inr, ℕ, zero, suc, cond, List, length, get_or, refl, sym, ◌∙◌, ap, subst, arith}
 use Rattle.std.specs.Prelude.{nat_lt}
 use Rattle.std.proofs.lemmas.Bool.{cases_lt, lt-ltb, le-ltb}
-use Rattle.chain_terms.specs.Permutations.{times}
-use Rattle.chain_terms.specs.Ranks.{start, twin}
+use Rattle.chain_terms.specs.Ranks.{twin}
 use Rattle.chain_laws.proofs.Walks.{times_below, different_below}
 use Rattle.mesh_terms.specs.Halves.{next_half, prev_half, around, around_times, SameFan}
 use Rattle.mesh_terms.specs.Meshes.{Triple}

@@ -1,12 +1,11 @@
 -- Triangles whose corners are the values of a function of the half-edges.
-use Rattle.std.proofs.Common.{◌≡◌, ◌<◌, ◌+◌, ◌*◌, ◌/◌, ◌%◌, ℕ, zero, suc, List, [], ◌∷◌, ◌++◌, map, length, get_or, refl, sym, ◌∙◌, ap, arith}
-use Rattle.std.proofs.lemmas.List.{map-append, length-map, get_or-map}
+use Rattle.std.proofs.Common.{◌≡◌, ◌<◌, ◌+◌, ◌*◌, ℕ, zero, suc, List, [], ◌∷◌, ◌++◌, map, length, get_or, refl, sym, ◌∙◌, ap, arith}
+use Rattle.std.proofs.lemmas.List.{map-append, length-map}
 use Rattle.chain_terms.specs.Chains.{all_edges}
 use Rattle.chain_terms.specs.Ranks.{start, finish}
 use Rattle.chain_terms.specs.Sums.{up_from, upto}
 use Rattle.chain_laws.proofs.Places.{upto_more, length-up_from}
 use Rattle.mesh_terms.specs.Halves.{next_half}
-use Rattle.mesh_terms.specs.Meshes.{Triple}
 use Rattle.halfedge.proofs.Edges.{length-all_edges, next_starts}
 use Rattle.pinch_split.specs.Split.{corner_values}
 use Rattle.pinch_split.specs.Given.{corners}

@@ -1,19 +1,18 @@
 -- The list of all fans, by their vertices and least half-edges, and the number of a half-edge's fan in it, are those of any numbering.
-use Rattle.std.proofs.Common.{◌≡◌, ◌<◌, ◌≤◌, ◌+◌, ◌-◌, ◌*◌, ◌↔◌, ◌⊎◌, inl, inr, ℕ, zero, suc, Bool, true, false, List, [], ◌∷◌, ◌++◌, length, get_or, map, refl, sym, ◌∙◌, ap, subst, arith}
-use Rattle.std.specs.Prelude.{◌==◌, ◌&&◌}
-use Rattle.std.specs.List.{Contains, filter, flat_map, position_or_len}
+use Rattle.std.proofs.Common.{◌≡◌, ◌<◌, ◌≤◌, ◌+◌, ◌-◌, ◌*◌, ◌⊎◌, inl, inr, ℕ, zero, suc, Bool, List, ◌++◌, length, get_or, map, refl, sym, ◌∙◌, ap, subst, arith}
+use Rattle.std.specs.Prelude.{◌==◌}
+use Rattle.std.specs.List.{Contains, flat_map, position_or_len}
 use Rattle.std.proofs.lemmas.Bool.{cases_lt, cases_eq, eqb-true, eq-eqb, ne_eqb, and_parts, and_from}
-use Rattle.std.proofs.lemmas.List.{get_or_default, get_or_append_left, get_or-append_right, length-append, length-map, same_lists}
+use Rattle.std.proofs.lemmas.List.{get_or_default, get_or_append_left, get_or-append_right, length-append, same_lists}
 use Rattle.std.proofs.lemmas.List.Elements.{Contains-append_left, Contains-append_right, Contains-append_cases}
 use Rattle.std.proofs.lemmas.List.Sums.{position_or_len_is}
 use Rattle.chain_terms.specs.Ranks.{start}
-use Rattle.chain_terms.specs.Sums.{up_from, upto}
+use Rattle.chain_terms.specs.Sums.{up_from}
 use Rattle.chain_laws.proofs.Ascending.{IsKept, kept, kept_at, filter-ascends}
-use Rattle.chain_laws.proofs.Places.{length-up_from}
-use Rattle.mesh_terms.specs.Meshes.{Triple, IsBelow, IsAccepted}
+use Rattle.mesh_terms.specs.Meshes.{Triple, IsAccepted}
 use Rattle.halfedge.proofs.FansOnce.{IsBefore, Rises, rising_same, firsts_rise}
 use Rattle.halfedge.proofs.Edges.{length-all_edges}
-use Rattle.pinch_split.specs.Split.{least_of_fan, is_least_at, fans_at, all_fans, fan_of, corner_values, split_from, split_triples}
+use Rattle.pinch_split.specs.Split.{least_of_fan, is_least_at, fans_at, all_fans, fan_of, split_from, split_triples}
 use Rattle.pinch_split.specs.Given.{corners, starts_of}
 use Rattle.pinch_split.proofs.Anew.{HasFans, old, fan, corner_at}
 use Rattle.pinch_split.proofs.Corners.{length-corners}

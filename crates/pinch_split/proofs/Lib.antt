@@ -1,3 +1,4 @@
+mod Examples
 pub mod Anew
 pub mod Clean
 pub mod CleanFans

@@ -1,11 +1,11 @@
 -- The new triangles have the twins that the triangles had.
-use Rattle.std.proofs.Common.{◌≡◌, ◌<◌, ◌≤◌, inl, inr, ℕ, ℤ, Bool, true, false, List, map, length, get_or, refl, sym, ◌∙◌, ap, arith}
+use Rattle.std.proofs.Common.{◌≡◌, ◌<◌, inl, inr, ℕ, Bool, true, false, List, length, get_or, refl, sym, ◌∙◌, ap, arith}
 use Rattle.std.specs.Prelude.{◌&&◌, ◌==◌, nat_lt, pos}
-use Rattle.std.proofs.lemmas.Bool.{cases_order, cases_Bool, lt-ltb, le-ltb}
+use Rattle.std.proofs.lemmas.Bool.{cases_order, lt-ltb, le-ltb}
 use Rattle.std.proofs.lemmas.Int.{ints}
 use Rattle.std.proofs.lemmas.List.{same_lists, length-map}
-use Rattle.chain_terms.specs.Chains.{is_edge, one_if, all_edges}
-use Rattle.chain_terms.specs.Ranks.{rank, start, finish, runs_as, runs_against, twin, IsPlace}
+use Rattle.chain_terms.specs.Chains.{is_edge, one_if}
+use Rattle.chain_terms.specs.Ranks.{rank, start, finish, runs_as, runs_against, twin}
 use Rattle.chain_terms.specs.Sums.{total, upto}
 use Rattle.chain_laws.specs.Chains.{edge_is, and_turned}
 use Rattle.chain_laws.proofs.Inverses.{inverse_sum}

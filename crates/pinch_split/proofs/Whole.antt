@@ -1,5 +1,5 @@
 -- What the lists of a split mesh are known to be.
-use Rattle.std.proofs.Common.{◌≡◌, ◌<◌, ◌≤◌, ◌+◌, ◌*◌, ℕ, zero, suc, Bool, true, false, List, [], ◌∷◌, map, length, get_or, refl, sym, ◌∙◌, ap, subst, arith}
+use Rattle.std.proofs.Common.{◌≡◌, ◌<◌, ◌≤◌, ◌*◌, ℕ, zero, suc, Bool, true, false, List, [], ◌∷◌, map, length, get_or, refl, sym, ◌∙◌, ap, subst, arith}
 use Rattle.std.specs.List.{All}
 use Rattle.std.proofs.lemmas.List.{get_or_default, get_or-map, length-map, same_lists}
 use Rattle.std.proofs.lemmas.List.Elements.{All-head, All-tail}
@@ -8,7 +8,6 @@ use Rattle.chain_terms.specs.Ranks.{start, finish, twin}
 use Rattle.chain_laws.specs.Chains.{renamed, edge_is, is_self}
 use Rattle.chain_laws.proofs.Twins.{twin_runs_back}
 use Rattle.mesh_terms.specs.Fans.{AreFans}
-use Rattle.mesh_terms.specs.Limits.{most_triangles, most_points}
 use Rattle.mesh_terms.specs.Meshes.{Triple, IsBelow, IsMesh, IsAccepted}
 use Rattle.mesh_terms.specs.Twins.{IsTwinned}
 use Rattle.halfedge.specs.Laws.{AreSingle}

@@ -21,8 +21,9 @@ use std::alloc::Global;
 /// The closed mesh of these points and triangles with one vertex for each fan, which has the point of its
 /// old vertex. The new vertices go by their old vertex, and at one vertex by the least half-edge of the
 /// fan. The triangles keep their order, and each half-edge its twin. `NoMemory` may come for any mesh.
-/// A mesh in which each vertex has one fan is given as it is, which is found out in time linear in the triangles. Otherwise its
-/// fans are sorted by their vertices, and what is then made of them is made in linear time. The twins are found once.
+/// Where each vertex has one fan, which is found out in time linear in the triangles, the mesh is given as it
+/// is. Otherwise its fans are listed, which sorts its half-edges by their starts, and the rest takes linear
+/// time; only where two half-edges run the same way, whether some still do is found out as in `Twins::of`.
 pub fn split(alloc: Global, points: &[Point], triples: &[[u32; 3]]) -> Result<Split, NoMemory>
     requires { IsAccepted (length points.now) (triples_of triples.now) }
     ensures points { IfOk result (λ s. s.mesh.points ≡ split_points points.now (triples_of triples.now)) }
