@@ -1,5 +1,5 @@
 -- Products of small numbers, as they stand after they were kept at 64 bits.
-use Rattle.std.proofs.Common.{arith, ◌≡◌, ◌≤◌, ◌<◌, ◌^◌, ◌*◌, ℕ, ℤ, ◌-ℤ◌, ◌*ℤ◌, unsigned_abs, to_z, of_z, subst, sym, ap, ◌∙◌}
+use Rattle.std.proofs.Common.{arith, ◌≡◌, ◌≤◌, ◌^◌, ◌*◌, ℕ, ℤ, ◌-ℤ◌, ◌*ℤ◌, unsigned_abs, to_z, of_z, subst, sym}
 use Rattle.std.proofs.lemmas.Int.{ints, unsigned_abs-mul}
 use Rattle.std.proofs.lemmas.Nat.{mul-le}
 use Rattle.std.specs.Int.{w64}

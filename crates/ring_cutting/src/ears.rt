@@ -1,5 +1,5 @@
 // The place that is cut next.
-ghost use Rattle.std.specs.Prelude.{◌≡◌, ◌<◌, ◌≤◌, ◌+◌, ◌==◌, nat_lt, length, cond, IfSome, IsTrue};
+ghost use Rattle.std.specs.Prelude.{◌≡◌, ◌<◌, ◌≤◌, nat_lt, length, cond, IfSome, IsTrue};
 ghost use Rattle.std.specs.List.{position};
 ghost use Rattle.chain_terms.specs.Sums.{upto};
 ghost use Rattle.face_plane.specs.Planes.{Plane};

@@ -1,5 +1,5 @@
 // Places of a ring beside the points of their vertices.
-ghost use Rattle.std.specs.Prelude.{◌≡◌, ◌<◌, ◌≤◌, ◌^◌, IfOk, List, ℕ, length};
+ghost use Rattle.std.specs.Prelude.{◌≡◌, ◌<◌, IfOk, length};
 ghost use Rattle.std.specs.List.{All};
 ghost use Rattle.face_plane.specs.Planes.{Plane, face_plane};
 ghost use Rattle.face_plane.specs.Rings.{vertex_at, vertex_before, vertex_after};

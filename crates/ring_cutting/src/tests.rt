@@ -1,7 +1,7 @@
 // Rings that are hard to cut, against a program written apart from this one, which follows the rule word for word: rings
 // with vertices in several places, on their own rims, on lines, equal, with bridges to holes, turned, and such that the
 // rule of three decides.
-ghost use Rattle.std.specs.Prelude.{◌≡◌, ◌≢◌, ◌<◌, ◌≤◌, IsTrue, ℕ, length};
+ghost use Rattle.std.specs.Prelude.{◌≢◌, ◌<◌, ◌≤◌, IsTrue, length};
 ghost use Rattle.std.specs.List.{All};
 ghost use Rattle.chain_terms.specs.Paths.{round_edges};
 ghost use Rattle.face_plane.specs.Rings.{Ringy, Three};

@@ -1,9 +1,8 @@
 // Which places block a triangle.
 ghost use Rattle.std.specs.Prelude.{◌≡◌};
 ghost use Rattle.std.specs.List.{list_any};
-ghost use Rattle.face_plane.specs.Planes.{Plane};
-ghost use Rattle.ring_cutting.specs.Cuts.{covers, blocks};
-ghost use Rattle.ring_cutting.specs.Placed.{vertices_of, IsPlaced, place_blocks};
+ghost use Rattle.ring_cutting.specs.Cuts.{covers};
+ghost use Rattle.ring_cutting.specs.Placed.{place_blocks};
 
 use crate::place::Place;
 use face_plane::FlatPoint;

@@ -1,19 +1,19 @@
 -- The cuttings of several rings.
-use Rattle.std.specs.Prelude.{◌≡◌, ℕ, suc, ◌+◌, ◌*◌, ◌-◌, ◌<◌, ◌≤◌, ℤ, ◌+ℤ◌, List, [], ◌∷◌, ◌++◌, true, false, Bool, cond, length, get_or, drop, filter}
+use Rattle.std.specs.Prelude.{◌≡◌, ℕ, ◌+◌, ◌*◌, ◌<◌, ◌≤◌, ℤ, List, [], ◌∷◌, ◌++◌, true, false, Bool, cond, length, get_or, drop, filter}
 use Rattle.std.specs.List.{All, concat, flat_map}
-use Rattle.std.proofs.Common.{arith, refl, sym, subst, ap, ◌∙◌, inl, inr}
+use Rattle.std.proofs.Common.{arith, refl, sym, ap, ◌∙◌, inl, inr}
 use Rattle.std.proofs.lemmas.Bool.{cases_Bool}
 use Rattle.std.proofs.lemmas.Int.{ints}
 use Rattle.std.proofs.lemmas.List.{append_assoc, append-nil, length-append, drop_more, drop_all}
 use Rattle.std.proofs.lemmas.List.Concat.{flat_map-append}
-use Rattle.std.proofs.lemmas.List.Elements.{All-head, All-tail, All-nil, All-append, All-cons, All-weaker}
+use Rattle.std.proofs.lemmas.List.Elements.{All-head, All-tail, All-nil, All-append, All-cons}
 use Rattle.chain_terms.specs.Sums.{total}
 use Rattle.chain_laws.specs.Sums.{total-append}
 use Rattle.chain_terms.specs.Chains.{edges, all_edges}
-use Rattle.chain_terms.specs.Odd.{IsOdd, along}
+use Rattle.chain_terms.specs.Odd.{along}
 use Rattle.chain_terms.specs.Paths.{round_edges}
 use Rattle.mesh_terms.specs.Meshes.{Triple, HasThree, IsBelow}
-use Rattle.face_plane.specs.Planes.{Plane, swapped, flat_point, plane_of, point_at, face_plane, exchanged, is_turned, settled_plane}
+use Rattle.face_plane.specs.Planes.{Plane, plane_of, point_at, face_plane, exchanged, is_turned, settled_plane}
 use Rattle.face_plane.specs.Rings.{Ringy}
 use Rattle.ring_cutting.specs.Cuts.{Cut, cut_ring}
 use Rattle.ring_cutting.specs.Laws.{TurnsLeft, IsCutting}

@@ -1,6 +1,6 @@
 // Fillings against two tables, and each public call with ample memory.
-ghost use Rattle.std.specs.Prelude.{◌≡◌, ◌≢◌, ◌<◌, ◌≤◌, ℕ, IfOk, IsTrue, length, get_or};
-ghost use Rattle.std.specs.List.{All, concat};
+ghost use Rattle.std.specs.Prelude.{◌≡◌, ◌≢◌, ◌<◌, ℕ, IfOk, IsTrue, length, get_or};
+ghost use Rattle.std.specs.List.{concat};
 ghost use Rattle.hole_joining.specs.Laws.{AreDifferent, AreFillable};
 
 use crate::rows::{HARD, RANDOM};

@@ -1,17 +1,16 @@
-use Rattle.std.proofs.Common.{◌≡◌, ◌+◌, ◌*◌, ◌<◌, ◌≤◌, ℕ, List, Result, Ok, Err, length, sym, ap, subst, ◌∙◌, arith}
+use Rattle.std.proofs.Common.{◌≡◌, ◌+◌, ◌*◌, ◌≤◌, ℕ, List, Result, Ok, Err, length, sym, ap, subst, ◌∙◌, arith}
 use Rattle.std.specs.Prelude.{IfOk, filter}
 use Rattle.std.specs.List.{All, concat, flat_map}
 use Rattle.chain_terms.specs.Chains.{all_edges}
 use Rattle.chain_terms.specs.Odd.{SameChain}
 use Rattle.chain_terms.specs.Paths.{round_edges}
 use Rattle.mesh_terms.specs.Meshes.{HasThree, IsBelow}
-use Rattle.face_plane.specs.Planes.{Plane, face_plane, is_turned, plane_of, point_at}
+use Rattle.face_plane.specs.Planes.{Plane, face_plane}
 use Rattle.hole_joining.specs.Holes.{is_ring, is_hole}
-use Rattle.hole_joining.specs.Bridges.{join_holes}
 use Rattle.hole_joining.specs.Laws.{settled_in}
 use Rattle.ring_cutting.specs.Cuts.{Cut}
 use Rattle.ring_cutting.specs.Laws.{TurnsLeft}
-use Rattle.triangulate.specs.Fills.{cuts, fill_of}
+use Rattle.triangulate.specs.Fills.{cuts}
 use Rattle.triangulate.specs.Laws.{AreCuttings}
 use Rattle.triangulate.proofs.CutRings.{cuttings, all_short, settled, three_each}
 use Rattle.triangulate.proofs.filling.fill.Goals as goal

@@ -1,4 +1,4 @@
-use Rattle.std.proofs.Common.{◌≡◌, ◌++◌, [], take, ap, sym, ◌∙◌}
+use Rattle.std.proofs.Common.{◌++◌, [], take, ap, sym, ◌∙◌}
 use Rattle.std.specs.List.{concat}
 use Rattle.std.proofs.lemmas.List.{get_or_default}
 use Rattle.hole_joining.proofs.Lists.{concat_more}
