@@ -25,15 +25,20 @@ pub record StandsInTwo (p q : Side) (names : List ListName) (c : Copy) : Type 0 
   pub one_start : start_count p q names c ≡ 1
   pub one_end : end_count p q names c ≡ 1
 
+-- it stands in none or two of them
+abbrev pub StandsInNoneOrTwo : Side → Side → List ListName → Copy → Type 0
+StandsInNoneOrTwo p q names c = StandsInNone p q names c ⊎ StandsInTwo p q names c
+
 -- it stands in two lists of some source face
 abbrev pub StandsSomewhere : Side → Side → Copy → Type 0
 StandsSomewhere p q c =
-    ((f : ℕ) × (f < length p.triples) × StandsInTwo p q (lists_of_p (length q.triples) f) c) ⊎ ((g : ℕ) × (g < length q.triples) × StandsInTwo p q (lists_of_q (length p.triples) g) c)
+    ((f : ℕ) × (f < length p.triples) × StandsInTwo p q (lists_of_p (length q.triples) f) c)
+    ⊎ ((g : ℕ) × (g < length q.triples) × StandsInTwo p q (lists_of_q (length p.triples) g) c)
 
 -- each copy stands in none or two of the lists of each source face, and in two of some face
 pub record StandInLists (p q : Side) (cs : List Copy) : Type 0 where
-  pub p_faces : (f : ℕ) → f < length p.triples → All (λ c. StandsInNone p q (lists_of_p (length q.triples) f) c ⊎ StandsInTwo p q (lists_of_p (length q.triples) f) c) cs
-  pub q_faces : (g : ℕ) → g < length q.triples → All (λ c. StandsInNone p q (lists_of_q (length p.triples) g) c ⊎ StandsInTwo p q (lists_of_q (length p.triples) g) c) cs
+  pub p_faces : (f : ℕ) → f < length p.triples → All (StandsInNoneOrTwo p q (lists_of_p (length q.triples) f)) cs
+  pub q_faces : (g : ℕ) → g < length q.triples → All (StandsInNoneOrTwo p q (lists_of_q (length p.triples) g)) cs
   pub somewhere : All (StandsSomewhere p q) cs
 
 -- the starts of some lists, counted

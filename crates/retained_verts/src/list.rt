@@ -13,7 +13,7 @@ use crate::counts::count;
 use crate::operand::Operand;
 use lean::Side;
 use mb_base::{Hits, Limits, NoMemory, Op, Origin, Point, Windings};
-use std::alloc::{AllocError, Global};
+use std::alloc::Global;
 
 /// The prescribed vertices in order, each with its origin and its point. `kept` counts those that are vertices of the
 /// first mesh and of the second, `crossings` the others, and `halfedges` the half-edges at all of them: as many for a
