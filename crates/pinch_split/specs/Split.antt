@@ -44,7 +44,7 @@ split_from points ts = map (start (all_edges ts)) (all_fans points (all_edges ts
 abbrev pub corner_values : (ℕ → ℕ) → ℕ → Triple
 corner_values f t = (f (3 * t), f (3 * t + 1), f (3 * t + 2))
 
--- each half-edge starts at its own fan
+-- the triangles over the fans: where a half-edge started, the number of its fan stands
 abbrev pub split_triples : ℕ → List Triple → List Triple
 split_triples points ts = map (corner_values (fan_of points (all_edges ts))) (upto (length ts))
 

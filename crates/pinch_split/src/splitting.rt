@@ -21,9 +21,10 @@ use std::alloc::Global;
 /// The closed mesh of these points and triangles with one vertex for each fan, which has the point of its
 /// old vertex. The new vertices go by their old vertex, and at one vertex by the least half-edge of the
 /// fan. The triangles keep their order, and each half-edge its twin. `NoMemory` may come for any mesh.
-/// Where each vertex has one fan, which is found out in time linear in the triangles, the mesh is given as it
-/// is. Otherwise its fans are listed, which sorts its half-edges by their starts, and the rest takes linear
-/// time; only where two half-edges run the same way, whether some still do is found out as in `Twins::of`.
+/// First the twins are found, as in `Twins::of`. Where each vertex has one fan, which is then found out in time
+/// linear in the triangles, the mesh is given as it is. Otherwise its fans are listed, which sorts its half-edges
+/// by their starts, and the rest takes linear time; but where two half-edges run the same way, the twins are
+/// found once more, to know whether some still do.
 pub fn split(alloc: Global, points: &[Point], triples: &[[u32; 3]]) -> Result<Split, NoMemory>
     requires { IsAccepted (length points.now) (triples_of triples.now) }
     ensures points { IfOk result (λ s. s.mesh.points ≡ split_points points.now (triples_of triples.now)) }

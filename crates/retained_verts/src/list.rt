@@ -48,13 +48,13 @@ impl From<NoMemory> for PrescribeFault {
 ///
 /// A vertex of P is included `c1 + c3 * w` times, one of Q `c2 + c3 * w` times, w being its winding number in the other
 /// mesh, and a crossing `c3` times its number, with the operation's constants. Each is listed as often as the size of that:
-/// the vertices of P, those of Q, the hits of P's edges, those of Q's edges, in their order, copies next to each other.
+/// the vertices of P, those of Q, the hits of P's edges, those of Q's edges, in their order, all copies of one together.
 ///
 /// The windings are one for each corner and at most 100,000,000 in size. The hits name edges by their lower half-edges and
-/// faces of the other side, ascend by edge, then by face, with no pair twice, and have numbers from -2 to 2. `TooLarge`
-/// comes exactly where the half-edges exceed `limits.halfedges()`. It is decided before a list grows, so no memory is taken
-/// then. `NoMemory` may come for any numbers within the limit. It takes time in proportion to the corners, triangles and
-/// hits, and memory in proportion to the vertices that it lists.
+/// faces of the other side, ascend by edge, then by face, with no pair twice, and have numbers from -2 to 2. The half-edges
+/// are counted first: where they are more than `limits.halfedges()`, and nowhere else, the answer is `TooLarge`, and no
+/// memory is taken. `NoMemory` may come for any numbers within the limit. It takes time in proportion to the corners,
+/// triangles and hits and the vertices that it lists, and memory in proportion to these.
 pub fn prescribe(
     alloc: Global,
     op: Op,

@@ -63,25 +63,26 @@ const BOXES: &str =
 const NUMBERS: &str =
     "00000000 11110000 84144a 86-166a | d2154a e3-134a f2164a j3167a k2-165a p3137a q3-157a w3-135a";
 
-// What the boxes prescribe for an operation, with as many half-edges at most: the counts.
-fn boxes(alloc: Global, op: Op, halfedges: u32) -> Result<[u64; 4], Fail> {
+// What the boxes prescribe for an operation, with as many half-edges at most: the counts, or the half-edges alone where
+// they are too many.
+fn boxes(alloc: Global, op: Op, halfedges: u32) -> Result<Result<[u64; 4], u64>, Fail> {
     let limits = Limits::of(1 << 30, 15_000_000, 10_000_000, halfedges).ok_or("no limits")?;
     let (p, q) = read_sides(alloc, BOXES)?;
     match answer(alloc, op, &p, &q, NUMBERS, &limits)? {
-        Ok(all) => Ok([all.kept[0], all.kept[1], all.crossings, all.halfedges]),
-        Err(PrescribeFault::TooLarge { seen }) => Ok([0, 0, 0, seen]),
+        Ok(all) => Ok(Ok([all.kept[0], all.kept[1], all.crossings, all.halfedges])),
+        Err(PrescribeFault::TooLarge { seen }) => Ok(Err(seen)),
         Err(PrescribeFault::NoMemory) => Err("no memory".into()),
     }
 }
 
-// The counts at limits that are just enough, and the half-edges alone below them.
-const COUNTS: [(Op, u32, [u64; 4]); 6] = [
-    (Op::Union, 84, [8, 4, 10, 84]),
-    (Op::Intersect, 48, [0, 4, 10, 48]),
-    (Op::Subtract, 84, [8, 4, 10, 84]),
-    (Op::Union, 83, [0, 0, 0, 84]),
-    (Op::Intersect, 47, [0, 0, 0, 48]),
-    (Op::Subtract, 0, [0, 0, 0, 84]),
+// The counts at limits that are just enough, and the half-edges below them.
+const COUNTS: [(Op, u32, Result<[u64; 4], u64>); 6] = [
+    (Op::Union, 84, Ok([8, 4, 10, 84])),
+    (Op::Intersect, 48, Ok([0, 4, 10, 48])),
+    (Op::Subtract, 84, Ok([8, 4, 10, 84])),
+    (Op::Union, 83, Err(84)),
+    (Op::Intersect, 47, Err(48)),
+    (Op::Subtract, 0, Err(84)),
 ];
 
 #[test]
