@@ -1,8 +1,8 @@
 -- In the segments of a source face each vertex that occurs starts one and ends one.
-use Rattle.std.proofs.Common.{◌≡◌, ℕ, ◌+◌, ◌-◌, ◌<◌, ◌≤◌, ◌⊎◌, inl, inr, Bool, ◌==◌, ℤ, pos, List, ◌++◌, map, length, get_or, int_lt, count_by, arith, ap, sym, ◌∙◌}
+use Rattle.std.proofs.Common.{◌≡◌, ℕ, ◌-◌, ◌<◌, ◌≤◌, ◌⊎◌, inl, inr, Bool, ◌==◌, ℤ, pos, List, ◌++◌, map, length, get_or, int_lt, arith, ◌∙◌}
 use Rattle.std.specs.List.{All, flat_map}
 use Rattle.std.proofs.lemmas.Bool.{cases_lt}
-use Rattle.std.proofs.lemmas.List.Elements.{All-get_or, All-weaker}
+use Rattle.std.proofs.lemmas.List.Elements.{All-weaker}
 use Rattle.chain_terms.specs.Chains.{all_edges, one_if}
 use Rattle.chain_terms.specs.Cycles.{into, out}
 use Rattle.chain_terms.specs.Ranks.{start, finish}
