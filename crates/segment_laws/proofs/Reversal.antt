@@ -1,5 +1,5 @@
 -- Seen from the twin of a half-edge, or from the other face of a pair, each segment runs the other way.
-use Rattle.std.proofs.Common.{◌≡◌, ℕ, zero, suc, ◌<◌, ◌≤◌, inl, inr, Bool, true, false, cond, ℤ, pos, neg_ℤ, List, [], ◌∷◌, ◌++◌, map, length, get_or, int_lt, count_by, refl, arith, ap, sym, ◌∙◌}
+use Rattle.std.proofs.Common.{◌≡◌, ◌/◌, ℕ, zero, suc, ◌<◌, ◌≤◌, inl, inr, Bool, true, false, cond, ℤ, pos, neg_ℤ, List, [], ◌∷◌, ◌++◌, map, length, get_or, int_lt, count_by, refl, arith, ap, sym, ◌∙◌}
 use Rattle.std.specs.List.{All}
 use Rattle.std.proofs.lemmas.Int.{ints}
 use Rattle.std.proofs.lemmas.Bool.{cases_eq, cases_lt, eq-eqb, ne_eqb, false_from_ne_true}
@@ -14,7 +14,7 @@ use Rattle.chain_laws.specs.Chains.{edge_is}
 use Rattle.chain_laws.specs.Counts.{count_by-cons, one_if-true}
 use Rattle.chain_laws.specs.Firsts.{Passing, passing}
 use Rattle.chain_laws.specs.Sorting.{sorted_by}
-use Rattle.chain_laws.proofs.Twins.{twin_runs_back, twin_twin}
+use Rattle.halfedge.proofs.Around.{pair_up as twins_pair_up}
 use Rattle.halfedge.proofs.Edges.{not_back}
 use Rattle.mesh_terms.specs.Meshes.{Triple, HasThree}
 use Rattle.mesh_terms.specs.Points.{coordinate_of}
@@ -57,10 +57,11 @@ no_stand ts three a found =
 pub record HasTwins (es : List (ℕ × ℕ)) : Type 0 where
   pub run_back : (h : ℕ) → h < length es → RunsBack es h (twin es h)
   pub pairs : (h : ℕ) → h < length es → twin es (twin es h) ≡ h
+  pub apart : (h : ℕ) → h < length es → twin es h / 3 ≡ h / 3 → ⊥
   pub past : (h : ℕ) → length es ≤ h → length es ≤ twin es h
 
 pub has_twins : (ts : List Triple) → All HasThree ts → IsClosed (all_edges ts) → HasTwins (all_edges ts)
-has_twins ts three closed = record { run_back = twin_runs_back es closed; pairs = twin_twin es closed; past = past }
+has_twins ts three closed = let both = twins_pair_up ts three closed in record { run_back = both.run_back; pairs = both.pairs; apart = both.other; past = past }
   where
     es : List (ℕ × ℕ)
     es = all_edges ts
