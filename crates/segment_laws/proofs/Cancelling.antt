@@ -94,7 +94,7 @@ pairs_cancel : (w : ℕ → ℕ → ℤ) (u : ℕ → ℕ → ℤ) (m n : ℕ) �
     total (λ f. total (w f) (upto n)) (upto m) +ℤ total (λ g. total (u g) (upto m)) (upto n) ≡ pos 0
 pairs_cancel w u m n turned =
     let inner = total-same (λ g. total (u g) (upto m)) (λ g. neg_ℤ (total (λ f. w f g) (upto m)))
-        (λ g. total-same (u g) (λ f. neg_ℤ (w f g)) (λ f. turned f g) (upto m) ∙ total-neg (λ f. w f g) (upto m)) (upto n) in
+    (λ g. total-same (u g) (λ f. neg_ℤ (w f g)) (λ f. turned f g) (upto m) ∙ total-neg (λ f. w f g) (upto m)) (upto n) in
     let outer = total-neg (λ g. total (λ f. w f g) (upto m)) (upto n) in
     omega (arith, ints, inner, outer, total-swap w (upto m) (upto n))
 
@@ -119,9 +119,9 @@ cancel p q cs place p_known q_known f odd =
     let Q = all_edges q.triples in
     let lists = total-same (λ x. total (along f) (segments_of p q cs place x)) (λ x. total w (lists_of p q x)) (λ x. total-flat_map (along f) (segments_in p q cs place) (lists_of p q x)) (upto (source_count p q)) in
     let of_p = turned_sum (λ h. w (HalfP h)) (twin P) (length P) (twins_inverse P p_known.accepted.closed)
-        (λ h below. ap (total (along f)) (twin_reverses_p p q p_known cs place h below) ∙ total-backward f odd (segments_in p q cs place (HalfP h))) in
+    (λ h below. ap (total (along f)) (twin_reverses_p p q p_known cs place h below) ∙ total-backward f odd (segments_in p q cs place (HalfP h))) in
     let of_q = turned_sum (λ h. w (HalfQ h)) (twin Q) (length Q) (twins_inverse Q q_known.accepted.closed)
-        (λ h below. ap (total (along f)) (twin_reverses_q p q q_known cs place h below) ∙ total-backward f odd (segments_in p q cs place (HalfQ h))) in
+    (λ h below. ap (total (along f)) (twin_reverses_q p q q_known cs place h below) ∙ total-backward f odd (segments_in p q cs place (HalfQ h))) in
     total-flat_map (along f) (segments_of p q cs place) (upto (source_count p q)) ∙ lists
     ∙ all_lists p q w (sym (ap (λ k. total (λ h. w (HalfP h)) (upto k)) (length-all_edges p.triples)) ∙ of_p) (sym (ap (λ k. total (λ h. w (HalfQ h)) (upto k)) (length-all_edges q.triples)) ∙ of_q)
     (λ g h. ap (total (along f)) (pair_reverses p q cs place g h) ∙ total-backward f odd (segments_in p q cs place (PairP g h)))

@@ -87,5 +87,5 @@ same_origin_q p q p_known q_known none g below one two of_one of_two apart x y x
     let P = all_edges p.triples in
     let Q = all_edges q.triples in
     let same = same_origin q p q_known p_known none g below (other_name one) (other_name two) of_one of_two (λ e. apart (sym (name_back one) ∙ ap other_name e ∙ name_back two))
-        (other_origin x) (other_origin y) (lower_other p q x x_lower) (lower_other p q y y_lower) (both_other P Q one two x x_in) (both_other P Q one two y y_in) in
+    (other_origin x) (other_origin y) (lower_other p q x x_lower) (lower_other p q y y_lower) (both_other P Q one two x x_in) (both_other P Q one two y y_in) in
     sym (origin_back x) ∙ ap other_origin same ∙ origin_back y

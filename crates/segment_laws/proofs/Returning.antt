@@ -84,5 +84,5 @@ no_return p q cs place p_known q_known p_none q_none named x below v w there bac
     let same = distinguish p q p_known q_known p_none q_none x below s.from t.from s.listed t.listed apart c.origin d.origin (named.lower v no_copy a.from_below) (named.lower w no_copy a.to_below) c_in d_in in
     let signs : c.negative ≡ d.negative = named.signed v no_copy a.from_below ∙ ap named.sign same ∙ sym (named.signed w no_copy a.to_below) in
     let alike : standing P Q s.from c ≡ standing P Q s.from d =
-        ap (λ o. cond c.negative (neg_ℤ (incidence P Q s.from o)) (incidence P Q s.from o)) same ∙ ap (λ t. cond t (neg_ℤ (incidence P Q s.from d.origin)) (incidence P Q s.from d.origin)) signs in
+    ap (λ o. cond c.negative (neg_ℤ (incidence P Q s.from o)) (incidence P Q s.from o)) same ∙ ap (λ t. cond t (neg_ℤ (incidence P Q s.from d.origin)) (incidence P Q s.from d.origin)) signs in
     one_sign (standing P Q s.from d) (ap (int_lt (pos 0)) (sym alike) ∙ a.from_start) a.to_end

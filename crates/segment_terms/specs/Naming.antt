@@ -1,5 +1,5 @@
 -- How copies name what they are copies of.
-use Rattle.std.specs.Prelude.{◌≡◌, ℕ, ◌<◌, Bool, List}
+use Rattle.std.specs.Prelude.{◌≡◌, ◌<◌, Bool, List}
 use Rattle.std.specs.List.{All}
 use Rattle.chain_terms.specs.Chains.{all_edges}
 use Rattle.chain_terms.specs.Ranks.{twin}
