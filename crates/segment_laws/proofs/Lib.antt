@@ -10,3 +10,4 @@ pub mod OneToOne
 pub mod OtherSide
 pub mod Returning
 pub mod Reversal
+mod Rows

@@ -1,8 +1,8 @@
 -- Members of joined and of paired lists: each segment runs from a start to an end of one list.
 use Rattle.std.proofs.Common.{◌≡◌, ℕ, zero, suc, ◌<◌, Bool, true, ℤ, pos, List, [], ◌∷◌, ◌++◌, map, filter, length, get_or, int_lt, refl, arith, ap, sym, subst, inl, inr, ◌∙◌}
-use Rattle.std.specs.List.{Contains, flat_map, zip}
+use Rattle.std.specs.List.{All, Contains, flat_map, zip}
 use Rattle.std.proofs.lemmas.List.{get_or_default}
-use Rattle.std.proofs.lemmas.List.Elements.{Contains-append_cases, Contains-append_left, Contains-append_right}
+use Rattle.std.proofs.lemmas.List.Elements.{Contains-get_or, Contains-append_cases, Contains-append_left, Contains-append_right}
 use Rattle.std.proofs.lemmas.List.Sorted.{Contains-permutation, IsPermutation-sym}
 use Rattle.chain_terms.specs.Chains.{all_edges}
 use Rattle.chain_terms.specs.Ranks.{start, finish}
@@ -14,7 +14,7 @@ use Rattle.side_terms.specs.Sides.{Side}
 use Rattle.assembly_terms.specs.Lists.{Copy, ListName, HalfP, HalfQ, PairP, PairQ, ends, no_copy, standing, starts}
 use Rattle.edge_pairing.specs.Pairing.{comes_before, pair_up, paired_across, paired_along, scalar_product, spread_axis, step}
 use Rattle.edge_pairing.proofs.Ordered.{sorted_moved}
-use Rattle.segment_terms.specs.Segments.{lower_half, paired_in, segments_in, vertex_point}
+use Rattle.segment_terms.specs.Segments.{lists_of, lower_half, paired_in, segments_in, segments_of, vertex_point}
 
 -- a list of the joined ones that has the member
 pub record FoundIn {X Y : Type 0} (h : X → List Y) (xs : List X) (y : Y) : Type 0 where
@@ -97,3 +97,11 @@ segment_joins p q cs place name e c =
     let s = in_filter (λ v. int_lt (pos 0) (standing P Q name (get_or cs v no_copy))) (length cs) e.0 r.first in
     let t = in_filter (λ v. int_lt (standing P Q name (get_or cs v no_copy)) (pos 0)) (length cs) e.1 r.second in
     record { from_below = s.below; to_below = t.below; from_start = s.passes; to_end = t.passes }
+
+-- so the segments of a face run from copies to copies
+pub join_copies : (p q : Side) (cs : List Copy) (place : ℕ → List ℤ) (x : ℕ) → All (λ e. (e.0 < length cs) × (e.1 < length cs)) (segments_of p q cs place x)
+join_copies p q cs place x k d below =
+    let es = segments_of p q cs place x in
+    let e = get_or es k d in
+    let found = in_some (segments_in p q cs place) (lists_of p q x) e (Contains-get_or es k d below) in
+    let joins = segment_joins p q cs place found.from e found.inside in (joins.from_below, joins.to_below)

@@ -22,6 +22,10 @@ use Rattle.segment_terms.specs.Segments.{all_segments, segments_of, source_count
 abbrev pub SegmentsAreOneToOne : Type 0
 SegmentsAreOneToOne = (p q : Side) (cs : List Copy) (place : ℕ → List ℤ) → StandInLists p q cs → IsBalanced p q cs → (x : ℕ) → x < source_count p q → IsOneToOne (segments_of p q cs place x)
 
+-- a segment runs from a copy to a copy
+abbrev pub SegmentsJoinCopies : Type 0
+SegmentsJoinCopies = (p q : Side) (cs : List Copy) (place : ℕ → List ℤ) (x : ℕ) → All (λ e. (e.0 < length cs) × (e.1 < length cs)) (segments_of p q cs place x)
+
 -- every odd function adds up to nothing over the segments of all faces, so these are closed
 abbrev pub FacesCancel : Type 0
 FacesCancel = (p q : Side) (cs : List Copy) (place : ℕ → List ℤ) → IsSide p → IsSide q → SameChain (all_segments p q cs place) [] × IsClosed (all_segments p q cs place)
@@ -36,7 +40,7 @@ abbrev pub LoopsAreLong : Type 0
 LoopsAreLong = (p q : Side) (cs : List Copy) (place : ℕ → List ℤ) → IsSide p → IsSide q → NoOpposite p.triples → NoOpposite q.triples → StandInLists p q cs → IsBalanced p q cs → AreNamed p q cs →
     (x : ℕ) → x < source_count p q → All (λ loop. 3 ≤ length loop) (cycles (segments_of p q cs place x))
 
--- prescribed copies are named so
+-- prescribed copies name edges by their lower half-edges, and those of one origin have one sign
 abbrev pub PrescribedAreNamed : Type 0
 PrescribedAreNamed = (op : Op) (p q : Side) (n : Numbers) → AreHits (all_edges p.triples) (length q.triples) n.x12 → AreHits (all_edges q.triples) (length p.triples) n.x21 → AreNamed p q (prescribed op p q n)
 

@@ -6,13 +6,15 @@ ghost use Rattle.segment_laws.specs.Laws.{
   LoopsAreLong,
   PrescribedAreNamed,
   SegmentsAreOneToOne,
+  SegmentsJoinCopies,
   TriplesAreClosed,
   VerticesStay,
 };
 
-/// In the segments of a source face each vertex that occurs starts one and ends one.
+/// The segments of a source face run between copies, and each copy that occurs in them starts one and ends one.
 pub fn segments_form_loops()
-    ensures { SegmentsAreOneToOne }
+    ensures join { SegmentsJoinCopies }
+    ensures once { SegmentsAreOneToOne }
 {}
 
 /// The segments of all source faces together cancel: every odd function of their ends adds up to nothing.

@@ -1,5 +1,9 @@
+use Rattle.segment_laws.proofs.Members.{join_copies}
 use Rattle.segment_laws.proofs.OneToOne.{one_to_one}
 use Rattle.segment_laws.proofs.laws.segments_form_loops.Goals as goal
 
-pub returns : goal.returns
-returns c = one_to_one
+pub returns-clause-join : goal.returns-clause-join
+returns-clause-join c = join_copies
+
+pub returns-clause-once : goal.returns-clause-once
+returns-clause-once c = one_to_one
