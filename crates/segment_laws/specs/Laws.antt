@@ -1,6 +1,6 @@
 -- The laws of the segments of source faces, as statements.
 use Rattle.std.specs.Prelude.{◌≡◌, ℕ, ◌<◌, ◌≤◌, ℤ, List, [], true, length}
-use Rattle.std.specs.List.{All, flat_map}
+use Rattle.std.specs.List.{All, concat, flat_map}
 use Rattle.chain_terms.specs.Chains.{IsClosed, all_edges}
 use Rattle.chain_terms.specs.Cycles.{cycles, out}
 use Rattle.chain_terms.specs.Odd.{SameChain}
@@ -25,6 +25,10 @@ SegmentsAreOneToOne = (p q : Side) (cs : List Copy) (place : ℕ → List ℤ) �
 -- a segment runs from a copy to a copy
 abbrev pub SegmentsJoinCopies : Type 0
 SegmentsJoinCopies = (p q : Side) (cs : List Copy) (place : ℕ → List ℤ) (x : ℕ) → All (λ e. (e.0 < length cs) × (e.1 < length cs)) (segments_of p q cs place x)
+
+-- so the vertices of a face's loops are copies
+abbrev pub LoopsHaveCopies : Type 0
+LoopsHaveCopies = (p q : Side) (cs : List Copy) (place : ℕ → List ℤ) → StandInLists p q cs → IsBalanced p q cs → (x : ℕ) → x < source_count p q → All (λ v. v < length cs) (concat (cycles (segments_of p q cs place x)))
 
 -- every odd function adds up to nothing over the segments of all faces, so these are closed
 abbrev pub FacesCancel : Type 0

@@ -3,6 +3,7 @@
 ghost use Rattle.segment_laws.specs.Laws.{
   CopiesOccur,
   FacesCancel,
+  LoopsHaveCopies,
   LoopsAreLong,
   PrescribedAreNamed,
   SegmentsAreOneToOne,
@@ -12,9 +13,12 @@ ghost use Rattle.segment_laws.specs.Laws.{
 };
 
 /// The segments of a source face run between copies, and each copy that occurs in them starts one and ends one.
+///
+/// So they fall into loops whose vertices are copies.
 pub fn segments_form_loops()
     ensures join { SegmentsJoinCopies }
     ensures once { SegmentsAreOneToOne }
+    ensures vertices { LoopsHaveCopies }
 {}
 
 /// The segments of all source faces together cancel: every odd function of their ends adds up to nothing.
