@@ -24,7 +24,7 @@ use std::alloc::Global;
 
 /// The segments on an edge whose lower half-edge runs from a to b. The entries that start a segment and
 /// those that end one are ordered by the scalar product of their points with b - a, and by vertex where
-/// it ties. The k-th start goes to the k-th end.
+/// it ties. The first start goes to the first end, the second to the second, and so on.
 ///
 /// An entry's point is that of its vertex in the list of points. `NoMemory` may come for any entries but
 /// one start and one end; two sorts set the time.
@@ -49,7 +49,8 @@ pub fn segments_of_edge(
 
 /// The segments on the line in which two faces cross. The entries that start a segment and those that
 /// end one are ordered by the coordinate of their points on the axis on which the points of all entries
-/// spread most, the lowest such axis, and by vertex where it ties. The k-th start goes to the k-th end.
+/// spread most, the lowest such axis, and by vertex where it ties. The first start goes to the first end,
+/// the second to the second, and so on.
 ///
 /// An entry's point is that of its vertex in the list of points. `NoMemory` may come for any entries but
 /// one start and one end; two sorts set the time.

@@ -18,7 +18,8 @@ use mb_base::{NoMemory, Point};
 use std::alloc::Global;
 
 /// Cuts a ring of vertices, numbers of points, into triangles in the plane of its face; u and v of the plane are exchanged
-/// where it is turned.
+/// where it is turned. The ring has three places or more and at most 100,000,000, neighbours that differ, the last and the
+/// first too, and at least three different vertices, each with a point.
 ///
 /// A place may be cut where its two neighbours have different vertices and the places that stay have at least three
 /// different ones. It is an ear where it may be cut, turns left, and no vertex but those three lies in their triangle,
