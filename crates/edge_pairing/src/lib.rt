@@ -2,7 +2,7 @@
 //! a segment goes to one that ends it, in their order along the line.
 #![tactic(auto)]
 
-ghost use Rattle.std.specs.Prelude.{◌≡◌, ◌<◌, IfOk, length, map};
+ghost use Rattle.std.specs.Prelude.{◌≡◌, ◌<◌, IfOk, IsOk, length, map};
 ghost use Rattle.std.specs.List.{All};
 ghost use Rattle.std.specs.List.Sorted.{IsPermutation};
 ghost use Rattle.edge_pairing.specs.Entries.{edge_of, starts_of, ends_of, place_in};
@@ -40,6 +40,7 @@ pub fn segments_of_edge(
     ensures value { IfOk result (λ s. map edge_of s.items ≡ paired_along a b (place_in points.now) (starts_of entries.now) (ends_of entries.now)) }
     ensures starts { IfOk result (λ s. IsPermutation (starts_of entries.now) (map (λ x. x.from) s.items)) }
     ensures ends { IfOk result (λ s. IsPermutation (ends_of entries.now) (map (λ x. x.to) s.items)) }
+    ensures two { length entries.now ≡ 2 → IsOk result }
 {
     if entries.len() == 2 {
         return Ok(only_segment(alloc, entries));
@@ -64,6 +65,7 @@ pub fn segments_of_pair(
     ensures value { IfOk result (λ s. map edge_of s.items ≡ paired_across (place_in points.now) (starts_of entries.now) (ends_of entries.now)) }
     ensures starts { IfOk result (λ s. IsPermutation (starts_of entries.now) (map (λ x. x.from) s.items)) }
     ensures ends { IfOk result (λ s. IsPermutation (ends_of entries.now) (map (λ x. x.to) s.items)) }
+    ensures two { length entries.now ≡ 2 → IsOk result }
 {
     if entries.len() == 2 {
         return Ok(only_segment(alloc, entries));
