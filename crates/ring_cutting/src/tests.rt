@@ -6,7 +6,7 @@ ghost use Rattle.face_plane.specs.Rings.{Ringy, Three};
 
 mod table;
 
-use crate::{Filled, cut_ring};
+use crate::{Filled, cut_ring, some_place_may_be_cut};
 use face_plane::{FacePlane, Places};
 use mb_base::Point;
 use std::alloc::Global;
@@ -131,5 +131,6 @@ fn hard_rings_are_cut_by_the_rule(rt: HostRuntime) -> Result<(), Fail> {
     for line in ROWS.lines() {
         assert!(rt; agrees(rt.alloc(), line)?, "{line}");
     }
+    some_place_may_be_cut();
     Ok(())
 }
