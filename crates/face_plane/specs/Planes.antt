@@ -36,8 +36,8 @@ abbrev pub wedge : ℤ × ℤ → ℤ × ℤ → ℤ
 wedge a b = a.0 *ℤ b.1 -ℤ b.0 *ℤ a.1
 
 -- the squared distance of two points
-abbrev pub distance2 : ℤ × ℤ → ℤ × ℤ → ℤ
-distance2 a b = (b.0 -ℤ a.0) *ℤ (b.0 -ℤ a.0) +ℤ (b.1 -ℤ a.1) *ℤ (b.1 -ℤ a.1)
+abbrev pub squared_distance : ℤ × ℤ → ℤ × ℤ → ℤ
+squared_distance a b = (b.0 -ℤ a.0) *ℤ (b.0 -ℤ a.0) +ℤ (b.1 -ℤ a.1) *ℤ (b.1 -ℤ a.1)
 
 -- the place of each vertex in the plane
 abbrev pub Plane : Type 0

@@ -65,7 +65,7 @@ fn agrees(places: [[i32; 2]; 3], turns: [bool; 3], far: u64) -> Option<bool> {
     let left = FlatPoint::turns_left(a, b, c) == turns[0];
     let right = FlatPoint::turns_right(a, b, c) == turns[1];
     let kept = FlatPoint::keeps_left(a, b, c) == turns[2];
-    Some(left && right && kept && FlatPoint::distance2(a, b) == far)
+    Some(left && right && kept && FlatPoint::squared_distance(a, b) == far)
 }
 
 #[test]

@@ -1,13 +1,13 @@
 // Every hole of a face joined.
-ghost use Rattle.std.specs.Prelude.{◌≡◌, ◌+◌, ◌*◌, ◌<◌, IfOk, length};
-ghost use Rattle.std.specs.List.{All, concat, flat_map};
+ghost use Rattle.std.specs.Prelude.{◌≡◌, ◌<◌, IfOk, length};
+ghost use Rattle.std.specs.List.{All, flat_map};
 ghost use Rattle.chain_terms.specs.Odd.{SameChain};
 ghost use Rattle.chain_terms.specs.Paths.{round_edges};
 ghost use Rattle.face_plane.specs.Planes.{is_turned, plane_of, point_at};
 ghost use Rattle.face_plane.specs.Rings.{Ringy};
 ghost use Rattle.hole_joining.specs.Bridges.{join_holes};
-ghost use Rattle.hole_joining.specs.Holes.{ring_count, hole_count};
-ghost use Rattle.hole_joining.specs.Laws.{AreFillable, settled_in};
+ghost use Rattle.hole_joining.specs.Holes.{ring_count};
+ghost use Rattle.hole_joining.specs.Laws.{AreFillable, HasPlaces, settled_in};
 
 use crate::area::is_turned;
 use crate::flat::FlatPoints;
@@ -54,7 +54,7 @@ pub fn join_holes(
 
     // One ring for each loop of area at least 0, and two places for each hole beside the vertices of the loops.
     ensures count { IfOk result (λ j. length j.rings.items ≡ ring_count (settled_in plane.drop points.now loops.now) loops.now) }
-    ensures places { IfOk result (λ j. length (concat j.rings.items) ≡ length (concat loops.now) + 2 * hole_count (settled_in plane.drop points.now loops.now) loops.now) }
+    ensures places { IfOk result (λ j. HasPlaces (settled_in plane.drop points.now loops.now) loops.now j.rings.items) }
 
     // Each ring has different neighbours and three different vertices, each with a point.
     ensures ringy { IfOk result (λ j. All Ringy j.rings.items) }

@@ -1,7 +1,8 @@
 // Rings after joining against two tables.
 ghost use Rattle.std.specs.Prelude.{◌≡◌, ◌≢◌, ◌<◌, ◌≤◌, ℕ, IfOk, IsTrue, length, get_or};
 ghost use Rattle.std.specs.List.{All, concat};
-ghost use Rattle.hole_joining.specs.Laws.{AreDifferent, AreFillable};
+ghost use Rattle.face_loops.specs.Segments.{AreDifferent};
+ghost use Rattle.hole_joining.specs.Laws.{AreFillable};
 
 use crate::join_holes;
 use crate::rows::{RANDOM_ROWS, ROWS};
