@@ -7,6 +7,7 @@ use Rattle.chain_terms.specs.Odd.{SameChain}
 use Rattle.chain_terms.specs.Paths.{round_edges}
 use Rattle.mesh_terms.specs.Meshes.{HasThree, IsBelow}
 use Rattle.face_plane.specs.Planes.{Plane, face_plane}
+use Rattle.hole_joining.specs.Holes.{is_hole}
 use Rattle.hole_joining.specs.Laws.{settled_in}
 use Rattle.ring_cutting.specs.Cuts.{Cut}
 use Rattle.ring_cutting.specs.Laws.{TurnsLeft}
