@@ -1,4 +1,4 @@
-use Rattle.std.proofs.Common.{◌≤◌, length, arith}
+use Rattle.std.proofs.Common.{length, arith}
 use Rattle.ring_cutting.specs.Cuts.{is_allowed}
 use Rattle.ring_cutting.proofs.Bent.{some_allowed}
 use Rattle.ring_cutting.proofs.FirstPlaces.{passes, not_before}

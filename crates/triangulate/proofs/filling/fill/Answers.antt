@@ -1,6 +1,6 @@
-use Rattle.std.proofs.Common.{◌≡◌, ◌+◌, ◌*◌, ◌≤◌, ℕ, List, Result, Ok, Err, length, sym, ap, subst, ◌∙◌, arith}
+use Rattle.std.proofs.Common.{◌≡◌, ◌≤◌, ℕ, List, Result, Ok, Err, length, sym, ap, subst, ◌∙◌, arith}
 use Rattle.std.specs.Prelude.{IfOk}
-use Rattle.std.specs.List.{All, concat, flat_map}
+use Rattle.std.specs.List.{All, flat_map}
 use Rattle.chain_terms.specs.Chains.{all_edges, boundary}
 use Rattle.chain_laws.specs.Chains.{boundary_same}
 use Rattle.chain_terms.specs.Odd.{SameChain}
