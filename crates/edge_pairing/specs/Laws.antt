@@ -5,7 +5,9 @@ use Rattle.edge_pairing.specs.Pairing.{paired_along, paired_across}
 
 -- along an edge, starts and ends exchanged give each segment the other way
 abbrev pub ExchangeReversesAlong : Type 0
-ExchangeReversesAlong = (a b : List ℤ) (place : ℕ → List ℤ) (starts ends : List ℕ) → paired_along a b place ends starts ≡ backward (paired_along a b place starts ends)
+ExchangeReversesAlong =
+    (a b : List ℤ) (place : ℕ → List ℤ) (starts ends : List ℕ) →
+    paired_along a b place ends starts ≡ backward (paired_along a b place starts ends)
 
 -- and so where two faces cross
 abbrev pub ExchangeReversesAcross : Type 0

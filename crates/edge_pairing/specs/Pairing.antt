@@ -10,7 +10,7 @@ use Rattle.mesh_terms.specs.Points.{coordinate_of}
 abbrev pub comes_before : (ℕ → ℤ) → ℕ → ℕ → Bool
 comes_before key v w = is_lt (ordering_then (int_cmp (key v) (key w)) (nat_cmp v w))
 
--- the k-th start with the k-th end
+-- starts and ends, each in their order, joined place by place
 abbrev pub pair_up : (ℕ → ℤ) → List ℕ → List ℕ → List (ℕ × ℕ)
 pair_up key starts ends = zip (sorted_by (comes_before key) starts) (sorted_by (comes_before key) ends)
 

@@ -2,7 +2,7 @@
 //! a segment goes to one that ends it, in their order along the line.
 #![tactic(auto)]
 
-ghost use Rattle.std.specs.Prelude.{◌≡◌, ◌<◌, IfOk, length, map};
+ghost use Rattle.std.specs.Prelude.{◌≡◌, ◌<◌, IfOk, IsOk, length, map};
 ghost use Rattle.std.specs.List.{All};
 ghost use Rattle.std.specs.List.Sorted.{IsPermutation};
 ghost use Rattle.edge_pairing.specs.Entries.{edge_of, starts_of, ends_of, place_in};
@@ -24,7 +24,7 @@ use std::alloc::Global;
 
 /// The segments on an edge whose lower half-edge runs from a to b. The entries that start a segment and
 /// those that end one are ordered by the scalar product of their points with b - a, and by vertex where
-/// it ties. The k-th start goes to the k-th end.
+/// it ties. The first start goes to the first end, the second to the second, and so on.
 ///
 /// An entry's point is that of its vertex in the list of points. `NoMemory` may come for any entries but
 /// one start and one end; two sorts set the time.
@@ -40,6 +40,7 @@ pub fn segments_of_edge(
     ensures value { IfOk result (λ s. map edge_of s.items ≡ paired_along a b (place_in points.now) (starts_of entries.now) (ends_of entries.now)) }
     ensures starts { IfOk result (λ s. IsPermutation (starts_of entries.now) (map (λ x. x.from) s.items)) }
     ensures ends { IfOk result (λ s. IsPermutation (ends_of entries.now) (map (λ x. x.to) s.items)) }
+    ensures two { length entries.now ≡ 2 → IsOk result }
 {
     if entries.len() == 2 {
         return Ok(only_segment(alloc, entries));
@@ -49,7 +50,8 @@ pub fn segments_of_edge(
 
 /// The segments on the line in which two faces cross. The entries that start a segment and those that
 /// end one are ordered by the coordinate of their points on the axis on which the points of all entries
-/// spread most, the lowest such axis, and by vertex where it ties. The k-th start goes to the k-th end.
+/// spread most, the lowest such axis, and by vertex where it ties. The first start goes to the first end,
+/// the second to the second, and so on.
 ///
 /// An entry's point is that of its vertex in the list of points. `NoMemory` may come for any entries but
 /// one start and one end; two sorts set the time.
@@ -63,6 +65,7 @@ pub fn segments_of_pair(
     ensures value { IfOk result (λ s. map edge_of s.items ≡ paired_across (place_in points.now) (starts_of entries.now) (ends_of entries.now)) }
     ensures starts { IfOk result (λ s. IsPermutation (starts_of entries.now) (map (λ x. x.from) s.items)) }
     ensures ends { IfOk result (λ s. IsPermutation (ends_of entries.now) (map (λ x. x.to) s.items)) }
+    ensures two { length entries.now ≡ 2 → IsOk result }
 {
     if entries.len() == 2 {
         return Ok(only_segment(alloc, entries));

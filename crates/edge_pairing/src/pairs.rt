@@ -40,7 +40,7 @@ pub fn only_segment(alloc: Global, entries: &[Entry]) -> SmallVec<Segment, 4>
     segments
 }
 
-/// The segments from the k-th start to the k-th end, ordered by how far along a direction they lie.
+/// The segments from each start to the end at its place, both ordered by how far along a direction they lie.
 pub fn in_turn(
     alloc: Global,
     along: &[i64; 3],

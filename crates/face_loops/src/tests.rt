@@ -85,6 +85,6 @@ fn segments_form_the_loops_of_the_table(rt: HostRuntime) -> Result<(), Fail> {
         assert!(rt; agrees(rt.alloc(), line)?, "{line}");
         count = count.saturating_add(1);
     }
-    assert_eq!(rt; count, 74);
+    assert_eq!(rt; count, 72);
     Ok(())
 }

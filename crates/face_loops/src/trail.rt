@@ -9,7 +9,8 @@ use crate::vertex_loop::Loop;
 use mb_base::{NoMemory, Segment};
 use std::alloc::Global;
 
-/// The loop that begins with the segment at a place, which has no mark. Each of its segments gets one.
+/// The loop that begins with the segment at a place, which gets its mark first, and goes on with segments that have none;
+/// each of them gets one.
 pub fn loop_from(
     alloc: Global,
     segments: &[Segment],

@@ -4,11 +4,11 @@ use Rattle.chain_terms.specs.Sums.{total}
 use Rattle.chain_terms.specs.Paths.{round_edges}
 use Rattle.mesh_terms.specs.Points.{coordinate_of, cross_x, cross_y, cross_z}
 
--- of three sizes the axis of the greatest; on a tie z before y before x
+-- the axis of the largest of three sizes, of equal ones the last of x, y and z
 abbrev pub greatest_axis : ℕ → ℕ → ℕ → ℕ
 greatest_axis x y z = if not (nat_lt z x) && not (nat_lt z y) then 2 else if not (nat_lt y x) then 1 else 0
 
--- the axis that is dropped: where the cross product of a face's three points is greatest without sign
+-- the axis that is dropped: that along which the cross product of a face's three points is longest
 abbrev pub plane_drop : List ℤ → List ℤ → List ℤ → ℕ
 plane_drop a b c = greatest_axis (unsigned_abs (cross_x a b c)) (unsigned_abs (cross_y a b c)) (unsigned_abs (cross_z a b c))
 
@@ -36,8 +36,8 @@ abbrev pub wedge : ℤ × ℤ → ℤ × ℤ → ℤ
 wedge a b = a.0 *ℤ b.1 -ℤ b.0 *ℤ a.1
 
 -- the squared distance of two points
-abbrev pub distance2 : ℤ × ℤ → ℤ × ℤ → ℤ
-distance2 a b = (b.0 -ℤ a.0) *ℤ (b.0 -ℤ a.0) +ℤ (b.1 -ℤ a.1) *ℤ (b.1 -ℤ a.1)
+abbrev pub squared_distance : ℤ × ℤ → ℤ × ℤ → ℤ
+squared_distance a b = (b.0 -ℤ a.0) *ℤ (b.0 -ℤ a.0) +ℤ (b.1 -ℤ a.1) *ℤ (b.1 -ℤ a.1)
 
 -- the place of each vertex in the plane
 abbrev pub Plane : Type 0

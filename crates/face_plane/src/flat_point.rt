@@ -1,7 +1,7 @@
 // Points of a plane.
 ghost use Rattle.std.specs.Prelude.{◌≡◌, ◌≤◌, ◌^◌, pos, ◌-ℤ◌, ◌*ℤ◌, int_lt, int_le, unsigned_abs};
 ghost use Rattle.mesh_terms.specs.Points.{IsOnGrid};
-ghost use Rattle.face_plane.specs.Planes.{turn, wedge, distance2};
+ghost use Rattle.face_plane.specs.Planes.{turn, wedge, squared_distance};
 
 use std::marker::Model;
 
@@ -73,8 +73,8 @@ impl FlatPoint {
     }
 
     /// The squared distance of two points, at most 2^63.
-    pub fn distance2(a: FlatPoint, b: FlatPoint) -> u64
-        ensures { pos result ≡ distance2 a b }
+    pub fn squared_distance(a: FlatPoint, b: FlatPoint) -> u64
+        ensures { pos result ≡ squared_distance a b }
     {
         square(step(a.u(), b.u())) + square(step(a.v(), b.v()))
     }

@@ -12,8 +12,8 @@ pub struct FacePlane {
 }
 
 impl FacePlane {
-    /// The plane of the face with these three points: it drops the axis on which the cross product is greatest without
-    /// sign, on a tie z before y before x.
+    /// The plane of the face with these three points: it drops the axis along which their cross product is longest, and of
+    /// equally long ones the last of x, y and z.
     pub fn of(a: Point, b: Point, c: Point) -> FacePlane
         ensures axis { result.drop ≡ plane_drop a b c }
         ensures below { result.drop < 3 }

@@ -7,12 +7,14 @@ use std::test::Fail;
 const END: i32 = 1 << 30;
 
 // Three points, the axis that their plane drops, and the second point there, turned and not.
-const PLANES: [([[i32; 3]; 3], u8, [i64; 2]); 5] = [
+const PLANES: [([[i32; 3]; 3], u8, [i64; 2]); 7] = [
     ([[0, 0, 0], [2, 0, 7], [0, 2, 0]], 0, [0, 7]),
     ([[0, 0, 0], [2, 7, 0], [0, 0, 2]], 0, [7, 0]),
     ([[0, 0, 0], [5, 0, 1], [0, 2, 0]], 2, [5, 0]),
     ([[0, 0, 0], [5, 1, 3], [0, 0, 2]], 1, [3, 5]),
     ([[1, 0, 0], [0, 1, 0], [0, 0, 1]], 2, [0, 1]),
+    ([[0, 0, 0], [1, -1, 0], [0, 0, 1]], 1, [0, 1]),
+    ([[0, 0, 0], [1, 2, 3], [2, 4, 6]], 2, [1, 2]),
 ];
 
 // Three points of a plane, whether they turn left, turn right and keep left, and the squared distance of the first two.
@@ -63,7 +65,7 @@ fn agrees(places: [[i32; 2]; 3], turns: [bool; 3], far: u64) -> Option<bool> {
     let left = FlatPoint::turns_left(a, b, c) == turns[0];
     let right = FlatPoint::turns_right(a, b, c) == turns[1];
     let kept = FlatPoint::keeps_left(a, b, c) == turns[2];
-    Some(left && right && kept && FlatPoint::distance2(a, b) == far)
+    Some(left && right && kept && FlatPoint::squared_distance(a, b) == far)
 }
 
 #[test]

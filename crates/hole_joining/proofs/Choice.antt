@@ -8,7 +8,7 @@ use Rattle.std.proofs.lemmas.List.{at_drop_more}
 use Rattle.std.proofs.lemmas.Option.{same_Some, none-some}
 use Rattle.std.proofs.lemmas.Bool.Decides.{Decides-or, Decides-and, Decides-ltb, Decides-eqb}
 use Rattle.hole_joining.specs.declared.bridge.Bridge.{Bridge}
-use Rattle.face_plane.specs.Planes.{Plane, distance2}
+use Rattle.face_plane.specs.Planes.{Plane, squared_distance}
 use Rattle.hole_joining.specs.Bridges.{bridges_to, all_bridges, shorter, shortest, chosen}
 use Rattle.hole_joining.specs.Passes.{is_later, is_after, is_nearer, better, best_of, passes}
 
@@ -113,14 +113,14 @@ shortest_none (x ∷ xs) e = absurd (never x (shortest xs) e)
   where
     never : (x : Bridge) (o : Option Bridge) → shorter x o ≡ None → ⊥
     never x None e = cc
-    never x (Some c) e = elim (cases_Bool (nat_lt c.length2 x.length2)) as (λ _. ⊥) [
+    never x (Some c) e = elim (cases_Bool (nat_lt c.squared_length x.squared_length)) as (λ _. ⊥) [
       | inl y ↦ let f : ◌≡◌ {A = Option Bridge} (Some c) None = rw y at e in cc
       | inr n ↦ let f : ◌≡◌ {A = Option Bridge} (Some x) None = rw n at e in cc
     ]
 
 -- b is the first of all in the order of length, ring and place
 abbrev pub IsFirst : Bridge → List Bridge → Type 0
-IsFirst b bs = Member b bs × ((c : Bridge) → Member c bs → (b ≡ c) ⊎ IsLater b.length2 b.ring b.place c.length2 c.ring c.place)
+IsFirst b bs = Member b bs × ((c : Bridge) → Member c bs → (b ≡ c) ⊎ IsLater b.squared_length b.ring b.place c.squared_length c.ring c.place)
 
 -- the head against the first of the rest
 head_first : (x : Bridge) (xs : List Bridge) → ((c : Bridge) → Member c xs → Before x.ring (suc x.place) c.ring (suc c.place)) →
@@ -129,10 +129,10 @@ head_first x xs up None none some b e =
     let same : x ≡ b = same_Some x b e in
     subst (λ z. IsFirst z (x ∷ xs)) same (inl refl, alone)
   where
-    alone : (c : Bridge) → Member c (x ∷ xs) → (x ≡ c) ⊎ IsLater x.length2 x.ring x.place c.length2 c.ring c.place
+    alone : (c : Bridge) → Member c (x ∷ xs) → (x ≡ c) ⊎ IsLater x.squared_length x.ring x.place c.squared_length c.ring c.place
     alone c (inl h) = inl (sym h)
     alone c (inr m) = let h : Member c [] = subst (Member c) (none refl) m in elim h [ ]
-head_first x xs up (Some d) none some b e = elim (cases_Bool (nat_lt d.length2 x.length2)) as (λ _. IsFirst b (x ∷ xs)) [
+head_first x xs up (Some d) none some b e = elim (cases_Bool (nat_lt d.squared_length x.squared_length)) as (λ _. IsFirst b (x ∷ xs)) [
   | inl y ↦
       let f : ◌≡◌ {A = Option Bridge} (Some d) (Some b) = rw y at e in
       subst (λ z. IsFirst z (x ∷ xs)) (same_Some d b f) (inr (some d refl).0, keep_rest y)
@@ -144,17 +144,17 @@ head_first x xs up (Some d) none some b e = elim (cases_Bool (nat_lt d.length2 x
     far : (l i j m k n p : ℕ) → l ≤ m → m ≤ p → Before i (suc j) k (suc n) → IsLater l i j p k n
     far l i j m k n p h g up = grind arith
 
-    longer : (d c : Bridge) → (d ≡ c) ⊎ IsLater d.length2 d.ring d.place c.length2 c.ring c.place → d.length2 ≤ c.length2
-    longer d c (inl h) = omega (arith, ap (λ (z : Bridge). z.length2) h)
+    longer : (d c : Bridge) → (d ≡ c) ⊎ IsLater d.squared_length d.ring d.place c.squared_length c.ring c.place → d.squared_length ≤ c.squared_length
+    longer d c (inl h) = omega (arith, ap (λ (z : Bridge). z.squared_length) h)
     longer d c (inr h) = omega (arith, h)
 
-    keep_rest : nat_lt d.length2 x.length2 ≡ true → (c : Bridge) → Member c (x ∷ xs) → (d ≡ c) ⊎ IsLater d.length2 d.ring d.place c.length2 c.ring c.place
-    keep_rest y c (inl h) = inr (inl (subst (λ (z : Bridge). d.length2 < z.length2) (sym h) (ltb-true d.length2 x.length2 y)))
+    keep_rest : nat_lt d.squared_length x.squared_length ≡ true → (c : Bridge) → Member c (x ∷ xs) → (d ≡ c) ⊎ IsLater d.squared_length d.ring d.place c.squared_length c.ring c.place
+    keep_rest y c (inl h) = inr (inl (subst (λ (z : Bridge). d.squared_length < z.squared_length) (sym h) (ltb-true d.squared_length x.squared_length y)))
     keep_rest y c (inr m) = (some d refl).1 c m
 
-    keep_head : nat_lt d.length2 x.length2 ≡ false → (c : Bridge) → Member c (x ∷ xs) → (x ≡ c) ⊎ IsLater x.length2 x.ring x.place c.length2 c.ring c.place
+    keep_head : nat_lt d.squared_length x.squared_length ≡ false → (c : Bridge) → Member c (x ∷ xs) → (x ≡ c) ⊎ IsLater x.squared_length x.ring x.place c.squared_length c.ring c.place
     keep_head n c (inl h) = inl (sym h)
-    keep_head n c (inr m) = inr (far x.length2 x.ring x.place d.length2 c.ring c.place c.length2 (ltb-false d.length2 x.length2 n) (longer d c ((some d refl).1 c m)) (up c m))
+    keep_head n c (inr m) = inr (far x.squared_length x.ring x.place d.squared_length c.ring c.place c.squared_length (ltb-false d.squared_length x.squared_length n) (longer d c ((some d refl).1 c m)) (up c m))
 
 -- the shortest is the first in the order of length, ring and place
 shortest_first : (i j : ℕ) (bs : List Bridge) → Ascending i j bs → (b : Bridge) → shortest bs ≡ Some b → IsFirst b bs
@@ -163,10 +163,10 @@ shortest_first i j (x ∷ xs) up b e =
     head_first x xs (ascending_all x.ring (suc x.place) xs up.1) (shortest xs) (shortest_none xs) (shortest_first x.ring (suc x.place) xs up.1) b e
 
 -- two that are first are the same
-one_first : (b c : Bridge) → (b ≡ c) ⊎ IsLater b.length2 b.ring b.place c.length2 c.ring c.place → (c ≡ b) ⊎ IsLater c.length2 c.ring c.place b.length2 b.ring b.place → b ≡ c
+one_first : (b c : Bridge) → (b ≡ c) ⊎ IsLater b.squared_length b.ring b.place c.squared_length c.ring c.place → (c ≡ b) ⊎ IsLater c.squared_length c.ring c.place b.squared_length b.ring b.place → b ≡ c
 one_first b c (inl e) h = e
 one_first b c (inr l) (inl e) = sym e
-one_first b c (inr l) (inr m) = absurd (both b.length2 b.ring b.place c.length2 c.ring c.place l m)
+one_first b c (inr l) (inr m) = absurd (both b.squared_length b.ring b.place c.squared_length c.ring c.place l m)
   where
     both : (l i j m k n : ℕ) → IsLater l i j m k n → IsLater m k n l i j → ⊥
     both l i j m k n p q = grind arith
@@ -211,14 +211,14 @@ after_refused clear last i j bs up b e n c m = elim (cases_Bool (clear c)) as (�
     then_later : is_after last c ≡ true → clear c ≡ true → is_after (Some b) c ≡ true
     then_later t y = elim (first.1 c (keeps (is_after last) bs c m t)) as (λ _. is_after (Some b) c ≡ true) [
       | inl same ↦ absurd (both_ways (clear c) (sym (ap clear same) ∙ n) y)
-      | inr l ↦ (later_decides b.length2 b.ring b.place c.length2 c.ring c.place).1 l
+      | inr l ↦ (later_decides b.squared_length b.ring b.place c.squared_length c.ring c.place).1 l
     ]
 
     from_last : (o : Option Bridge) (b c : Bridge) → is_after o b ≡ true → is_after (Some b) c ≡ true → is_after o c ≡ true
     from_last None b c t u = refl
     from_last (Some a) b c t u =
-        (later_decides a.length2 a.ring a.place c.length2 c.ring c.place).1 (later_chain a.length2 a.ring a.place b.length2 b.ring b.place c.length2 c.ring c.place
-        ((later_decides a.length2 a.ring a.place b.length2 b.ring b.place).0 t) ((later_decides b.length2 b.ring b.place c.length2 c.ring c.place).0 u))
+        (later_decides a.squared_length a.ring a.place c.squared_length c.ring c.place).1 (later_chain a.squared_length a.ring a.place b.squared_length b.ring b.place c.squared_length c.ring c.place
+        ((later_decides a.squared_length a.ring a.place b.squared_length b.ring b.place).0 t) ((later_decides b.squared_length b.ring b.place c.squared_length c.ring c.place).0 u))
 
 -- no bridge up to the last refused one is clear, as far as the choice goes
 abbrev pub Refused : (Bridge → Bool) → List Bridge → Option Bridge → Type 0
@@ -268,18 +268,18 @@ with_best (Some c) o = shorter c o
 -- one bridge more
 better_first : (p : Bridge → Bool) (best : Option Bridge) (b : Bridge) (o : Option Bridge) → p b ≡ true → with_best (better p best b) o ≡ with_best best (shorter b o)
 better_first p None b o y = rw y refl
-better_first p (Some c) b None y = elim (cases_Bool (nat_lt b.length2 c.length2)) as (λ _. with_best (better p (Some c) b) None ≡ shorter c (Some b)) [
+better_first p (Some c) b None y = elim (cases_Bool (nat_lt b.squared_length c.squared_length)) as (λ _. with_best (better p (Some c) b) None ≡ shorter c (Some b)) [
   | inl t ↦ rw (t, y) refl
   | inr f ↦ rw f refl
 ]
-better_first p (Some c) b (Some d) y = elim (cases_Bool (nat_lt b.length2 c.length2)) as (λ _. with_best (better p (Some c) b) (Some d) ≡ shorter c (shorter b (Some d))) [
-  | inl t ↦ elim (cases_Bool (nat_lt d.length2 b.length2)) as (λ _. with_best (better p (Some c) b) (Some d) ≡ shorter c (shorter b (Some d))) [
-    | inl u ↦ let v : nat_lt d.length2 c.length2 ≡ true = lt-ltb d.length2 c.length2 (omega (arith, ltb-true d.length2 b.length2 u, ltb-true b.length2 c.length2 t)) in rw (t, y, u, v) refl
+better_first p (Some c) b (Some d) y = elim (cases_Bool (nat_lt b.squared_length c.squared_length)) as (λ _. with_best (better p (Some c) b) (Some d) ≡ shorter c (shorter b (Some d))) [
+  | inl t ↦ elim (cases_Bool (nat_lt d.squared_length b.squared_length)) as (λ _. with_best (better p (Some c) b) (Some d) ≡ shorter c (shorter b (Some d))) [
+    | inl u ↦ let v : nat_lt d.squared_length c.squared_length ≡ true = lt-ltb d.squared_length c.squared_length (omega (arith, ltb-true d.squared_length b.squared_length u, ltb-true b.squared_length c.squared_length t)) in rw (t, y, u, v) refl
     | inr f ↦ rw (t, y, f, t) refl
   ]
-  | inr f ↦ elim (cases_Bool (nat_lt d.length2 b.length2)) as (λ _. with_best (better p (Some c) b) (Some d) ≡ shorter c (shorter b (Some d))) [
+  | inr f ↦ elim (cases_Bool (nat_lt d.squared_length b.squared_length)) as (λ _. with_best (better p (Some c) b) (Some d) ≡ shorter c (shorter b (Some d))) [
     | inl u ↦ rw (f, u) refl
-    | inr g ↦ let v : nat_lt d.length2 c.length2 ≡ false = le-ltb d.length2 c.length2 (omega (arith, ltb-false d.length2 b.length2 g, ltb-false b.length2 c.length2 f)) in rw (f, g, v, f) refl
+    | inr g ↦ let v : nat_lt d.squared_length c.squared_length ≡ false = le-ltb d.squared_length c.squared_length (omega (arith, ltb-false d.squared_length b.squared_length g, ltb-false b.squared_length c.squared_length f)) in rw (f, g, v, f) refl
   ]
 ]
 
@@ -326,11 +326,11 @@ best_of-append p best [] ys = refl
 best_of-append p best (x ∷ xs) ys = best_of-append p (better p best x) xs ys
 
 -- a pass over one place more
-pub best_of_place : (at : Plane) (h i j l : ℕ) (p : Bridge → Bool) (best now : Option Bridge) (rs : List ℕ) → j < length rs → pos l ≡ distance2 (at h) (at (get_or rs j 0)) → now ≡ better p best (record { ring = i; place = j; length2 = l }) →
+pub best_of_place : (at : Plane) (h i j l : ℕ) (p : Bridge → Bool) (best now : Option Bridge) (rs : List ℕ) → j < length rs → pos l ≡ squared_distance (at h) (at (get_or rs j 0)) → now ≡ better p best (record { ring = i; place = j; squared_length = l }) →
     best_of p now (bridges_to at h i (j + 1) (drop (j + 1) rs)) ≡ best_of p best (bridges_to at h i j (drop j rs))
 best_of_place at h i j l p best now rs within far e =
-    let next : Bridge = record { ring = i; place = j; length2 = unsigned_abs (distance2 (at h) (at (get_or rs j 0))) } in
-    let same : now ≡ better p best next = e ∙ ap (λ m. better p best (record { ring = i; place = j; length2 = m })) (ap unsigned_abs far) in
+    let next : Bridge = record { ring = i; place = j; squared_length = unsigned_abs (squared_distance (at h) (at (get_or rs j 0))) } in
+    let same : now ≡ better p best next = e ∙ ap (λ m. better p best (record { ring = i; place = j; squared_length = m })) (ap unsigned_abs far) in
     let one : j + 1 ≡ suc j = omega arith in
     ap (λ o. best_of p o (bridges_to at h i (j + 1) (drop (j + 1) rs))) same ∙ ap (λ k. best_of p (better p best next) (bridges_to at h i k (drop (j + 1) rs))) one ∙ sym (at_drop_more (λ r. best_of p best (bridges_to at h i j r)) rs j 0 within)
 

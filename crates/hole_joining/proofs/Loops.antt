@@ -14,7 +14,7 @@ use Rattle.chain_laws.specs.Sums.{total-append, total-map, total-same, total-neg
 use Rattle.face_plane.specs.Planes.{Plane, across, area, exchanged, settled_plane, is_turned}
 use Rattle.face_plane.specs.Rings.{In, Ringy, vertex_at}
 use Rattle.hole_joining.specs.Holes.{comes_first, from_start, is_ring, is_hole, ring_list, put_hole, put_all, hole_list}
-use Rattle.hole_joining.specs.Laws.{AreDifferent}
+use Rattle.face_loops.specs.Segments.{AreDifferent}
 use Rattle.hole_joining.proofs.Turning.{often, often-append, often-cons, often_in, in_often}
 use Rattle.hole_joining.proofs.Joins.{stutter, apart_from_none}
 

@@ -3,7 +3,7 @@ use Rattle.std.specs.Prelude.{ℕ, suc, ◌+◌, List, [], ◌∷◌, ◌++◌, 
 use Rattle.std.specs.List.{flat_map}
 use Rattle.std.specs.Option.{option_or}
 use Rattle.chain_terms.specs.Paths.{round_edges}
-use Rattle.face_plane.specs.Planes.{Plane, distance2}
+use Rattle.face_plane.specs.Planes.{Plane, squared_distance}
 use Rattle.face_plane.specs.Rings.{vertex_at}
 use Rattle.hole_joining.specs.declared.bridge.Bridge.{Bridge}
 use Rattle.hole_joining.specs.Cones.{is_clear}
@@ -12,7 +12,7 @@ use Rattle.hole_joining.specs.Holes.{ring_list, hole_list}
 -- the bridges from h to the places of ring i, from place j on
 abbrev pub bridges_to : Plane → ℕ → ℕ → ℕ → List ℕ → List Bridge
 bridges_to at h i j [] = []
-bridges_to at h i j (r ∷ rs) = record { ring = i; place = j; length2 = unsigned_abs (distance2 (at h) (at r)) } ∷ bridges_to at h i (suc j) rs
+bridges_to at h i j (r ∷ rs) = record { ring = i; place = j; squared_length = unsigned_abs (squared_distance (at h) (at r)) } ∷ bridges_to at h i (suc j) rs
 
 -- the bridges from h to all places of the rings, of which the first is ring i
 abbrev pub all_bridges : Plane → ℕ → ℕ → List (List ℕ) → List Bridge
@@ -22,7 +22,7 @@ all_bridges at h i (ring ∷ rings) = bridges_to at h i 0 ring ++ all_bridges at
 -- the shorter of a bridge and one that may stand after it
 abbrev pub shorter : Bridge → Option Bridge → Option Bridge
 shorter b None = Some b
-shorter b (Some c) = cond (nat_lt c.length2 b.length2) (Some c) (Some b)
+shorter b (Some c) = cond (nat_lt c.squared_length b.squared_length) (Some c) (Some b)
 
 -- the shortest; of equal ones the first
 abbrev pub shortest : List Bridge → Option Bridge

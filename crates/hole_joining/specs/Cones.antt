@@ -49,4 +49,5 @@ abbrev pub is_clear : Plane → List (ℕ × ℕ) → List ℕ → List ℕ → 
 is_clear at asked hole ring j =
     let h = vertex_at hole 0 in
     let r = vertex_at ring j in
-    in_cone at (vertex_before hole 0) h (vertex_after hole 0) r && in_cone at (vertex_before ring j) r (vertex_after ring j) h && not (list_any (bars at h r) asked)
+    in_cone at (vertex_before hole 0) h (vertex_after hole 0) r && in_cone at (vertex_before ring j) r (vertex_after ring j) h
+    && not (list_any (bars at h r) asked)

@@ -1,8 +1,9 @@
 -- Which loops can be filled, and what joining keeps.
-use Rattle.std.specs.Prelude.{◌≡◌, ◌≢◌, ℕ, ◌+◌, ◌*◌, ◌<◌, ◌≤◌, ℤ, List, length, get_or}
+use Rattle.std.specs.Prelude.{◌≡◌, ℕ, ◌+◌, ◌*◌, ◌<◌, ◌≤◌, ℤ, List, length}
 use Rattle.std.specs.List.{All, concat, flat_map}
 use Rattle.chain_terms.specs.Odd.{SameChain}
 use Rattle.chain_terms.specs.Paths.{round_edges}
+use Rattle.face_loops.specs.Segments.{AreDifferent}
 use Rattle.face_plane.specs.Planes.{Plane, settled_plane, plane_of, point_at}
 use Rattle.face_plane.specs.Rings.{Ringy}
 use Rattle.hole_joining.specs.Holes.{ring_count, hole_count}
@@ -10,10 +11,6 @@ use Rattle.hole_joining.specs.Holes.{ring_count, hole_count}
 -- the plane that drops an axis, exchanged where the areas of the loops add up to less than 0
 abbrev pub settled_in : ℕ → List (List ℤ) → List (List ℕ) → Plane
 settled_in drop_axis points loops = settled_plane (plane_of drop_axis (point_at points)) loops
-
--- no vertex stands at two places
-abbrev pub AreDifferent : List ℕ → Type 0
-AreDifferent vs = (i j : ℕ) → i < j → j < length vs → get_or vs i 0 ≢ get_or vs j 0
 
 -- loops that can be filled: each has three vertices or more; all vertices of all loops are different, each has one of
 -- so many points, and there are at most 60,000,000 of them
@@ -23,6 +20,10 @@ pub record AreFillable (loops : List (List ℕ)) (points : ℕ) : Type 0 where
   pub below : All (λ v. v < points) (concat loops)
   pub few : length (concat loops) ≤ 60000000
 
+-- two places for each hole beside those of the loops
+abbrev pub HasPlaces : Plane → List (List ℕ) → List (List ℕ) → Type 0
+HasPlaces at loops rings = length (concat rings) ≡ length (concat loops) + 2 * hole_count at loops
+
 -- what joining makes of the loops: one ring for each loop of area at least 0, with neighbours that differ and three
 -- different vertices, each of which has a point; two places for each hole beside those of the loops; the same sums of
 -- every odd function, so the boundary and the area of the loops
@@ -30,5 +31,5 @@ pub record IsJoining (at : Plane) (loops rings : List (List ℕ)) (points : ℕ)
   pub count : length rings ≡ ring_count at loops
   pub ringy : All Ringy rings
   pub below : All (λ ring. All (λ v. v < points) ring) rings
-  pub places : length (concat rings) ≡ length (concat loops) + 2 * hole_count at loops
+  pub places : HasPlaces at loops rings
   pub chain : SameChain (flat_map round_edges rings) (flat_map round_edges loops)

@@ -9,12 +9,12 @@ is_later l i j m k n = nat_lt l m || ((l == m) && (nat_lt i k || ((i == k) && na
 -- whether b comes after the last bridge that was refused, if one was: longer, or as long and later in the list
 abbrev pub is_after : Option Bridge → Bridge → Bool
 is_after None b = true
-is_after (Some c) b = is_later c.length2 c.ring c.place b.length2 b.ring b.place
+is_after (Some c) b = is_later c.squared_length c.ring c.place b.squared_length b.ring b.place
 
 -- whether b is shorter than the best so far
 abbrev pub is_nearer : Option Bridge → Bridge → Bool
 is_nearer None b = true
-is_nearer (Some c) b = nat_lt b.length2 c.length2
+is_nearer (Some c) b = nat_lt b.squared_length c.squared_length
 
 -- the best so far, or b where it is shorter and passes
 abbrev pub better : (Bridge → Bool) → Option Bridge → Bridge → Option Bridge

@@ -4,7 +4,7 @@ use Rattle.face_plane.specs.Planes.{Plane, face_plane}
 use Rattle.face_plane.specs.Rings.{vertex_at}
 use Rattle.hole_joining.specs.declared.flat.FlatPoints.{FlatPoints}
 use Rattle.hole_joining.specs.declared.flat.FlatVertex.{FlatVertex}
-use Rattle.hole_joining.specs.declared.flat.Segment.{Segment}
+use Rattle.hole_joining.specs.declared.flat.BridgeLine.{BridgeLine}
 use Rattle.hole_joining.specs.Cones.{segments_meet}
 use Rattle.hole_joining.specs.declared.joining.Joining.{Joining}
 use Rattle.hole_joining.specs.declared.bridge.Bridge.{Bridge}
@@ -19,7 +19,7 @@ abbrev pub flat_vertex : Plane → ℕ → FlatVertex
 flat_vertex at v = record { vertex = v; at = at v }
 
 -- the segment between two vertices
-abbrev pub segment_of : Plane → ℕ → ℕ → Segment
+abbrev pub segment_of : Plane → ℕ → ℕ → BridgeLine
 segment_of at a b = record { from = flat_vertex at a; to = flat_vertex at b }
 
 -- the vertex is an end of the edge from c to d
@@ -27,7 +27,7 @@ abbrev pub is_end_of : FlatVertex → FlatVertex → FlatVertex → Bool
 is_end_of v c d = (c.vertex == v.vertex) || (d.vertex == v.vertex)
 
 -- the edge from c to d bars the segment
-abbrev pub bars_segment : Segment → FlatVertex → FlatVertex → Bool
+abbrev pub bars_segment : BridgeLine → FlatVertex → FlatVertex → Bool
 bars_segment s c d = not (is_end_of s.from c d) && not (is_end_of s.to c d) && segments_meet s.from.at s.to.at c.at d.at
 
 -- the start of the hole in hand

@@ -8,7 +8,7 @@ ghost use Rattle.hole_joining.specs.Bridges.{edges_of};
 ghost use Rattle.hole_joining.specs.Cones.{overlap, on_both_sides, boxes_meet, lines_meet, segments_meet, bars};
 ghost use Rattle.face_plane.specs.Planes.{turn};
 
-use crate::flat::{FlatPoints, FlatVertex, Segment};
+use crate::flat::{BridgeLine, FlatPoints, FlatVertex};
 use face_plane::{FlatPoint, Places};
 
 // Whether the least of a and b is at most the greatest of c and d.
@@ -78,7 +78,7 @@ fn is_end_of(v: &FlatVertex, c: &FlatVertex, d: &FlatVertex) -> bool
 }
 
 // Whether the edge from c to d bars the segment: they meet, and neither end of the segment is one of the edge.
-fn bars(segment: &Segment, c: &FlatVertex, d: &FlatVertex) -> bool
+fn bars(segment: &BridgeLine, c: &FlatVertex, d: &FlatVertex) -> bool
     ensures { result ≡ bars_segment segment.now c.now d.now }
 {
     let ended = is_end_of(&segment.from, c, d) || is_end_of(&segment.to, c, d);
@@ -86,7 +86,7 @@ fn bars(segment: &Segment, c: &FlatVertex, d: &FlatVertex) -> bool
 }
 
 /// Whether an edge once round the loop bars the segment between two vertices.
-pub fn round_bars(flat: &FlatPoints, segment: &Segment, ring: &[u32]) -> bool
+pub fn round_bars(flat: &FlatPoints, segment: &BridgeLine, ring: &[u32]) -> bool
     requires { segment.now ≡ segment_of (plane_at flat.now) segment.now.from.vertex segment.now.to.vertex }
     ensures { result ≡ list_any (bars (plane_at flat.now) segment.now.from.vertex segment.now.to.vertex) (round_edges ring.now) }
 {
@@ -97,7 +97,7 @@ pub fn round_bars(flat: &FlatPoints, segment: &Segment, ring: &[u32]) -> bool
 }
 
 // The same for a loop of a first vertex and others.
-fn round_bars_from(flat: &FlatPoints, segment: &Segment, first: u32, rest: &[u32]) -> bool
+fn round_bars_from(flat: &FlatPoints, segment: &BridgeLine, first: u32, rest: &[u32]) -> bool
     requires { segment.now ≡ segment_of (plane_at flat.now) segment.now.from.vertex segment.now.to.vertex }
     ensures { result ≡ list_any (bars (plane_at flat.now) segment.now.from.vertex segment.now.to.vertex) (round_edges (first ∷ rest.now)) }
 {
@@ -114,7 +114,7 @@ fn round_bars_from(flat: &FlatPoints, segment: &Segment, first: u32, rest: &[u32
 }
 
 /// Whether an edge of one of the loops bars it.
-pub fn any_bars(flat: &FlatPoints, segment: &Segment, loops: &[Places]) -> bool
+pub fn any_bars(flat: &FlatPoints, segment: &BridgeLine, loops: &[Places]) -> bool
     requires { segment.now ≡ segment_of (plane_at flat.now) segment.now.from.vertex segment.now.to.vertex }
     ensures { result ≡ list_any (bars (plane_at flat.now) segment.now.from.vertex segment.now.to.vertex) (edges_of loops.now) }
 {

@@ -8,5 +8,5 @@ pub struct Bridge {
     /// The place in it.
     pub place: usize,
     /// The squared distance, in square grid steps.
-    pub length2: u64,
+    pub squared_length: u64,
 }

@@ -13,10 +13,10 @@ use crate::vertices::{vertex_after, vertex_at, vertex_before};
 use face_plane::FlatPoint;
 
 // Whether the segment from s towards t lies in the cone at s, between p before and n after it.
-fn in_cone(flat: &FlatPoints, psn: [u32; 3], t: u32) -> bool
-    ensures { result ≡ in_cone (plane_at flat.now) (get_or psn 0 0) (get_or psn 1 0) (get_or psn 2 0) t }
+fn in_cone(flat: &FlatPoints, corner: [u32; 3], t: u32) -> bool
+    ensures { result ≡ in_cone (plane_at flat.now) (get_or corner 0 0) (get_or corner 1 0) (get_or corner 2 0) t }
 {
-    let [p, s, n] = psn;
+    let [p, s, n] = corner;
     let (p, s, n, t) = (flat.at(p), flat.at(s), flat.at(n), flat.at(t));
     if FlatPoint::keeps_left(p, s, n) {
         FlatPoint::turns_left(s, t, p) && FlatPoint::turns_left(t, s, n)

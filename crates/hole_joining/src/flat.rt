@@ -27,7 +27,7 @@ pub struct FlatVertex {
 
 /// The segment of a bridge.
 #[derive(Clone, Copy, Drop)]
-pub struct Segment {
+pub struct BridgeLine {
     /// The hole's start.
     pub from: FlatVertex,
     /// The vertex of the place.
@@ -54,10 +54,10 @@ impl FlatPoints<'_> {
     }
 
     /// The segment between two vertices.
-    pub fn segment(&self, from: u32, to: u32) -> Segment
+    pub fn segment(&self, from: u32, to: u32) -> BridgeLine
         ensures { result ≡ segment_of (plane_at self.now) from to }
     {
-        Segment {
+        BridgeLine {
             from: self.vertex(from),
             to: self.vertex(to),
         }

@@ -1,13 +1,13 @@
 // Every hole of a face joined.
-ghost use Rattle.std.specs.Prelude.{◌≡◌, ◌+◌, ◌*◌, ◌<◌, IfOk, length};
-ghost use Rattle.std.specs.List.{All, concat, flat_map};
+ghost use Rattle.std.specs.Prelude.{◌≡◌, ◌<◌, IfOk, length};
+ghost use Rattle.std.specs.List.{All, flat_map};
 ghost use Rattle.chain_terms.specs.Odd.{SameChain};
 ghost use Rattle.chain_terms.specs.Paths.{round_edges};
 ghost use Rattle.face_plane.specs.Planes.{is_turned, plane_of, point_at};
 ghost use Rattle.face_plane.specs.Rings.{Ringy};
 ghost use Rattle.hole_joining.specs.Bridges.{join_holes};
-ghost use Rattle.hole_joining.specs.Holes.{ring_count, hole_count};
-ghost use Rattle.hole_joining.specs.Laws.{AreFillable, settled_in};
+ghost use Rattle.hole_joining.specs.Holes.{ring_count};
+ghost use Rattle.hole_joining.specs.Laws.{AreFillable, HasPlaces, settled_in};
 
 use crate::area::is_turned;
 use crate::flat::FlatPoints;
@@ -31,14 +31,16 @@ pub struct Joined {
 ///
 /// Each loop has three vertices or more, all vertices of all loops are different, each has a point, and there are at most
 /// 60,000,000. Where the doubled areas of all loops add up to less than 0, u and v are exchanged. Then a loop of area at
-/// least 0 is a ring, and one of area below 0 is a hole. A hole's start is its vertex of greatest u, then greatest v, then
-/// least number, and holes are joined in this order of their starts. A bridge leads from the start to a place of a ring: the
-/// shortest that lies in the cones at both its ends and meets no edge of the rings and of the holes not yet joined, but at
-/// its ends; of equal ones the first by ring, then by place; where there is none, the shortest of all by the same rule.
-/// After that place come the hole from its start, the start again, and the place's vertex again.
+/// least 0 is a ring, and one of area below 0 is a hole. A hole starts at the vertex that lies farthest along u; where
+/// several do, at the one of them farthest along v; where these have one point, at the one with the lowest number. Holes
+/// are joined in the same order of their starts. A bridge leads from the start to a place of a ring: the shortest that lies
+/// in the cones at both its ends and meets none of those edges of the rings and of the holes not yet joined that end at
+/// neither of its two vertices; of equal ones the first by ring, then by place; where there is none, the shortest of all by
+/// the same rule. After that place come the hole from its start, the start again, and the place's vertex again.
 ///
-/// Each hole costs a pass over all places and one over all edges, nearly always. `NoMemory` may come for any loops. The
-/// rule is this project's own.
+/// Each bridge that is asked costs a pass over all places and one over all edges, and nearly always one of a hole's first
+/// two is taken. Where many are refused, each place may be tried against every edge. `NoMemory` may come for any loops.
+/// The rule is this project's own.
 pub fn join_holes(
     alloc: Global,
     plane: FacePlane,
@@ -52,7 +54,7 @@ pub fn join_holes(
 
     // One ring for each loop of area at least 0, and two places for each hole beside the vertices of the loops.
     ensures count { IfOk result (λ j. length j.rings.items ≡ ring_count (settled_in plane.drop points.now loops.now) loops.now) }
-    ensures places { IfOk result (λ j. length (concat j.rings.items) ≡ length (concat loops.now) + 2 * hole_count (settled_in plane.drop points.now loops.now) loops.now) }
+    ensures places { IfOk result (λ j. HasPlaces (settled_in plane.drop points.now loops.now) loops.now j.rings.items) }
 
     // Each ring has different neighbours and three different vertices, each with a point.
     ensures ringy { IfOk result (λ j. All Ringy j.rings.items) }

@@ -26,7 +26,7 @@ pub(crate) const ROWS: &str = "\
 2 : 050 030 340 240 350 340 540 640 650 : 6 8 7 / 4 2 3 / 1 5 0 : = 1 5 8 4 2 3 4 8 7 6 8 5 0
 2 : 000 800 880 080 330 420 430 410 : 0 1 2 3 / 4 5 6 7 : = 0 6 7 4 5 6 0 1 2 3
 2 : 770 770 770 770 : 0 1 2 3 : = 0 1 2 3
-";
+2 : 000 800 880 080 240 450 400 510 : 0 1 2 3 / 4 5 6 7 : = 0 1 7 4 5 6 7 1 2 3";
 
 /// Loops with up to three holes at the points of a tiny grid, from a random generator: in half of them small holes in a
 /// square, in the others loops at any points, often with equal points and equal distances.

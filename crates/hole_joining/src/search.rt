@@ -19,8 +19,8 @@ fn is_after(refused: Option<Bridge>, b: Bridge) -> bool
     match refused {
         None => true,
         Some(c) => {
-            c.length2 < b.length2
-                || (c.length2 == b.length2
+            c.squared_length < b.squared_length
+                || (c.squared_length == b.squared_length
                     && (c.ring < b.ring || (c.ring == b.ring && c.place < b.place)))
         }
     }
@@ -32,7 +32,7 @@ fn is_nearer(best: Option<Bridge>, b: Bridge) -> bool
 {
     match best {
         None => true,
-        Some(c) => b.length2 < c.length2,
+        Some(c) => b.squared_length < c.squared_length,
     }
 }
 
@@ -85,13 +85,13 @@ impl Joining<'_> {
         let places = &rings[ring];
         let mut best = best;
         for (place, vertex) in places.places.iter().enumerate() {
-            let length2 = FlatPoint::distance2(start, self.flat.at(*vertex));
+            let squared_length = FlatPoint::squared_distance(start, self.flat.at(*vertex));
             best = self.better(
                 best,
                 Bridge {
                     ring,
                     place,
-                    length2,
+                    squared_length,
                 },
                 asks,
                 refused,

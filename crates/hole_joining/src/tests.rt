@@ -1,7 +1,8 @@
 // Rings after joining against two tables.
 ghost use Rattle.std.specs.Prelude.{◌≡◌, ◌≢◌, ◌<◌, ◌≤◌, ℕ, IfOk, IsTrue, length, get_or};
 ghost use Rattle.std.specs.List.{All, concat};
-ghost use Rattle.hole_joining.specs.Laws.{AreDifferent, AreFillable};
+ghost use Rattle.face_loops.specs.Segments.{AreDifferent};
+ghost use Rattle.hole_joining.specs.Laws.{AreFillable};
 
 use crate::join_holes;
 use crate::rows::{RANDOM_ROWS, ROWS};
@@ -148,8 +149,8 @@ fn agrees(alloc: Global, line: &str) -> Result<bool, Fail> {
 }
 
 #[test]
-fn rings_made_by_hand(rt: HostRuntime) -> Result<(), Fail> {
-    assert!(rt; ROWS.lines().count() == 20);
+fn holes_are_joined_to_the_rings_of_the_table(rt: HostRuntime) -> Result<(), Fail> {
+    assert!(rt; ROWS.lines().count() == 21);
     for line in ROWS.lines() {
         assert!(rt; agrees(rt.alloc(), line)?, "{line}");
     }
@@ -157,7 +158,7 @@ fn rings_made_by_hand(rt: HostRuntime) -> Result<(), Fail> {
 }
 
 #[test]
-fn rings_of_the_random_table(rt: HostRuntime) -> Result<(), Fail> {
+fn random_holes_are_joined_as_in_the_table(rt: HostRuntime) -> Result<(), Fail> {
     assert!(rt; RANDOM_ROWS.lines().count() == 150);
     for line in RANDOM_ROWS.lines() {
         assert!(rt; agrees(rt.alloc(), line)?, "{line}");

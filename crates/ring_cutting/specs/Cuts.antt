@@ -51,6 +51,10 @@ with_triple t n c = record { triples = t ∷ c.triples; forced = n + c.forced }
 abbrev pub triple_at : List ℕ → ℕ → Triple
 triple_at r i = (vertex_before r i, vertex_at r i, vertex_after r i)
 
+-- its turn
+abbrev pub turn_at : Plane → List ℕ → ℕ → ℤ
+turn_at at r i = orient at (vertex_before r i) (vertex_at r i) (vertex_after r i)
+
 -- with three places left: these in order, forced where they do not turn left
 abbrev pub last_triple : Plane → List ℕ → Cut
 last_triple at r =

@@ -1,13 +1,13 @@
 // A ring is cut into triangles.
-ghost use Rattle.std.specs.Prelude.{◌≡◌, ◌<◌, ◌≤◌, ◌+◌, length, IfOk, pos, ◌<ℤ◌, int_lt};
+ghost use Rattle.std.specs.Prelude.{◌≡◌, ◌<◌, ◌≤◌, ◌+◌, ℕ, List, length, IfOk, IsTrue, pos, ◌<ℤ◌, int_lt};
 ghost use Rattle.std.specs.List.{All};
 ghost use Rattle.chain_terms.specs.Chains.{all_edges};
 ghost use Rattle.chain_terms.specs.Odd.{SameChain};
 ghost use Rattle.chain_terms.specs.Paths.{round_edges};
 ghost use Rattle.mesh_terms.specs.Meshes.{HasThree, IsBelow, triple_of};
 ghost use Rattle.face_plane.specs.Planes.{Plane, face_plane, orient};
-ghost use Rattle.face_plane.specs.Rings.{Ringy, vertex_at, vertex_before, vertex_after};
-ghost use Rattle.ring_cutting.specs.Cuts.{cut_ring, triple_at};
+ghost use Rattle.face_plane.specs.Rings.{Ringy};
+ghost use Rattle.ring_cutting.specs.Cuts.{cut_ring, triple_at, is_allowed, first_allowed, turn_at};
 ghost use Rattle.ring_cutting.specs.Placed.{vertices_of, IsPlaced};
 
 use crate::Filled;
@@ -18,7 +18,8 @@ use mb_base::{NoMemory, Point};
 use std::alloc::Global;
 
 /// Cuts a ring of vertices, numbers of points, into triangles in the plane of its face; u and v of the plane are exchanged
-/// where it is turned.
+/// where it is turned. The ring has three places or more and at most 100,000,000, neighbours that differ, the last and the
+/// first too, and at least three different vertices, each with a point.
 ///
 /// A place may be cut where its two neighbours have different vertices and the places that stay have at least three
 /// different ones. It is an ear where it may be cut, turns left, and no vertex but those three lies in their triangle,
@@ -50,6 +51,11 @@ pub fn cut_ring(
     let places = placed(alloc, plane, turned, &ring.places, points)?;
     cut_down(alloc, places)
 }
+
+/// Every ring of four places or more has a place that may be cut.
+pub fn some_place_may_be_cut()
+    ensures { (r : List ℕ) → Ringy r → 4 ≤ length r → IsTrue (is_allowed r (first_allowed r)) }
+{}
 
 // Cuts the places of a ring, one after the other.
 fn cut_down(alloc: Global, mut places: Vec<Place>) -> Result<Filled, NoMemory>
@@ -89,7 +95,7 @@ fn triple_at(places: &[Place], i: usize) -> [u32; 3]
 // Whether a place and its neighbours turn left.
 fn turns_left(places: &[Place], i: usize) -> bool
     requires { i < length places.now }
-    ensures { (at : Plane) → IsPlaced at places.now → result ≡ int_lt (pos 0) (orient at (vertex_before (vertices_of places.now) i) (vertex_at (vertices_of places.now) i) (vertex_after (vertices_of places.now) i)) }
+    ensures { (at : Plane) → IsPlaced at places.now → result ≡ int_lt (pos 0) (turn_at at (vertices_of places.now) i) }
 {
     FlatPoint::turns_left(
         before(places, i).at,

@@ -11,5 +11,5 @@ mod place;
 mod tests;
 mod triangle;
 
-pub use cutting::cut_ring;
+pub use cutting::{cut_ring, some_place_may_be_cut};
 pub use filled::Filled;

@@ -1,15 +1,15 @@
 // Loops are filled with triangles.
-ghost use Rattle.std.specs.Prelude.{◌≡◌, ◌+◌, ◌*◌, ◌<◌, ◌≤◌, pos, ◌<ℤ◌, IfOk, filter, length};
-ghost use Rattle.std.specs.List.{All, concat, flat_map};
-ghost use Rattle.chain_terms.specs.Chains.{all_edges};
+ghost use Rattle.std.specs.Prelude.{◌≡◌, ◌<◌, ◌≤◌, ℕ, pos, ◌<ℤ◌, IfOk, length};
+ghost use Rattle.std.specs.List.{All, flat_map};
+ghost use Rattle.chain_terms.specs.Chains.{all_edges, boundary};
 ghost use Rattle.chain_terms.specs.Odd.{SameChain};
 ghost use Rattle.chain_terms.specs.Paths.{round_edges};
 ghost use Rattle.mesh_terms.specs.Meshes.{HasThree, IsBelow};
 ghost use Rattle.face_plane.specs.Planes.{face_plane, orient};
 ghost use Rattle.face_plane.specs.Rings.{Ringy};
-ghost use Rattle.hole_joining.specs.Holes.{is_ring, is_hole};
 ghost use Rattle.hole_joining.specs.Laws.{AreFillable, settled_in};
 ghost use Rattle.triangulate.specs.Fills.{cuts, fill_of};
+ghost use Rattle.triangulate.specs.Laws.{HasCount, HasAreas};
 
 use face_loops::Loop;
 use face_plane::{FacePlane, Places};
@@ -38,9 +38,11 @@ pub fn fill(
     ensures value { IfOk result (λ f. f ≡ fill_of plane.drop points.now loops.now) }
 
     // n + 2 holes - 2 rings
-    ensures count { IfOk result (λ f. length f.triples + 2 * length (filter (is_ring (settled_in plane.drop points.now loops.now)) loops.now) ≡ length (concat loops.now) + 2 * length (filter (is_hole (settled_in plane.drop points.now loops.now)) loops.now)) }
+    ensures count { IfOk result (λ f. HasCount (settled_in plane.drop points.now loops.now) loops.now f.triples) }
 
-    // Every odd function has the same sum over the triangles as round the loops: so have the boundary and the areas.
+    // The triangles have the boundary of the loops, and doubled areas with the same sum; and so has every odd function.
+    ensures boundary { IfOk result (λ f. (a b : ℕ) → boundary (all_edges f.triples) a b ≡ boundary (flat_map round_edges loops.now) a b) }
+    ensures areas { IfOk result (λ f. HasAreas (settled_in plane.drop points.now loops.now) loops.now f.triples) }
     ensures chain { IfOk result (λ f. SameChain (all_edges f.triples) (flat_map round_edges loops.now)) }
     ensures three { IfOk result (λ f. All HasThree f.triples) }
     ensures below { IfOk result (λ f. All (IsBelow (length points.now)) f.triples) }

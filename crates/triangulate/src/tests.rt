@@ -1,7 +1,8 @@
 // Fillings against two tables, and each public call with ample memory.
 ghost use Rattle.std.specs.Prelude.{◌≡◌, ◌≢◌, ◌<◌, ℕ, IfOk, IsTrue, length, get_or};
 ghost use Rattle.std.specs.List.{concat};
-ghost use Rattle.hole_joining.specs.Laws.{AreDifferent, AreFillable};
+ghost use Rattle.face_loops.specs.Segments.{AreDifferent};
+ghost use Rattle.hole_joining.specs.Laws.{AreFillable};
 
 use crate::rows::{HARD, RANDOM};
 use crate::{FacePlane, Filled, cut_ring, fill, join_holes};

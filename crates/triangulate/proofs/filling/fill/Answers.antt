@@ -1,17 +1,19 @@
-use Rattle.std.proofs.Common.{◌≡◌, ◌+◌, ◌*◌, ◌≤◌, ℕ, List, Result, Ok, Err, length, sym, ap, subst, ◌∙◌, arith}
-use Rattle.std.specs.Prelude.{IfOk, filter}
-use Rattle.std.specs.List.{All, concat, flat_map}
-use Rattle.chain_terms.specs.Chains.{all_edges}
+use Rattle.std.proofs.Common.{◌≡◌, ◌≤◌, ℕ, List, Result, Ok, Err, length, sym, ap, subst, ◌∙◌, arith}
+use Rattle.std.specs.Prelude.{IfOk}
+use Rattle.std.specs.List.{All, flat_map}
+use Rattle.chain_terms.specs.Chains.{all_edges, boundary}
+use Rattle.chain_laws.specs.Chains.{boundary_same}
 use Rattle.chain_terms.specs.Odd.{SameChain}
 use Rattle.chain_terms.specs.Paths.{round_edges}
 use Rattle.mesh_terms.specs.Meshes.{HasThree, IsBelow}
 use Rattle.face_plane.specs.Planes.{Plane, face_plane}
-use Rattle.hole_joining.specs.Holes.{is_ring, is_hole}
+use Rattle.hole_joining.specs.Holes.{is_hole}
 use Rattle.hole_joining.specs.Laws.{settled_in}
 use Rattle.ring_cutting.specs.Cuts.{Cut}
 use Rattle.ring_cutting.specs.Laws.{TurnsLeft}
 use Rattle.triangulate.specs.Fills.{cuts}
-use Rattle.triangulate.specs.Laws.{AreCuttings}
+use Rattle.triangulate.specs.Laws.{AreCuttings, HasCount, HasAreas}
+use Rattle.triangulate.proofs.Areas.{areas}
 use Rattle.triangulate.proofs.CutRings.{cuttings, all_short, settled, three_each}
 use Rattle.triangulate.proofs.filling.fill.Goals as goal
 
@@ -61,13 +63,29 @@ returns-clause-count c =
     let count = j.count in
     let places = j.places in
     let whole = cuts at (rings_of c) in
-    let is : length whole.triples + 2 * length (filter (is_ring at) loops) ≡ length (concat loops) + 2 * length (filter (is_hole at) loops) = omega (arith, count, places, (laws c).count) in
-    of_made whole (λ f. length f.triples + 2 * length (filter (is_ring at) loops) ≡ length (concat loops) + 2 * length (filter (is_hole at) loops)) c.cut_all.result is (made c)
+    let is : HasCount at loops whole.triples = omega (arith, count, places, (laws c).count) in
+    of_made whole (λ f. HasCount at loops f.triples) c.cut_all.result is (made c)
+
+-- the triangles have the chain of the loops
+chained : (c : goal.After-cut_all) → SameChain (all_edges (cuts (plane_at c) (rings_of c)).triples) (flat_map round_edges c.args.loops.now)
+chained c = λ f odd. (laws c).chain f odd ∙ c.in_ok-joined.ensures.chain f odd
 
 pub returns-clause-chain : goal.returns-clause-chain
 returns-clause-chain c =
-    let chain : SameChain (all_edges (cuts (plane_at c) (rings_of c)).triples) (flat_map round_edges c.args.loops.now) = λ f odd. (laws c).chain f odd ∙ c.in_ok-joined.ensures.chain f odd in
-    of_made (cuts (plane_at c) (rings_of c)) (λ f. SameChain (all_edges f.triples) (flat_map round_edges c.args.loops.now)) c.cut_all.result chain (made c)
+    of_made (cuts (plane_at c) (rings_of c)) (λ f. SameChain (all_edges f.triples) (flat_map round_edges c.args.loops.now)) c.cut_all.result (chained c) (made c)
+
+pub returns-clause-boundary : goal.returns-clause-boundary
+returns-clause-boundary c =
+    let loops = c.args.loops.now in
+    let whole = cuts (plane_at c) (rings_of c) in
+    of_made whole (λ f. (a b : ℕ) → boundary (all_edges f.triples) a b ≡ boundary (flat_map round_edges loops) a b) c.cut_all.result
+    (boundary_same (all_edges whole.triples) (flat_map round_edges loops) (chained c)) (made c)
+
+pub returns-clause-areas : goal.returns-clause-areas
+returns-clause-areas c =
+    let loops = c.args.loops.now in
+    let whole = cuts (plane_at c) (rings_of c) in
+    of_made whole (λ f. HasAreas (plane_at c) loops f.triples) c.cut_all.result (areas (plane_at c) loops whole.triples (chained c)) (made c)
 
 pub returns-clause-three : goal.returns-clause-three
 returns-clause-three c = of_made (cuts (plane_at c) (rings_of c)) (λ f. All HasThree f.triples) c.cut_all.result (laws c).three (made c)

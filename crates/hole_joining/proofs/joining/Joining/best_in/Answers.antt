@@ -1,6 +1,6 @@
 use Rattle.std.proofs.Common.{ap, sym, ◌∙◌, []}
 use Rattle.std.proofs.lemmas.List.{get_or_default, drop_all}
-use Rattle.face_plane.specs.Planes.{distance2}
+use Rattle.face_plane.specs.Planes.{squared_distance}
 use Rattle.hole_joining.specs.Seen.{plane_at, start_of, clear_of}
 use Rattle.hole_joining.specs.Bridges.{bridges_to}
 use Rattle.hole_joining.specs.Passes.{passes, best_of}
@@ -11,8 +11,8 @@ pub loop-place-preserved : goal.loop-place-preserved
 loop-place-preserved c =
     let j = c.args.self.now in
     let at = plane_at j.flat in
-    let far = c.distance2-length2.ensures ∙ ap (λ x. distance2 x c.at.result) (c.at-start.ensures ∙ ap at c.vertex_at.ensures) ∙ ap (distance2 (at (start_of j))) c.at.ensures in
-    best_of_place at (start_of j) c.args.ring c.loop-place.place c.distance2-length2.result (passes (clear_of j) c.args.asks c.args.refused) c.loop-place.best c.better-best.result c.deref-vertex-items.result.now
+    let far = c.squared_distance-squared_length.ensures ∙ ap (λ x. squared_distance x c.at.result) (c.at-start.ensures ∙ ap at c.vertex_at.ensures) ∙ ap (squared_distance (at (start_of j))) c.at.ensures in
+    best_of_place at (start_of j) c.args.ring c.loop-place.place c.squared_distance-squared_length.result (passes (clear_of j) c.args.asks c.args.refused) c.loop-place.best c.better-best.result c.deref-vertex-items.result.now
     c.loop-place-test.true far c.better-best.ensures
     ∙ c.loop-place.invariant
 
