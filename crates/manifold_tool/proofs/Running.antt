@@ -8,7 +8,7 @@ use Rattle.run_terms.specs.Meets.{Why, Refused, Unread, Unwritten, Unsaid, Starv
 use Rattle.play_terms.specs.Commands.{play, command_task}
 use Rattle.play_terms.specs.Ends.{ReadFailed, WriteFailed, RiseWith, cause_status, ended_status}
 use Rattle.play_terms.specs.Lines.{usage}
-use Rattle.play_terms.specs.ReadingBack.{WritesReadable, digits_in}
+use Rattle.play_terms.specs.ReadingBack.{CopiesReadable, WritesReadable, digits_in}
 use Rattle.play_terms.specs.Words.{Command, command}
 use Rattle.command_words.specs.Commands.{command_of}
 use Rattle.command_words.specs.declared.commands.Command.{Command as Read}
@@ -44,4 +44,10 @@ pub play_back : (limits : Limits) (words : List Bytes) (what : Option Command) (
     → All (WritesReadable (digits_in (command words)) limits) (play meanings limits words files).actions
 play_back limits words what files asked back =
     let P : Option Command → Type 0 = λ o. All (WritesReadable (digits_in o) limits) (command_task meanings limits o files).actions in
+    subst P (sym asked) back
+
+-- the same of the mesh that is copied
+pub copied_back : (limits : Limits) (words : List Bytes) (what : Option Command) → command words ≡ what → CopiesReadable limits what → CopiesReadable limits (command words)
+copied_back limits words what asked back =
+    let P : Option Command → Type 0 = λ o. CopiesReadable limits o in
     subst P (sym asked) back

@@ -3,7 +3,7 @@ ghost use Rattle.std.specs.Prelude.{◌≡◌, ◌≤◌, ◌<◌, ◌+◌, ◌�
 ghost use Rattle.mesh_terms.specs.Limits.{IsLawful};
 ghost use Rattle.run_terms.specs.Files.{Bytes, text_of, Counts, CountsShort, IsShort, Grew};
 ghost use Rattle.run_terms.specs.Meets.{Seen, Meets};
-ghost use Rattle.run_terms.specs.Tasks.{take as give};
+ghost use Rattle.run_terms.specs.Tasks.{give};
 ghost use Rattle.obj_terms.specs.Obj.{obj};
 ghost use Rattle.play_terms.specs.Commands.{ask_file, ask_mesh, checked};
 ghost use Rattle.mb_outside.specs.Seen.{MeetsOnShelf, on_shelf};
