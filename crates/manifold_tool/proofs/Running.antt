@@ -15,7 +15,7 @@ use Rattle.command_words.specs.declared.commands.Command.{Command as Read}
 use Rattle.mesh_files.specs.declared.stop.Stop.TheVariants.{Usage, Missing, BadText, BadEdge, Over, ReadFault, WriteFault, NoMemory as Memory}
 use Rattle.mb_outside.specs.Seen.{OnOutput}
 use Rattle.report_lines.specs.Reports.{IsReported}
-use Rattle.report_lines.specs.Halts.{halted_by, is_past_words}
+use Rattle.report_lines.specs.Halts.{halted_by}
 use Rattle.report_lines.specs.declared.halt.Halt.{Halt}
 use Rattle.report_lines.specs.declared.halt.Halt.TheVariants.{At, Reporting, NoMemory}
 use Rattle.manifold_tool.specs.Playing.{MeetsPlay, meanings}

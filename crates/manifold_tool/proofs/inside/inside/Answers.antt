@@ -1,4 +1,4 @@
-use Rattle.std.proofs.Common.{◌≡◌, ◌≤◌, ◌∙◌, ℕ, ℤ, nat_abs, length, of_z, to_z, w64, arith, subst, Ok, Err}
+use Rattle.std.proofs.Common.{◌≡◌, ◌≤◌, ◌∙◌, ℕ, ℤ, nat_abs, length, of_z, to_z, w64, arith, subst, Ok, Err, inl, inr, refl}
 use Rattle.std.proofs.lemmas.Int.{ints, to_z-of_z, fits_signed_from_abs}
 use Rattle.std.proofs.lemmas.Result.{err_from_is_err_and}
 use Rattle.mesh_terms.specs.Meshes.{Mesh}
@@ -56,3 +56,18 @@ returns-clause-meets g c =
 
 pub returns-clause-back : goal.returns-clause-back
 returns-clause-back g c = (inside_keeps c.args.digits meanings c.args.limits.now c.args.file.now c.args.point c.requires.digits c.in_ok-read.ensures.lawful).actions
+
+pub returns-in_err-read-clause-halts : goal.returns-in_err-read-clause-halts
+returns-in_err-read-clause-halts g c =
+    let p = err_from_is_err_and c.from_residual.result c.from_residual.ensures.1 in
+    rw (p.1, p.2) (inl c.in_err-read.ensures.unread)
+
+pub returns-in_err-number-clause-halts : goal.returns-in_err-number-clause-halts
+returns-in_err-number-clause-halts g c =
+    let p = err_from_is_err_and c.from_residual-in_err-number.result c.from_residual-in_err-number.ensures.1 in
+    rw (p.1, p.2) (inr (inr refl))
+
+pub returns-in_err-say_winding-clause-halts : goal.returns-in_err-say_winding-clause-halts
+returns-in_err-say_winding-clause-halts g c =
+    let p = err_from_is_err_and c.from_residual-in_err-say_winding.result c.from_residual-in_err-say_winding.ensures.1 in
+    rw (p.1, p.2) (inr (inl refl))
