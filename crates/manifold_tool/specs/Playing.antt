@@ -25,6 +25,10 @@ abbrev pub RunMeets : {S O E : Type 0} → OfShelf S → OfSink O → OfSink E �
 RunMeets s o e limits words old new status =
     MeetsPlay limits words (seen_of s o old.0 old.1) (seen_of s o new.0 new.1) status (on_output e old.2) (on_output e new.2)
 
+-- the status is that of some end, whose line was told on standard error
+abbrev pub TellsEnd : {E : Type 0} → OfSink E → E → E → ℕ → Type 0
+TellsEnd e old new status = (ended : Result (Unit {0}) Why) × (status ≡ ended_status ended) × IsReported (ended_line ended) (on_output e old) (on_output e new)
+
 -- the counts rise with the status
 abbrev pub RiseOn : {S O : Type 0} → OfShelf S → OfSink O → S × O → S × O → ℕ → Type 0
 RiseOn s o old new status = RiseWith status (s.tells old.0) (seen_of s o old.0 old.1).faults (seen_of s o new.0 new.1).faults
