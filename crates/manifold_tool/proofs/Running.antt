@@ -36,7 +36,7 @@ pub refused_met : (limits : Limits) (words : List Bytes) (now : Seen) (told_befo
     → MeetsPlay limits words now now 1 told_before told_now
 refused_met limits words now told_before told_now none told =
     let refused : Meets (command_task meanings limits None) now now (Err (Refused usage)) = record { tells = refl; faults = refl; does = λ t. record { gives = refl; all_done = refl } } in
-    (Err (Refused usage), play_met limits words None now now (Err (Refused usage)) none refused, refl, told)
+    (Err (Refused usage), play_met limits words None now now (Err (Refused usage)) none refused, (refl, told))
 
 -- what a command writes is what the words that ask for it write
 pub play_back : (limits : Limits) (words : List Bytes) (what : Option Command) (files : Files) → command words ≡ what

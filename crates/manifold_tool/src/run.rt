@@ -56,7 +56,8 @@ fn concluded<E: Sink>(ended: Result<(), Halt<'_>>, err: &mut E) -> Status
 /// under the same digits and limits; for a copy this mesh is the one that was read of IN, without its unused points.
 ///
 /// The read faults of the shelf rise with status 6 alone, its write faults and the faults of `out` with 7 alone, and one of the two does. With
-/// 6 the read faults rose, or the shelf tells no files and a read into some space gave nothing below the size that was stated.
+/// 6 the read faults rose, or the shelf tells no files and a read into some space gave nothing below the size that was stated. The shelf
+/// counts such reads apart, and this count rises then, but where it stands at 2^64 - 1, its last value, it stays.
 pub fn run<S: Shelf, O: Sink, E: Sink, L: Ledger>(
     alloc: Global,
     words: &ArgList,

@@ -14,7 +14,8 @@ as_saved m = record { points = m.points; triples = m.triples; unused = 0 }
 
 -- wherever a file holds the text of the mesh, the mesh is read of it
 abbrev pub IsReadable : ℕ → Limits → Soup → Type 0
-IsReadable k limits m = (name : Bytes) (files : Files) → files name ≡ Some (obj_text k m.points m.triples) → (ask_mesh k limits name files).result ≡ Ok (as_saved m)
+IsReadable k limits m =
+    (name : Bytes) (files : Files) → files name ≡ Some (obj_text k m.points m.triples) → (ask_mesh k limits name files).result ≡ Ok (as_saved m)
 
 -- a mesh that is read of the file is read again where its text is written
 abbrev pub GivesReadable : ℕ → Limits → Bytes → Type 0
