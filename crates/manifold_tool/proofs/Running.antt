@@ -1,23 +1,17 @@
 -- A run by its words, its status and its counts.
-use Rattle.std.proofs.Common.{◌≡◌, ◌<◌, ◌^◌, ◌-◌, ℕ, Bool, false, Result, Ok, Err, List, Option, Some, None, IsTrue, arith, ap, sym, ◌∙◌, refl, subst, inl, inr, ◌⊎◌, All}
+use Rattle.std.proofs.Common.{◌≡◌, Result, Err, List, Option, Some, None, ap, sym, ◌∙◌, refl, subst, All}
 use Rattle.std.specs.Option.{option_map}
 use Rattle.mesh_terms.specs.Limits.{Limits}
-use Rattle.run_terms.specs.Files.{Bytes, Files, Grew}
-use Rattle.run_terms.specs.Tasks.{Cause, NoCommand, NoFile, FaultyMesh, PastLimit, Refusal, Task}
-use Rattle.run_terms.specs.Meets.{Why, Refused, Unread, Unwritten, Unsaid, Starved, Faults, ReadRose, Rises, Seen, Meets}
+use Rattle.run_terms.specs.Files.{Bytes, Files}
+use Rattle.run_terms.specs.Meets.{Why, Refused, Seen, Meets}
 use Rattle.play_terms.specs.Commands.{play, command_task}
-use Rattle.play_terms.specs.Ends.{ReadFailed, WriteFailed, RiseWith, cause_status, ended_status}
 use Rattle.play_terms.specs.Lines.{usage}
 use Rattle.play_terms.specs.ReadingBack.{CopiesReadable, WritesReadable, digits_in}
 use Rattle.play_terms.specs.Words.{Command, command}
 use Rattle.command_words.specs.Commands.{command_of}
 use Rattle.command_words.specs.declared.commands.Command.{Command as Read}
-use Rattle.mesh_files.specs.declared.stop.Stop.TheVariants.{Usage, Missing, BadText, BadEdge, Over, ReadFault, WriteFault, NoMemory as Memory}
 use Rattle.mb_outside.specs.Seen.{OnOutput}
 use Rattle.report_lines.specs.Reports.{IsReported}
-use Rattle.report_lines.specs.Halts.{halted_by}
-use Rattle.report_lines.specs.declared.halt.Halt.{Halt}
-use Rattle.report_lines.specs.declared.halt.Halt.TheVariants.{At, Reporting, NoMemory}
 use Rattle.manifold_tool.specs.Playing.{MeetsPlay, meanings}
 
 -- the words ask for the command that was read of them

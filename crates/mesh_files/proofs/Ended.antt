@@ -1,13 +1,13 @@
 -- Calls of a shelf that met the asking for a file, or the writing of one.
-use Rattle.std.proofs.Common.{◌≡◌, ℕ, List, [], ◌∷◌, Bool, false, Option, Result, Ok, Err, IsTrue, IfOk, IfErr, OnOk, ◌⊎◌, inl, inr, ap, sym, subst, refl, ◌∙◌, ℤ}
+use Rattle.std.proofs.Common.{◌≡◌, ℕ, List, [], false, Option, Result, Ok, Err, IsTrue, IfOk, IfErr, OnOk, ◌⊎◌, inl, inr, ap, sym, subst, refl, ◌∙◌, ℤ}
 use Rattle.mesh_terms.specs.Limits.{Limits}
 use Rattle.mesh_terms.specs.Meshes.{Triple}
 use Rattle.obj_terms.specs.Obj.{obj}
 use Rattle.obj_terms.specs.Written.{obj_text}
 use Rattle.run_terms.specs.Files.{Bytes, Files, Grew, put}
-use Rattle.run_terms.specs.Runs.{World, Write, Partial, done_all}
+use Rattle.run_terms.specs.Runs.{World, Write, Partial}
 use Rattle.run_terms.specs.Tasks.{Refusal, give}
-use Rattle.run_terms.specs.Meets.{Why, Refused, Unread, Unwritten, Starved, ReadRose, Seen, Meets}
+use Rattle.run_terms.specs.Meets.{Why, Unread, Unwritten, Starved, Seen, Meets}
 use Rattle.play_terms.specs.Commands.{ask_file, ask_mesh, bytes_in, checked, write_mesh}
 use Rattle.mb_outside.specs.Seen.{OnShelf, ShelfMeets, seen}
 use Rattle.mesh_files.specs.Stops.{ended_by, soup_with, why_of}

@@ -1,5 +1,5 @@
 -- Lines that met their task.
-use Rattle.std.proofs.Common.{◌≡◌, ◌++◌, [], ◌∷◌, length, codes, decimal, Result, Ok, Err, OnOk, OnErr, refl, ap, subst, sym, ◌∙◌, append_assoc}
+use Rattle.std.proofs.Common.{◌≡◌, ◌++◌, [], ◌∷◌, length, codes, Result, Ok, Err, OnOk, OnErr, refl, ap, subst, sym, ◌∙◌, append_assoc}
 use Rattle.std.specs.Option.{option_map}
 use Rattle.run_terms.specs.Files.{Bytes, Counts}
 use Rattle.mb_outside.specs.Seen.{OutputMeets, OnOutput}

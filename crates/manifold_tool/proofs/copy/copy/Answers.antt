@@ -1,6 +1,6 @@
 use Rattle.std.proofs.Common.{inl, inr, refl}
 use Rattle.std.proofs.lemmas.Result.{err_from_is_err_and}
-use Rattle.mb_outside.specs.Seen.{on_output, on_shelf}
+use Rattle.mb_outside.specs.Seen.{on_output}
 use Rattle.mesh_files.specs.Stops.{soup_with}
 use Rattle.play_laws.proofs.ReadingBack.{copy_keeps, mesh_given}
 use Rattle.manifold_tool.proofs.Stages.{copy_ended, copy_unread, copy_unwritten}

@@ -1,7 +1,7 @@
-use Rattle.std.proofs.Common.{◌∙◌, ap, sym, Some, None, refl}
+use Rattle.std.proofs.Common.{◌∙◌, ap, sym, Some, None}
 use Rattle.std.specs.Option.{option_map}
 use Rattle.command_words.specs.Commands.{command_of}
-use Rattle.manifold_tool.proofs.Running.{asked_for, copied_back, play_back, play_met, refused_met}
+use Rattle.manifold_tool.proofs.Running.{asked_for, copied_back, play_back, refused_met}
 use Rattle.manifold_tool.proofs.run.run.Goals as goal
 
 pub returns-in_default-clause-play : goal.returns-in_default-clause-play
