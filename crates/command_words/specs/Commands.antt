@@ -1,5 +1,5 @@
 -- What the words of a command line give, as they are read one by one.
-use Rattle.std.specs.Prelude.{◌≡◌, ℕ, ◌+◌, ◌≤◌, ◌∷◌, ◌++◌, List, [], Bool, true, false, Option, Some, None, drop, map}
+use Rattle.std.specs.Prelude.{◌≡◌, ℕ, ◌+◌, ◌≤◌, ◌∷◌, ◌++◌, List, [], Bool, true, false, Option, Some, None, codes, drop, map}
 use Rattle.run_terms.specs.Files.{Bytes}
 use Rattle.play_terms.specs.Words as words
 use Rattle.play_terms.specs.Words.{Given, before_end, after_end, given, with_more, command_by}
@@ -34,6 +34,10 @@ joined first (Some g) = Some (record { operands = first.operands ++ g.operands; 
 -- what all words give, where these were read so far and the others stand from this place on
 abbrev pub given_in_all : List Bytes → Held → ℕ → Option Given
 given_in_all ws g place = joined (held g) (given_by g.ended (drop place ws))
+
+-- the same, where --digits was read last and not yet its value
+abbrev pub given_with_digits : List Bytes → Held → ℕ → Option Given
+given_with_digits ws g place = joined (held g) (given_by false (codes "--digits" ∷ drop place ws))
 
 -- whatever the first word, this gives no command
 abbrev pub IsNoCommand : Option Given → Type 0

@@ -1,10 +1,10 @@
 // The words of a command line.
-ghost use Rattle.std.specs.Prelude.{◌≡◌, ◌≤◌, ◌<◌, ◌+◌, ◌^◌, ◌∷◌, [], ℕ, length, drop, map, codes, false, IfSome, IsNone, Some};
+ghost use Rattle.std.specs.Prelude.{◌≡◌, ◌≤◌, ◌<◌, ◌+◌, ◌^◌, ◌∷◌, [], ℕ, length, drop, map, false, IfSome, IsNone, Some};
 ghost use Rattle.std.specs.Option.{option_map};
 ghost use Rattle.mesh_terms.specs.Points.{IsOnGrid};
 ghost use Rattle.obj_terms.specs.Written.{is_obj};
 ghost use Rattle.play_terms.specs.Words.{command, copy_of, inside_of, digits_of, grid_operand, with_operand, with_digits, with_word};
-ghost use Rattle.command_words.specs.Commands.{HasFewDigits, IsNoCommand, Takes, Refuses, command_of, digits_in, given_by, given_in_all, held, joined};
+ghost use Rattle.command_words.specs.Commands.{HasFewDigits, IsNoCommand, Takes, Refuses, command_of, digits_in, given_by, given_in_all, given_with_digits, held};
 
 use arrayvec::ArrayVec;
 use grid_number::read_grid;
@@ -91,9 +91,9 @@ fn read_digits(words: &ArgList, place: usize, given: &mut Given<'_>) -> Option<u
     requires within { place ≤ length words.now }
     requires open { given.old.ended ≡ false }
     ensures later { IfSome result (λ next. (place < next) × (next ≤ length words.now)) }
-    ensures given { IfSome result (λ next. given_in_all words.now given.new next ≡ joined (held given.old) (given_by false (codes "--digits" ∷ drop place words.now))) }
+    ensures given { IfSome result (λ next. given_in_all words.now given.new next ≡ given_with_digits words.now given.old place) }
     ensures few { IfSome result (λ _. HasFewDigits given.old → HasFewDigits given.new) }
-    ensures refused { IsNone result → IsNoCommand (joined (held given.old) (given_by false (codes "--digits" ∷ drop place words.now))) }
+    ensures refused { IsNone result → IsNoCommand (given_with_digits words.now given.old place) }
 {
     if place == words.len() {
         return None;

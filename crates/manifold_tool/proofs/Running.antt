@@ -1,23 +1,17 @@
 -- A run by its words, its status and its counts.
-use Rattle.std.proofs.Common.{◌≡◌, ◌<◌, ◌^◌, ◌-◌, ℕ, Bool, false, Result, Ok, Err, List, Option, Some, None, IsTrue, arith, ap, sym, ◌∙◌, refl, subst, inl, inr, ◌⊎◌, All}
+use Rattle.std.proofs.Common.{◌≡◌, Result, Err, List, Option, Some, None, ap, sym, ◌∙◌, refl, subst, All}
 use Rattle.std.specs.Option.{option_map}
 use Rattle.mesh_terms.specs.Limits.{Limits}
-use Rattle.run_terms.specs.Files.{Bytes, Files, Grew}
-use Rattle.run_terms.specs.Tasks.{Cause, NoCommand, NoFile, FaultyMesh, PastLimit, Refusal, Task}
-use Rattle.run_terms.specs.Meets.{Why, Refused, Unread, Unwritten, Unsaid, Starved, Faults, ReadRose, Rises, Seen, Meets}
+use Rattle.run_terms.specs.Files.{Bytes, Files}
+use Rattle.run_terms.specs.Meets.{Why, Refused, Seen, Meets}
 use Rattle.play_terms.specs.Commands.{play, command_task}
-use Rattle.play_terms.specs.Ends.{ReadFailed, WriteFailed, RiseWith, cause_status, ended_status}
 use Rattle.play_terms.specs.Lines.{usage}
-use Rattle.play_terms.specs.ReadingBack.{WritesReadable, digits_in}
+use Rattle.play_terms.specs.ReadingBack.{CopiesReadable, WritesReadable, digits_in}
 use Rattle.play_terms.specs.Words.{Command, command}
 use Rattle.command_words.specs.Commands.{command_of}
 use Rattle.command_words.specs.declared.commands.Command.{Command as Read}
-use Rattle.mesh_files.specs.declared.stop.Stop.TheVariants.{Usage, Missing, BadText, BadEdge, Over, ReadFault, WriteFault, NoMemory as Memory}
 use Rattle.mb_outside.specs.Seen.{OnOutput}
 use Rattle.report_lines.specs.Reports.{IsReported}
-use Rattle.report_lines.specs.Halts.{halted_by, is_past_words}
-use Rattle.report_lines.specs.declared.halt.Halt.{Halt}
-use Rattle.report_lines.specs.declared.halt.Halt.TheVariants.{At, Reporting, NoMemory}
 use Rattle.manifold_tool.specs.Playing.{MeetsPlay, meanings}
 
 -- the words ask for the command that was read of them
@@ -36,7 +30,7 @@ pub refused_met : (limits : Limits) (words : List Bytes) (now : Seen) (told_befo
     → MeetsPlay limits words now now 1 told_before told_now
 refused_met limits words now told_before told_now none told =
     let refused : Meets (command_task meanings limits None) now now (Err (Refused usage)) = record { tells = refl; faults = refl; does = λ t. record { gives = refl; all_done = refl } } in
-    (Err (Refused usage), play_met limits words None now now (Err (Refused usage)) none refused, refl, told)
+    (Err (Refused usage), play_met limits words None now now (Err (Refused usage)) none refused, (refl, told))
 
 -- what a command writes is what the words that ask for it write
 pub play_back : (limits : Limits) (words : List Bytes) (what : Option Command) (files : Files) → command words ≡ what
@@ -44,4 +38,10 @@ pub play_back : (limits : Limits) (words : List Bytes) (what : Option Command) (
     → All (WritesReadable (digits_in (command words)) limits) (play meanings limits words files).actions
 play_back limits words what files asked back =
     let P : Option Command → Type 0 = λ o. All (WritesReadable (digits_in o) limits) (command_task meanings limits o files).actions in
+    subst P (sym asked) back
+
+-- the same of the mesh that is copied
+pub copied_back : (limits : Limits) (words : List Bytes) (what : Option Command) → command words ≡ what → CopiesReadable limits what → CopiesReadable limits (command words)
+copied_back limits words what asked back =
+    let P : Option Command → Type 0 = λ o. CopiesReadable limits o in
     subst P (sym asked) back

@@ -1,11 +1,11 @@
 -- The commands by their stages, each of which met its task.
-use Rattle.std.proofs.Common.{◌≡◌, ℕ, ℤ, List, Result, Ok, Err}
+use Rattle.std.proofs.Common.{ℕ, ℤ, List, Result, Ok, Err}
 use Rattle.mesh_terms.specs.Limits.{Limits}
 use Rattle.mesh_terms.specs.Meshes.{Soup}
 use Rattle.run_terms.specs.Files.{Bytes}
 use Rattle.run_terms.specs.Meets.{Why, Starved, Meets}
 use Rattle.run_laws.proofs.Tasks.{meets_then, meets_stop, meets_starved}
-use Rattle.play_terms.specs.Commands.{Meanings, ask_mesh, copied_task, copy_task, inside_task, say, winding_task, write_mesh}
+use Rattle.play_terms.specs.Commands.{Meanings, ask_mesh, copied_task, copy_task, inside_task, say_line, winding_task, write_mesh}
 use Rattle.play_terms.specs.Lines.{copied_line, winding_line}
 use Rattle.mb_outside.specs.Seen.{OnShelf, OnOutput, ShelfMeets, OutputMeets, seen}
 
@@ -25,12 +25,12 @@ copy_unwritten k limits from to m before mid now out why ask write =
     let second = seen mid out.told out.faults in
     let last = seen now out.told out.faults in
     meets_then (ask_mesh k limits from) (copied_task k to) m (Err why) first second last (ask out.told out.faults)
-    (meets_stop (write_mesh k to m.points m.triples) (λ _. say (copied_line to m)) why second last (write out.told out.faults))
+    (meets_stop (write_mesh k to m.points m.triples) (λ _. say_line (copied_line to m)) why second last (write out.told out.faults))
 
 -- the copy was written, and was told or not
 pub copy_ended : (k : ℕ) (limits : Limits) (from to : Bytes) (m : Soup) (before mid now : OnShelf) (out told : OnOutput) (r : Result (Unit {0}) Why)
     → ShelfMeets (ask_mesh k limits from) before mid (Ok m) → ShelfMeets (write_mesh k to m.points m.triples) mid now (Ok tt)
-    → OutputMeets (say (copied_line to m)) out told r
+    → OutputMeets (say_line (copied_line to m)) out told r
     → Meets (copy_task k limits from to) (seen before out.told out.faults) (seen now told.told told.faults) r
 copy_ended k limits from to m before mid now out told r ask write line =
     let first = seen before out.told out.faults in
@@ -38,7 +38,7 @@ copy_ended k limits from to m before mid now out told r ask write line =
     let third = seen now out.told out.faults in
     let last = seen now told.told told.faults in
     meets_then (ask_mesh k limits from) (copied_task k to) m r first second last (ask out.told out.faults)
-    (meets_then (write_mesh k to m.points m.triples) (λ _. say (copied_line to m)) tt r second third last (write out.told out.faults) (line now))
+    (meets_then (write_mesh k to m.points m.triples) (λ _. say_line (copied_line to m)) tt r second third last (write out.told out.faults) (line now))
 
 -- the file of a point's mesh was not read
 pub inside_unread : (k : ℕ) (meanings : Meanings) (limits : Limits) (name : Bytes) (point : List ℤ) (before now : OnShelf) (out : OnOutput) (why : Why)
@@ -58,7 +58,7 @@ inside_starved k meanings limits name point m before now out ask =
 
 -- the winding number was found, and was told or not
 pub inside_ended : (k : ℕ) (meanings : Meanings) (limits : Limits) (name : Bytes) (point : List ℤ) (m : Soup) (before now : OnShelf) (out told : OnOutput) (r : Result (Unit {0}) Why)
-    → ShelfMeets (ask_mesh k limits name) before now (Ok m) → OutputMeets (say (winding_line (meanings.winding point m))) out told r
+    → ShelfMeets (ask_mesh k limits name) before now (Ok m) → OutputMeets (say_line (winding_line (meanings.winding point m))) out told r
     → Meets (inside_task k meanings limits name point) (seen before out.told out.faults) (seen now told.told told.faults) r
 inside_ended k meanings limits name point m before now out told r ask line =
     let first = seen before out.told out.faults in

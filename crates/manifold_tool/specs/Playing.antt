@@ -15,15 +15,23 @@ use Rattle.winding.specs.Windings.{winding_at}
 abbrev pub meanings : Meanings
 meanings = record { winding = λ point soup. winding_at point (record { points = soup.points; triples = soup.triples }) }
 
+-- the status is that of this end, and its line was told on standard error
+abbrev pub TellsAs : Result (Unit {0}) Why → ℕ → OnOutput → OnOutput → Type 0
+TellsAs ended status before now = (status ≡ ended_status ended) × IsReported (ended_line ended) before now
+
 -- the run met the task of the words in some end, whose status it has and whose line it told on standard error
 abbrev pub MeetsPlay : Limits → List Bytes → Seen → Seen → ℕ → OnOutput → OnOutput → Type 0
 MeetsPlay limits words before now status told_before told_now =
-    (ended : Result (Unit {0}) Why) × Meets (play meanings limits words) before now ended × (status ≡ ended_status ended) × IsReported (ended_line ended) told_before told_now
+    (ended : Result (Unit {0}) Why) × Meets (play meanings limits words) before now ended × TellsAs ended status told_before told_now
 
 -- the same of a shelf, an output and standard error of any type
 abbrev pub RunMeets : {S O E : Type 0} → OfShelf S → OfSink O → OfSink E → Limits → List Bytes → S × O × E → S × O × E → ℕ → Type 0
 RunMeets s o e limits words old new status =
     MeetsPlay limits words (seen_of s o old.0 old.1) (seen_of s o new.0 new.1) status (on_output e old.2) (on_output e new.2)
+
+-- the status is that of some end, whose line was told on standard error
+abbrev pub TellsEnd : {E : Type 0} → OfSink E → E → E → ℕ → Type 0
+TellsEnd e old new status = (ended : Result (Unit {0}) Why) × TellsAs ended status (on_output e old) (on_output e new)
 
 -- the counts rise with the status
 abbrev pub RiseOn : {S O : Type 0} → OfShelf S → OfSink O → S × O → S × O → ℕ → Type 0

@@ -1,10 +1,10 @@
 // The command copy.
-ghost use Rattle.std.specs.Prelude.{◌≤◌, All, IsTrue, IfErr};
+ghost use Rattle.std.specs.Prelude.{◌≤◌, All, IfErr};
 ghost use Rattle.play_terms.specs.Commands.{copy_task};
-ghost use Rattle.play_terms.specs.ReadingBack.{WritesReadable};
+ghost use Rattle.play_terms.specs.ReadingBack.{GivesReadable, WritesReadable};
 ghost use Rattle.run_terms.specs.Files.{Files};
 ghost use Rattle.mb_outside.specs.Seen.{MeetsOn};
-ghost use Rattle.report_lines.specs.Halts.{halted, is_past_words};
+ghost use Rattle.report_lines.specs.Halts.{IsHaltOfCopy, halted};
 
 use crate::files::{ask, write};
 use mb_base::Limits;
@@ -12,8 +12,10 @@ use mb_outside::{Shelf, Sink};
 use report_lines::{Halt, say_copied};
 use std::alloc::Global;
 
-/// Reads a mesh from one file, saves it to another, and reports that on the output. It stops at the first thing that goes wrong. `digits`
-/// are the decimal digits of a unit on the grid, in both files. What is saved is read again as the mesh.
+/// Reads a mesh from one file, saves it to another, and reports that on the output. It stops at the first thing that goes wrong: as the
+/// first file is read, as the second is written, which alone is a `WriteFault` at a file, or as it reports. `digits`
+/// are the decimal digits of a unit on the grid, in both files. The mesh that is read is read again of what is saved, with its unused points
+/// left out.
 pub fn copy<'a, S: Shelf, O: Sink>(
     alloc: Global,
     from: &'a str,
@@ -25,7 +27,8 @@ pub fn copy<'a, S: Shelf, O: Sink>(
 ) -> Result<(), Halt<'a>>
     requires digits { digits ≤ 6 }
     ensures meets { MeetsOn S.Shelf O.Sink (copy_task digits limits.now from.now to.now) (shelf.old, out.old) (shelf.new, out.new) (halted result) }
-    ensures words { IfErr result (λ halt. IsTrue (is_past_words halt)) }
+    ensures halts { IfErr result (IsHaltOfCopy from.now to.now) }
+    ensures mesh_back { GivesReadable digits limits.now from.now }
     ensures back { (files : Files) → All (WritesReadable digits limits.now) (copy_task digits limits.now from.now to.now files).actions }
 {
     let read = ask(alloc, from, digits, limits, shelf)?;

@@ -1,10 +1,10 @@
 // The files of a command: what stops at one of them carries its name.
-ghost use Rattle.std.specs.Prelude.{◌≡◌, ◌≤◌, false, IsTrue, IfErr};
+ghost use Rattle.std.specs.Prelude.{◌≡◌, ◌≤◌, false, IfErr};
 ghost use Rattle.mesh_terms.specs.Limits.{IsLawful};
 ghost use Rattle.play_terms.specs.Commands.{ask_mesh, write_mesh};
 ghost use Rattle.mb_outside.specs.Seen.{MeetsOnShelf};
 ghost use Rattle.mesh_files.specs.Stops.{soup_with};
-ghost use Rattle.report_lines.specs.Halts.{halted, halted_by, is_past_words, is_unsaid};
+ghost use Rattle.report_lines.specs.Halts.{IsUnreadAt, IsUnwrittenAt, halted, halted_by, is_unsaid};
 
 use mb_base::Limits;
 use mb_outside::Shelf;
@@ -23,7 +23,7 @@ pub fn ask<'a, S: Shelf>(
 ) -> Result<Read, Halt<'a>>
     requires digits { digits ≤ 6 }
     ensures meets { MeetsOnShelf S.Shelf (ask_mesh digits limits.now name.now) shelf.old shelf.new (halted_by soup_with result) }
-    ensures words { IfErr result (λ halt. IsTrue (is_past_words halt)) }
+    ensures unread { IfErr result (IsUnreadAt name.now) }
     ensures unsaid { IfErr result (λ halt. is_unsaid halt ≡ false) }
     ensures lawful { IsLawful limits.now }
 {
@@ -42,7 +42,7 @@ pub fn write<'a, S: Shelf>(
 ) -> Result<(), Halt<'a>>
     requires digits { digits ≤ 6 }
     ensures meets { MeetsOnShelf S.Shelf (write_mesh digits name.now mesh.now.points mesh.now.triples) shelf.old shelf.new (halted result) }
-    ensures words { IfErr result (λ halt. IsTrue (is_past_words halt)) }
+    ensures unwritten { IfErr result (IsUnwrittenAt name.now) }
 {
     match save_mesh(mesh, name, digits, shelf) {
         Ok(()) => Ok(()),

@@ -5,8 +5,16 @@
 //! streams.
 #![tactic(auto)]
 
-ghost use Rattle.std.specs.Prelude.{◌≡◌, ◌<◌, ◌^◌, ◌-◌, ◌⊎◌, IfErr};
+ghost use Rattle.std.specs.Prelude.{◌≡◌, ◌<◌, ◌^◌, ◌-◌, ◌↔◌, ◌⊎◌, [], None, IfOk, IfErr};
 ghost use Rattle.std.specs.IoError.{error_kind};
+ghost use Rattle.play_terms.specs.Ends.{why_line, why_status};
+ghost use Rattle.play_terms.specs.Lines.{usage};
+ghost use Rattle.play_terms.specs.Words.{command};
+ghost use Rattle.mb_outside.specs.Seen.{on_output};
+ghost use Rattle.mesh_files.specs.Stops.{why_of};
+ghost use Rattle.report_lines.specs.Reports.{IsReported};
+ghost use Rattle.manifold_tool.specs.Playing.{TellsEnd};
+ghost use Rattle.manifold_tool.specs.Statuses.{status_number};
 
 mod copy;
 mod files;
@@ -58,7 +66,7 @@ fn stop_of(error: io::Error) -> Stop
     }
 }
 
-// The program over the current folder, which counts its steps for nobody.
+// The program over the current folder, which counts its steps for nobody. What the folder holds can't be told, but the status and `err` can.
 fn start_here<R: Files, O: Sink, E: Sink, L: Ledger>(
     rt: &R,
     alloc: Global,
@@ -72,6 +80,12 @@ fn start_here<R: Files, O: Sink, E: Sink, L: Ledger>(
     requires name { blank.name ≡ L.name }
     requires parts { blank.parts ≡ L.parts }
     requires some { 0 < blank.parts }
+    ensures usage { IfOk words (λ words. (result ≡ Status.Usage) ↔ (command words ≡ None)) }
+    ensures refused { IfOk words (λ _. result ≡ Status.Usage → IsReported usage.line (on_output E.Sink err.old) (on_output E.Sink err.new)) }
+    ensures told { IfOk words (λ _. TellsEnd E.Sink err.old err.new (status_number result)) }
+    ensures quiet { IfOk words (λ _. result ≡ Status.Done → err.new ≡ err.old) }
+    ensures status { IfErr words (λ stop. status_number result ≡ why_status (why_of [] stop)) }
+    ensures report { IfErr words (λ stop. IsReported (why_line (why_of [] stop)) (on_output E.Sink err.old) (on_output E.Sink err.new)) }
 {
     let mut shelf = FolderShelf::of(rt);
     let mut steps = Steps::<L>::over(blank);

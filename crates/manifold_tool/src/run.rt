@@ -3,7 +3,7 @@ ghost use Rattle.std.specs.Prelude.{◌≡◌, ◌≤◌, ◌<◌, ◌+◌, ℕ,
 ghost use Rattle.play_terms.specs.Commands.{play};
 ghost use Rattle.play_terms.specs.Ends.{ended_line, ended_status};
 ghost use Rattle.play_terms.specs.Lines.{usage};
-ghost use Rattle.play_terms.specs.ReadingBack.{WritesReadable, digits_in};
+ghost use Rattle.play_terms.specs.ReadingBack.{CopiesReadable, WritesReadable, digits_in};
 ghost use Rattle.play_terms.specs.Words.{IsCopy, IsInside, command};
 ghost use Rattle.run_terms.specs.Files.{Bytes, Files};
 ghost use Rattle.mb_outside.specs.Seen.{on_output};
@@ -53,10 +53,11 @@ fn concluded<E: Sink>(ended: Result<(), Halt<'_>>, err: &mut E) -> Status
 /// line are those of the play's result; with 6 a file could not be read, with 7 a file or a line was written in part or not at
 /// all, and with 8 memory ran out between two actions. So a run whose play gives no refusal, and in which no fault came, ends with 0, or for want
 /// of memory. Whatever the files and however the run ended, each file that the play writes holds the text of a mesh, and the mesh is read of it
-/// under the same digits and limits.
+/// under the same digits and limits; for a copy this mesh is the one that was read of IN, without its unused points.
 ///
 /// The read faults of the shelf rise with status 6 alone, its write faults and the faults of `out` with 7 alone, and one of the two does. With
-/// 6 the read faults rose, or the shelf tells no files and a read into some space gave nothing below the size that was stated.
+/// 6 the read faults rose, or the shelf tells no files and a read into some space gave nothing below the size that was stated. The shelf
+/// counts such reads apart, and this count rises then, but where it stands at 2^64 - 1, its last value, it stays.
 pub fn run<S: Shelf, O: Sink, E: Sink, L: Ledger>(
     alloc: Global,
     words: &ArgList,
@@ -77,6 +78,7 @@ pub fn run<S: Shelf, O: Sink, E: Sink, L: Ledger>(
     ensures play { RunMeets S.Shelf O.Sink E.Sink limits.now words.now (shelf.old, out.old, err.old) (shelf.new, out.new, err.new) (status_number result) }
     ensures counts { RiseOn S.Shelf O.Sink (shelf.old, out.old) (shelf.new, out.new) (status_number result) }
     ensures complete { IsUntroubled S.Shelf O.Sink limits.now words.now (shelf.old, out.old) (shelf.new, out.new) → IsDoneOrStarved result }
+    ensures mesh_back { CopiesReadable limits.now (command words.now) }
     ensures back { (files : Files) → All (WritesReadable (digits_in (command words.now)) limits.now) (play meanings limits.now words.now files).actions }
     ensures copies_uncounted { IsCopy (command words.now) → steps.new ≡ steps.old }
     ensures counted { IsInside (command words.now) → result ≡ Status.Done → steps.new ≡ steps.old + 1 }

@@ -1,12 +1,16 @@
 // The start of the program, over any shelf and any outputs.
-ghost use Rattle.std.specs.Prelude.{◌≡◌, ◌<◌, ◌^◌, ◌-◌, ◌↔◌, [], None, IfOk, IfErr};
+ghost use Rattle.std.specs.Prelude.{◌≡◌, ◌≤◌, ◌<◌, ◌+◌, ◌^◌, ◌-◌, ◌↔◌, [], None, All, IfOk, IfErr};
+ghost use Rattle.play_terms.specs.Commands.{play};
 ghost use Rattle.play_terms.specs.Ends.{why_line, why_status};
-ghost use Rattle.play_terms.specs.Words.{command};
+ghost use Rattle.play_terms.specs.Lines.{usage};
+ghost use Rattle.play_terms.specs.ReadingBack.{CopiesReadable, WritesReadable, digits_in};
+ghost use Rattle.play_terms.specs.Words.{IsCopy, IsInside, command};
+ghost use Rattle.run_terms.specs.Files.{Files};
 ghost use Rattle.mb_outside.specs.Seen.{on_output};
 ghost use Rattle.mesh_files.specs.Stops.{why_of};
 ghost use Rattle.report_lines.specs.Reports.{IsReported};
-ghost use Rattle.manifold_tool.specs.Playing.{ProgramMeets, RiseOn};
-ghost use Rattle.manifold_tool.specs.Statuses.{status_number};
+ghost use Rattle.manifold_tool.specs.Playing.{IsUntroubled, ProgramMeets, RiseOn, meanings, program_limits};
+ghost use Rattle.manifold_tool.specs.Statuses.{IsDoneOrStarved, status_number};
 
 use crate::run::run;
 use crate::status::{Status, status_at};
@@ -18,8 +22,8 @@ use std::alloc::Global;
 use std::sync::ledger::Ledger;
 use steps::Steps;
 
-/// Runs the program on its words, under its limits. Where the words could not be had, it tells why on `err`, and does nothing else: they
-/// are no text, which is `Usage`, or there was no memory for them.
+/// Runs the program on its words, under its limits, as `run` does. Where the words could not be had, it tells why on `err`, and does
+/// nothing else: they are no text, which is `Usage`, or there was no memory for them.
 pub fn start<S: Shelf, O: Sink, E: Sink, L: Ledger>(
     alloc: Global,
     words: Result<ArgList, Stop>,
@@ -35,10 +39,22 @@ pub fn start<S: Shelf, O: Sink, E: Sink, L: Ledger>(
     ensures usage { IfOk words (λ words. (result ≡ Status.Usage) ↔ (command words ≡ None)) }
     ensures play { IfOk words (λ words.
         ProgramMeets S.Shelf O.Sink E.Sink words (shelf.old, out.old, err.old) (shelf.new, out.new, err.new) (status_number result)) }
+    ensures refused { IfOk words (λ _. result ≡ Status.Usage → IsReported usage.line (on_output E.Sink err.old) (on_output E.Sink err.new)) }
+    ensures untouched { IfOk words (λ _. result ≡ Status.Usage → (shelf.new ≡ shelf.old) × (out.new ≡ out.old)) }
+    ensures quiet { IfOk words (λ _. result ≡ Status.Done → err.new ≡ err.old) }
     ensures counts { IfOk words (λ _. RiseOn S.Shelf O.Sink (shelf.old, out.old) (shelf.new, out.new) (status_number result)) }
+    ensures complete { IfOk words (λ words.
+        IsUntroubled S.Shelf O.Sink program_limits words (shelf.old, out.old) (shelf.new, out.new) → IsDoneOrStarved result) }
+    ensures mesh_back { IfOk words (λ words. CopiesReadable program_limits (command words)) }
+    ensures back { IfOk words (λ words. (files : Files) →
+        All (WritesReadable (digits_in (command words)) program_limits) (play meanings program_limits words files).actions) }
+    ensures copies_uncounted { IfOk words (λ words. IsCopy (command words) → steps.new ≡ steps.old) }
+    ensures counted { IfOk words (λ words. IsInside (command words) → result ≡ Status.Done → steps.new ≡ steps.old + 1) }
+    ensures most { IfOk words (λ _. steps.new ≤ steps.old + 1) }
+    ensures uncounted { IfOk words (λ _. (result ≡ Status.Done → ⊥) → (result ≡ Status.WriteFault → ⊥) → steps.new ≡ steps.old) }
     ensures status { IfErr words (λ stop. status_number result ≡ why_status (why_of [] stop)) }
     ensures report { IfErr words (λ stop. IsReported (why_line (why_of [] stop)) (on_output E.Sink err.old) (on_output E.Sink err.new)) }
-    ensures untouched { IfErr words (λ _. (shelf.new ≡ shelf.old) × (out.new ≡ out.old)) }
+    ensures alone { IfErr words (λ _. (shelf.new ≡ shelf.old) × (out.new ≡ out.old) × (steps.new ≡ steps.old)) }
 {
     match words {
         Ok(words) => run(alloc, &words, &Limits::program(), shelf, out, err, steps),

@@ -15,7 +15,8 @@ pub record OnShelf : Type 0 where
   pub write : ℕ
 
 abbrev pub on_shelf : {S : Type 0} → OfShelf S → S → OnShelf
-on_shelf s shelf = record { tells = s.tells shelf; files = s.files shelf; read = s.read_faults shelf; short = s.short_reads shelf; write = s.write_faults shelf }
+on_shelf s shelf =
+    record { tells = s.tells shelf; files = s.files shelf; read = s.read_faults shelf; short = s.short_reads shelf; write = s.write_faults shelf }
 
 -- a shelf, with an output that holds these bytes and failed so often
 abbrev pub seen : OnShelf → Option Bytes → ℕ → Seen

@@ -18,7 +18,7 @@ pub struct Failed;
 /// last value that it can have.
 ///
 /// A shelf that tells no files may give nothing of a file at a place below the size that it stated. It
-/// remembers the size that it stated last, and counts such reads apart.
+/// remembers the size that it stated last, of whatever file, and counts such reads apart.
 ///
 /// A shelf may also tell a spare: a file that it holds, and a number of bytes that it has room for
 /// there. Such a shelf tells its files, and doesn't fail where it reads, where it begins that file,
@@ -36,7 +36,8 @@ pub trait Shelf {
     /// How often `begin` and `append` failed.
     ghost write_faults: { Self → ℕ };
 
-    /// The size that was stated last, where no files are told; 0 where the last answer was None.
+    /// The size that was stated last, of whatever file, where no files are told; 0 where the last answer was
+    /// None. A call of `size` that fails and all other calls leave it.
     ghost stated: { Self → ℕ };
 
     /// How often a read into a buffer that is not empty gave nothing at a place below that size.
@@ -53,6 +54,7 @@ pub trait Shelf {
         ensures length { IfOk result (λ answer. IsTrue (tells self.old) →
             answer ≡ length_of (files self.old name.now)) }
         ensures stated { IfOk result (λ answer. tells self.old ≡ false → stated self.new ≡ size_in answer) }
+        ensures unstated { OnErr result (stated self.new ≡ stated self.old) }
         ensures told { tells self.new ≡ tells self.old }
         ensures files { files self.new ≡ files self.old }
         ensures reads { Counts (read_faults self.old) (read_faults self.new) result }
@@ -96,6 +98,7 @@ pub trait Shelf {
         ensures others { IsTrue (tells self.old) → OthersStay name.now (files self.old) (files self.new) }
         ensures told { tells self.new ≡ tells self.old }
         ensures reads { read_faults self.new ≡ read_faults self.old }
+        ensures stated { stated self.new ≡ stated self.old }
         ensures short { short_reads self.new ≡ short_reads self.old }
         ensures writes { Counts (write_faults self.old) (write_faults self.new) result }
         ensures spare { spare self.new ≡ spare self.old }
@@ -118,6 +121,7 @@ pub trait Shelf {
         ensures others { IsTrue (tells self.old) → OthersStay name.now (files self.old) (files self.new) }
         ensures told { tells self.new ≡ tells self.old }
         ensures reads { read_faults self.new ≡ read_faults self.old }
+        ensures stated { stated self.new ≡ stated self.old }
         ensures short { short_reads self.new ≡ short_reads self.old }
         ensures writes { Counts (write_faults self.old) (write_faults self.new) result }
         ensures sure { (room : ℕ) → spare self.old ≡ Some (name.now, room) →

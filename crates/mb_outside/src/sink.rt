@@ -22,10 +22,11 @@ pub trait Sink {
     /// How often a write failed.
     ghost faults: { Self → ℕ };
 
-    /// A number that no write changes.
+    /// How often reading of the shelf failed, where the sink is a file of one, and else 0. No write changes it.
     ghost other: { Self → ℕ };
 
-    /// A second number that no write changes.
+    /// How often a read of the shelf gave nothing below the size that it stated, where the sink is a file of one, and else 0. No
+    /// write changes it.
     ghost second: { Self → ℕ };
 
     /// A name with files, which no write changes, where they are told.

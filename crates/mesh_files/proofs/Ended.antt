@@ -1,13 +1,13 @@
 -- Calls of a shelf that met the asking for a file, or the writing of one.
-use Rattle.std.proofs.Common.{◌≡◌, ℕ, List, [], ◌∷◌, Bool, false, Option, Result, Ok, Err, IsTrue, IfOk, IfErr, OnOk, ◌⊎◌, inl, inr, ap, sym, subst, refl, ◌∙◌, ℤ}
+use Rattle.std.proofs.Common.{◌≡◌, ℕ, List, [], false, Option, Result, Ok, Err, IsTrue, IfOk, IfErr, OnOk, ◌⊎◌, inl, inr, ap, sym, subst, refl, ◌∙◌, ℤ}
 use Rattle.mesh_terms.specs.Limits.{Limits}
 use Rattle.mesh_terms.specs.Meshes.{Triple}
 use Rattle.obj_terms.specs.Obj.{obj}
 use Rattle.obj_terms.specs.Written.{obj_text}
 use Rattle.run_terms.specs.Files.{Bytes, Files, Grew, put}
-use Rattle.run_terms.specs.Runs.{World, Write, Partial, done_all}
-use Rattle.run_terms.specs.Tasks.{Refusal, take}
-use Rattle.run_terms.specs.Meets.{Why, Refused, Unread, Unwritten, Starved, ReadRose, Seen, Meets}
+use Rattle.run_terms.specs.Runs.{World, Write, Partial}
+use Rattle.run_terms.specs.Tasks.{Refusal, give}
+use Rattle.run_terms.specs.Meets.{Why, Unread, Unwritten, Starved, Seen, Meets}
 use Rattle.play_terms.specs.Commands.{ask_file, ask_mesh, bytes_in, checked, write_mesh}
 use Rattle.mb_outside.specs.Seen.{OnShelf, ShelfMeets, seen}
 use Rattle.mesh_files.specs.Stops.{ended_by, soup_with, why_of}
@@ -17,7 +17,7 @@ use Rattle.mesh_files.proofs.Saved.{IsSavedInPart}
 use Rattle.run_laws.proofs.Tasks.{meets_then, meets_stop, meets_starved}
 
 -- a value or a refusal that was to be had
-pub taken : {A : Type 0} (result : Result A Refusal) (a : A) (now : Seen) → result ≡ Ok a → Meets (take result) now now (Ok a)
+pub taken : {A : Type 0} (result : Result A Refusal) (a : A) (now : Seen) → result ≡ Ok a → Meets (give result) now now (Ok a)
 taken result a now is = record { tells = refl; faults = refl; does = λ told. record { gives = is; all_done = refl } }
 
 abbrev world_of : Files → Option Bytes → World
@@ -64,17 +64,17 @@ file_read value limits name before mid now (Err stop) same stays is meets = met_
 
 -- a mesh was read or not, after its file
 pub mesh_read : (k : ℕ) (limits : Limits) (name bytes : Bytes) (before now : OnShelf) (r : Result Read Stop)
-    → ShelfMeets (ask_file limits name) before now (Ok bytes) → ((now : Seen) → Meets (take (checked name (obj k limits bytes))) now now (ended_by soup_with name r))
+    → ShelfMeets (ask_file limits name) before now (Ok bytes) → ((now : Seen) → Meets (give (checked name (obj k limits bytes))) now now (ended_by soup_with name r))
     → ShelfMeets (ask_mesh k limits name) before now (ended_by soup_with name r)
 mesh_read k limits name bytes before now r file mesh told outs =
-    meets_then (ask_file limits name) (λ bytes. take (checked name (obj k limits bytes))) bytes (ended_by soup_with name r) (seen before told outs) (seen now told outs) (seen now told outs)
+    meets_then (ask_file limits name) (λ bytes. give (checked name (obj k limits bytes))) bytes (ended_by soup_with name r) (seen before told outs) (seen now told outs) (seen now told outs)
     (file told outs) (mesh (seen now told outs))
 
 -- a mesh was not read, since its file was not
 pub mesh_unread : (k : ℕ) (limits : Limits) (name : Bytes) (before now : OnShelf) (stop : Stop)
     → ShelfMeets (ask_file limits name) before now (Err (why_of name stop)) → ShelfMeets (ask_mesh k limits name) before now (Err (why_of name stop))
 mesh_unread k limits name before now stop file told outs =
-    meets_stop (ask_file limits name) (λ bytes. take (checked name (obj k limits bytes))) (why_of name stop) (seen before told outs) (seen now told outs) (file told outs)
+    meets_stop (ask_file limits name) (λ bytes. give (checked name (obj k limits bytes))) (why_of name stop) (seen before told outs) (seen now told outs) (file told outs)
 
 -- a file that was saved in part left a part of the writing
 saved_in_part : (name text : Bytes) (fw fv : Files) (told : Option Bytes) → IsSavedInPart name text fw fv

@@ -3,7 +3,7 @@ ghost use Rattle.std.specs.Prelude.{◌≡◌, ◌≤◌, ◌<◌, ◌+◌, ◌�
 ghost use Rattle.mesh_terms.specs.Limits.{IsLawful};
 ghost use Rattle.run_terms.specs.Files.{Bytes, text_of, Counts, CountsShort, IsShort, Grew};
 ghost use Rattle.run_terms.specs.Meets.{Seen, Meets};
-ghost use Rattle.run_terms.specs.Tasks.{take as give};
+ghost use Rattle.run_terms.specs.Tasks.{give};
 ghost use Rattle.obj_terms.specs.Obj.{obj};
 ghost use Rattle.play_terms.specs.Commands.{ask_file, ask_mesh, checked};
 ghost use Rattle.mb_outside.specs.Seen.{MeetsOnShelf, on_shelf};
@@ -146,8 +146,9 @@ fn mesh_of_text(alloc: Global, bytes: &[u8], digits: u8, limits: &Limits) -> Res
 
 /// Reads a mesh from a file of a shelf, where a unit has `digits` decimal digits on the grid: the file, as `read_file` does, then
 /// its text, and then whether the mesh is closed. After the stops of `read_file` come those of the text, first line first: a line that is
-/// wrong, or a count of points or triangles past its limit; and then the least edge without its reverse. It takes
-/// memory for the file's bytes and the mesh.
+/// wrong, or a count of points or triangles past its limit; and then the least edge without its reverse. Where a read gave nothing
+/// below the size that was stated, the shelf's count of such reads rises, but where it stands at 2^64 - 1, its last value, it stays. It
+/// takes memory for the file's bytes and the mesh.
 pub fn read_mesh<S: Shelf>(
     alloc: Global,
     name: &str,

@@ -3,6 +3,7 @@ use Rattle.std.specs.Prelude.{◌≡◌, ℕ, ◌+◌, ◌-◌, ◌≤◌, ◌++
 use Rattle.std.specs.Option.{option_map}
 use Rattle.run_terms.specs.Files.{Bytes}
 use Rattle.mb_outside.specs.Sinks.{AddsPart}
+use Rattle.mb_outside.specs.declared.sink.Sink.{Ghosts as OfSink}
 
 -- the sink took what the page held and a first part of the text, and the page holds the rest
 pub record Passed (text held_old held_new : Bytes) (told_old told_new : Option Bytes) (room_old room_new : Option ℕ) : Type 0 where
@@ -15,3 +16,11 @@ pub record Passed (text held_old held_new : Bytes) (told_old told_new : Option B
 pub record Stopped (text held_old : Bytes) (told_old told_new : Option Bytes) (room_old : Option ℕ) : Type 0 where
   pub told : AddsPart (held_old ++ text) told_old told_new
   pub small : (free : ℕ) → room_old ≡ Some free → length held_old + length text ≤ free → ⊥
+
+-- the first, of what a page held before and holds now, and of a sink of any type before and now
+abbrev pub PassedOn : {K : Type 0} → OfSink K → Bytes → Bytes × Bytes → K × K → Type 0
+PassedOn k text held sink = Passed text held.0 held.1 (k.told sink.0) (k.told sink.1) (k.room sink.0) (k.room sink.1)
+
+-- the second, of what a page held, and of a sink of any type before and now
+abbrev pub StoppedOn : {K : Type 0} → OfSink K → Bytes → Bytes → K × K → Type 0
+StoppedOn k text held sink = Stopped text held (k.told sink.0) (k.told sink.1) (k.room sink.0)

@@ -7,7 +7,7 @@ ghost use Rattle.run_terms.specs.Files.{Counts};
 ghost use Rattle.mesh_terms.specs.Meshes.{triple_of};
 ghost use Rattle.obj_terms.specs.Written.{point_line, face_line, obj_text};
 ghost use Rattle.mb_outside.specs.Sinks.{AddsPart};
-ghost use Rattle.mesh_writer.specs.Passing.{Passed, Stopped};
+ghost use Rattle.mesh_writer.specs.Passing.{PassedOn, StoppedOn};
 
 use crate::lines::{put_face, put_point};
 use crate::page::{Page, send_full};
@@ -24,8 +24,8 @@ fn write_points<K: Sink>(
 ) -> Result<(), Failed>
     requires digits { digits ≤ 6 }
     requires free { array_vec_len page.old ≤ 3968 }
-    ensures passed { OnOk result (Passed (flat_map (point_line digits) points.now) page.old.items page.new.items (K.told sink.old) (K.told sink.new) (K.room sink.old) (K.room sink.new)) }
-    ensures stopped { OnErr result (Stopped (flat_map (point_line digits) points.now) page.old.items (K.told sink.old) (K.told sink.new) (K.room sink.old)) }
+    ensures passed { OnOk result (PassedOn K.Sink (flat_map (point_line digits) points.now) (page.old.items, page.new.items) (sink.old, sink.new)) }
+    ensures stopped { OnErr result (StoppedOn K.Sink (flat_map (point_line digits) points.now) page.old.items (sink.old, sink.new)) }
     ensures free { OnOk result (array_vec_len page.new ≤ 3968) }
     ensures idle { points.now ≡ [] → (sink.new ≡ sink.old) × (page.new.items ≡ page.old.items) }
     ensures count { Counts (K.faults sink.old) (K.faults sink.new) result }
@@ -44,8 +44,8 @@ fn write_points<K: Sink>(
 // Writes the lines of the triangles.
 fn write_faces<K: Sink>(triples: &[[u32; 3]], page: &mut Page, sink: &mut K) -> Result<(), Failed>
     requires { array_vec_len page.old ≤ 3968 }
-    ensures passed { OnOk result (Passed (flat_map (λ t. face_line (triple_of t)) triples.now) page.old.items page.new.items (K.told sink.old) (K.told sink.new) (K.room sink.old) (K.room sink.new)) }
-    ensures stopped { OnErr result (Stopped (flat_map (λ t. face_line (triple_of t)) triples.now) page.old.items (K.told sink.old) (K.told sink.new) (K.room sink.old)) }
+    ensures passed { OnOk result (PassedOn K.Sink (flat_map (λ t. face_line (triple_of t)) triples.now) (page.old.items, page.new.items) (sink.old, sink.new)) }
+    ensures stopped { OnErr result (StoppedOn K.Sink (flat_map (λ t. face_line (triple_of t)) triples.now) page.old.items (sink.old, sink.new)) }
     ensures idle { triples.now ≡ [] → (sink.new ≡ sink.old) × (page.new.items ≡ page.old.items) }
     ensures count { Counts (K.faults sink.old) (K.faults sink.new) result }
     ensures other { K.other sink.new ≡ K.other sink.old }

@@ -14,12 +14,12 @@ use Rattle.obj_laws.proofs.ReadMeshes.{files_give_meshes}
 use Rattle.obj_laws.proofs.SavedMeshes.{meshes_read_back}
 use Rattle.run_terms.specs.Files.{Bytes}
 use Rattle.run_terms.specs.Runs.{Ask, Write, Say}
-use Rattle.run_terms.specs.Tasks.{Refusal, take, joined}
+use Rattle.run_terms.specs.Tasks.{Refusal, give, joined}
 use Rattle.run_laws.specs.Keeping.{Keeps}
-use Rattle.run_laws.proofs.Keeping.{keeps_take, keeps_act, keeps_then}
-use Rattle.play_terms.specs.Commands.{Meanings, ask_file, ask_mesh, bytes_in, checked, command_task, copied_task, copy_task, if_closed, inside_task, say, winding_task, write_mesh}
+use Rattle.run_laws.proofs.Keeping.{keeps_give, keeps_act, keeps_then}
+use Rattle.play_terms.specs.Commands.{Meanings, ask_file, ask_mesh, bytes_in, checked, command_task, copied_task, copy_task, if_closed, inside_task, say_line, winding_task, write_mesh}
 use Rattle.play_terms.specs.Lines.{copied_line, over, usage, winding_line}
-use Rattle.play_terms.specs.ReadingBack.{IsReadable, WritesReadable, as_saved}
+use Rattle.play_terms.specs.ReadingBack.{GivesReadable, IsReadable, WritesReadable, as_saved}
 
 -- a mesh that was taken had no open pair
 taken_closed : (name : Bytes) (s soup : Soup) (pair : Option (ℕ × ℕ)) → if_closed name s pair ≡ Ok soup → (s ≡ soup) × (pair ≡ None)
@@ -38,7 +38,7 @@ taken_checked name (Ok s) soup is =
 text_is_taken : (k : ℕ) (limits : Limits) (m : Soup) → ReadsBack k limits m.points m.triples → open_pair (all_edges m.triples) ≡ None → IsReadable k limits m
 text_is_taken k limits m back closed name files is =
     let text = obj_text k m.points m.triples in
-    let read : Result Bytes Refusal → Result Soup Refusal = λ r. (joined (Ask name ∷ []) r (λ bytes. take (checked name (obj k limits bytes)) files)).result in
+    let read : Result Bytes Refusal → Result Soup Refusal = λ r. (joined (Ask name ∷ []) r (λ bytes. give (checked name (obj k limits bytes)) files)).result in
     let short = le-ltb limits.file_bytes (length text) back.fits in
     ap (λ file. read (bytes_in limits name file)) is
     ∙ ap (λ b. read (cond b (Err (over FileBytes (length text))) (Ok text))) short
@@ -59,17 +59,21 @@ asked k limits name = record { actions = λ files. All-cons (WritesReadable k li
 -- the mesh that is read is read again where it is written
 pub mesh_asked : (k : ℕ) (limits : Limits) (name : Bytes) → k ≤ 6 → IsLawful limits → Keeps (WritesReadable k limits) (IsReadable k limits) (ask_mesh k limits name)
 mesh_asked k limits name few lawful =
-    keeps_then (WritesReadable k limits) (λ _. Unit {0}) (IsReadable k limits) (ask_file limits name) (λ bytes. take (checked name (obj k limits bytes))) (asked k limits name)
-    (λ bytes _. keeps_take (WritesReadable k limits) (IsReadable k limits) (checked name (obj k limits bytes)) (λ m is. read_again k limits name bytes m few lawful is))
+    keeps_then (WritesReadable k limits) (λ _. Unit {0}) (IsReadable k limits) (ask_file limits name) (λ bytes. give (checked name (obj k limits bytes))) (asked k limits name)
+    (λ bytes _. keeps_give (WritesReadable k limits) (IsReadable k limits) (checked name (obj k limits bytes)) (λ m is. read_again k limits name bytes m few lawful is))
+
+-- whatever the files, a mesh that is read of one is read again where it is written
+pub mesh_given : (k : ℕ) (limits : Limits) (name : Bytes) → k ≤ 6 → IsLawful limits → GivesReadable k limits name
+mesh_given k limits name few lawful = (mesh_asked k limits name few lawful).value
 
 -- a line
-said : (k : ℕ) (limits : Limits) (line : Bytes) → Keeps (WritesReadable k limits) (λ _. Unit {0}) (say line)
+said : (k : ℕ) (limits : Limits) (line : Bytes) → Keeps (WritesReadable k limits) (λ _. Unit {0}) (say_line line)
 said k limits line = keeps_act (WritesReadable k limits) (Say line) tt
 
 -- a mesh that is read again is written and told
 mesh_copied : (k : ℕ) (limits : Limits) (to : Bytes) (m : Soup) → IsReadable k limits m → Keeps (WritesReadable k limits) (λ _. Unit {0}) (copied_task k to m)
 mesh_copied k limits to m readable =
-    keeps_then (WritesReadable k limits) (λ _. Unit {0}) (λ _. Unit {0}) (write_mesh k to m.points m.triples) (λ _. say (copied_line to m))
+    keeps_then (WritesReadable k limits) (λ _. Unit {0}) (λ _. Unit {0}) (write_mesh k to m.points m.triples) (λ _. say_line (copied_line to m))
     (keeps_act (WritesReadable k limits) (Write to (obj_text k m.points m.triples)) (m, refl, readable))
     (λ _ _. said k limits (copied_line to m))
 
@@ -87,4 +91,4 @@ inside_keeps k meanings limits name point few lawful =
 
 -- words of no command write nothing
 pub refused_keeps : (k : ℕ) (meanings : Meanings) (limits : Limits) → Keeps (WritesReadable k limits) (λ _. Unit {0}) (command_task meanings limits None)
-refused_keeps k meanings limits = keeps_take (WritesReadable k limits) (λ _. Unit {0}) (Err usage) (λ a is. tt)
+refused_keeps k meanings limits = keeps_give (WritesReadable k limits) (λ _. Unit {0}) (Err usage) (λ a is. tt)

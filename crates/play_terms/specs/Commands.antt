@@ -9,7 +9,7 @@ use Rattle.obj_terms.specs.Obj.{obj}
 use Rattle.obj_terms.specs.Written.{obj_text}
 use Rattle.run_terms.specs.Files.{Bytes}
 use Rattle.run_terms.specs.Runs.{Ask, Write, Say}
-use Rattle.run_terms.specs.Tasks.{Refusal, Task, take, act, then_task}
+use Rattle.run_terms.specs.Tasks.{Refusal, Task, give, act, then_task}
 use Rattle.play_terms.specs.Lines.{usage, missing, over, fault_refusal, open_refusal, copied_line, winding_line}
 use Rattle.play_terms.specs.Words.{Command, CopyFile, InsideFile, command}
 
@@ -38,32 +38,32 @@ ask_file limits name files = record { actions = Ask name ∷ []; result = bytes_
 
 -- a mesh is read under k digits: a file, and then its text and its edges
 abbrev pub ask_mesh : ℕ → Limits → Bytes → Task Soup
-ask_mesh k limits name = then_task (ask_file limits name) (λ bytes. take (checked name (obj k limits bytes)))
+ask_mesh k limits name = then_task (ask_file limits name) (λ bytes. give (checked name (obj k limits bytes)))
 
 -- the text of a mesh is written under k digits
 abbrev pub write_mesh : ℕ → Bytes → List (List ℤ) → List Triple → Task (Unit {0})
 write_mesh k name points triples = act (Write name (obj_text k points triples))
 
-abbrev pub say : Bytes → Task (Unit {0})
-say line = act (Say line)
+abbrev pub say_line : Bytes → Task (Unit {0})
+say_line line = act (Say line)
 
 -- a mesh is written and told
 abbrev pub copied_task : ℕ → Bytes → Soup → Task (Unit {0})
-copied_task k to m = then_task (write_mesh k to m.points m.triples) (λ _. say (copied_line to m))
+copied_task k to m = then_task (write_mesh k to m.points m.triples) (λ _. say_line (copied_line to m))
 
 abbrev pub copy_task : ℕ → Limits → Bytes → Bytes → Task (Unit {0})
 copy_task k limits from to = then_task (ask_mesh k limits from) (copied_task k to)
 
 -- the winding number of a point is told
 abbrev pub winding_task : Meanings → List ℤ → Soup → Task (Unit {0})
-winding_task meanings p m = say (winding_line (meanings.winding p m))
+winding_task meanings p m = say_line (winding_line (meanings.winding p m))
 
 abbrev pub inside_task : ℕ → Meanings → Limits → Bytes → List ℤ → Task (Unit {0})
 inside_task k meanings limits name p = then_task (ask_mesh k limits name) (winding_task meanings p)
 
 -- the task of a command; words of no command are refused
 abbrev pub command_task : Meanings → Limits → Option Command → Task (Unit {0})
-command_task meanings limits None = take (Err usage)
+command_task meanings limits None = give (Err usage)
 command_task meanings limits (Some (CopyFile k from to)) = copy_task k limits from to
 command_task meanings limits (Some (InsideFile k file p)) = inside_task k meanings limits file p
 

@@ -14,7 +14,12 @@ as_saved m = record { points = m.points; triples = m.triples; unused = 0 }
 
 -- wherever a file holds the text of the mesh, the mesh is read of it
 abbrev pub IsReadable : ℕ → Limits → Soup → Type 0
-IsReadable k limits m = (name : Bytes) (files : Files) → files name ≡ Some (obj_text k m.points m.triples) → (ask_mesh k limits name files).result ≡ Ok (as_saved m)
+IsReadable k limits m =
+    (name : Bytes) (files : Files) → files name ≡ Some (obj_text k m.points m.triples) → (ask_mesh k limits name files).result ≡ Ok (as_saved m)
+
+-- a mesh that is read of the file is read again where its text is written
+abbrev pub GivesReadable : ℕ → Limits → Bytes → Type 0
+GivesReadable k limits name = (files : Files) (m : Soup) → (ask_mesh k limits name files).result ≡ Ok m → IsReadable k limits m
 
 -- what is written is the text of a mesh that is read of it
 abbrev pub WritesReadable : ℕ → Limits → Action → Type 0
@@ -27,3 +32,9 @@ abbrev pub digits_in : Option Command → ℕ
 digits_in None = 4
 digits_in (Some (CopyFile k from to)) = k
 digits_in (Some (InsideFile k file p)) = k
+
+-- the mesh that a command copies is read again where its text is written
+abbrev pub CopiesReadable : Limits → Option Command → Type 0
+CopiesReadable limits None = Unit {0}
+CopiesReadable limits (Some (CopyFile k from to)) = GivesReadable k limits from
+CopiesReadable limits (Some (InsideFile k file p)) = Unit {0}

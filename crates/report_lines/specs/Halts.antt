@@ -1,8 +1,9 @@
 -- Where a command stopped.
-use Rattle.std.specs.Prelude.{Bool, true, false, Result, Ok, Err}
+use Rattle.std.specs.Prelude.{◌≡◌, ◌⊎◌, Bool, true, false, IsTrue, Result, Ok, Err}
+use Rattle.run_terms.specs.Files.{Bytes}
 use Rattle.run_terms.specs.Meets.{Why, Unsaid, Starved}
-use Rattle.mesh_files.specs.Stops.{why_of}
-use Rattle.mesh_files.specs.declared.stop.Stop.TheVariants.{Usage}
+use Rattle.mesh_files.specs.Stops.{is_reading_stop, why_of}
+use Rattle.mesh_files.specs.declared.stop.Stop.TheVariants.{WriteFault}
 use Rattle.report_lines.specs.declared.halt.Halt.{Halt}
 use Rattle.report_lines.specs.declared.halt.Halt.TheVariants.{At, Reporting, NoMemory}
 
@@ -12,10 +13,25 @@ why_in (At name stop) = why_of name.now stop
 why_in Reporting = Unsaid
 why_in NoMemory = Starved
 
--- the words are not at fault
-abbrev pub is_past_words : Halt → Bool
-is_past_words (At name Usage) = false
-is_past_words _ = true
+-- at the file of this name, as a mesh was read of it
+abbrev pub IsUnreadAt : Bytes → Halt → Type 0
+IsUnreadAt file (At name stop) = (name.now ≡ file) × IsTrue (is_reading_stop stop)
+IsUnreadAt file Reporting = ⊥
+IsUnreadAt file NoMemory = ⊥
+
+-- at the file of this name, as it was written
+abbrev pub IsUnwrittenAt : Bytes → Halt → Type 0
+IsUnwrittenAt file (At name stop) = (name.now ≡ file) × (stop ≡ WriteFault)
+IsUnwrittenAt file Reporting = ⊥
+IsUnwrittenAt file NoMemory = ⊥
+
+-- where a copy may stop: at the file it reads, at the file it writes, or as it reports
+abbrev pub IsHaltOfCopy : Bytes → Bytes → Halt → Type 0
+IsHaltOfCopy from to halt = IsUnreadAt from halt ⊎ (IsUnwrittenAt to halt ⊎ (halt ≡ Reporting))
+
+-- where the search for a winding number may stop: at the file it reads, as it reports, or for want of memory
+abbrev pub IsHaltOfInside : Bytes → Halt → Type 0
+IsHaltOfInside file halt = IsUnreadAt file halt ⊎ ((halt ≡ Reporting) ⊎ (halt ≡ NoMemory))
 
 -- a line could not be said
 abbrev pub is_unsaid : Halt → Bool

@@ -4,7 +4,7 @@ ghost use Rattle.std.specs.Option.{option_map};
 ghost use Rattle.run_terms.specs.Files.{Counts};
 ghost use Rattle.mb_outside.specs.Seen.{MeetsOnOutput, on_output};
 ghost use Rattle.mb_outside.specs.Sinks.{AddsPart};
-ghost use Rattle.play_terms.specs.Commands.{say as saying};
+ghost use Rattle.play_terms.specs.Commands.{say_line};
 ghost use Rattle.play_terms.specs.Ends.{why_line};
 ghost use Rattle.play_terms.specs.Lines.{copied_line, winding_line};
 ghost use Rattle.mesh_files.specs.Stops.{soup_of, why_of};
@@ -31,7 +31,7 @@ fn say<K: Sink>(head: &[u8], name: &[u8], tail: &[u8], sink: &mut K) -> Result<(
 /// Reports a copy: `copied OUT: points P, triangles T, unused U`. After `Failed`, which comes only where the sink's count rose, it
 /// has a first part of the line.
 pub fn say_copied<K: Sink>(to: &str, mesh: &Mesh, unused: u32, sink: &mut K) -> Result<(), Failed>
-    ensures meets { MeetsOnOutput K.Sink (saying (copied_line to.now (soup_of mesh.now unused))) sink.old sink.new (said result) }
+    ensures meets { MeetsOnOutput K.Sink (say_line (copied_line to.now (soup_of mesh.now unused))) sink.old sink.new (said result) }
 {
     let points = mesh.points().len() as u64;
     let triangles = mesh.triples().len() as u64;
@@ -41,7 +41,7 @@ pub fn say_copied<K: Sink>(to: &str, mesh: &Mesh, unused: u32, sink: &mut K) -> 
 
 /// Reports a winding number: `winding W`. After `Failed`, which comes only where the sink's count rose, it has a first part of the line.
 pub fn say_winding<K: Sink>(number: i64, sink: &mut K) -> Result<(), Failed>
-    ensures meets { MeetsOnOutput K.Sink (saying (winding_line number)) sink.old sink.new (said result) }
+    ensures meets { MeetsOnOutput K.Sink (say_line (winding_line number)) sink.old sink.new (said result) }
 {
     let tail = winding_tail(number);
     say(b"winding ", b"", tail.as_slice(), sink)

@@ -2,12 +2,12 @@
 use Rattle.std.proofs.Common.{◌≡◌, List, [], Result, Ok, Err, All, refl}
 use Rattle.std.proofs.lemmas.List.Elements.{All-nil, All-cons, All-append}
 use Rattle.run_terms.specs.Runs.{Action}
-use Rattle.run_terms.specs.Tasks.{Refusal, Part, Task, changed_all, take, act, joined, then_task}
+use Rattle.run_terms.specs.Tasks.{Refusal, Part, Task, changed_all, give, act, joined, then_task}
 use Rattle.run_laws.specs.Keeping.{Keeps}
 
 -- without an action the value alone counts
-pub keeps_take : {A : Type 0} (P : Action → Type 0) (Q : A → Type 0) (result : Result A Refusal) → ((a : A) → result ≡ Ok a → Q a) → Keeps P Q (take result)
-keeps_take P Q result such = record { actions = λ files. All-nil P; value = λ files a is. such a is }
+pub keeps_give : {A : Type 0} (P : Action → Type 0) (Q : A → Type 0) (result : Result A Refusal) → ((a : A) → result ≡ Ok a → Q a) → Keeps P Q (give result)
+keeps_give P Q result such = record { actions = λ files. All-nil P; value = λ files a is. such a is }
 
 -- one action
 pub keeps_act : (P : Action → Type 0) (a : Action) → P a → Keeps P (λ _. Unit {0}) (act a)

@@ -61,7 +61,7 @@ pub record IsShort (stated at : ℕ) (into : Bytes) (count : ℕ) : Type 0 where
   pub space : 0 < length into
   pub below : at < stated
 
--- the count of such reads rises by one of them, and by no other read
+-- such a read makes the count rise, and any other leaves it
 pub record CountsShort (stated at : ℕ) (into : Bytes) (count before after : ℕ) : Type 0 where
   pub short : IsShort stated at into count → Grew before after
   pub other : (IsShort stated at into count → ⊥) → after ≡ before

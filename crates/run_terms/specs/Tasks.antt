@@ -35,8 +35,8 @@ changed_all [] files = files
 changed_all (a ∷ xs) files = changed_all xs (changed a files)
 
 -- no action: the value or the refusal stands
-abbrev pub take : {A : Type 0} → Result A Refusal → Task A
-take result files = record { actions = []; result = result }
+abbrev pub give : {A : Type 0} → Result A Refusal → Task A
+give result files = record { actions = []; result = result }
 
 -- one action
 abbrev pub act : Action → Task (Unit {0})

@@ -1,7 +1,8 @@
+use Rattle.std.proofs.Common.{inl, inr, refl}
 use Rattle.std.proofs.lemmas.Result.{err_from_is_err_and}
-use Rattle.mb_outside.specs.Seen.{on_output, on_shelf}
+use Rattle.mb_outside.specs.Seen.{on_output}
 use Rattle.mesh_files.specs.Stops.{soup_with}
-use Rattle.play_laws.proofs.ReadingBack.{copy_keeps}
+use Rattle.play_laws.proofs.ReadingBack.{copy_keeps, mesh_given}
 use Rattle.manifold_tool.proofs.Stages.{copy_ended, copy_unread, copy_unwritten}
 use Rattle.manifold_tool.proofs.copy.copy.Goals as goal
 
@@ -40,3 +41,30 @@ returns-clause-meets g c =
 
 pub returns-clause-back : goal.returns-clause-back
 returns-clause-back g c = (copy_keeps c.args.digits c.args.limits.now c.args.from.now c.args.to.now c.requires.digits c.in_ok-read.ensures.lawful).actions
+
+pub returns-in_err-read-clause-mesh_back : goal.returns-in_err-read-clause-mesh_back
+returns-in_err-read-clause-mesh_back g c = mesh_given c.args.digits c.args.limits.now c.args.from.now c.requires.digits c.in_err-read.ensures.lawful
+
+pub returns-in_err-write-clause-mesh_back : goal.returns-in_err-write-clause-mesh_back
+returns-in_err-write-clause-mesh_back g c = mesh_given c.args.digits c.args.limits.now c.args.from.now c.requires.digits c.in_ok-read.ensures.lawful
+
+pub returns-in_err-say_copied-clause-mesh_back : goal.returns-in_err-say_copied-clause-mesh_back
+returns-in_err-say_copied-clause-mesh_back g c = mesh_given c.args.digits c.args.limits.now c.args.from.now c.requires.digits c.in_ok-read.ensures.lawful
+
+pub returns-clause-mesh_back : goal.returns-clause-mesh_back
+returns-clause-mesh_back g c = mesh_given c.args.digits c.args.limits.now c.args.from.now c.requires.digits c.in_ok-read.ensures.lawful
+
+pub returns-in_err-read-clause-halts : goal.returns-in_err-read-clause-halts
+returns-in_err-read-clause-halts g c =
+    let p = err_from_is_err_and c.from_residual.result c.from_residual.ensures.1 in
+    rw (p.1, p.2) (inl c.in_err-read.ensures.unread)
+
+pub returns-in_err-write-clause-halts : goal.returns-in_err-write-clause-halts
+returns-in_err-write-clause-halts g c =
+    let p = err_from_is_err_and c.from_residual-in_err-write.result c.from_residual-in_err-write.ensures.1 in
+    rw (p.1, p.2) (inr (inl c.in_err-write.ensures.unwritten))
+
+pub returns-in_err-say_copied-clause-halts : goal.returns-in_err-say_copied-clause-halts
+returns-in_err-say_copied-clause-halts g c =
+    let p = err_from_is_err_and c.from_residual-in_err-say_copied.result c.from_residual-in_err-say_copied.ensures.1 in
+    rw (p.1, p.2) (inr (inr refl))

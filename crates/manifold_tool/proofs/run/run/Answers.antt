@@ -1,7 +1,7 @@
-use Rattle.std.proofs.Common.{◌∙◌, ap, sym, Some, refl}
+use Rattle.std.proofs.Common.{◌∙◌, ap, sym, Some, None}
 use Rattle.std.specs.Option.{option_map}
 use Rattle.command_words.specs.Commands.{command_of}
-use Rattle.manifold_tool.proofs.Running.{asked_for, play_back, play_met, refused_met}
+use Rattle.manifold_tool.proofs.Running.{asked_for, copied_back, play_back, refused_met}
 use Rattle.manifold_tool.proofs.run.run.Goals as goal
 
 pub returns-in_default-clause-play : goal.returns-in_default-clause-play
@@ -13,3 +13,18 @@ pub returns-in-InsideFile-clause-back : goal.returns-in-InsideFile-clause-back
 returns-in-InsideFile-clause-back g c files =
     let asked = asked_for c.args.words.now _ _ c.read_command.ensures.command (c.in-Some.is ∙ ap Some c.in-InsideFile.is) in
     play_back c.args.limits.now c.args.words.now _ files asked (c.inside-ended.ensures.back files)
+
+pub returns-in_default-clause-mesh_back : goal.returns-in_default-clause-mesh_back
+returns-in_default-clause-mesh_back g c =
+    let none = sym c.read_command.ensures.command in
+    copied_back c.args.limits.now c.args.words.now None (none ∙ ap (option_map command_of) c.in_default.is) tt
+
+pub returns-in-CopyFile-clause-mesh_back : goal.returns-in-CopyFile-clause-mesh_back
+returns-in-CopyFile-clause-mesh_back g c =
+    let asked = asked_for c.args.words.now _ _ c.read_command.ensures.command (c.in-Some.is ∙ ap Some c.in-CopyFile.is) in
+    copied_back c.args.limits.now c.args.words.now _ asked c.copy-ended.ensures.mesh_back
+
+pub returns-in-InsideFile-clause-mesh_back : goal.returns-in-InsideFile-clause-mesh_back
+returns-in-InsideFile-clause-mesh_back g c =
+    let asked = asked_for c.args.words.now _ _ c.read_command.ensures.command (c.in-Some.is ∙ ap Some c.in-InsideFile.is) in
+    copied_back c.args.limits.now c.args.words.now _ asked tt

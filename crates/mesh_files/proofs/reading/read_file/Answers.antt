@@ -1,9 +1,7 @@
-use Rattle.std.proofs.Common.{◌≡◌, ◌∙◌, Bool, Err, IsTrue, Vec, ℕ, Global, ap, subst, sym}
+use Rattle.std.proofs.Common.{◌∙◌, Bool, IsTrue, ap, subst, sym}
 use Rattle.std.proofs.lemmas.Result.{IfOk-weaker, err_from_is_err_and}
 use Rattle.run_terms.specs.Files.{text_of}
-use Rattle.play_terms.specs.Commands.{ask_file}
-use Rattle.mb_outside.specs.Seen.{OnShelf, ShelfMeets, on_shelf}
-use Rattle.mesh_files.specs.Stops.{ended_by}
+use Rattle.mb_outside.specs.Seen.{OnShelf}
 use Rattle.mesh_files.proofs.Ended.{file_read}
 use Rattle.mesh_files.proofs.Texts.{bytes_of_whole}
 use Rattle.mesh_files.proofs.reading.read_file.Goals as goal

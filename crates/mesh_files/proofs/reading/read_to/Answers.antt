@@ -1,5 +1,4 @@
-use Rattle.std.proofs.Common.{rules, ◌≡◌, ◌<◌, ◌∙◌, ℕ, sym, subst, refl, inl, inr, ap, IsTrue, Bool, true, false, arith}
-use Rattle.std.proofs.lemmas.Bool.{cases_Bool}
+use Rattle.std.proofs.Common.{rules, ◌∙◌, ℕ, sym, subst, refl, inl, IsTrue, Bool, arith}
 use Rattle.run_terms.specs.Files.{text_of, Files, Grew}
 use Rattle.mesh_files.specs.Pieces.{ReadsOn}
 use Rattle.mesh_files.proofs.Ended.{unread}

@@ -1,4 +1,4 @@
-use Rattle.std.proofs.Common.{◌≡◌, ◌++◌, ◌∙◌, ap, codes, decimal, length, sym}
+use Rattle.std.proofs.Common.{◌≡◌, ◌++◌, ◌∙◌, ap, codes, length, sym}
 use Rattle.std.proofs.lemmas.List.{length-map}
 use Rattle.mesh_terms.specs.Meshes.{Soup, triple_of}
 use Rattle.run_terms.specs.Files.{Bytes}
