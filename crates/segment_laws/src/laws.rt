@@ -12,7 +12,8 @@ ghost use Rattle.segment_laws.specs.Laws.{
   VerticesStay,
 };
 
-/// The segments of a source face run between copies, and each copy that occurs in them starts one and ends one.
+/// The segments of a source face run between copies. Where each copy stands in none or two of the lists of each face and
+/// each list has as many starts as ends, each copy that occurs in them starts one and ends one.
 ///
 /// So they fall into loops whose vertices are copies.
 pub fn segments_form_loops()
@@ -31,13 +32,14 @@ pub fn faces_cancel()
 
 /// Where no two triples of a side are opposite, no loop of a face has fewer than three vertices.
 ///
-/// This asks of the copies only how they are named, and prescribed ones are named so.
+/// Beside lists and balance as above, this asks of the copies how they are named, and prescribed ones are named so.
 pub fn loops_are_long()
     ensures long { LoopsAreLong }
     ensures named { PrescribedAreNamed }
 {}
 
-/// Each copy starts a segment of some face, and stays a vertex of triples that bound the segments of that face.
+/// Where lists and balance are as above, each copy starts a segment of some face. Where moreover no two triples of a side are
+/// opposite and the copies are named as above, it stays a vertex of triples that bound the segments of that face.
 pub fn copies_occur()
     ensures start { CopiesOccur }
     ensures stay { VerticesStay }

@@ -48,7 +48,7 @@ source_count p q = length p.triples + length q.triples
 abbrev pub lists_of : Side → Side → ℕ → List ListName
 lists_of p q x = if nat_lt x (length p.triples) then lists_of_p (length q.triples) x else lists_of_q (length p.triples) (x - length p.triples)
 
--- its segments: those of its three half-edges, then those of its pairs with the faces of the other side, in order
+-- its segments: first along its half-edges, then on its crossings with faces 0, 1, .. of the other side
 abbrev pub segments_of : Side → Side → List Copy → (ℕ → List ℤ) → ℕ → List (ℕ × ℕ)
 segments_of p q cs place x = flat_map (segments_in p q cs place) (lists_of p q x)
 
