@@ -35,6 +35,7 @@ fn size_of<S: Shelf>(name: &str, limits: &Limits, shelf: &mut S) -> Result<usize
     ensures stop { IfErr result (λ stop. IsTrue (is_reading_stop stop)) }
     ensures meets { IfErr result (λ stop. MeetsOnShelf S.Shelf (ask_file limits.now name.now) shelf.old shelf.new (Err (why_of name.now stop))) }
     ensures lawful { IsLawful limits.now }
+    ensures files { S.files shelf.new ≡ S.files shelf.old }
     ensures spare { S.spare shelf.new ≡ S.spare shelf.old }
 {
     let most = limits.file_bytes();
@@ -96,6 +97,7 @@ fn read_to<S: Shelf>(
     ensures same { OnOk result (on_shelf S.Shelf shelf.new ≡ on_shelf S.Shelf shelf.old) }
     ensures stop { IfErr result (λ stop. IsTrue (is_reading_stop stop)) }
     ensures meets { IfErr result (λ stop. MeetsOnShelf S.Shelf (ask_file limits.now name.now) shelf.old shelf.new (Err (why_of name.now stop))) }
+    ensures files { S.files shelf.new ≡ S.files shelf.old }
     ensures spare { S.spare shelf.new ≡ S.spare shelf.old }
 {
     let mut bytes = vec![in alloc; 0u8; size]?;
@@ -116,7 +118,8 @@ fn read_to<S: Shelf>(
 /// Reads a whole file of a shelf. It asks for the size, and then for pieces of at most 65,536 bytes until it has as many. It
 /// stops with the first thing that is wrong, in this order: the shelf fails, no file has the name, the file is longer than the
 /// limit. `ReadFault` comes only where the shelf's count of read faults rose; or, over a shelf that tells no files, where a read
-/// gave nothing below the size that was stated. No file changes, nor does the shelf's spare. It takes memory for the bytes.
+/// gave nothing below the size that was stated; the count of such reads rises then, but stays where it stands at 2^64 - 1, its last
+/// value. No file changes, nor does the shelf's spare. It takes memory for the bytes.
 pub fn read_file<S: Shelf>(
     alloc: Global,
     name: &str,
@@ -126,6 +129,7 @@ pub fn read_file<S: Shelf>(
     ensures meets { MeetsOnShelf S.Shelf (ask_file limits.now name.now) shelf.old shelf.new (ended_by (λ bytes. bytes.items) name.now result) }
     ensures stop { IfErr result (λ stop. IsTrue (is_reading_stop stop)) }
     ensures lawful { IsLawful limits.now }
+    ensures files { S.files shelf.new ≡ S.files shelf.old }
     ensures spare { S.spare shelf.new ≡ S.spare shelf.old }
 {
     let size = size_of(name, limits, shelf)?;
@@ -160,6 +164,7 @@ pub fn read_mesh<S: Shelf>(
     ensures meets { MeetsOnShelf S.Shelf (ask_mesh digits limits.now name.now) shelf.old shelf.new (ended_by soup_with name.now result) }
     ensures stop { IfErr result (λ stop. IsTrue (is_reading_stop stop)) }
     ensures lawful { IsLawful limits.now }
+    ensures files { S.files shelf.new ≡ S.files shelf.old }
     ensures spare { S.spare shelf.new ≡ S.spare shelf.old }
 {
     let bytes = read_file(alloc, name, limits, shelf)?;
