@@ -14,3 +14,5 @@ mod points;
 mod tests;
 
 pub use list::{PrescribeFault, Prescribed, prescribe};
+pub use operand::{Operand, hit_number};
+pub use points::point_of;

@@ -1,0 +1,12 @@
+use Rattle.std.proofs.Common.{◌≡◌, ◌≤◌, ◌+◌, ◌-◌, length, drop}
+use Rattle.face_lists.specs.Entries.{list_count, list_end}
+use Rattle.face_lists.proofs.entries.list_end.Given as goal
+
+abbrev pub invariant-loop : goal.invariant-loop
+invariant-loop l = record {
+  below : l.end ≤ length l.stands;
+  value : l.end + list_count (drop l.end l.stands) l.list ≡ list_end l.stands l.begin l.list;
+}
+
+abbrev pub decreases-loop : goal.decreases-loop
+decreases-loop l = length l.stands - l.end

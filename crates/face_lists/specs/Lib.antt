@@ -1,0 +1,5 @@
+pub mod Agreement
+pub mod Entries
+pub mod Parts
+pub mod Runs
+pub mod Stands

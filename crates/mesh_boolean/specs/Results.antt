@@ -1,0 +1,106 @@
+-- What the result of an operation is: the prescribed vertices and numbers, where the vertices and the triangles of the mesh come
+-- from, that each source face's triangles are bounded by its segments, that the mesh is clean, and which triangles it has.
+use Rattle.std.specs.Prelude.{◌≡◌, ℕ, ◌<◌, ◌==◌, ◌×◌, ℤ, List, [], ◌∷◌, map, length, get_or, filter}
+use Rattle.std.specs.List.{All, Contains, zip}
+use Rattle.chain_terms.specs.Chains.{IsClosed, all_edges, boundary}
+use Rattle.mesh_terms.specs.Meshes.{HasThree, Mesh, Triple}
+use Rattle.mesh_terms.specs.Twins.{twins_of}
+use Rattle.halfedge.specs.Clean.{IsClean}
+use Rattle.side_terms.specs.Sides.{Side}
+use Rattle.assembly_terms.specs.Lists.{Copy}
+use Rattle.mb_base.specs.declared.op.Op.{Op}
+use Rattle.assembly_terms.specs.Prescribed.{Numbers, crossing_count, p_kept, prescribed as copies_of_numbers, prescribed_halfedges, q_kept}
+use Rattle.ring_cutting.specs.Cuts.{Cut}
+use Rattle.segment_terms.specs.Segments.{source_count}
+use Rattle.filling_terms.specs.Filled.{all_filled, all_triples, face_segments, forced_of, points_of_copies, sources_of}
+use Rattle.pinch_split.specs.Split.{split_from, split_points, split_triples}
+use Rattle.retained_verts.specs.declared.list.Prescribed.{Prescribed}
+use Rattle.mesh_boolean.specs.Operation.{Tests, first_side, numbers_of, second_side}
+use Rattle.mesh_boolean.specs.declared.outcome.Outcome.{Outcome}
+
+-- the prescribed vertices and their counts are those of the numbers
+pub record ArePrescribed (op : Op) (p q : Side) (n : Numbers) (r : Prescribed) : Type 0 where
+  pub origins : r.origins.items ≡ map (λ c. c.origin) (copies_of_numbers op p q n)
+  pub points : r.points.items ≡ map (λ c. c.point) (copies_of_numbers op p q n)
+  pub kept : r.kept ≡ p_kept op n ∷ q_kept op n ∷ []
+  pub crossings : r.crossings ≡ crossing_count op n
+  pub halfedges : r.halfedges ≡ prescribed_halfedges op p q n
+
+-- each vertex of the mesh is a prescribed vertex and lies where that one does, and each prescribed vertex occurs
+pub record ComeFrom (points copies : List (List ℤ)) (from : List ℕ) : Type 0 where
+  pub each : length from ≡ length points
+  pub there : (v : ℕ) → v < length points → (get_or from v 0 < length copies) × (get_or points v [] ≡ get_or copies (get_or from v 0) [])
+  pub all : (w : ℕ) → w < length copies → Contains from w
+
+-- a triangle with its vertices named as others
+abbrev pub named_by : List ℕ → Triple → Triple
+named_by from t = (get_or from t.0 0, get_or from t.1 0, get_or from t.2 0)
+
+-- the triangles of a source face
+abbrev pub triples_at : ℕ → List ℕ → List Triple → List Triple
+triples_at x source ts = map (λ m. m.1) (filter (λ m. m.0 == x) (zip source ts))
+
+-- those over prescribed vertices
+abbrev pub face_triples : List ℕ → List ℕ → List Triple → ℕ → List Triple
+face_triples from source ts x = map (named_by from) (triples_at x source ts)
+
+-- each triangle has a source face; over prescribed vertices the triangles of each face have three different ones and are
+-- bounded by the segments of that face
+pub record AreBounded (p q : Side) (cs : List Copy) (from source : List ℕ) (ts : List Triple) : Type 0 where
+  pub each : length source ≡ length ts
+  pub faces : All (λ x. x < source_count p q) source
+  pub three : (x : ℕ) → All HasThree (face_triples from source ts x)
+  pub bounded : (x : ℕ) → x < source_count p q → (a b : ℕ) → boundary (all_edges (face_triples from source ts x)) a b ≡ boundary (face_segments p q cs x) a b
+
+-- the mesh is closed, each of its vertices has one fan, and each half-edge has the twin that it has over prescribed vertices
+pub record IsCleanOver (from : List ℕ) (ts : List Triple) : Type 0 where
+  pub closed : IsClosed (all_edges ts)
+  pub clean : IsClean (all_edges ts)
+  pub twins : twins_of ts ≡ twins_of (map (named_by from) ts)
+
+-- the triangles are the fillings of the faces' loops in order, over one vertex for each fan
+pub record AreFilled (p q : Side) (cs : List Copy) (mesh : Mesh) (old face : List ℕ) (count : ℕ) : Type 0 where
+  pub points : mesh.points ≡ split_points (points_of_copies cs) (all_triples (all_filled p q cs))
+  pub triples : mesh.triples ≡ split_triples (length cs) (all_triples (all_filled p q cs))
+  pub from : old ≡ split_from (length cs) (all_triples (all_filled p q cs))
+  pub source : face ≡ sources_of 0 (all_filled p q cs)
+  pub forced : count ≡ forced_of (all_filled p q cs)
+
+-- all of these, for two sides with numbers
+pub record IsResult (op : Op) (p q : Side) (n : Numbers) (mesh : Mesh) (r : Prescribed) (old face : List ℕ) (count : ℕ) : Type 0 where
+  pub prescribed : ArePrescribed op p q n r
+  pub from : ComeFrom mesh.points r.points.items old
+  pub faces : AreBounded p q (copies_of_numbers op p q n) old face mesh.triples
+  pub clean : IsCleanOver old mesh.triples
+  pub filled : AreFilled p q (copies_of_numbers op p q n) mesh old face count
+
+-- the copies that two sides prescribe, and the fillings of their faces
+abbrev pub side_copies : Tests → Op → Side → Side → List Copy
+side_copies t op p q = copies_of_numbers op p q (numbers_of t p q)
+
+abbrev pub side_parts : Tests → Op → Side → Side → List Cut
+side_parts t op p q = all_filled p q (side_copies t op p q)
+
+-- the numbers of two meshes, and the copies that they prescribe
+abbrev pub numbers_in : Tests → Op → Mesh → Mesh → Numbers
+numbers_in t op p q = numbers_of t (first_side op p) (second_side q)
+
+abbrev pub copies_in : Tests → Op → Mesh → Mesh → List Copy
+copies_in t op p q = copies_of_numbers op (first_side op p) (second_side q) (numbers_in t op p q)
+
+-- the half-edges that are prescribed for an operation on two meshes
+abbrev pub halfedges_in : Tests → Op → Mesh → Mesh → ℕ
+halfedges_in t op p q = prescribed_halfedges op (first_side op p) (second_side q) (numbers_in t op p q)
+
+-- each clause for what an operation on two meshes gives
+abbrev pub IsPrescribed : Tests → Op → Mesh → Mesh → Outcome → Type 0
+IsPrescribed t op p q r = ArePrescribed op (first_side op p) (second_side q) (numbers_in t op p q) r.prescribed
+
+abbrev pub HasOrigins : Outcome → Type 0
+HasOrigins r = ComeFrom r.mesh.points r.prescribed.points.items r.from.items
+
+abbrev pub IsBounded : Tests → Op → Mesh → Mesh → Outcome → Type 0
+IsBounded t op p q r = AreBounded (first_side op p) (second_side q) (copies_in t op p q) r.from.items r.source.items r.mesh.triples
+
+abbrev pub IsFilled : Tests → Op → Mesh → Mesh → Outcome → Type 0
+IsFilled t op p q r = AreFilled (first_side op p) (second_side q) (copies_in t op p q) r.mesh r.from.items r.source.items r.forced

@@ -1,0 +1,14 @@
+//! One operation on two closed meshes: their union, intersection or difference, as the numbers of crossings and the winding
+//! numbers prescribe it. After J. M. Smith's thesis "Towards robust inexact geometric computation" and the Manifold library.
+#![tactic(auto)]
+
+mod boolean;
+mod outcome;
+mod sides;
+mod tested;
+#[cfg(test)]
+mod tests;
+
+pub use boolean::boolean;
+pub use outcome::Outcome;
+pub use tested::Tested;

@@ -1,0 +1,64 @@
+// Faces that no edge crosses, and that cross none: their triangles are copies of them.
+ghost use Rattle.std.specs.Prelude.{◌≡◌, ◌+◌, ◌<◌, ◌^◌, true, OnOk, length, get_or};
+ghost use Rattle.mesh_terms.specs.Meshes.{IsBelow, triple_of};
+ghost use Rattle.face_lists.specs.Parts.{AreRuns};
+ghost use Rattle.source_faces.specs.Adding.{IsAdded, are_equal_runs, face_copies, is_flat, same_run};
+
+use crate::triangles::SourceTriangles;
+use face_lists::Run;
+use lean::Side;
+use mb_base::{NoMemory, cross};
+use retained_verts::point_of;
+
+/// Whether the three vertices of a triangle are included one number of times.
+pub fn are_equal(runs: &[Run], triple: [u32; 3]) -> bool
+    requires { IsBelow (length runs.now) (triple_of triple) }
+    ensures { result ≡ are_equal_runs runs.now (triple_of triple) }
+{
+    let [a, b, c] = triple;
+    let (a, b, c) = (runs[a as usize], runs[b as usize], runs[c as usize]);
+    are_alike(a, b) && are_alike(b, c)
+}
+
+// Whether two vertices are included one number of times.
+fn are_alike(one: Run, other: Run) -> bool
+    ensures { result ≡ same_run one other }
+{
+    one.count == other.count && one.negative == other.negative
+}
+
+/// Adds a face whose vertices have this one number of copies: the first copies of the three are a triangle, the second ones,
+/// and so on. It is turned over where the number is below 0, and forced where the face is flat.
+pub fn push_copies(
+    all: &mut SourceTriangles,
+    side: &Side,
+    runs: &[Run],
+    face: u32,
+    source: u32,
+) -> Result<(), NoMemory>
+    requires face { face < length side.now.triples }
+    requires runs { AreRuns side.now 60000000 runs.now }
+    requires few { all.old.forced + 60000000 < 2 ^ 64 }
+    requires equal { are_equal_runs runs.now (get_or side.now.triples face (0, 0, 0)) ≡ true }
+    ensures { OnOk result (IsAdded source (face_copies side.now runs.now face) all.old all.new) }
+{
+    let [a, b, c] = side.triples()[face as usize];
+    let (a, b, c) = (runs[a as usize], runs[b as usize], runs[c as usize]);
+    if a.count > 0 && is_flat(side, face) {
+        all.forced += u64::from(a.count);
+    }
+    let (first, second) = if a.negative { (b, a) } else { (a, b) };
+    for i in 0..a.count {
+        all.push([first.first + i, second.first + i, c.first + i], source)?;
+    }
+    Ok(())
+}
+
+// Whether the corners of a face lie on a line.
+fn is_flat(side: &Side, face: u32) -> bool
+    requires { face < length side.now.triples }
+    ensures { result ≡ is_flat side.now face }
+{
+    let [a, b, c] = side.face(face);
+    cross(point_of(&a), point_of(&b), point_of(&c)) == [0; 3]
+}
