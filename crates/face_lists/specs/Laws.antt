@@ -1,5 +1,5 @@
 -- The laws of runs and records, as statements.
-use Rattle.std.specs.Prelude.{◌≡◌, ℕ, ◌+◌, ◌<◌, ◌×◌, List, length, map}
+use Rattle.std.specs.Prelude.{◌≡◌, ℕ, ◌+◌, ◌<◌, List, length, map}
 use Rattle.chain_terms.specs.Chains.{all_edges}
 use Rattle.mb_base.specs.declared.op.Op.{Op}
 use Rattle.side_terms.specs.Hits.{AreHits}
