@@ -1,1 +1,4 @@
 pub mod Added
+pub mod Faces
+pub mod Forced
+pub mod Outcomes

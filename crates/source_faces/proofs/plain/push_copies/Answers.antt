@@ -10,6 +10,7 @@ use Rattle.side_terms.specs.Sides.{Side}
 use Rattle.source_faces.specs.Adding.{IsAdded, copy_triple, face_copies, is_flat}
 use Rattle.source_faces.specs.declared.triangles.SourceTriangles.{SourceTriangles}
 use Rattle.source_faces.proofs.Added.{none_added, one_added}
+use Rattle.source_faces.proofs.Faces.{at_face}
 use Rattle.source_faces.proofs.plain.push_copies.Goals as goal
 
 -- one copy more
@@ -19,10 +20,6 @@ step : (x n : ℕ) (f : ℕ → Triple) (i : ℕ) (t : Triple) (old mid new : So
 step x n f i t old mid new h triples is source forced =
     let same : map f (upto i) ++ t ∷ [] ≡ map f (upto (i + 1)) = ap (λ u. map f (upto i) ++ u ∷ []) is ∙ sym (ap (map f) (upto_more i) ∙ map_push f (upto i) i) in
     subst (λ ts. IsAdded x (record { triples = ts; forced = n }) old new) same (one_added x (record { triples = map f (upto i); forced = n }) t old mid new h triples source forced)
-
--- the triangle of a face as the code holds it
-at_face : (ts : List Triple) (xs : List (List ℕ)) (f : ℕ) → triples_of xs ≡ ts → f < length ts → triple_of (get_or xs f []) ≡ get_or ts f (0, 0, 0)
-at_face ts xs f e l = sym (get_or-map triple_of xs f [] (0, 0, 0) (omega (arith, l, ap length e, length-map xs triple_of))) ∙ ap (λ us. get_or us f (0, 0, 0)) e
 
 -- so many copies of a triangle of a side
 abbrev copies_in : Side → List Run → ℕ → Triple → ℕ → Cut
