@@ -1,4 +1,6 @@
 pub mod Added
 pub mod Faces
 pub mod Forced
+pub mod Groups
+pub mod Joined
 pub mod Outcomes
