@@ -1,6 +1,8 @@
 pub mod Added
 pub mod Faces
 pub mod Forced
+pub mod FromLists
+pub mod GivenParts
 pub mod Groups
 pub mod Joined
 pub mod Outcomes
