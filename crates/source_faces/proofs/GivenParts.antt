@@ -32,8 +32,8 @@ use Rattle.filling_laws.specs.Laws.{FacesFormLoops}
 use Rattle.filling_terms.specs.Assembling.{CanBeAssembled}
 use Rattle.filling_terms.specs.Filled.{all_filled, face_segments, filled_face, points_of_copies, source_drop}
 use Rattle.source_faces.specs.Adding.{filled_by}
-use Rattle.source_faces.specs.Given.{AreGiven, GivenHaveParts, HaveAllParts}
-use Rattle.source_faces.specs.Parts.{CanBePart, HaveParts, parts_of}
+use Rattle.source_faces.specs.Given.{AreFewGiven, AreGiven, GivenHaveParts, HaveAllParts, given_p_runs, given_q_runs, given_stands}
+use Rattle.source_faces.specs.Parts.{CanBePart}
 use Rattle.source_faces.proofs.FromLists.{have_copies, part_same, part_there}
 
 -- the laws that this stands on
@@ -101,17 +101,15 @@ all_parts laws p q cs k p_runs q_runs stands lists can few =
     }
 
 -- there are few copies
-few_given : (op : Op) (p q : Side) (windings : Windings) (hits : Hits) (r : Prescribed) → IsSide p → IsSide q → AreGiven op p q windings hits r → length (copies op p q windings hits) ≤ 60000000
+pub few_given : (op : Op) (p q : Side) (windings : Windings) (hits : Hits) (r : Prescribed) → IsSide p → IsSide q → AreGiven op p q windings hits r → AreFewGiven op windings hits
 few_given op p q windings hits r p_side q_side h =
-    let n = numbers windings hits in
-    omega (arith, all_copies_counted op p q n h.w03 h.w30, few_copies op p q n p_side q_side h.w03 h.w30, all_starts op p q n p_side q_side h.w03 h.w30 h.x12 h.x21, h.few)
+    let n = numbers windings hits in omega (arith, few_copies op p q n p_side q_side h.w03 h.w30, all_starts op p q n p_side q_side h.w03 h.w30 h.x12 h.x21, h.few)
 
 -- what is given is such
-pub given_parts : HaveLaws → GivenHaveParts
+pub given_parts : (laws : HaveLaws) (op : Op) (p q : Side) (windings : Windings) (hits : Hits) (r : Prescribed) → IsSide p → IsSide q → AreGiven op p q windings hits r → GivenHaveParts op p q windings hits
 given_parts laws op p q windings hits r p_side q_side h =
     let n = numbers windings hits in
     let cs = copies op p q windings hits in
-    let k = p_kept op n in
     let lists = laws.lists op p q n p_side q_side h.w03 h.w30 h.x12 h.x21 in
     let can : CanBeAssembled p q cs = record {
       p_side = p_side;
@@ -123,4 +121,5 @@ given_parts laws op p q windings hits r p_side q_side h =
       named = laws.named op p q n h.x12 h.x21;
       few = h.few;
     } in
-    all_parts laws p q cs (k + q_kept op n) (runs_from 0 (map (p_number op) n.w03)) (runs_from k (map (q_number op) n.w30)) (sorted_stands op p q n.x12 n.x21 (k + q_kept op n)) lists can (few_given op p q windings hits r p_side q_side h)
+    let few : length cs ≤ 60000000 = omega (arith, all_copies_counted op p q n h.w03 h.w30, few_given op p q windings hits r p_side q_side h) in
+    all_parts laws p q cs (p_kept op n + q_kept op n) (given_p_runs op n) (given_q_runs op n) (given_stands op p q n) lists can few

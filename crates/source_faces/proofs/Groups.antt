@@ -148,3 +148,7 @@ next_there ss x begin end h at to = to ∙ ap (λ n. group_end ss n x) at ∙ ne
 -- there are no more of them than records
 pub few_below : (ss : List Stand) (x : ℕ) → count_below ss x ≤ length ss
 few_below ss x = count_by-le-length (λ (s : Stand). nat_lt s.face x) ss
+
+-- none is of a face before the first
+pub none_first : (ss : List Stand) → count_below ss 0 ≡ 0
+none_first ss = none_below ss 0 (λ i a. omega arith)

@@ -10,7 +10,7 @@ use Rattle.mesh_terms.specs.Meshes.{Triple, triples_of}
 use Rattle.ring_cutting.specs.Cuts.{Cut}
 use Rattle.filling_terms.specs.Filled.{all_triples, forced_of, sources_of}
 use Rattle.source_faces.specs.Adding.{IsAdded}
-use Rattle.source_faces.specs.Parts.{AreAdded}
+use Rattle.source_faces.specs.Parts.{AreAdded, AreAll}
 use Rattle.source_faces.specs.declared.triangles.SourceTriangles.{SourceTriangles}
 
 -- no filling was added
@@ -55,3 +55,11 @@ one_more x n part c old mid new is h k =
     let long : x + n ≡ x + length (map part (upto n)) = omega (arith, length-map (upto n) part, length-up_from 0 n) in
     let more : map part (upto n) ++ c ∷ [] ≡ map part (upto (n + 1)) = ap (λ d. map part (upto n) ++ d ∷ []) is ∙ sym (ap (map part) (upto_more n) ∙ map_push part (upto n) n) in
     subst (λ (cs : List Cut). AreAdded x cs old new) more (joined x (x + n) (map part (upto n)) (c ∷ []) old mid new long h (one_joined (x + n) c mid new k))
+
+-- what was added to nothing is all
+pub all_joined : (cs : List Cut) (old new : SourceTriangles) → old.triples.items ≡ [] → old.source.items ≡ [] → old.forced ≡ 0 → AreAdded 0 cs old new → AreAll cs new
+all_joined cs old new triples source forced h = record {
+  triples = h.triples ∙ ap (λ l. triples_of l ++ all_triples cs) triples;
+  source = h.source ∙ ap (λ l. l ++ sources_of 0 cs) source;
+  forced = omega (arith, h.forced, forced);
+}

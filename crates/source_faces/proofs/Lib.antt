@@ -1,6 +1,7 @@
 pub mod Added
 pub mod Faces
 pub mod Forced
+pub mod FromGiven
 pub mod FromLists
 pub mod GivenParts
 pub mod Groups

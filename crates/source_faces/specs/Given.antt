@@ -1,14 +1,14 @@
 -- What the triangles of source faces are made from.
-use Rattle.std.specs.Prelude.{◌≡◌, ◌+◌, ◌≤◌, List, ◌∷◌, [], ◌++◌, map, length}
+use Rattle.std.specs.Prelude.{◌≡◌, ◌+◌, ◌≤◌, List, ◌∷◌, [], map, length}
 use Rattle.chain_terms.specs.Chains.{all_edges}
 use Rattle.mb_base.specs.declared.op.Op.{Op}
 use Rattle.mb_base.specs.declared.results.Hits.{Hits}
 use Rattle.mb_base.specs.declared.results.Windings.{Windings}
 use Rattle.mesh_check.specs.Reduced.{NoOpposite}
 use Rattle.side_terms.specs.Hits.{AreHits}
-use Rattle.side_terms.specs.Sides.{IsSide, Side}
+use Rattle.side_terms.specs.Sides.{Side}
 use Rattle.assembly_terms.specs.Lists.{Copy}
-use Rattle.assembly_terms.specs.Prescribed.{p_kept, p_number, q_kept, q_number}
+use Rattle.assembly_terms.specs.Prescribed.{Numbers, crossing_count, p_kept, p_number, q_kept, q_number}
 use Rattle.assembly_terms.specs.Standing.{StandInLists, count_all_starts}
 use Rattle.face_lists.specs.declared.runs.Run.{Run}
 use Rattle.face_lists.specs.declared.stands.Stand.{Stand}
@@ -18,7 +18,7 @@ use Rattle.filling_terms.specs.Filled.{all_filled, points_of_copies}
 use Rattle.retained_verts.specs.Handed.{AreBalanced, copies, numbers}
 use Rattle.retained_verts.specs.Small.{AreSmallWindings}
 use Rattle.retained_verts.specs.declared.list.Prescribed.{Prescribed}
-use Rattle.source_faces.specs.Parts.{HaveParts, parts_of}
+use Rattle.source_faces.specs.Parts.{HaveParts, both_parts}
 
 -- windings and hits of two sides without opposite triangles, and the vertices that they prescribe, which balance every list
 pub record AreGiven (op : Op) (p q : Side) (windings : Windings) (hits : Hits) (r : Prescribed) : Type 0 where
@@ -40,11 +40,24 @@ pub record AreGiven (op : Op) (p q : Side) (windings : Windings) (hits : Hits) (
 pub record HaveAllParts (p q : Side) (cs : List Copy) (p_runs q_runs : List Run) (stands : List Stand) : Type 0 where
   pub p_parts : HaveParts p p_runs (points_of_copies cs) 0 stands
   pub q_parts : HaveParts q q_runs (points_of_copies cs) (length p.triples) stands
-  pub all : parts_of p p_runs (points_of_copies cs) 0 stands (length p.triples) ++ parts_of q q_runs (points_of_copies cs) (length p.triples) stands (length q.triples) ≡ all_filled p q cs
+  pub all : both_parts p q p_runs q_runs (points_of_copies cs) stands ≡ all_filled p q cs
+
+-- the records of what is given
+abbrev pub given_stands : Op → Side → Side → Numbers → List Stand
+given_stands op p q n = sorted_stands op p q n.x12 n.x21 (p_kept op n + q_kept op n)
+
+-- the runs of P's vertices, and of Q's
+abbrev pub given_p_runs : Op → Numbers → List Run
+given_p_runs op n = runs_from 0 (map (p_number op) n.w03)
+
+abbrev pub given_q_runs : Op → Numbers → List Run
+given_q_runs op n = runs_from (p_kept op n) (map (q_number op) n.w30)
 
 -- so they are from the runs and records of what is given
-abbrev pub GivenHaveParts : Type 0
-GivenHaveParts = (op : Op) (p q : Side) (windings : Windings) (hits : Hits) (r : Prescribed) → IsSide p → IsSide q → AreGiven op p q windings hits r →
-    (let n = numbers windings hits in
-     let k = p_kept op n in
-     HaveAllParts p q (copies op p q windings hits) (runs_from 0 (map (p_number op) n.w03)) (runs_from k (map (q_number op) n.w30)) (sorted_stands op p q n.x12 n.x21 (k + q_kept op n)))
+abbrev pub GivenHaveParts : Op → Side → Side → Windings → Hits → Type 0
+GivenHaveParts op p q windings hits =
+    let n = numbers windings hits in HaveAllParts p q (copies op p q windings hits) (given_p_runs op n) (given_q_runs op n) (given_stands op p q n)
+
+-- and there are few copies
+abbrev pub AreFewGiven : Op → Windings → Hits → Type 0
+AreFewGiven op windings hits = let n = numbers windings hits in p_kept op n + q_kept op n + crossing_count op n ≤ 60000000

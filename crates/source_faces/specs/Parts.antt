@@ -41,6 +41,16 @@ pub record AreAdded (x : ℕ) (cs : List Cut) (old new : SourceTriangles) : Type
   pub source : new.source.items ≡ old.source.items ++ sources_of x cs
   pub forced : new.forced ≡ old.forced + forced_of cs
 
+-- the fillings of the faces of both sides, P's first
+abbrev pub both_parts : Side → Side → List Run → List Run → List (List ℤ) → List Stand → List Cut
+both_parts p q p_runs q_runs points stands = parts_of p p_runs points 0 stands (length p.triples) ++ parts_of q q_runs points (length p.triples) stands (length q.triples)
+
+-- these are all triangles, with their source faces
+pub record AreAll (cs : List Cut) (all : SourceTriangles) : Type 0 where
+  pub triples : triples_of all.triples.items ≡ all_triples cs
+  pub source : all.source.items ≡ sources_of 0 cs
+  pub forced : all.forced ≡ forced_of cs
+
 -- how many records are of source faces before number x
 abbrev pub count_below : List Stand → ℕ → ℕ
 count_below stands x = count_by (λ s. nat_lt s.face x) stands

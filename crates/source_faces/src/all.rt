@@ -4,7 +4,7 @@ ghost use Rattle.mesh_terms.specs.Meshes.{triples_of};
 ghost use Rattle.retained_verts.specs.Handed.{copies};
 ghost use Rattle.filling_terms.specs.Filled.{all_filled, all_triples, forced_of, sources_of};
 ghost use Rattle.source_faces.specs.Given.{AreGiven};
-ghost use Rattle.source_faces.specs.Parts.{AreAdded, HaveParts, count_below, parts_of};
+ghost use Rattle.source_faces.specs.Parts.{AreAdded, AreAll, HaveParts, both_parts, count_below, parts_of};
 
 use crate::face::push_face;
 use crate::given::given_have_parts;
@@ -32,16 +32,32 @@ pub fn triangles_of(
     ensures source { IfOk result (λ r. r.source.items ≡ sources_of 0 (all_filled p.now q.now (copies op p.now q.now windings.now hits.now))) }
     ensures forced { IfOk result (λ r. r.forced ≡ forced_of (all_filled p.now q.now (copies op p.now q.now windings.now hits.now))) }
 {
-    given_have_parts();
+    given_have_parts(op, p, q, windings, hits, prescribed);
     let [p_kept, q_kept] = prescribed.kept;
     let p_runs = runs_of(alloc, op, Operand::P, &windings.w03, 0)?;
     let q_runs = runs_of(alloc, op, Operand::Q, &windings.w30, p_kept as u32)?;
     let stands = stands_of(alloc, op, p, q, hits, (p_kept + q_kept) as u32)?;
+    filled_of(alloc, p, q, &p_runs, &q_runs, &stands, &prescribed.points)
+}
+
+// The triangles of both sides' faces, from the runs of their vertices and all records.
+fn filled_of(
+    alloc: Global,
+    p: &Side,
+    q: &Side,
+    p_runs: &[Run],
+    q_runs: &[Run],
+    stands: &[Stand],
+    points: &[Point],
+) -> Result<SourceTriangles, NoMemory>
+    requires p_parts { HaveParts p.now p_runs.now points.now 0 stands.now }
+    requires q_parts { HaveParts q.now q_runs.now points.now (length p.now.triples) stands.now }
+    ensures { IfOk result (AreAll (both_parts p.now q.now p_runs.now q_runs.now points.now stands.now)) }
+{
     let first = p.triples().len() as u32;
-    let points = &prescribed.points;
     let mut all = SourceTriangles::new(alloc);
-    let begin = push_faces(alloc, &mut all, p, &p_runs, 0, &stands, 0, points)?;
-    push_faces(alloc, &mut all, q, &q_runs, first, &stands, begin, points)?;
+    let begin = push_faces(alloc, &mut all, p, p_runs, 0, stands, 0, points)?;
+    push_faces(alloc, &mut all, q, q_runs, first, stands, begin, points)?;
     Ok(all)
 }
 
