@@ -1,5 +1,5 @@
 -- Triangles that are added one by one.
-use Rattle.std.proofs.Common.{◌≡◌, ℕ, ◌+◌, ◌<◌, List, [], ◌∷◌, ◌++◌, replicate, length, refl, arith, sym, ap, ◌∙◌, append-nil, append_assoc}
+use Rattle.std.proofs.Common.{◌≡◌, ℕ, ◌+◌, [], ◌∷◌, ◌++◌, replicate, length, sym, ap, ◌∙◌, append-nil, append_assoc}
 use Rattle.std.proofs.lemmas.List.{length-append, replicate-append-replicate}
 use Rattle.mesh_terms.specs.Meshes.{Triple, triples_of}
 use Rattle.ring_cutting.specs.Cuts.{Cut}

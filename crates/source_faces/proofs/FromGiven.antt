@@ -1,8 +1,7 @@
 -- Runs, records and points that are those of what is given.
-use Rattle.std.proofs.Common.{◌≡◌, ℕ, ◌+◌, ℤ, List, ◌∷◌, [], map, arith, sym, ap, subst, ◌∙◌}
+use Rattle.std.proofs.Common.{◌≡◌, ℕ, ◌+◌, ℤ, List, ◌∷◌, [], map, sym, ap, subst, ◌∙◌}
 use Rattle.std.specs.Prelude.{slice_index}
 use Rattle.mb_base.specs.declared.op.Op.{Op}
-use Rattle.ring_cutting.specs.Cuts.{Cut}
 use Rattle.side_terms.specs.Sides.{Side}
 use Rattle.assembly_terms.specs.Prescribed.{Numbers, p_kept, p_number, q_kept, q_number}
 use Rattle.face_lists.specs.declared.runs.Run.{Run}

@@ -1,6 +1,5 @@
 -- Faces of a side, from runs and records that tell all copies.
-use Rattle.std.proofs.Common.{◌≡◌, ℕ, ◌+◌, ◌<◌, ◌≤◌, ℤ, List, [], map, get_or, length, arith, sym, ap, subst, ◌∙◌}
-use Rattle.std.specs.List.{All}
+use Rattle.std.proofs.Common.{◌≡◌, ℕ, ◌+◌, ◌<◌, ◌≤◌, List, [], get_or, length, arith, sym, ap, subst, ◌∙◌}
 use Rattle.std.proofs.lemmas.List.{get_or-map, get_or_default, length-map}
 use Rattle.chain_terms.specs.Cycles.{cycles}
 use Rattle.mb_base.specs.declared.results.Origin.{Origin}
@@ -9,7 +8,6 @@ use Rattle.hole_joining.specs.Laws.{AreFillable}
 use Rattle.side_terms.specs.Sides.{Side}
 use Rattle.assembly_terms.specs.Lists.{Copy, no_copy}
 use Rattle.segment_terms.specs.Planes.{plane_drop_of}
-use Rattle.segment_terms.specs.Segments.{vertex_point}
 use Rattle.triangulate.specs.Fills.{fill_of}
 use Rattle.face_lists.specs.declared.runs.Run.{Run}
 use Rattle.face_lists.specs.declared.stands.Stand.{Stand}
@@ -17,7 +15,7 @@ use Rattle.face_lists.specs.Agreement.{AreInOrder, AreRunsOf}
 use Rattle.face_lists.specs.Parts.{AreRuns, CanBeSegments, no_run, segments_by}
 use Rattle.filling_terms.specs.Assembling.{FormLoops}
 use Rattle.filling_terms.specs.Filled.{face_segments, filled_face, points_of_copies, source_drop}
-use Rattle.source_faces.specs.Adding.{CanBeFilled, filled_by}
+use Rattle.source_faces.specs.Adding.{filled_by}
 use Rattle.source_faces.specs.Parts.{CanBePart, HaveCopies}
 use Rattle.source_faces.specs.Plain.{LieAtVertices}
 

@@ -1,36 +1,30 @@
 -- The faces of both sides, from what is given.
-use Rattle.std.proofs.Common.{◌≡◌, ℕ, zero, suc, ◌+◌, ◌-◌, ◌<◌, ◌≤◌, List, [], ◌∷◌, ◌++◌, map, length, refl, arith, sym, ap, subst, ◌∙◌}
-use Rattle.std.specs.Prelude.{if◌then◌else◌, nat_lt}
+use Rattle.std.proofs.Common.{◌≡◌, ℕ, zero, suc, ◌+◌, ◌-◌, ◌<◌, ◌≤◌, List, ◌∷◌, ◌++◌, map, length, refl, arith, sym, ap, subst, ◌∙◌}
+use Rattle.std.specs.Prelude.{if◌then◌else◌}
 use Rattle.std.proofs.lemmas.Bool.{le-ltb, lt-ltb}
 use Rattle.std.proofs.lemmas.List.{map-append}
-use Rattle.chain_terms.specs.Chains.{all_edges}
 use Rattle.chain_terms.specs.Sums.{up_from, upto}
 use Rattle.chain_laws.proofs.Places.{up_from-append}
 use Rattle.mb_base.specs.declared.op.Op.{Op}
 use Rattle.mb_base.specs.declared.results.Hits.{Hits}
 use Rattle.mb_base.specs.declared.results.Windings.{Windings}
 use Rattle.mb_base.specs.declared.results.Origin.TheVariants.{PVertex, QVertex}
-use Rattle.ring_cutting.specs.Cuts.{Cut}
 use Rattle.side_terms.specs.Sides.{IsSide, Side}
 use Rattle.assembly_terms.specs.Lists.{Copy}
-use Rattle.assembly_terms.specs.Prescribed.{p_kept, p_number, q_kept, q_number}
+use Rattle.assembly_terms.specs.Prescribed.{p_kept, q_kept}
 use Rattle.retained_verts.proofs.AllStarts.{all_starts}
 use Rattle.retained_verts.proofs.Lengths.{all_copies_counted, few_copies}
 use Rattle.retained_verts.specs.Handed.{copies, numbers}
 use Rattle.retained_verts.specs.declared.list.Prescribed.{Prescribed}
 use Rattle.segment_laws.specs.Laws.{PrescribedAreNamed}
 use Rattle.segment_terms.specs.Planes.{plane_drop_of}
-use Rattle.segment_terms.specs.Segments.{source_count}
 use Rattle.face_lists.specs.declared.runs.Run.{Run}
 use Rattle.face_lists.specs.declared.stands.Stand.{Stand}
 use Rattle.face_lists.specs.Agreement.{HaveLists, records_of}
 use Rattle.face_lists.specs.Laws.{ListsCanBeSegments, ListsGiveSegments, PrescribedHaveLists}
-use Rattle.face_lists.specs.Parts.{segments_by}
-use Rattle.face_lists.specs.Runs.{runs_from}
-use Rattle.face_lists.specs.Stands.{sorted_stands}
 use Rattle.filling_laws.specs.Laws.{FacesFormLoops}
 use Rattle.filling_terms.specs.Assembling.{CanBeAssembled}
-use Rattle.filling_terms.specs.Filled.{all_filled, face_segments, filled_face, points_of_copies, source_drop}
+use Rattle.filling_terms.specs.Filled.{filled_face, points_of_copies, source_drop}
 use Rattle.source_faces.specs.Adding.{filled_by}
 use Rattle.source_faces.specs.Given.{AreFewGiven, AreGiven, GivenHaveParts, HaveAllParts, given_p_runs, given_q_runs, given_stands}
 use Rattle.source_faces.specs.Parts.{CanBePart}

@@ -1,13 +1,13 @@
 -- Records that ascend stand together by source face.
-use Rattle.std.specs.Prelude.{count_by, filter, ◌==◌, nat_lt}
-use Rattle.std.proofs.Common.{◌≡◌, ℕ, zero, suc, ◌+◌, ◌-◌, ◌<◌, ◌≤◌, List, [], ◌∷◌, Bool, true, false, cond, Ordering, Less, Equal, Greater, drop, take, get_or, length, refl, arith, ap, sym, ◌∙◌, inl, inr}
+use Rattle.std.specs.Prelude.{◌==◌, nat_lt}
+use Rattle.std.proofs.Common.{◌≡◌, ℕ, zero, suc, ◌+◌, ◌-◌, ◌<◌, ◌≤◌, List, [], ◌∷◌, true, false, cond, Ordering, Less, Equal, Greater, drop, take, get_or, length, refl, arith, ap, sym, ◌∙◌, inl, inr}
 use Rattle.std.specs.Ordering.{is_le, is_lt, nat_cmp, ordering_then}
 use Rattle.std.proofs.lemmas.Bool.{cases_Bool, eqb-false, eqb-true, le-ltb, lt-ltb, ltb-true, ltb-false, ne_eqb}
 use Rattle.std.proofs.lemmas.List.Sums.{count_by-le-length}
 use Rattle.std.proofs.lemmas.Map.Keys.{le_from_is_le}
 use Rattle.chain_laws.specs.Counts.{count_by-cons, one_if-false, one_if-true}
 use Rattle.face_lists.specs.Agreement.{Ascend, no_stand, records_of}
-use Rattle.face_lists.specs.Stands.{face_count, group_end, stands_before}
+use Rattle.face_lists.specs.Stands.{face_count, group_end}
 use Rattle.face_lists.specs.declared.stands.Stand.{Stand}
 use Rattle.source_faces.specs.Parts.{count_below}
 
@@ -104,8 +104,8 @@ front_count : (ss : List Stand) (x : ℕ) → AreFrom x ss → Rise ss → face_
 front_count [] x low h = refl
 front_count (s ∷ ss) x low h = elim (cases_Bool (s.face == x)) as (λ _. face_count (s ∷ ss) x ≡ count_below (s ∷ ss) (x + 1)) [
   | inl y ↦
-    let e = eqb-true s.face x y in
-    in_front s ss x y ∙ ap suc (front_count ss x (from_on s ss x low) (rise_on s ss h)) ∙ sym (counted s ss (x + 1) (lt-ltb s.face (x + 1) (omega (arith, e))))
+      let e = eqb-true s.face x y in
+      in_front s ss x y ∙ ap suc (front_count ss x (from_on s ss x low) (rise_on s ss h)) ∙ sym (counted s ss (x + 1) (lt-ltb s.face (x + 1) (omega (arith, e))))
   | inr n ↦ not_in_front s ss x n ∙ sym (none_below (s ∷ ss) (x + 1) (above_all s ss x low h n))
 ]
 
@@ -114,11 +114,11 @@ group : (ss : List Stand) (x : ℕ) → Rise ss → take (face_count (drop (coun
 group [] x h = refl
 group (s ∷ ss) x h = elim (cases_Bool (nat_lt s.face x)) as (λ _. take (face_count (drop (count_below (s ∷ ss) x) (s ∷ ss)) x) (drop (count_below (s ∷ ss) x) (s ∷ ss)) ≡ records_of (s ∷ ss) x) [
   | inl y ↦
-    let low = ltb-true s.face x y in
-    ap (λ n. take (face_count (drop n (s ∷ ss)) x) (drop n (s ∷ ss))) (counted s ss x y) ∙ group ss x (rise_on s ss h) ∙ sym (not_kept s ss x (ne_eqb s.face x (λ e. omega (arith, low, e))))
+      let low = ltb-true s.face x y in
+      ap (λ n. take (face_count (drop n (s ∷ ss)) x) (drop n (s ∷ ss))) (counted s ss x y) ∙ group ss x (rise_on s ss h) ∙ sym (not_kept s ss x (ne_eqb s.face x (λ e. omega (arith, low, e))))
   | inr n ↦
-    let all = from_all s ss x (ltb-false s.face x n) h in
-    ap (λ n. take (face_count (drop n (s ∷ ss)) x) (drop n (s ∷ ss))) (none_below (s ∷ ss) x all) ∙ front (s ∷ ss) x all h
+      let all = from_all s ss x (ltb-false s.face x n) h in
+      ap (λ n. take (face_count (drop n (s ∷ ss)) x) (drop n (s ∷ ss))) (none_below (s ∷ ss) x all) ∙ front (s ∷ ss) x all h
 ]
 
 -- and where they end
@@ -126,13 +126,13 @@ next : (ss : List Stand) (x : ℕ) → Rise ss → group_end ss (count_below ss 
 next [] x h = refl
 next (s ∷ ss) x h = elim (cases_Bool (nat_lt s.face x)) as (λ _. group_end (s ∷ ss) (count_below (s ∷ ss) x) x ≡ count_below (s ∷ ss) (x + 1)) [
   | inl y ↦
-    let low = ltb-true s.face x y in
-    let step : group_end (s ∷ ss) (suc (count_below ss x)) x ≡ suc (group_end ss (count_below ss x) x) = omega arith in
-    ap (λ n. group_end (s ∷ ss) n x) (counted s ss x y) ∙ step ∙ ap suc (next ss x (rise_on s ss h)) ∙ sym (counted s ss (x + 1) (lt-ltb s.face (x + 1) (omega (arith, low))))
+      let low = ltb-true s.face x y in
+      let step : group_end (s ∷ ss) (suc (count_below ss x)) x ≡ suc (group_end ss (count_below ss x) x) = omega arith in
+      ap (λ n. group_end (s ∷ ss) n x) (counted s ss x y) ∙ step ∙ ap suc (next ss x (rise_on s ss h)) ∙ sym (counted s ss (x + 1) (lt-ltb s.face (x + 1) (omega (arith, low))))
   | inr n ↦
-    let all = from_all s ss x (ltb-false s.face x n) h in
-    let step : group_end (s ∷ ss) 0 x ≡ face_count (s ∷ ss) x = omega arith in
-    ap (λ n. group_end (s ∷ ss) n x) (none_below (s ∷ ss) x all) ∙ step ∙ front_count (s ∷ ss) x all h
+      let all = from_all s ss x (ltb-false s.face x n) h in
+      let step : group_end (s ∷ ss) 0 x ≡ face_count (s ∷ ss) x = omega arith in
+      ap (λ n. group_end (s ∷ ss) n x) (none_below (s ∷ ss) x all) ∙ step ∙ front_count (s ∷ ss) x all h
 ]
 
 -- of records that ascend, those of face x stand together, from where those of earlier faces end

@@ -1,14 +1,13 @@
 -- Fillings that are added one after the other.
-use Rattle.std.proofs.Common.{◌≡◌, ℕ, ◌+◌, ◌<◌, List, [], ◌∷◌, ◌++◌, map, replicate, length, refl, arith, sym, ap, subst, ◌∙◌, append-nil, append_assoc}
-use Rattle.std.specs.List.{sum_by}
+use Rattle.std.proofs.Common.{◌≡◌, ℕ, ◌+◌, List, [], ◌∷◌, ◌++◌, map, replicate, length, arith, sym, ap, subst, ◌∙◌, append-nil, append_assoc}
 use Rattle.std.proofs.lemmas.List.{length-map, map_push}
 use Rattle.std.proofs.lemmas.List.Concat.{flat_map-append}
 use Rattle.std.proofs.lemmas.List.Sums.{sum_by-append, sum_by-cons}
 use Rattle.chain_terms.specs.Sums.{upto}
 use Rattle.chain_laws.proofs.Places.{length-up_from, upto_more}
-use Rattle.mesh_terms.specs.Meshes.{Triple, triples_of}
+use Rattle.mesh_terms.specs.Meshes.{triples_of}
 use Rattle.ring_cutting.specs.Cuts.{Cut}
-use Rattle.filling_terms.specs.Filled.{all_triples, forced_of, sources_of}
+use Rattle.filling_terms.specs.Filled.{all_triples, sources_of}
 use Rattle.source_faces.specs.Adding.{IsAdded}
 use Rattle.source_faces.specs.Parts.{AreAdded, AreAll}
 use Rattle.source_faces.specs.declared.triangles.SourceTriangles.{SourceTriangles}

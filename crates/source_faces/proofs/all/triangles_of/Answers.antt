@@ -1,4 +1,4 @@
-use Rattle.std.proofs.Common.{◌≡◌, ℕ, ◌+◌, ◌<◌, ◌≤◌, ℤ, List, map, length, refl, arith, sym, ap, subst, ◌∙◌}
+use Rattle.std.proofs.Common.{◌≡◌, List, length, arith, ap, subst, ◌∙◌}
 use Rattle.std.specs.Prelude.{IfOk, slice_index}
 use Rattle.assembly_terms.specs.Prescribed.{p_kept, p_number, q_kept, q_number, vertex_count}
 use Rattle.filling_terms.specs.Filled.{all_filled, all_triples, forced_of, points_of_copies, sources_of}

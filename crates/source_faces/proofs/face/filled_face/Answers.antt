@@ -1,10 +1,8 @@
 use Rattle.std.proofs.Common.{◌≡◌, ◌≤◌, ℕ, List, length, ap, sym, subst, ◌∙◌}
 use Rattle.chain_terms.specs.Cycles.{cycles}
-use Rattle.edge_pairing.specs.Entries.{edge_of}
 use Rattle.face_loops.specs.Segments.{edges_of}
 use Rattle.face_lists.specs.Parts.{segments_by}
 use Rattle.hole_joining.specs.Laws.{AreFillable, settled_in}
-use Rattle.ring_cutting.specs.Cuts.{Cut}
 use Rattle.segment_terms.specs.Planes.{plane_drop_of}
 use Rattle.triangulate.specs.Fills.{fill_of}
 use Rattle.triangulate.specs.Laws.{HasCount}

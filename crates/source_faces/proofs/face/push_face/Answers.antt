@@ -1,4 +1,4 @@
-use Rattle.std.proofs.Common.{◌≡◌, ◌≤◌, ℕ, List, [], ◌∷◌, true, get_or, length, refl, arith, ap, sym, subst, ◌∙◌}
+use Rattle.std.proofs.Common.{◌≡◌, ◌≤◌, List, [], ◌∷◌, true, get_or, length, refl, arith, ap, sym, subst, ◌∙◌}
 use Rattle.std.specs.Prelude.{OnOk, ◌==◌}
 use Rattle.std.proofs.lemmas.Bool.{eqb-true}
 use Rattle.face_lists.specs.declared.stands.Stand.{Stand}

@@ -1,5 +1,5 @@
-use Rattle.std.proofs.Common.{◌≡◌, ℕ, ◌+◌, ◌<◌, ◌≤◌, List, [], ◌∷◌, ◌++◌, map, cond, get_or, length, refl, arith, sym, ap, subst, ◌∙◌}
-use Rattle.std.proofs.lemmas.List.{get_or-map, length-map, map_push}
+use Rattle.std.proofs.Common.{◌≡◌, ℕ, ◌+◌, List, [], ◌∷◌, ◌++◌, map, cond, get_or, refl, arith, sym, ap, subst, ◌∙◌}
+use Rattle.std.proofs.lemmas.List.{map_push}
 use Rattle.chain_terms.specs.Sums.{upto}
 use Rattle.chain_laws.proofs.Places.{upto_more}
 use Rattle.face_lists.specs.Parts.{no_run}

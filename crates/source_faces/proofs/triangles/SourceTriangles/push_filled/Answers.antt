@@ -1,6 +1,6 @@
-use Rattle.std.proofs.Common.{◌≡◌, ◌+◌, ◌<◌, [], ◌∷◌, ◌++◌, ℕ, List, take, get_or, length, refl, arith, sym, ap, subst, ◌∙◌}
+use Rattle.std.proofs.Common.{◌≡◌, ◌+◌, ◌<◌, [], ◌∷◌, ◌++◌, ℕ, List, take, get_or, length, refl, sym, ap, subst, ◌∙◌}
 use Rattle.std.proofs.lemmas.List.{map_more, take_all}
-use Rattle.mesh_terms.specs.Meshes.{Triple, triple_of, triples_of}
+use Rattle.mesh_terms.specs.Meshes.{triple_of, triples_of}
 use Rattle.ring_cutting.specs.Cuts.{Cut}
 use Rattle.source_faces.specs.Adding.{IsAdded}
 use Rattle.source_faces.specs.declared.triangles.SourceTriangles.{SourceTriangles}
