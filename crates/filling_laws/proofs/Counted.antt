@@ -25,7 +25,7 @@ use Rattle.segment_terms.specs.Segments.{all_segments, lists_of, lower_half, pai
 use Rattle.segment_laws.proofs.FaceLists.{all_upto, lists_known}
 
 -- sums of what is the same for each member
-pub sum_by-same_all : {X : Type 0} (f g : X → ℕ) (xs : List X) → All (λ x. f x ≡ g x) xs → sum_by f xs ≡ sum_by g xs
+sum_by-same_all : {X : Type 0} (f g : X → ℕ) (xs : List X) → All (λ x. f x ≡ g x) xs → sum_by f xs ≡ sum_by g xs
 sum_by-same_all f g [] h = refl
 sum_by-same_all f g (x ∷ xs) h =
     let here : f x ≡ g x = All-head (λ x. f x ≡ g x) x xs h in
@@ -49,12 +49,15 @@ pairs_length key from to even =
     let t = length_permutation to ts (sorted_moved key to) in
     sym (length-map (zip ss ts) (λ (e : ℕ × ℕ). e.0)) ∙ ap (λ l. length l) (zip-firsts ss ts (s ∙ even ∙ sym t)) ∙ s
 
+-- along an edge
 along_length : (a b : List ℤ) (place : ℕ → List ℤ) (from to : List ℕ) → length from ≡ length to → length (paired_along a b place from to) ≡ length from
 along_length a b place from to even = let key : ℕ → ℤ = λ v. scalar_product (step a b) (place v) in pairs_length key from to even
 
+-- where two faces cross
 across_length : (place : ℕ → List ℤ) (from to : List ℕ) → length from ≡ length to → length (paired_across place from to) ≡ length from
 across_length place from to even = let key : ℕ → ℤ = λ v. coordinate_of (place v) (spread_axis (map place (from ++ to))) in pairs_length key from to even
 
+-- in any list
 paired_length : (p q : Side) (place : ℕ → List ℤ) (name : ListName) (from to : List ℕ) → length from ≡ length to → length (paired_in p q place name from to) ≡ length from
 paired_length p q place (HalfP h) from to even =
     let es = all_edges p.triples in along_length (vertex_point p (start es (lower_half es h))) (vertex_point p (finish es (lower_half es h))) place from to even

@@ -33,6 +33,7 @@ record Fills (loops : List (List ℕ)) (n : ℕ) (c : Cut) : Type 0 where
   few : 3 * length c.triples ≤ 5 * length (concat loops)
   forced : c.forced ≤ length c.triples
 
+-- the filling of loops that can be filled fills them
 fills : (drop_axis : ℕ) (points : List (List ℤ)) (loops : List (List ℕ)) → AreFillable loops (length points) → Fills loops (length points) (fill_of drop_axis points loops)
 fills drop_axis points loops can =
     let at = settled_in drop_axis points loops in
