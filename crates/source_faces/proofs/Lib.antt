@@ -1,0 +1,5 @@
+mod Copies
+mod Flat
+mod Halves
+mod PlainFaces
+mod Rings
