@@ -1,2 +1,5 @@
 mod Blocks
+mod Middle
 mod RunBlocks
+mod VertexCopies
+mod VertexRuns
