@@ -1,5 +1,7 @@
+mod Between
 mod Blocks
 mod Middle
 mod RunBlocks
+mod Sights
 mod VertexCopies
 mod VertexRuns
