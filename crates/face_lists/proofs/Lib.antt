@@ -1,5 +1,6 @@
 mod Between
 mod Blocks
+mod HitSights
 mod Middle
 mod RunBlocks
 mod Sights
