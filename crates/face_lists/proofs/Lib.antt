@@ -1,6 +1,7 @@
 mod Between
 mod Blocks
 mod HitSights
+mod Listed
 mod Middle
 mod RunBlocks
 mod Sights
