@@ -5,5 +5,6 @@ mod Listed
 mod Middle
 mod RunBlocks
 mod Sights
+mod StrictSort
 mod VertexCopies
 mod VertexRuns
