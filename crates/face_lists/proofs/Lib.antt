@@ -1,5 +1,6 @@
 mod Between
 mod Blocks
+mod Differing
 mod HitSights
 mod Listed
 mod Middle
