@@ -1,6 +1,7 @@
 mod Between
 mod Blocks
 mod Differing
+mod HitCopies
 mod HitSights
 mod Listed
 mod Middle
