@@ -5,6 +5,7 @@ mod HitCopies
 mod HitSights
 mod Listed
 mod Middle
+mod PrescribedHits
 mod RunBlocks
 mod Sights
 mod StrictSort
