@@ -9,5 +9,6 @@ mod PrescribedHits
 mod RunBlocks
 mod Sights
 mod StrictSort
+mod TellCopies
 mod VertexCopies
 mod VertexRuns

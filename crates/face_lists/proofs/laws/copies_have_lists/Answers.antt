@@ -2,6 +2,7 @@ use Rattle.face_lists.proofs.VertexCopies.{vertex_run}
 use Rattle.face_lists.proofs.Middle.{copy_middle}
 use Rattle.face_lists.proofs.Sights.{is_one_of_six}
 use Rattle.face_lists.proofs.HitSights.{p_seen}
+use Rattle.face_lists.proofs.TellCopies
 use Rattle.face_lists.proofs.PrescribedHits.{numbered}
 use Rattle.face_lists.proofs.HitCopies.{told_each}
 use Rattle.face_lists.proofs.Differing.{hits_differ}
