@@ -127,3 +127,102 @@ module _ (op : Op) (p q : Side) (n : Numbers) (p_known : IsSide p) (q_known : Is
         copy = λ j i t. (told j i t).copy;
         seen = λ j l. let h = get_or n.x12 j no_hit in p_seen p q p_known h.edge h.face _ h.at (x12.on_edges j no_hit l).0;
       }
+
+  -- the number of the first copy of the second mesh's hits
+  abbrev second : ℕ
+  second = k + hit_count op n.x12
+
+  first_size : length (all_copies (vertices ++ p_hits op n)) ≡ second
+  first_size = omega (arith, ap length (flat_map-append copies_of vertices (p_hits op n)), length-append (all_copies vertices) (all_copies (p_hits op n)), vertices_size, length-hit_copies op PEdge n.x12)
+
+  -- the prescribed copies, with the second mesh's hits at the end
+  in_three : all_copies ((vertices ++ p_hits op n) ++ (q_hits op n ++ [])) ≡ cs
+  in_three =
+      ap (λ is. all_copies ((vertices ++ p_hits op n) ++ is)) (append-nil (q_hits op n)) ∙ ap all_copies (append_assoc vertices (p_hits op n) (q_hits op n)) ∙ in_two
+
+  -- its copies
+  q_told : AreTold op es ds faces cs ds (λ x. faces ≤ x) (λ x. x < faces) faces 0 QEdge second n.x21
+  q_told =
+      let told : (j i : ℕ) → (j < length n.x21) × _ → HasCopy op QEdge cs (get_or n.x21 j no_hit) (copy_number op QEdge second n.x21 j i) = λ j i t.
+        subst (λ c. HasCopy op QEdge c (get_or n.x21 j no_hit) (copy_number op QEdge second n.x21 j i)) in_three (has_copy op QEdge (vertices ++ p_hits op n) [] n.x21 second first_size j i t.0 t.1) in
+      record {
+        of_hits = λ e f. tt;
+        within = λ j i t. (told j i t).within;
+        copy = λ j i t. (told j i t).copy;
+        seen = λ j l. let h = get_or n.x21 j no_hit in q_seen p q q_known h.edge h.face _ h.at (x21.on_edges j no_hit l).0 (x21.on_faces j no_hit l);
+      }
+
+  -- the records of both, and sorted
+  abbrev p_stands : List Stand
+  p_stands = hit_stands op es 0 faces k n.x12
+
+  abbrev q_stands : List Stand
+  q_stands = hit_stands op ds faces 0 second n.x21
+
+  abbrev stands : List Stand
+  stands = sorted_stands op p q n.x12 n.x21 k
+
+  -- a copy of a hit has its number among those of the first mesh or of the second
+  by_number : (v : ℕ) → v < length cs → IsHitCopy (get_or cs v no_copy).origin → IsNumbered op PEdge k n.x12 v ⊎ IsNumbered op QEdge second n.x21 v
+  by_number v l hit =
+      let NoHit : Origin → Type 0 = λ o. IsHitCopy o → ⊥ in
+      let none : All (λ i. IsHitCopy i.origin → ⊥) vertices =
+        All-append (λ i. IsHitCopy i.origin → ⊥) (p_vertices op p n) (q_vertices op q n) (all_vertices PVertex (p_number op) n.w03 (points_of p.corners) (length p.corners) NoHit (λ u h. h)) (all_vertices QVertex (q_number op) n.w30 (points_of q.corners) (length q.corners) NoHit (λ u h. h)) in
+      let found = numbered op vertices n.x12 n.x21 none v (omega (arith, l, ap length in_two)) (subst (λ (c : List Copy). IsHitCopy (get_or c v no_copy).origin) (sym in_two) hit) in
+      subst (λ b. IsNumbered op PEdge b n.x12 v ⊎ IsNumbered op QEdge (b + hit_count op n.x12) n.x21 v) vertices_size found
+
+  -- how they stand
+  hit_copies : AreStandsOf es ds faces cs stands
+  hit_copies =
+      let all = p_stands ++ q_stands in
+      let moved = sorted_by-permutation stands_before all in
+      record {
+        each = λ x l v start below hit so.
+          let s : Stand = record { face = x; list = l; copy = v; start = start } in
+          Contains-permutation all stands s moved (elim (by_number v below hit) as (λ _. Contains all s) [
+            | inl a ↦ Contains-append_left p_stands q_stands s (told_each op es ds faces cs es (λ y. y < faces) (λ y. faces ≤ y) 0 faces PEdge k n.x12 p_told a.hit a.turn (a.within, a.inside) x l v start a.at so)
+            | inr b ↦ Contains-append_right p_stands q_stands s (told_each op es ds faces cs ds (λ y. faces ≤ y) (λ y. y < faces) faces 0 QEdge second n.x21 q_told b.hit b.turn (b.within, b.inside) x l v start b.at so)
+          ]);
+        only = λ s c.
+          elim (Contains-append_cases p_stands q_stands s (Contains-permutation stands all s (IsPermutation-sym all stands moved) c))
+          as (λ _. (s.copy < length cs) × IsHitCopy (get_or cs s.copy no_copy).origin × StandsAs s.start (standing es ds (list_name faces s.face s.list) (get_or cs s.copy no_copy))) [
+            | inl a ↦ told_only op es ds faces cs es (λ y. y < faces) (λ y. faces ≤ y) 0 faces PEdge k n.x12 p_told s a
+            | inr b ↦ told_only op es ds faces cs ds (λ y. faces ≤ y) (λ y. y < faces) faces 0 QEdge second n.x21 q_told s b
+          ];
+      }
+
+  -- the edges of hits have two faces
+  p_three : All (λ h. AreThree 0 faces h.edge (twin es h.edge) h.face) n.x12
+  p_three j d l =
+      let two = two_faces p (get_or n.x12 j d).edge p_known (x12.on_edges j d l).0 in
+      record { apart = two.apart; first = λ e. omega (arith, e, two.one); second = λ e. omega (arith, e, two.other) }
+
+  q_three : All (λ h. AreThree faces 0 h.edge (twin ds h.edge) h.face) n.x21
+  q_three j d l =
+      let two = two_faces q (get_or n.x21 j d).edge q_known (x21.on_edges j d l).0 in
+      let below = x21.on_faces j d l in
+      record { apart = two.apart; first = λ e. omega (arith, e, below); second = λ e. omega (arith, e, below) }
+
+  pub tell_copies : HaveLists p q cs k (runs_from 0 (map (p_number op) n.w03)) (runs_from (p_kept op n) (map (q_number op) n.w30)) stands
+  tell_copies =
+      let p_within = hits_within op es 0 faces k n.x12 in
+      let q_within = hits_within op ds faces 0 second n.x21 in
+      let p_copies_of = IsWithinCopies k (hit_count op n.x12) in
+      let q_copies_of = IsWithinCopies second (hit_count op n.x21) in
+      record {
+        p_side = p_known;
+        q_side = q_known;
+        p_copies = p_copies;
+        q_copies = q_copies;
+        p_order = runs_in_order (p_number op) 0 k n.w03 (omega arith);
+        q_order = runs_in_order (q_number op) (p_kept op n) k n.w30 (omega arith);
+        hit_copies = hit_copies;
+        later = all_sorted (λ s. k ≤ s.copy) stands_before (p_stands ++ q_stands)
+          (All-append (λ s. k ≤ s.copy) p_stands q_stands (All-weaker p_copies_of (λ s. k ≤ s.copy) (λ s w. w.0) p_stands p_within) (All-weaker q_copies_of (λ s. k ≤ s.copy) (λ s w. omega (arith, w.0)) q_stands q_within));
+        ascend = sorted_ascend (p_stands ++ q_stands)
+          (differ_append second p_stands q_stands (All-weaker p_copies_of (λ s. s.copy < second) (λ s w. w.1) p_stands p_within) (All-weaker q_copies_of (λ s. second ≤ s.copy) (λ s w. w.0) q_stands q_within)
+          (hits_differ op es 0 faces k n.x12 p_three) (hits_differ op ds faces 0 second n.x21 q_three));
+      }
+
+pub prescribed_have_lists : PrescribedHaveLists
+prescribed_have_lists op p q n p_known q_known p_long q_long x12 x21 = tell_copies op p q n p_known q_known p_long q_long x12 x21
