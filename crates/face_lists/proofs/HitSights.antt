@@ -1,12 +1,12 @@
 -- Where a copy of a hit stands in the lists of source faces, by the two half-edges of its edge.
-use Rattle.std.proofs.Common.{◌≡◌, ℕ, ◌+◌, ◌-◌, ◌*◌, ◌/◌, ◌<◌, ◌≤◌, ◌==◌, Bool, true, false, not, cond, if◌then◌else◌, nat_lt, ℤ, pos, neg_ℤ, ◌-ℤ◌, List, length, ◌⊎◌, inl, inr, refl, sym, ap, ◌∙◌, arith}
+use Rattle.std.proofs.Common.{◌≡◌, ℕ, ◌+◌, ◌-◌, ◌*◌, ◌/◌, ◌<◌, ◌≤◌, ◌==◌, Bool, true, false, not, cond, if◌then◌else◌, nat_lt, ℤ, pos, neg_ℤ, ◌-ℤ◌, List, length, ◌⊎◌, inl, inr, refl, ap, ◌∙◌, arith}
 use Rattle.std.proofs.lemmas.Int.{ints}
 use Rattle.std.proofs.lemmas.Bool.{cases_lt, le-ltb, lt-ltb}
 use Rattle.chain_terms.specs.Chains.{all_edges}
 use Rattle.chain_terms.specs.Ranks.{twin}
 use Rattle.mb_base.specs.declared.results.Origin.TheVariants.{PEdge, QEdge}
 use Rattle.side_terms.specs.Sides.{IsSide, Side}
-use Rattle.assembly_terms.specs.Lists.{Copy, HalfP, HalfQ, ListName, PairP, PairQ, standing, way, way_round}
+use Rattle.assembly_terms.specs.Lists.{Copy, HalfP, HalfQ, PairP, PairQ, standing, way, way_round}
 use Rattle.retained_verts.proofs.TwoLists.{two_faces}
 use Rattle.retained_verts.proofs.Ways.{same, way_is, way_round_is}
 use Rattle.face_lists.specs.Agreement.{list_name}

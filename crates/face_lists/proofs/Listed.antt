@@ -1,5 +1,5 @@
 -- The records of hits are the six of each of their copies.
-use Rattle.std.proofs.Common.{◌≡◌, ℕ, zero, suc, ◌+◌, ◌<◌, Bool, pos, List, [], ◌∷◌, ◌++◌, length, get_or, nat_abs, int_lt, ap, refl, inl, inr, subst, arith}
+use Rattle.std.proofs.Common.{◌≡◌, ℕ, zero, suc, ◌+◌, ◌<◌, Bool, pos, List, [], ◌∷◌, length, get_or, nat_abs, int_lt, inl, inr, subst, arith}
 use Rattle.std.specs.List.{Contains}
 use Rattle.std.proofs.lemmas.List.Elements.{Contains-append_cases, Contains-append_left, Contains-append_right}
 use Rattle.chain_terms.specs.Ranks.{twin}

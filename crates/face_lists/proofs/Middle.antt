@@ -1,7 +1,6 @@
 -- The copies of what is included in the middle of a list.
-use Rattle.std.proofs.Common.{◌≡◌, ℕ, zero, suc, ◌+◌, ◌-◌, ◌<◌, ◌≤◌, List, [], ◌∷◌, ◌++◌, length, get_or, nat_abs, refl, sym, ap, ◌∙◌, arith}
+use Rattle.std.proofs.Common.{◌≡◌, ℕ, zero, suc, ◌+◌, ◌<◌, ◌≤◌, List, [], ◌∷◌, ◌++◌, length, get_or, nat_abs, refl, sym, ap, ◌∙◌, arith}
 use Rattle.std.proofs.lemmas.List.{get_or-append-add, get_or_append_left, length-append}
-use Rattle.std.proofs.lemmas.List.Concat.{flat_map-append}
 use Rattle.assembly_terms.specs.Lists.{no_copy}
 use Rattle.assembly_terms.specs.Prescribed.{Included, copies_of, copy_of}
 use Rattle.face_lists.proofs.Blocks.{all_copies, before, before_all, before_ascends, copy_in, length-copies_of, no_included}

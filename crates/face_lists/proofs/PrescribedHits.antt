@@ -1,5 +1,5 @@
 -- Which of the prescribed copies are those of hits, and their numbers.
-use Rattle.std.proofs.Common.{◌≡◌, ℕ, zero, suc, ◌+◌, ◌-◌, ◌<◌, ◌≤◌, ℤ, pos, List, [], ◌∷◌, ◌++◌, length, get_or, nat_abs, ◌⊎◌, inl, inr, refl, sym, ap, ◌∙◌, subst, arith}
+use Rattle.std.proofs.Common.{◌≡◌, ℕ, ◌+◌, ◌-◌, ◌<◌, ℤ, List, [], ◌∷◌, ◌++◌, length, get_or, nat_abs, ◌⊎◌, inl, inr, refl, sym, ap, ◌∙◌, subst, arith}
 use Rattle.std.specs.List.{All}
 use Rattle.std.proofs.lemmas.Bool.{cases_lt}
 use Rattle.std.proofs.lemmas.List.{get_or-append-add, get_or-map, get_or_append_left, length-append, length-map}
@@ -12,7 +12,7 @@ use Rattle.mb_base.specs.declared.results.Origin.TheVariants.{PEdge, QEdge}
 use Rattle.assembly_terms.specs.Lists.{Copy, no_copy}
 use Rattle.assembly_terms.specs.Prescribed.{Included, copies_of, copy_of, hit_count, hit_number_of, included_hits, included_vertices}
 use Rattle.face_lists.specs.Agreement.{IsHitCopy}
-use Rattle.face_lists.proofs.Blocks.{LiesIn, all_copies, before, copy_in, length-copies_of, lies_in, no_included}
+use Rattle.face_lists.proofs.Blocks.{all_copies, before, copy_in, length-copies_of, lies_in, no_included}
 use Rattle.face_lists.proofs.HitCopies.{copy_as, copy_number, hit_as, is_copy_as}
 use Rattle.face_lists.proofs.Listed.{no_hit}
 use Rattle.face_lists.proofs.Middle.{before_middle, before_right, copy_middle}

@@ -1,10 +1,10 @@
 -- The run of each vertex is its block of copies.
-use Rattle.std.proofs.Common.{◌≡◌, ◌↔◌, ℕ, ◌+◌, ◌-◌, ◌<◌, ◌≤◌, ℤ, pos, List, length, get_or, nat_abs, int_lt, refl, sym, ap, ◌∙◌, arith}
+use Rattle.std.proofs.Common.{◌≡◌, ℕ, ◌+◌, ◌-◌, ◌<◌, ◌≤◌, pos, List, length, get_or, nat_abs, int_lt, sym, ap, ◌∙◌, arith}
 use Rattle.assembly_terms.specs.Lists.{Copy, no_copy}
 use Rattle.assembly_terms.specs.Prescribed.{Included, copy_of}
 use Rattle.face_lists.specs.Agreement.{IsRunOf}
 use Rattle.face_lists.specs.declared.runs.Run.{Run}
-use Rattle.face_lists.proofs.Blocks.{LiesIn, all_copies, before, before_all, before_ascends, copy_in, lies_in, no_included}
+use Rattle.face_lists.proofs.Blocks.{all_copies, before, before_all, before_ascends, copy_in, lies_in, no_included}
 
 -- the run of the j-th of what is included
 abbrev pub block_run : List Included → ℕ → Run

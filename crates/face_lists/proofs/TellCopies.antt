@@ -1,5 +1,5 @@
 -- The runs of both sides' vertices and the sorted records of the hits tell the prescribed copies.
-use Rattle.std.proofs.Common.{◌≡◌, ℕ, ◌+◌, ◌/◌, ◌<◌, ◌≤◌, Bool, ℤ, pos, List, [], ◌++◌, map, length, get_or, ◌⊎◌, inl, inr, refl, sym, ap, ◌∙◌, subst, arith}
+use Rattle.std.proofs.Common.{◌≡◌, ℕ, ◌+◌, ◌<◌, ◌≤◌, List, [], ◌++◌, map, length, get_or, ◌⊎◌, inl, inr, sym, ap, ◌∙◌, subst, arith}
 use Rattle.std.specs.List.{All, Contains}
 use Rattle.std.proofs.lemmas.List.{append-nil, append_assoc, length-append, length-map}
 use Rattle.std.proofs.lemmas.List.Concat.{flat_map-append}
@@ -9,24 +9,23 @@ use Rattle.chain_terms.specs.Chains.{all_edges}
 use Rattle.chain_terms.specs.Ranks.{twin}
 use Rattle.chain_laws.proofs.Sorting.{sorted_by-permutation}
 use Rattle.mb_base.specs.declared.op.Op.{Op}
-use Rattle.mb_base.specs.declared.results.Hit.{Hit}
 use Rattle.mb_base.specs.declared.results.Origin.{Origin}
 use Rattle.mb_base.specs.declared.results.Origin.TheVariants.{PEdge, PVertex, QEdge, QVertex}
 use Rattle.side_terms.specs.Hits.{AreHits}
 use Rattle.side_terms.specs.Sides.{IsSide, Side}
 use Rattle.assembly_terms.specs.Lists.{Copy, no_copy, standing}
 use Rattle.assembly_terms.specs.Points.{points_of}
-use Rattle.assembly_terms.specs.Prescribed.{Included, Numbers, copies_of, hit_count, hit_number_of, p_hits, p_kept, p_number, p_vertices, prescribed, q_hits, q_kept, q_number, q_vertices}
+use Rattle.assembly_terms.specs.Prescribed.{Included, Numbers, copies_of, hit_count, p_hits, p_kept, p_number, p_vertices, prescribed, q_hits, q_kept, q_number, q_vertices}
 use Rattle.retained_verts.proofs.TwoLists.{two_faces}
 use Rattle.face_lists.specs.Agreement.{AreRunsOf, AreStandsOf, HaveLists, IsHitCopy, IsRunOf, StandsAs, list_name}
 use Rattle.face_lists.specs.Laws.{PrescribedHaveLists}
 use Rattle.face_lists.specs.Parts.{no_run}
 use Rattle.face_lists.specs.Runs.{runs_from}
-use Rattle.face_lists.specs.Stands.{all_stands, hit_stands, sorted_stands, stands_before}
+use Rattle.face_lists.specs.Stands.{hit_stands, sorted_stands, stands_before}
 use Rattle.face_lists.specs.declared.stands.Stand.{Stand}
 use Rattle.face_lists.proofs.Blocks.{all_copies}
 use Rattle.face_lists.proofs.Differing.{AreThree, IsWithinCopies, differ_append, hits_differ, hits_within}
-use Rattle.face_lists.proofs.HitCopies.{AreTold, copy_as, copy_number, told_each, told_only}
+use Rattle.face_lists.proofs.HitCopies.{AreTold, copy_number, told_each, told_only}
 use Rattle.face_lists.proofs.HitSights.{p_seen, q_seen}
 use Rattle.face_lists.proofs.Listed.{no_hit}
 use Rattle.face_lists.proofs.PrescribedHits.{HasCopy, IsNumbered, all_hits, all_vertices, has_copy, length-hit_copies, numbered}

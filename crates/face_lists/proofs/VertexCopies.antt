@@ -1,5 +1,5 @@
 -- The copies of the vertices of a side are told by the runs that their numbers give.
-use Rattle.std.proofs.Common.{◌≡◌, ℕ, ◌+◌, ◌-◌, ◌<◌, ◌≤◌, ℤ, pos, List, [], ◌++◌, map, length, get_or, nat_abs, int_lt, sym, ap, ◌∙◌, subst, arith, inl, inr}
+use Rattle.std.proofs.Common.{◌≡◌, ℕ, ◌+◌, ◌-◌, ◌<◌, ℤ, pos, List, [], ◌++◌, map, length, get_or, nat_abs, int_lt, sym, ap, ◌∙◌, subst, arith, inl, inr}
 use Rattle.std.specs.List.{All}
 use Rattle.std.proofs.lemmas.Bool.{cases_lt}
 use Rattle.std.proofs.lemmas.List.{get_or-append-add, get_or_append_left, length-append}
@@ -12,7 +12,7 @@ use Rattle.face_lists.specs.declared.runs.Run.{Run}
 use Rattle.face_lists.proofs.Blocks.{all_copies, before, no_included}
 use Rattle.face_lists.proofs.Middle.{at_middle, before_middle}
 use Rattle.face_lists.proofs.RunBlocks.{IsAlone, block_is_run, block_run}
-use Rattle.face_lists.proofs.VertexRuns.{length-vertices, numbers_of, run_at, vertex_as, vertex_at, vertex_numbers}
+use Rattle.face_lists.proofs.VertexRuns.{length-vertices, run_at, vertex_as, vertex_at, vertex_numbers}
 
 -- what is included is no vertex of these
 abbrev pub IsOther : (ℕ → Origin) → Included → Type 0

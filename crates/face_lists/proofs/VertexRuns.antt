@@ -1,6 +1,6 @@
 -- The runs that numbers give are the blocks of what is included so often, and follow one another.
-use Rattle.std.proofs.Common.{◌≡◌, ℕ, zero, suc, ◌+◌, ◌<◌, ◌≤◌, ℤ, pos, List, [], ◌∷◌, ◌++◌, map, length, get_or, nat_abs, int_lt, refl, sym, ap, ◌∙◌, arith}
-use Rattle.std.specs.List.{All, flat_map}
+use Rattle.std.proofs.Common.{◌≡◌, ℕ, zero, suc, ◌+◌, ◌<◌, ◌≤◌, ℤ, pos, List, [], ◌∷◌, map, length, get_or, nat_abs, int_lt, refl, sym, ap, ◌∙◌, arith}
+use Rattle.std.specs.List.{All}
 use Rattle.std.proofs.lemmas.List.{get_or-map, length-append, length-map, same_lists}
 use Rattle.std.proofs.lemmas.List.Elements.{All-cons, All-nil, All-weaker}
 use Rattle.std.proofs.lemmas.List.Sums.{sum_by-cons}
@@ -11,7 +11,6 @@ use Rattle.assembly_terms.specs.Prescribed.{Included, copies_of, included_vertic
 use Rattle.face_lists.specs.Agreement.{AreInOrder}
 use Rattle.face_lists.specs.Parts.{no_run}
 use Rattle.face_lists.specs.Runs.{runs_from}
-use Rattle.face_lists.specs.declared.runs.Run.{Run}
 use Rattle.face_lists.proofs.Blocks.{all_copies, before, length-copies_of, no_included}
 
 -- how often each is included
