@@ -13,7 +13,7 @@ use Rattle.face_lists.specs.Agreement.{IsHitCopy, StandsAs, list_name}
 use Rattle.face_lists.specs.Stands.{hit_stands}
 use Rattle.face_lists.specs.declared.stands.Stand.{Stand}
 use Rattle.face_lists.proofs.Blocks.{before}
-use Rattle.face_lists.proofs.Listed.{hit_listed, no_hit, of_hit, six_of}
+use Rattle.face_lists.proofs.Listed.{hit_listed, no_hit, of_hit, six_of, times_of}
 use Rattle.face_lists.proofs.Sights.{IsSeen, SaysHow, is_one_of_six, six_say}
 
 -- what a hit is included as
@@ -40,7 +40,7 @@ copy_number op origin k hs j i = k + (before (included_hits origin (hit_number_o
 module _ (op : Op) (P Q : List (ℕ × ℕ)) (faces : ℕ) (cs : List Copy) (es : List (ℕ × ℕ)) (Own Other : ℕ → Type 0) (own other : ℕ) (origin : ℕ → ℕ → Origin) (k : ℕ) (hs : List Hit) where
   -- hit j has a copy i
   abbrev pub IsTurn : (j i : ℕ) → Type 0
-  IsTurn j i = (j < length hs) × (i < nat_abs (hit_number_of op (get_or hs j no_hit).number))
+  IsTurn j i = (j < length hs) × (i < times_of op (get_or hs j no_hit))
 
   -- how a copy of hit j stands in list l of source face x
   abbrev pub stands_in : (j x l : ℕ) → ℤ
@@ -80,4 +80,4 @@ module _ (op : Op) (P Q : List (ℕ × ℕ)) (faces : ℕ) (cs : List Copy) (es 
       let copy : get_or cs v no_copy ≡ copy_as op origin h = ap (λ w. get_or cs w no_copy) at ∙ known.copy j i turn in
       let so : StandsAs start (stands_in j x l) = subst (λ (d : Copy). StandsAs start (standing P Q (list_name faces x l) d)) copy stands in
       let six = is_one_of_six (stands_in j) Own Other own other h.edge (twin es h.edge) h.face (int_lt (pos 0) (hit_number_of op h.number)) (known.seen j turn.0) v x l start so in
-      hit_listed op es own other origin k hs s (record { hit = j; turn = i; within = turn.0; inside = turn.1; one = subst (λ w. Contains (six_of op es own other h w) s) at six })
+      hit_listed op es own other origin k hs s j i turn.0 turn.1 (subst (λ w. Contains (six_of op es own other h w) s) at six)
