@@ -97,7 +97,7 @@ module _ (op : Op) (p q : Side) (n : Numbers) (p_known : IsSide p) (q_known : Is
         (All-append (IsOther PVertex) (p_hits op n) (q_hits op n) (all_hits op PEdge n.x12 Other (λ e f v d. omega (arith, ap kind d))) (all_hits op QEdge n.x21 Other (λ e f v d. omega (arith, ap kind d)))) in
       record {
         long = length-runs 0 (map (p_number op) n.w03) ∙ length-map n.w03 (p_number op) ∙ p_long;
-        each = vertex_run [] rest PVertex (p_number op) n.w03 (points_of p.corners) (length p.corners) p_long (λ u v e. ap first_number e) (All-nil (IsOther PVertex)) others;
+        each = vertex_run [] rest PVertex (p_number op) n.w03 (points_of p.corners) (length p.corners) (λ u v e. ap first_number e) (All-nil (IsOther PVertex)) others p_long;
       }
 
   -- and of the second's
@@ -111,7 +111,7 @@ module _ (op : Op) (p q : Side) (n : Numbers) (p_known : IsSide p) (q_known : Is
       record {
         long = length-runs (p_kept op n) (map (q_number op) n.w30) ∙ length-map n.w30 (q_number op) ∙ q_long;
         each = λ v l.
-          let run = vertex_run ps hits QVertex (q_number op) n.w30 (points_of q.corners) (length q.corners) q_long (λ u w e. ap first_number e) before after v l in
+          let run = vertex_run ps hits QVertex (q_number op) n.w30 (points_of q.corners) (length q.corners) (λ u w e. ap first_number e) before after q_long v l in
           subst (λ b. IsRunOf cs (QVertex v) (get_or (points_of q.corners) v []) (get_or (runs_from b (map (q_number op) n.w30)) v no_run)) p_size run;
       }
 
