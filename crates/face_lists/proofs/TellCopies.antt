@@ -165,8 +165,9 @@ module _ (op : Op) (p q : Side) (n : Numbers) (p_known : IsSide p) (q_known : Is
   by_number : (v : ℕ) → v < length cs → IsHitCopy (get_or cs v no_copy).origin → IsNumbered op PEdge k n.x12 v ⊎ IsNumbered op QEdge second n.x21 v
   by_number v l hit =
       let NoHit : Origin → Type 0 = λ o. IsHitCopy o → ⊥ in
-      let none : All (λ i. IsHitCopy i.origin → ⊥) vertices =
-        All-append (λ i. IsHitCopy i.origin → ⊥) (p_vertices op p n) (q_vertices op q n) (all_vertices PVertex (p_number op) n.w03 (points_of p.corners) (length p.corners) NoHit (λ u h. h)) (all_vertices QVertex (q_number op) n.w30 (points_of q.corners) (length q.corners) NoHit (λ u h. h)) in
+      let of_p = all_vertices PVertex (p_number op) n.w03 (points_of p.corners) (length p.corners) NoHit (λ u h. h) in
+      let of_q = all_vertices QVertex (q_number op) n.w30 (points_of q.corners) (length q.corners) NoHit (λ u h. h) in
+      let none : All (λ i. NoHit i.origin) vertices = All-append (λ i. NoHit i.origin) (p_vertices op p n) (q_vertices op q n) of_p of_q in
       let found = numbered op vertices n.x12 n.x21 none v (omega (arith, l, ap length in_two)) (subst (λ (c : List Copy). IsHitCopy (get_or c v no_copy).origin) (sym in_two) hit) in
       subst (λ b. IsNumbered op PEdge b n.x12 v ⊎ IsNumbered op QEdge (b + hit_count op n.x12) n.x21 v) vertices_size found
 
