@@ -49,14 +49,19 @@ module _ (own other lower upper face : ℕ) (positive : Bool) where
       let r4 : Stand = record { face = z; list = 3 + lower / 3; copy = v; start = not positive } in
       let r5 : Stand = record { face = z; list = 3 + upper / 3; copy = v; start = positive } in
       let same_faces : x ≡ y → ⊥ = λ e. three.apart (omega (arith, e)) in
-      let turned_faces : y ≡ x → ⊥ = λ e. three.apart (omega (arith, e)) in
-      (
+      let turned_faces : y ≡ x → ⊥ = λ e. three.apart (omega (arith, e)) in (
         All-from_recursion (Differ r0) (r1 ∷ r2 ∷ r3 ∷ r4 ∷ r5 ∷ [])
-        ((λ a b c. same_faces a), ((λ a b c. omega (arith, b)), ((λ a b c. same_faces a), ((λ a b c. three.first a), ((λ a b c. three.first a), tt))))),
-        (All-from_recursion (Differ r1) (r2 ∷ r3 ∷ r4 ∷ r5 ∷ []) ((λ a b c. turned_faces a), ((λ a b c. omega (arith, b)), ((λ a b c. three.second a), ((λ a b c. three.second a), tt)))),
-        (All-from_recursion (Differ r2) (r3 ∷ r4 ∷ r5 ∷ []) ((λ a b c. same_faces a), ((λ a b c. three.first a), ((λ a b c. three.first a), tt))),
-        (All-from_recursion (Differ r3) (r4 ∷ r5 ∷ []) ((λ a b c. three.second a), ((λ a b c. three.second a), tt)),
-        (All-from_recursion (Differ r4) (r5 ∷ []) ((λ a b c. three.apart (omega (arith, b))), tt), (All-nil (Differ r5), tt))))),
+            ((λ a b c. same_faces a), ((λ a b c. omega (arith, b)), ((λ a b c. same_faces a), ((λ a b c. three.first a), ((λ a b c. three.first a), tt))))),
+        (
+          All-from_recursion (Differ r1) (r2 ∷ r3 ∷ r4 ∷ r5 ∷ []) ((λ a b c. turned_faces a), ((λ a b c. omega (arith, b)), ((λ a b c. three.second a), ((λ a b c. three.second a), tt)))),
+          (
+            All-from_recursion (Differ r2) (r3 ∷ r4 ∷ r5 ∷ []) ((λ a b c. same_faces a), ((λ a b c. three.first a), ((λ a b c. three.first a), tt))),
+            (
+              All-from_recursion (Differ r3) (r4 ∷ r5 ∷ []) ((λ a b c. three.second a), ((λ a b c. three.second a), tt)),
+              (All-from_recursion (Differ r4) (r5 ∷ []) ((λ a b c. three.apart (omega (arith, b))), tt), (All-nil (Differ r5), tt)),
+            ),
+          ),
+        ),
       )
 
   -- and are of that copy

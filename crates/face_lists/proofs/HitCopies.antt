@@ -64,8 +64,7 @@ module _ (op : Op) (P Q : List (ℕ × ℕ)) (faces : ℕ) (cs : List Copy) (es 
       let six = six_say (stands_in r.hit) Own Other own other h.edge (twin es h.edge) h.face (int_lt (pos 0) (hit_number_of op h.number)) (known.seen r.hit r.within) v in
       let says = All-contains (SaysHow (stands_in r.hit) v) (six_of op es own other h v) s six r.one in
       let copy : copy_as op origin h ≡ get_or cs s.copy no_copy = sym (known.copy r.hit r.turn turn) ∙ ap (λ w. get_or cs w no_copy) (sym says.0) in
-      let inside = known.within r.hit r.turn turn in
-      (
+      let inside = known.within r.hit r.turn turn in (
         omega (arith, inside, says.0),
         subst (λ (d : Copy). IsHitCopy d.origin) copy (known.of_hits h.edge h.face),
         subst (λ (d : Copy). StandsAs s.start (standing P Q (list_name faces s.face s.list) d)) copy says.1,

@@ -61,7 +61,7 @@ no_value false = refl
 -- copies of hits of the first mesh's edges
 pub p_seen : (p q : Side) → IsSide p → (e f : ℕ) (positive : Bool) (at : List ℤ) → e < length (all_edges p.triples) →
     IsSeen (λ x l. standing (all_edges p.triples) (all_edges q.triples) (list_name (length p.triples) x l) (record { origin = PEdge e f; negative = not positive; point = at }))
-      (λ x. x < length p.triples) (λ x. length p.triples ≤ x) 0 (length p.triples) e (twin (all_edges p.triples) e) f positive
+    (λ x. x < length p.triples) (λ x. length p.triples ≤ x) 0 (length p.triples) e (twin (all_edges p.triples) e) f positive
 p_seen p q known e f positive at below =
     let es = all_edges p.triples in
     let ds = all_edges q.triples in
@@ -78,19 +78,19 @@ p_seen p q known e f positive at below =
       face_other = omega arith;
       apart = faces.apart;
       in_half = λ x l mine low.
-        let here : x ≡ x - 0 = omega arith in
-        ap (λ name. standing es ds name c) (list_is n x l true true (lt-ltb x n mine) (lt-ltb l 3 low))
-        ∙ half_value positive (way es (3 * x + l) e) (same (3 * x + l) e) (same (3 * x + l) t) (way_is es (3 * x + l) e)
-        ∙ ap (λ y. between (not positive) (same (3 * y + l) e) (same (3 * y + l) t)) here;
+          let here : x ≡ x - 0 = omega arith in
+          ap (λ name. standing es ds name c) (list_is n x l true true (lt-ltb x n mine) (lt-ltb l 3 low))
+          ∙ half_value positive (way es (3 * x + l) e) (same (3 * x + l) e) (same (3 * x + l) t) (way_is es (3 * x + l) e)
+          ∙ ap (λ y. between (not positive) (same (3 * y + l) e) (same (3 * y + l) t)) here;
       in_pair = λ x l mine high.
-        let here : x ≡ x - 0 = omega arith in
-        ap (λ name. standing es ds name c) (list_is n x l true false (lt-ltb x n mine) (le-ltb l 3 high))
-        ∙ pair_value positive (f == l - 3) (way_round es x e) (same x (e / 3)) (same x (t / 3)) (way_round_is es x e)
-        ∙ ap (λ y. cond (f == l - 3) (between positive (same y (e / 3)) (same y (t / 3))) (pos 0)) here;
+          let here : x ≡ x - 0 = omega arith in
+          ap (λ name. standing es ds name c) (list_is n x l true false (lt-ltb x n mine) (le-ltb l 3 high))
+          ∙ pair_value positive (f == l - 3) (way_round es x e) (same x (e / 3)) (same x (t / 3)) (way_round_is es x e)
+          ∙ ap (λ y. cond (f == l - 3) (between positive (same y (e / 3)) (same y (t / 3))) (pos 0)) here;
       in_no_half = λ x l theirs low. ap (λ name. standing es ds name c) (list_is n x l false true (le-ltb x n theirs) (lt-ltb l 3 low)) ∙ no_value positive;
       in_turned = λ x l theirs high.
-        ap (λ name. standing es ds name c) (list_is n x l false false (le-ltb x n theirs) (le-ltb l 3 high))
-        ∙ turned_value positive (f == x - n) (way_round es (l - 3) e) (same (l - 3) (e / 3)) (same (l - 3) (t / 3)) (way_round_is es (l - 3) e);
+          ap (λ name. standing es ds name c) (list_is n x l false false (le-ltb x n theirs) (le-ltb l 3 high))
+          ∙ turned_value positive (f == x - n) (way_round es (l - 3) e) (same (l - 3) (e / 3)) (same (l - 3) (t / 3)) (way_round_is es (l - 3) e);
     }
 
 -- one or the other, the other way round
@@ -101,7 +101,7 @@ turned_either (inr b) = inl b
 -- copies of hits of the second mesh's edges
 pub q_seen : (p q : Side) → IsSide q → (e f : ℕ) (positive : Bool) (at : List ℤ) → e < length (all_edges q.triples) → f < length p.triples →
     IsSeen (λ x l. standing (all_edges p.triples) (all_edges q.triples) (list_name (length p.triples) x l) (record { origin = QEdge e f; negative = not positive; point = at }))
-      (λ x. length p.triples ≤ x) (λ x. x < length p.triples) (length p.triples) 0 e (twin (all_edges q.triples) e) f positive
+    (λ x. length p.triples ≤ x) (λ x. x < length p.triples) (length p.triples) 0 e (twin (all_edges q.triples) e) f positive
 q_seen p q known e f positive at below within =
     let es = all_edges p.triples in
     let ds = all_edges q.triples in
@@ -118,17 +118,17 @@ q_seen p q known e f positive at below within =
       face_other = omega (arith, within);
       apart = faces.apart;
       in_half = λ x l mine low.
-        let h = 3 * (x - n) + l in
-        ap (λ name. standing es ds name c) (list_is n x l false true (le-ltb x n mine) (lt-ltb l 3 low)) ∙ half_value positive (way ds h e) (same h e) (same h t) (way_is ds h e);
+          let h = 3 * (x - n) + l in
+          ap (λ name. standing es ds name c) (list_is n x l false true (le-ltb x n mine) (lt-ltb l 3 low)) ∙ half_value positive (way ds h e) (same h e) (same h t) (way_is ds h e);
       in_pair = λ x l mine high.
-        let g = x - n in
-        ap (λ name. standing es ds name c) (list_is n x l false false (le-ltb x n mine) (le-ltb l 3 high))
-        ∙ second_pair_value positive (f == l - 3) (way_round ds g e) (same g (e / 3)) (same g (t / 3)) (way_round_is ds g e);
+          let g = x - n in
+          ap (λ name. standing es ds name c) (list_is n x l false false (le-ltb x n mine) (le-ltb l 3 high))
+          ∙ second_pair_value positive (f == l - 3) (way_round ds g e) (same g (e / 3)) (same g (t / 3)) (way_round_is ds g e);
       in_no_half = λ x l theirs low. ap (λ name. standing es ds name c) (list_is n x l true true (lt-ltb x n theirs) (lt-ltb l 3 low)) ∙ no_value positive;
       in_turned = λ x l theirs high.
-        let here : x ≡ x - 0 = omega arith in
-        let g = l - 3 in
-        ap (λ name. standing es ds name c) (list_is n x l true false (lt-ltb x n theirs) (le-ltb l 3 high))
-        ∙ second_turned_value positive (f == x) (way_round ds g e) (same g (e / 3)) (same g (t / 3)) (way_round_is ds g e)
-        ∙ ap (λ y. cond (f == y) (between (not positive) (same g (e / 3)) (same g (t / 3))) (pos 0)) here;
+          let here : x ≡ x - 0 = omega arith in
+          let g = l - 3 in
+          ap (λ name. standing es ds name c) (list_is n x l true false (lt-ltb x n theirs) (le-ltb l 3 high))
+          ∙ second_turned_value positive (f == x) (way_round ds g e) (same g (e / 3)) (same g (t / 3)) (way_round_is ds g e)
+          ∙ ap (λ y. cond (f == y) (between (not positive) (same g (e / 3)) (same g (t / 3))) (pos 0)) here;
     }

@@ -1,5 +1,5 @@
 -- The six lists in which a copy of a hit stands, where all lists are known by the numbers of faces.
-use Rattle.std.proofs.Common.{◌≡◌, ℕ, ◌+◌, ◌-◌, ◌*◌, ◌/◌, ◌%◌, ◌<◌, ◌≤◌, ◌==◌, Bool, true, false, not, cond, ℤ, pos, [], ◌∷◌, ◌⊎◌, inl, inr, refl, sym, ap, ◌∙◌, subst, arith}
+use Rattle.std.proofs.Common.{◌≡◌, ℕ, ◌+◌, ◌-◌, ◌*◌, ◌/◌, ◌%◌, ◌<◌, ◌≤◌, ◌==◌, Bool, true, false, not, cond, ℤ, pos, ◌⊎◌, inl, inr, refl, ap, ◌∙◌, subst, arith}
 use Rattle.std.specs.List.{All, Contains}
 use Rattle.std.proofs.lemmas.Bool.{cases_eq, cases_lt, eq-eqb, ne_eqb}
 use Rattle.std.proofs.lemmas.List.Elements.{All-from_recursion}
@@ -127,7 +127,7 @@ module _ (value : ℕ → ℕ → ℤ) (Own Other : ℕ → Type 0) (own other l
       let differ : lower ≡ upper → ⊥ = λ e. known.apart (ap (λ h. h / 3) e) in
       let of_pair : (f : ℕ) → Own f → value f pair ≡ in_pair_list (f - own) = λ f mine. at_same_numbers face (pair - 3) (value f pair) (in_pair_list (f - own)) (known.in_pair f pair mine (omega arith)) (omega arith) in
       let of_turned : (k : ℕ) → 3 ≤ k → value z k ≡ in_turned_list (k - 3) = λ k high.
-        at_same_numbers face (z - other) (value z k) (in_turned_list (k - 3)) (known.in_turned z k known.face_other high) (omega arith) in
+      at_same_numbers face (z - other) (value z k) (in_turned_list (k - 3)) (known.in_turned z k known.face_other high) (omega arith) in
       let s0 = in_first (not positive) x (lower % 3) (3 * (x - own) + lower % 3) lower upper differ (known.in_half x (lower % 3) known.lower_own (omega arith)) (omega arith) in
       let s1 = in_second (not positive) positive y (upper % 3) (3 * (y - own) + upper % 3) lower upper differ (known.in_half y (upper % 3) known.upper_own (omega arith)) (omega arith) up in
       let s2 = in_first positive x pair (x - own) (lower / 3) (upper / 3) known.apart (of_pair x known.lower_own) (omega arith) in

@@ -83,8 +83,8 @@ climbs_inserted s (t ∷ ss) up differ =
     cond_both (stands_before t s) (t ∷ insert_by stands_before s ss) (s ∷ t ∷ ss) Climbs
     (λ y. (all_inserted (λ u. stands_before t u ≡ true) stands_before s ss y up.0, climbs_inserted s ss up.1 (All-tail (Differ s) t ss differ)))
     (λ n.
-      let first = comes_first s t n (All-head (Differ s) t ss differ) in
-      (All-cons (λ u. stands_before s u ≡ true) t ss first (All-weaker (λ u. stands_before t u ≡ true) (λ u. stands_before s u ≡ true) (λ u b. chained s t u first b) ss up.0), up))
+    let first = comes_first s t n (All-head (Differ s) t ss differ) in
+    (All-cons (λ u. stands_before s u ≡ true) t ss first (All-weaker (λ u. stands_before t u ≡ true) (λ u. stands_before s u ≡ true) (λ u b. chained s t u first b) ss up.0), up))
 
 climbs_sorted : (ss : List Stand) → AllDiffer ss → Climbs (sorted_by stands_before ss)
 climbs_sorted [] differ = tt

@@ -29,7 +29,7 @@ use Rattle.face_lists.proofs.HitCopies.{AreTold, copy_number, told_each, told_on
 use Rattle.face_lists.proofs.HitSights.{p_seen, q_seen}
 use Rattle.face_lists.proofs.Listed.{no_hit}
 use Rattle.face_lists.proofs.PrescribedHits.{HasCopy, IsNumbered, all_hits, all_vertices, has_copy, length-hit_copies, numbered}
-use Rattle.face_lists.proofs.StrictSort.{all_sorted, sorted_ascend}
+use Rattle.face_lists.proofs.StrictSort.{AllDiffer, all_sorted, sorted_ascend}
 use Rattle.face_lists.proofs.VertexCopies.{IsOther, vertex_run}
 use Rattle.face_lists.proofs.VertexRuns.{length-all_copies, length-runs, runs_in_order, vertex_numbers}
 
@@ -86,32 +86,37 @@ module _ (op : Op) (p q : Side) (n : Numbers) (p_known : IsSide p) (q_known : Is
   in_two : all_copies (vertices ++ hits) ≡ cs
   in_two = ap all_copies (append_assoc (p_vertices op p n) (q_vertices op q n) hits)
 
+  -- hits are no vertices
+  hits_differ_from : (origin : ℕ → Origin) → ((v : ℕ) → kind (origin v) < 2) → All (IsOther origin) hits
+  hits_differ_from origin low =
+      let Apart : Origin → Type 0 = λ o. (v : ℕ) → o ≡ origin v → ⊥ in
+      All-append (IsOther origin) (p_hits op n) (q_hits op n)
+      (all_hits op PEdge n.x12 Apart (λ e f v d. omega (arith, ap kind d, low v)))
+      (all_hits op QEdge n.x21 Apart (λ e f v d. omega (arith, ap kind d, low v)))
+
   -- the runs of the first side's vertices
   p_copies : AreRunsOf cs PVertex p (runs_from 0 (map (p_number op) n.w03))
   p_copies =
-      let rest = q_vertices op q n ++ hits in
-      let Other : Origin → Type 0 = λ o. (v : ℕ) → o ≡ PVertex v → ⊥ in
-      let others : All (IsOther PVertex) rest =
-        All-append (IsOther PVertex) (q_vertices op q n) hits
-        (all_vertices QVertex (q_number op) n.w30 (points_of q.corners) (length q.corners) Other (λ u v e. omega (arith, ap kind e)))
-        (All-append (IsOther PVertex) (p_hits op n) (q_hits op n) (all_hits op PEdge n.x12 Other (λ e f v d. omega (arith, ap kind d))) (all_hits op QEdge n.x21 Other (λ e f v d. omega (arith, ap kind d)))) in
+      let qs = q_vertices op q n in
+      let Apart : Origin → Type 0 = λ o. (v : ℕ) → o ≡ PVertex v → ⊥ in
+      let apart : All (IsOther PVertex) qs = all_vertices QVertex (q_number op) n.w30 (points_of q.corners) (length q.corners) Apart (λ u v e. omega (arith, ap kind e)) in
+      let others = All-append (IsOther PVertex) qs hits apart (hits_differ_from PVertex (λ v. omega arith)) in
       record {
         long = length-runs 0 (map (p_number op) n.w03) ∙ length-map n.w03 (p_number op) ∙ p_long;
-        each = vertex_run [] rest PVertex (p_number op) n.w03 (points_of p.corners) (length p.corners) (λ u v e. ap first_number e) (All-nil (IsOther PVertex)) others p_long;
+        each = vertex_run [] (qs ++ hits) PVertex (p_number op) n.w03 (points_of p.corners) (length p.corners) (λ u v e. ap first_number e) (All-nil (IsOther PVertex)) others p_long;
       }
 
   -- and of the second's
   q_copies : AreRunsOf cs QVertex q (runs_from (p_kept op n) (map (q_number op) n.w30))
   q_copies =
       let ps = p_vertices op p n in
-      let Other : Origin → Type 0 = λ o. (v : ℕ) → o ≡ QVertex v → ⊥ in
-      let before : All (IsOther QVertex) ps = all_vertices PVertex (p_number op) n.w03 (points_of p.corners) (length p.corners) Other (λ u v e. omega (arith, ap kind e)) in
-      let after : All (IsOther QVertex) hits =
-        All-append (IsOther QVertex) (p_hits op n) (q_hits op n) (all_hits op PEdge n.x12 Other (λ e f v d. omega (arith, ap kind d))) (all_hits op QEdge n.x21 Other (λ e f v d. omega (arith, ap kind d))) in
+      let Apart : Origin → Type 0 = λ o. (v : ℕ) → o ≡ QVertex v → ⊥ in
+      let apart : All (IsOther QVertex) ps = all_vertices PVertex (p_number op) n.w03 (points_of p.corners) (length p.corners) Apart (λ u v e. omega (arith, ap kind e)) in
+      let others = hits_differ_from QVertex (λ v. omega arith) in
       record {
         long = length-runs (p_kept op n) (map (q_number op) n.w30) ∙ length-map n.w30 (q_number op) ∙ q_long;
         each = λ v l.
-          let run = vertex_run ps hits QVertex (q_number op) n.w30 (points_of q.corners) (length q.corners) (λ u w e. ap first_number e) before after q_long v l in
+          let run = vertex_run ps hits QVertex (q_number op) n.w30 (points_of q.corners) (length q.corners) (λ u w e. ap first_number e) apart others q_long v l in
           subst (λ b. IsRunOf cs (QVertex v) (get_or (points_of q.corners) v []) (get_or (runs_from b (map (q_number op) n.w30)) v no_run)) p_size run;
       }
 
@@ -119,7 +124,7 @@ module _ (op : Op) (p q : Side) (n : Numbers) (p_known : IsSide p) (q_known : Is
   p_told : AreTold op es ds faces cs es (λ x. x < faces) (λ x. faces ≤ x) 0 faces PEdge k n.x12
   p_told =
       let told : (j i : ℕ) → (j < length n.x12) × _ → HasCopy op PEdge cs (get_or n.x12 j no_hit) (copy_number op PEdge k n.x12 j i) = λ j i t.
-        subst (λ c. HasCopy op PEdge c (get_or n.x12 j no_hit) (copy_number op PEdge k n.x12 j i)) in_two (has_copy op PEdge vertices (q_hits op n) n.x12 k vertices_size j i t.0 t.1) in
+      subst (λ c. HasCopy op PEdge c (get_or n.x12 j no_hit) (copy_number op PEdge k n.x12 j i)) in_two (has_copy op PEdge vertices (q_hits op n) n.x12 k vertices_size j i t.0 t.1) in
       record {
         of_hits = λ e f. tt;
         within = λ j i t. (told j i t).within;
@@ -143,7 +148,7 @@ module _ (op : Op) (p q : Side) (n : Numbers) (p_known : IsSide p) (q_known : Is
   q_told : AreTold op es ds faces cs ds (λ x. faces ≤ x) (λ x. x < faces) faces 0 QEdge second n.x21
   q_told =
       let told : (j i : ℕ) → (j < length n.x21) × _ → HasCopy op QEdge cs (get_or n.x21 j no_hit) (copy_number op QEdge second n.x21 j i) = λ j i t.
-        subst (λ c. HasCopy op QEdge c (get_or n.x21 j no_hit) (copy_number op QEdge second n.x21 j i)) in_three (has_copy op QEdge (vertices ++ p_hits op n) [] n.x21 second first_size j i t.0 t.1) in
+      subst (λ c. HasCopy op QEdge c (get_or n.x21 j no_hit) (copy_number op QEdge second n.x21 j i)) in_three (has_copy op QEdge (vertices ++ p_hits op n) [] n.x21 second first_size j i t.0 t.1) in
       record {
         of_hits = λ e f. tt;
         within = λ j i t. (told j i t).within;
@@ -171,7 +176,24 @@ module _ (op : Op) (p q : Side) (n : Numbers) (p_known : IsSide p) (q_known : Is
       let found = numbered op vertices n.x12 n.x21 none v (omega (arith, l, ap length in_two)) (subst (λ (c : List Copy). IsHitCopy (get_or c v no_copy).origin) (sym in_two) hit) in
       subst (λ b. IsNumbered op PEdge b n.x12 v ⊎ IsNumbered op QEdge (b + hit_count op n.x12) n.x21 v) vertices_size found
 
-  -- how they stand
+  -- the record says how its copy stands
+  abbrev SaysSo : Stand → Type 0
+  SaysSo s = (s.copy < length cs) × IsHitCopy (get_or cs s.copy no_copy).origin × StandsAs s.start (standing es ds (list_name faces s.face s.list) (get_or cs s.copy no_copy))
+
+  p_only : (s : Stand) → Contains p_stands s → SaysSo s
+  p_only = told_only op es ds faces cs es (λ x. x < faces) (λ x. faces ≤ x) 0 faces PEdge k n.x12 p_told
+
+  q_only : (s : Stand) → Contains q_stands s → SaysSo s
+  q_only = told_only op es ds faces cs ds (λ x. faces ≤ x) (λ x. x < faces) faces 0 QEdge second n.x21 q_told
+
+  -- each list in which a copy stands has its record
+  p_each : (s : Stand) → IsNumbered op PEdge k n.x12 s.copy → StandsAs s.start (standing es ds (list_name faces s.face s.list) (get_or cs s.copy no_copy)) → Contains p_stands s
+  p_each s a = told_each op es ds faces cs es (λ x. x < faces) (λ x. faces ≤ x) 0 faces PEdge k n.x12 p_told a.hit a.turn (a.within, a.inside) s.face s.list s.copy s.start a.at
+
+  q_each : (s : Stand) → IsNumbered op QEdge second n.x21 s.copy → StandsAs s.start (standing es ds (list_name faces s.face s.list) (get_or cs s.copy no_copy)) → Contains q_stands s
+  q_each s b = told_each op es ds faces cs ds (λ x. faces ≤ x) (λ x. x < faces) faces 0 QEdge second n.x21 q_told b.hit b.turn (b.within, b.inside) s.face s.list s.copy s.start b.at
+
+  -- so the sorted records say how the copies stand
   hit_copies : AreStandsOf es ds faces cs stands
   hit_copies =
       let all = p_stands ++ q_stands in
@@ -180,14 +202,13 @@ module _ (op : Op) (p q : Side) (n : Numbers) (p_known : IsSide p) (q_known : Is
         each = λ x l v start below hit so.
           let s : Stand = record { face = x; list = l; copy = v; start = start } in
           Contains-permutation all stands s moved (elim (by_number v below hit) as (λ _. Contains all s) [
-            | inl a ↦ Contains-append_left p_stands q_stands s (told_each op es ds faces cs es (λ y. y < faces) (λ y. faces ≤ y) 0 faces PEdge k n.x12 p_told a.hit a.turn (a.within, a.inside) x l v start a.at so)
-            | inr b ↦ Contains-append_right p_stands q_stands s (told_each op es ds faces cs ds (λ y. faces ≤ y) (λ y. y < faces) faces 0 QEdge second n.x21 q_told b.hit b.turn (b.within, b.inside) x l v start b.at so)
+            | inl a ↦ Contains-append_left p_stands q_stands s (p_each s a so)
+            | inr b ↦ Contains-append_right p_stands q_stands s (q_each s b so)
           ]);
         only = λ s c.
-          elim (Contains-append_cases p_stands q_stands s (Contains-permutation stands all s (IsPermutation-sym all stands moved) c))
-          as (λ _. (s.copy < length cs) × IsHitCopy (get_or cs s.copy no_copy).origin × StandsAs s.start (standing es ds (list_name faces s.face s.list) (get_or cs s.copy no_copy))) [
-            | inl a ↦ told_only op es ds faces cs es (λ y. y < faces) (λ y. faces ≤ y) 0 faces PEdge k n.x12 p_told s a
-            | inr b ↦ told_only op es ds faces cs ds (λ y. faces ≤ y) (λ y. y < faces) faces 0 QEdge second n.x21 q_told s b
+          elim (Contains-append_cases p_stands q_stands s (Contains-permutation stands all s (IsPermutation-sym all stands moved) c)) as (λ _. SaysSo s) [
+            | inl a ↦ p_only s a
+            | inr b ↦ q_only s b
           ];
       }
 
@@ -203,26 +224,39 @@ module _ (op : Op) (p q : Side) (n : Numbers) (p_known : IsSide p) (q_known : Is
       let below = x21.on_faces j d l in
       record { apart = two.apart; first = λ e. omega (arith, e, below); second = λ e. omega (arith, e, below) }
 
+  -- the records of the first mesh's hits are of copies from k on, and those of the second's of later ones
+  p_within : All (IsWithinCopies k (hit_count op n.x12)) p_stands
+  p_within = hits_within op es 0 faces k n.x12
+
+  q_within : All (IsWithinCopies second (hit_count op n.x21)) q_stands
+  q_within = hits_within op ds faces 0 second n.x21
+
+  later : All (λ s. k ≤ s.copy) (p_stands ++ q_stands)
+  later =
+      All-append (λ s. k ≤ s.copy) p_stands q_stands
+      (All-weaker (IsWithinCopies k (hit_count op n.x12)) (λ s. k ≤ s.copy) (λ s w. w.0) p_stands p_within)
+      (All-weaker (IsWithinCopies second (hit_count op n.x21)) (λ s. k ≤ s.copy) (λ s w. omega (arith, w.0)) q_stands q_within)
+
+  differ : AllDiffer (p_stands ++ q_stands)
+  differ =
+      differ_append second p_stands q_stands
+      (All-weaker (IsWithinCopies k (hit_count op n.x12)) (λ s. s.copy < second) (λ s w. w.1) p_stands p_within)
+      (All-weaker (IsWithinCopies second (hit_count op n.x21)) (λ s. second ≤ s.copy) (λ s w. w.0) q_stands q_within)
+      (hits_differ op es 0 faces k n.x12 p_three)
+      (hits_differ op ds faces 0 second n.x21 q_three)
+
   pub tell_copies : HaveLists p q cs k (runs_from 0 (map (p_number op) n.w03)) (runs_from (p_kept op n) (map (q_number op) n.w30)) stands
-  tell_copies =
-      let p_within = hits_within op es 0 faces k n.x12 in
-      let q_within = hits_within op ds faces 0 second n.x21 in
-      let p_copies_of = IsWithinCopies k (hit_count op n.x12) in
-      let q_copies_of = IsWithinCopies second (hit_count op n.x21) in
-      record {
-        p_side = p_known;
-        q_side = q_known;
-        p_copies = p_copies;
-        q_copies = q_copies;
-        p_order = runs_in_order (p_number op) 0 k n.w03 (omega arith);
-        q_order = runs_in_order (q_number op) (p_kept op n) k n.w30 (omega arith);
-        hit_copies = hit_copies;
-        later = all_sorted (λ s. k ≤ s.copy) stands_before (p_stands ++ q_stands)
-          (All-append (λ s. k ≤ s.copy) p_stands q_stands (All-weaker p_copies_of (λ s. k ≤ s.copy) (λ s w. w.0) p_stands p_within) (All-weaker q_copies_of (λ s. k ≤ s.copy) (λ s w. omega (arith, w.0)) q_stands q_within));
-        ascend = sorted_ascend (p_stands ++ q_stands)
-          (differ_append second p_stands q_stands (All-weaker p_copies_of (λ s. s.copy < second) (λ s w. w.1) p_stands p_within) (All-weaker q_copies_of (λ s. second ≤ s.copy) (λ s w. w.0) q_stands q_within)
-          (hits_differ op es 0 faces k n.x12 p_three) (hits_differ op ds faces 0 second n.x21 q_three));
-      }
+  tell_copies = record {
+    p_side = p_known;
+    q_side = q_known;
+    p_copies = p_copies;
+    q_copies = q_copies;
+    p_order = runs_in_order (p_number op) 0 k n.w03 (omega arith);
+    q_order = runs_in_order (q_number op) (p_kept op n) k n.w30 (omega arith);
+    hit_copies = hit_copies;
+    later = all_sorted (λ s. k ≤ s.copy) stands_before (p_stands ++ q_stands) later;
+    ascend = sorted_ascend (p_stands ++ q_stands) differ;
+  }
 
 pub prescribed_have_lists : PrescribedHaveLists
 prescribed_have_lists op p q n p_known q_known p_long q_long x12 x21 = tell_copies op p q n p_known q_known p_long q_long x12 x21

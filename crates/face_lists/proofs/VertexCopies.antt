@@ -1,5 +1,5 @@
 -- The copies of the vertices of a side are told by the runs that their numbers give.
-use Rattle.std.proofs.Common.{◌≡◌, ℕ, ◌+◌, ◌-◌, ◌<◌, ℤ, pos, List, [], ◌++◌, map, length, get_or, nat_abs, int_lt, sym, ap, ◌∙◌, subst, arith, inl, inr}
+use Rattle.std.proofs.Common.{◌≡◌, ℕ, ◌+◌, ◌-◌, ◌<◌, ℤ, List, [], ◌++◌, map, length, get_or, sym, ap, ◌∙◌, subst, arith, inl, inr}
 use Rattle.std.specs.List.{All}
 use Rattle.std.proofs.lemmas.Bool.{cases_lt}
 use Rattle.std.proofs.lemmas.List.{get_or-append-add, get_or_append_left, length-append}
@@ -8,7 +8,6 @@ use Rattle.assembly_terms.specs.Prescribed.{Included, included_vertices}
 use Rattle.face_lists.specs.Agreement.{IsRunOf}
 use Rattle.face_lists.specs.Parts.{no_run}
 use Rattle.face_lists.specs.Runs.{runs_from}
-use Rattle.face_lists.specs.declared.runs.Run.{Run}
 use Rattle.face_lists.proofs.Blocks.{all_copies, before, no_included}
 use Rattle.face_lists.proofs.Middle.{at_middle, before_middle}
 use Rattle.face_lists.proofs.RunBlocks.{IsAlone, block_is_run, block_run}
@@ -71,8 +70,8 @@ module _ (xs ys : List Included) (origin : ℕ → Origin) (number : ℤ → ℤ
       let within : j < length is = omega (arith, inside, length-append xs (vs ++ ys), length-append vs ys) in
       let known = block_is_run is j within (alone v l) in
       let run : block_run is j ≡ get_or (runs_from k (map number ws)) v no_run =
-        ap (λ f. run_of f (get_or is j no_included)) (before_middle xs vs ys v (omega (arith, inside)))
-        ∙ ap (run_of (k + before vs v)) (at_middle xs vs ys v inside)
-        ∙ sym (run_at vs k v inside)
-        ∙ ap (λ ns. get_or (runs_from k ns) v no_run) (vertex_numbers origin number ws points n long) in
+      ap (λ f. run_of f (get_or is j no_included)) (before_middle xs vs ys v (omega (arith, inside)))
+      ∙ ap (run_of (k + before vs v)) (at_middle xs vs ys v inside)
+      ∙ sym (run_at vs k v inside)
+      ∙ ap (λ ns. get_or (runs_from k ns) v no_run) (vertex_numbers origin number ws points n long) in
       subst (IsRunOf (all_copies is) (origin v) (get_or points v [])) run (subst (λ i. IsRunOf (all_copies is) i.origin i.point (block_run is j)) (item_at v l) known)

@@ -50,8 +50,8 @@ module _ (origin : ℕ → Origin) (number : ℤ → ℤ) (ws : List ℤ) (point
       let vs = included_vertices origin number ws points n in
       same_lists (numbers_of vs) (map number ws) (omega (arith, length-map vs (λ i. i.number), length-vertices, length-map ws number, long))
       (λ k d l.
-        let below : k < n = omega (arith, l, length-map vs (λ i. i.number), length-vertices) in
-        get_or-map (λ i. i.number) vs k no_included d (omega (arith, below, length-vertices)) ∙ ap (λ i. i.number) (vertex_at k below) ∙ sym (get_or-map number ws k (pos 0) d (omega (arith, below, long))))
+      let below : k < n = omega (arith, l, length-map vs (λ i. i.number), length-vertices) in
+      get_or-map (λ i. i.number) vs k no_included d (omega (arith, below, length-vertices)) ∙ ap (λ i. i.number) (vertex_at k below) ∙ sym (get_or-map number ws k (pos 0) d (omega (arith, below, long))))
 
 -- copies are as many as the sizes of the numbers
 pub length-all_copies : (is : List Included) (number : ℤ → ℤ) (ws : List ℤ) → numbers_of is ≡ map number ws → length (all_copies is) ≡ vertex_count number ws
