@@ -116,8 +116,8 @@ module _ (op : Op) (p q : Side) (n : Numbers) (p_known : IsSide p) (q_known : Is
       record {
         long = length-runs (p_kept op n) (map (q_number op) n.w30) ∙ length-map n.w30 (q_number op) ∙ q_long;
         each = λ v l.
-          let run = vertex_run ps hits QVertex (q_number op) n.w30 (points_of q.corners) (length q.corners) (λ u w e. ap first_number e) apart others q_long v l in
-          subst (λ b. IsRunOf cs (QVertex v) (get_or (points_of q.corners) v []) (get_or (runs_from b (map (q_number op) n.w30)) v no_run)) p_size run;
+            let run = vertex_run ps hits QVertex (q_number op) n.w30 (points_of q.corners) (length q.corners) (λ u w e. ap first_number e) apart others q_long v l in
+            subst (λ b. IsRunOf cs (QVertex v) (get_or (points_of q.corners) v []) (get_or (runs_from b (map (q_number op) n.w30)) v no_run)) p_size run;
       }
 
   -- the copies of the first mesh's hits
@@ -200,16 +200,16 @@ module _ (op : Op) (p q : Side) (n : Numbers) (p_known : IsSide p) (q_known : Is
       let moved = sorted_by-permutation stands_before all in
       record {
         each = λ x l v start below hit so.
-          let s : Stand = record { face = x; list = l; copy = v; start = start } in
-          Contains-permutation all stands s moved (elim (by_number v below hit) as (λ _. Contains all s) [
-            | inl a ↦ Contains-append_left p_stands q_stands s (p_each s a so)
-            | inr b ↦ Contains-append_right p_stands q_stands s (q_each s b so)
-          ]);
+            let s : Stand = record { face = x; list = l; copy = v; start = start } in
+            Contains-permutation all stands s moved (elim (by_number v below hit) as (λ _. Contains all s) [
+              | inl a ↦ Contains-append_left p_stands q_stands s (p_each s a so)
+              | inr b ↦ Contains-append_right p_stands q_stands s (q_each s b so)
+            ]);
         only = λ s c.
-          elim (Contains-append_cases p_stands q_stands s (Contains-permutation stands all s (IsPermutation-sym all stands moved) c)) as (λ _. SaysSo s) [
-            | inl a ↦ p_only s a
-            | inr b ↦ q_only s b
-          ];
+            elim (Contains-append_cases p_stands q_stands s (Contains-permutation stands all s (IsPermutation-sym all stands moved) c)) as (λ _. SaysSo s) [
+              | inl a ↦ p_only s a
+              | inr b ↦ q_only s b
+            ];
       }
 
   -- the edges of hits have two faces
