@@ -1,2 +1,14 @@
+mod Between
 mod Blocks
+mod Differing
+mod HitCopies
+mod HitSights
+mod Listed
+mod Middle
+mod PrescribedHits
 mod RunBlocks
+mod Sights
+mod StrictSort
+mod TellCopies
+mod VertexCopies
+mod VertexRuns
