@@ -1,2 +1,13 @@
 mod Blocks
+mod EndEntries
+mod FaceRecords
+mod Groups
+mod HalfLists
+mod ListKinds
+mod Members
+mod Parts
+mod Rising
 mod RunBlocks
+mod RunEntries
+mod Signs
+mod Told
