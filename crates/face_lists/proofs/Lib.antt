@@ -1,10 +1,15 @@
 mod Blocks
+mod CanPair
 mod EndEntries
 mod FaceRecords
+mod FaceSegments
+mod Given
 mod Groups
 mod HalfLists
 mod ListKinds
+mod Listed
 mod Members
+mod PairLists
 mod Parts
 mod Rising
 mod RunBlocks

@@ -1,8 +1,5 @@
-use Rattle.face_lists.proofs.Parts.{pairs_are}
-use Rattle.face_lists.proofs.FaceRecords.{face_records}
-use Rattle.face_lists.proofs.ListKinds.{face_of_p}
-use Rattle.face_lists.proofs.HalfLists.{half_tells}
-use Rattle.face_lists.proofs.Parts.{pairs_are}
+use Rattle.face_lists.proofs.Given.{segments_can, segments_given}
+use Rattle.face_lists.proofs.Listed.{are_listed}
 use Rattle.face_lists.proofs.laws.lists_give_segments.Goals as goal
 
 pub returns-clause-segments : goal.returns-clause-segments
