@@ -15,18 +15,25 @@ use Rattle.face_lists.specs.declared.runs.Run.{Run}
 use Rattle.face_lists.specs.declared.stands.Stand.{Stand}
 use Rattle.face_lists.specs.Entries.{entry_of}
 use Rattle.face_lists.specs.Parts.{CanBePaired, CanBeSegments, after, groups, half_entries, half_part}
-use Rattle.face_lists.proofs.FaceSegments.{KnownFace, half_told, number_in, pair_told}
+use Rattle.face_lists.proofs.FaceSegments.{KnownFace, half_list, half_told, number_in, pair_list, pair_records, pair_told, points_of}
 use Rattle.face_lists.proofs.Groups.{nonempty, of_list}
 use Rattle.face_lists.proofs.Parts.{All-nonempty, pairs_are}
 use Rattle.face_lists.proofs.Told.{Tell, told}
 
 -- such entries of a list
-can_be_paired : (p q : Side) (cs : List Copy) (name : ListName) (entries : List Entry) → Tell (length cs) (number_in p q cs name) entries →
-    length (starts (all_edges p.triples) (all_edges q.triples) cs name) ≡ length (ends (all_edges p.triples) (all_edges q.triples) cs name) → CanBePaired (map (λ c. c.point) cs) entries
-can_be_paired p q cs name entries tell even = record {
-  below = λ i d l. let e = get_or entries i d in let low = (tell.only e.vertex e.start (Contains-get_or entries i d l)).0 in omega (arith, low, length-map cs (λ (c : Copy). c.point));
-  balanced = ap length (told (length cs) (number_in p q cs name) entries true tell) ∙ even ∙ sym (ap length (told (length cs) (number_in p q cs name) entries false tell));
+can_be_paired : (k : KnownFace) (name : ListName) (entries : List Entry) → Tell (length k.copies) (number_in k name) entries →
+    length (starts (all_edges k.p.triples) (all_edges k.q.triples) k.copies name) ≡ length (ends (all_edges k.p.triples) (all_edges k.q.triples) k.copies name) → CanBePaired (points_of k) entries
+can_be_paired k name entries tell even = record {
+  below = λ i d l. let e = get_or entries i d in let low = (tell.only e.vertex e.start (Contains-get_or entries i d l)).0 in omega (arith, low, length-map k.copies (λ (c : Copy). c.point));
+  balanced = ap length (told (length k.copies) (number_in k name) entries true tell) ∙ even ∙ sym (ap length (told (length k.copies) (number_in k name) entries false tell));
 }
+
+-- those of a half-edge, and of a pair
+half_can : (k : KnownFace) → IsBalanced k.p k.q k.copies → (l : ℕ) → l < 3 → CanBePaired (points_of k) (half_list k l)
+half_can k balance l low = can_be_paired k (k.name l) (half_list k l) (half_told k l low) (balance.even (k.name l) (k.face.listed l (omega (arith, low))))
+
+pair_can : (k : KnownFace) → IsBalanced k.p k.q k.copies → (j : ℕ) → j < k.others → CanBePaired (points_of k) (pair_list k j)
+pair_can k balance j low = can_be_paired k (k.name (3 + j)) (pair_list k j) (pair_told k j) (balance.even (k.name (3 + j)) (k.face.listed (3 + j) (omega (arith, low))))
 
 -- what holds of each number below n
 each_below : (P : ℕ → Type 0) (n : ℕ) → ((i : ℕ) → i < n → P i) → All P (upto n)
@@ -35,22 +42,15 @@ each_below P n h i d l =
     let at : i ≡ get_or (upto n) i d = omega (arith, get_or-up_from 0 n i d low) in subst P at (h i low)
 
 -- so the lists of a face can be paired
-pub face_can : (p q side : Side) (origin : ℕ → Origin) (cs : List Copy) (k : ℕ) (runs : List Run) (x f others : ℕ) (name : ℕ → ListName) (ss : List Stand) → KnownFace p q side origin cs k runs x f others name ss →
-    IsBalanced p q cs → CanBeSegments side runs (map (λ c. c.point) cs) f ss
-face_can p q side origin cs k runs x f others name ss known balance =
-    let points = map (λ (c : Copy). c.point) cs in
-    let half : (l : ℕ) → l < 3 → CanBePaired points (half_entries side runs (3 * f + l) (half_part l ss)) = λ l low.
-    can_be_paired p q cs (name l) (half_entries side runs (3 * f + l) (half_part l ss)) (half_told p q side origin cs k runs x f others name ss known l low)
-    (balance.even (name l) (known.face.listed l (omega (arith, low)))) in
-    let Paired : List Stand → Type 0 = λ g. CanBePaired points (map entry_of g) in
-    let part : ℕ → List Stand = λ j. of_list (3 + j) ss in
-    let pair : (j : ℕ) → j < others → Paired (part j) = λ j low.
-    can_be_paired p q cs (name (3 + j)) (map entry_of (part j)) (pair_told p q side origin cs k runs x f others name ss known j) (balance.even (name (3 + j)) (known.face.listed (3 + j) (omega (arith, low)))) in
-    let zeroth : 3 * f + 0 ≡ 3 * f = omega arith in
+pub face_can : (k : KnownFace) → IsBalanced k.p k.q k.copies → CanBeSegments k.side k.runs (points_of k) k.number k.stands
+face_can k balance =
+    let Paired : List Stand → Type 0 = λ g. CanBePaired (points_of k) (map entry_of g) in
+    let all = upto k.others in
+    let zeroth : 3 * k.number + 0 ≡ 3 * k.number = omega arith in
     record {
-      first = subst (λ h. CanBePaired points (half_entries side runs h (half_part 0 ss))) zeroth (half 0 (omega arith));
-      second = half 1 (omega arith);
-      third = half 2 (omega arith);
-      pairs = subst (All Paired) (sym (pairs_are others ss known.records.steps known.few))
-      (All-nonempty Paired (map part (upto others)) (All-map Paired part (upto others) (each_below (λ j. Paired (part j)) others pair)));
+      first = subst (λ h. CanBePaired (points_of k) (half_entries k.side k.runs h (half_part 0 k.stands))) zeroth (half_can k balance 0 (omega arith));
+      second = half_can k balance 1 (omega arith);
+      third = half_can k balance 2 (omega arith);
+      pairs = subst (All Paired) (sym (pairs_are k.others k.stands k.records.steps k.few))
+      (All-nonempty Paired (map (pair_records k) all) (All-map Paired (pair_records k) all (each_below (λ j. Paired (pair_records k j)) k.others (pair_can k balance))));
     }

@@ -29,25 +29,47 @@ own_lists p q stands listed x i d l =
     subst Known here (All-filter (λ (t : Stand). t.face == x) (λ t. IsListOf (length p.triples) (length q.triples) (list_name (length p.triples) t.face t.list)) stands listed i d l)
 
 -- what is known of a face of P, and of a face of Q
-known_p : (p q : Side) (cs : List Copy) (k : ℕ) (p_runs q_runs : List Run) (stands : List Stand) → HaveLists p q cs k p_runs q_runs stands → AreListed p q stands → (f : ℕ) → f < length p.triples →
-    KnownFace p q p PVertex cs k p_runs f f (length q.triples) (list_name (length p.triples) f) (records_of stands f)
+abbrev known_p : (p q : Side) (cs : List Copy) (k : ℕ) (p_runs q_runs : List Run) (stands : List Stand) → HaveLists p q cs k p_runs q_runs stands → AreListed p q stands → (f : ℕ) → f < length p.triples → KnownFace
 known_p p q cs k p_runs q_runs stands lists listed f low =
     let face = face_of_p p q f low in
     record {
+      p = p;
+      q = q;
+      side = p;
+      origin = PVertex;
+      copies = cs;
+      later = k;
+      runs = p_runs;
+      source = f;
+      number = f;
+      others = length q.triples;
+      name = list_name (length p.triples) f;
+      stands = records_of stands f;
       face = face;
-      runs_known = record { known = lists.p_side; copies = lists.p_copies; order = lists.p_order };
+      have = record { known = lists.p_side; copies = lists.p_copies; order = lists.p_order };
       records = face_records p q cs k p_runs q_runs stands lists f;
       few = λ i d l. face.few (get_or (records_of stands f) i d).list (own_lists p q stands listed f i d l);
     }
 
-known_q : (p q : Side) (cs : List Copy) (k : ℕ) (p_runs q_runs : List Run) (stands : List Stand) → HaveLists p q cs k p_runs q_runs stands → AreListed p q stands → (g : ℕ) → g < length q.triples →
-    KnownFace p q q QVertex cs k q_runs (length p.triples + g) g (length p.triples) (list_name (length p.triples) (length p.triples + g)) (records_of stands (length p.triples + g))
+abbrev known_q : (p q : Side) (cs : List Copy) (k : ℕ) (p_runs q_runs : List Run) (stands : List Stand) → HaveLists p q cs k p_runs q_runs stands → AreListed p q stands → (g : ℕ) → g < length q.triples → KnownFace
 known_q p q cs k p_runs q_runs stands lists listed g low =
     let x = length p.triples + g in
     let face = face_of_q p q g low in
     record {
+      p = p;
+      q = q;
+      side = q;
+      origin = QVertex;
+      copies = cs;
+      later = k;
+      runs = q_runs;
+      source = x;
+      number = g;
+      others = length p.triples;
+      name = list_name (length p.triples) x;
+      stands = records_of stands x;
       face = face;
-      runs_known = record { known = lists.q_side; copies = lists.q_copies; order = lists.q_order };
+      have = record { known = lists.q_side; copies = lists.q_copies; order = lists.q_order };
       records = face_records p q cs k p_runs q_runs stands lists x;
       few = λ i d l. face.few (get_or (records_of stands x) i d).list (own_lists p q stands listed x i d l);
     }
@@ -56,20 +78,12 @@ known_q p q cs k p_runs q_runs stands lists listed g low =
 pub segments_given : (p q : Side) (cs : List Copy) (k : ℕ) (p_runs q_runs : List Run) (stands : List Stand) → HaveLists p q cs k p_runs q_runs stands → AreListed p q stands →
     ((f : ℕ) → f < length p.triples → segments_by p p_runs (map (λ c. c.point) cs) f (records_of stands f) ≡ segments_of p q cs (place_of cs) f)
     × ((g : ℕ) → g < length q.triples → segments_by q q_runs (map (λ c. c.point) cs) g (records_of stands (length p.triples + g)) ≡ segments_of p q cs (place_of cs) (length p.triples + g))
-segments_given p q cs k p_runs q_runs stands lists listed = (
-  (λ f low. face_same p q p PVertex cs k p_runs f f (length q.triples) (list_name (length p.triples) f) (records_of stands f) (known_p p q cs k p_runs q_runs stands lists listed f low)),
-  (λ g low.
-  let x = length p.triples + g in
-  face_same p q q QVertex cs k q_runs x g (length p.triples) (list_name (length p.triples) x) (records_of stands x) (known_q p q cs k p_runs q_runs stands lists listed g low)),
-)
+segments_given p q cs k p_runs q_runs stands lists listed =
+    ((λ f low. face_same (known_p p q cs k p_runs q_runs stands lists listed f low)), (λ g low. face_same (known_q p q cs k p_runs q_runs stands lists listed g low)))
 
 -- and that they can be paired
 pub segments_can : (p q : Side) (cs : List Copy) (k : ℕ) (p_runs q_runs : List Run) (stands : List Stand) → HaveLists p q cs k p_runs q_runs stands → AreListed p q stands → IsBalanced p q cs →
     ((f : ℕ) → f < length p.triples → CanBeSegments p p_runs (map (λ c. c.point) cs) f (records_of stands f))
     × ((g : ℕ) → g < length q.triples → CanBeSegments q q_runs (map (λ c. c.point) cs) g (records_of stands (length p.triples + g)))
-segments_can p q cs k p_runs q_runs stands lists listed balance = (
-  (λ f low. face_can p q p PVertex cs k p_runs f f (length q.triples) (list_name (length p.triples) f) (records_of stands f) (known_p p q cs k p_runs q_runs stands lists listed f low) balance),
-  (λ g low.
-  let x = length p.triples + g in
-  face_can p q q QVertex cs k q_runs x g (length p.triples) (list_name (length p.triples) x) (records_of stands x) (known_q p q cs k p_runs q_runs stands lists listed g low) balance),
-)
+segments_can p q cs k p_runs q_runs stands lists listed balance =
+    ((λ f low. face_can (known_p p q cs k p_runs q_runs stands lists listed f low) balance), (λ g low. face_can (known_q p q cs k p_runs q_runs stands lists listed g low) balance))
