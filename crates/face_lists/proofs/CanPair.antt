@@ -1,5 +1,5 @@
 -- Entries that tell a list with as many starts as ends can be paired.
-use Rattle.std.proofs.Common.{◌≡◌, ℕ, zero, suc, ◌+◌, ◌*◌, ◌<◌, Bool, true, false, ℤ, List, [], ◌∷◌, map, filter, length, get_or, refl, sym, ap, subst, ◌∙◌, arith}
+use Rattle.std.proofs.Common.{◌≡◌, ℕ, ◌+◌, ◌*◌, ◌<◌, true, false, List, map, length, get_or, sym, ap, subst, ◌∙◌, arith}
 use Rattle.std.specs.List.{All}
 use Rattle.std.proofs.lemmas.List.{length-map}
 use Rattle.std.proofs.lemmas.List.Elements.{All-map, Contains-get_or}
@@ -7,16 +7,12 @@ use Rattle.chain_terms.specs.Chains.{all_edges}
 use Rattle.chain_terms.specs.Sums.{upto}
 use Rattle.chain_laws.proofs.Places.{get_or-up_from, length-up_from}
 use Rattle.mb_base.specs.declared.results.Entry.{Entry}
-use Rattle.mb_base.specs.declared.results.Origin.{Origin}
-use Rattle.side_terms.specs.Sides.{Side}
 use Rattle.assembly_terms.specs.Lists.{Copy, ListName, ends, starts}
 use Rattle.assembly_terms.specs.Standing.{IsBalanced}
-use Rattle.face_lists.specs.declared.runs.Run.{Run}
 use Rattle.face_lists.specs.declared.stands.Stand.{Stand}
 use Rattle.face_lists.specs.Entries.{entry_of}
-use Rattle.face_lists.specs.Parts.{CanBePaired, CanBeSegments, after, groups, half_entries, half_part}
+use Rattle.face_lists.specs.Parts.{CanBePaired, CanBeSegments, half_entries, half_part}
 use Rattle.face_lists.proofs.FaceSegments.{KnownFace, half_list, half_told, number_in, pair_list, pair_records, pair_told, points_of}
-use Rattle.face_lists.proofs.Groups.{nonempty, of_list}
 use Rattle.face_lists.proofs.Parts.{All-nonempty, pairs_are}
 use Rattle.face_lists.proofs.Told.{Tell, told}
 
@@ -52,5 +48,5 @@ face_can k balance =
       second = half_can k balance 1 (omega arith);
       third = half_can k balance 2 (omega arith);
       pairs = subst (All Paired) (sym (pairs_are k.others k.stands k.records.steps k.few))
-      (All-nonempty Paired (map (pair_records k) all) (All-map Paired (pair_records k) all (each_below (λ j. Paired (pair_records k j)) k.others (pair_can k balance))));
+          (All-nonempty Paired (map (pair_records k) all) (All-map Paired (pair_records k) all (each_below (λ j. Paired (pair_records k j)) k.others (pair_can k balance))));
     }

@@ -1,5 +1,5 @@
 -- The entries of the copies at both ends of a half-edge.
-use Rattle.std.proofs.Common.{◌≡◌, ◌⊎◌, ℕ, ◌+◌, ◌<◌, ◌≤◌, inl, inr, Bool, true, false, cond, List, ◌++◌, map, length, get_or, sym, subst, arith}
+use Rattle.std.proofs.Common.{◌≡◌, ◌⊎◌, ℕ, ◌+◌, ◌<◌, ◌≤◌, inl, inr, Bool, true, false, List, ◌++◌, map, length, get_or, sym, subst, arith}
 use Rattle.std.specs.Prelude.{nat_lt}
 use Rattle.std.specs.List.{Contains}
 use Rattle.std.proofs.lemmas.Bool.{cond_both, ltb-false, ltb-true}
@@ -23,6 +23,7 @@ into_ends runs a b e =
     first : (A B : List Entry) (e : Entry) → Contains A e ⊎ Contains B e → Contains (A ++ B) e
     first A B e (inl c) = Contains-append_left A B e c
     first A B e (inr c) = Contains-append_right A B e c
+
     second : (A B : List Entry) (e : Entry) → Contains A e ⊎ Contains B e → Contains (B ++ A) e
     second A B e (inl c) = Contains-append_right B A e c
     second A B e (inr c) = Contains-append_left B A e c

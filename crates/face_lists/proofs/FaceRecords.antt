@@ -1,5 +1,5 @@
 -- The records of one source face: their lists and copies ascend, and they tell the copies of hits in each list.
-use Rattle.std.proofs.Common.{◌≡◌, ℕ, zero, suc, ◌+◌, ◌<◌, ◌≤◌, Bool, true, false, ◌==◌, List, [], ◌∷◌, map, filter, length, get_or, refl, sym, ap, subst, ◌∙◌, arith}
+use Rattle.std.proofs.Common.{◌≡◌, ℕ, suc, ◌+◌, ◌<◌, ◌≤◌, Bool, true, ◌==◌, List, [], ◌∷◌, map, length, get_or, refl, sym, ap, subst, ◌∙◌, arith}
 use Rattle.std.specs.List.{All, AllPairs, Contains}
 use Rattle.std.proofs.lemmas.Bool.{eq-eqb, eqb-true}
 use Rattle.std.proofs.lemmas.Bool.Decides.{nat_tests}
@@ -9,7 +9,7 @@ use Rattle.std.proofs.lemmas.List.Kept.{AllPairs-filter}
 use Rattle.chain_terms.specs.Chains.{all_edges}
 use Rattle.mb_base.specs.declared.results.Entry.{Entry}
 use Rattle.side_terms.specs.Sides.{Side}
-use Rattle.assembly_terms.specs.Lists.{Copy, IsListOf, ListName, no_copy, standing}
+use Rattle.assembly_terms.specs.Lists.{Copy, ListName, no_copy, standing}
 use Rattle.face_lists.specs.declared.runs.Run.{Run}
 use Rattle.face_lists.specs.declared.stands.Stand.{Stand}
 use Rattle.face_lists.specs.Agreement.{AreStandsOf, Ascend, HaveLists, IsHitCopy, StandsAs, list_name, no_stand, records_of}
@@ -55,12 +55,11 @@ list_rises l k n [] room same low high up = room
 list_rises l k n (s ∷ ss) room same low high up =
     let below : s.copy < n = All-head (λ (t : Stand). t.copy < n) s ss high in
     let here : s.list ≡ l = All-head (λ (t : Stand). t.list ≡ l) s ss same in
-    let later = All-tail (λ (t : Stand). t.list ≡ l) s ss same in
-    (
+    let later = All-tail (λ (t : Stand). t.list ≡ l) s ss same in (
       All-head (λ (t : Stand). k ≤ t.copy) s ss low,
       list_rises l (suc s.copy) n ss (omega (arith, below)) later
-      (λ i d m. let first = (up 0 (suc i) d (omega arith) (omega (arith, m))).copies (here ∙ sym (later i d m)) in omega (arith, first))
-      (All-tail (λ (t : Stand). t.copy < n) s ss high) (λ i j d a b. up (suc i) (suc j) d (omega (arith, a)) (omega (arith, b))),
+          (λ i d m. let first = (up 0 (suc i) d (omega arith) (omega (arith, m))).copies (here ∙ sym (later i d m)) in omega (arith, first))
+          (All-tail (λ (t : Stand). t.copy < n) s ss high) (λ i j d a b. up (suc i) (suc j) d (omega (arith, a)) (omega (arith, b))),
     )
 
 -- entries that tell the copies of hits in a list, from number k on

@@ -1,10 +1,10 @@
 -- The segments that runs and records give a face are those of its lists.
-use Rattle.std.proofs.Common.{◌≡◌, ℕ, zero, suc, ◌+◌, ◌*◌, ◌<◌, Bool, true, false, ℤ, List, [], ◌∷◌, ◌++◌, map, filter, length, get_or, append-nil, append_assoc, refl, sym, ap, subst, ◌∙◌, arith}
+use Rattle.std.proofs.Common.{◌≡◌, ℕ, ◌+◌, ◌*◌, ◌<◌, true, false, ℤ, List, [], ◌∷◌, ◌++◌, map, length, get_or, append-nil, append_assoc, refl, sym, ap, subst, ◌∙◌, arith}
 use Rattle.std.specs.List.{All, flat_map}
 use Rattle.std.proofs.lemmas.Grind.{flat_map-append}
 use Rattle.std.proofs.lemmas.List.Folds.{flat_map-map}
 use Rattle.chain_terms.specs.Chains.{all_edges}
-use Rattle.chain_terms.specs.Sums.{up_from, upto}
+use Rattle.chain_terms.specs.Sums.{upto}
 use Rattle.mb_base.specs.declared.results.Entry.{Entry}
 use Rattle.mb_base.specs.declared.results.Origin.{Origin}
 use Rattle.side_terms.specs.Sides.{Side}
@@ -16,9 +16,9 @@ use Rattle.segment_terms.specs.Segments.{paired_on_edge, place_of, segments_in, 
 use Rattle.face_lists.specs.declared.runs.Run.{Run}
 use Rattle.face_lists.specs.declared.stands.Stand.{Stand}
 use Rattle.face_lists.specs.Entries.{entry_of}
-use Rattle.face_lists.specs.Parts.{after, groups, half_entries, half_part, half_segments, pair_segments, pairs_segments, segments_by}
+use Rattle.face_lists.specs.Parts.{after, half_entries, half_part, half_segments, pair_segments, pairs_segments, segments_by}
 use Rattle.face_lists.proofs.FaceRecords.{AreRecords}
-use Rattle.face_lists.proofs.Groups.{nonempty, of_list}
+use Rattle.face_lists.proofs.Groups.{of_list}
 use Rattle.face_lists.proofs.HalfLists.{HaveRuns, KnownHalf, half_tells, runs_between}
 use Rattle.face_lists.proofs.ListKinds.{IsFace}
 use Rattle.face_lists.proofs.PairLists.{pair_tells}

@@ -3,7 +3,7 @@ mod CanPair
 mod EndEntries
 mod FaceRecords
 mod FaceSegments
-mod Given
+mod Faces
 mod Groups
 mod HalfLists
 mod ListKinds

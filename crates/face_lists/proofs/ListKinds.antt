@@ -1,5 +1,5 @@
 -- The lists of half-edges and of pairs, of either side alike: which copies stand in them, and how they are paired.
-use Rattle.std.proofs.Common.{◌≡◌, ◌⊎◌, ℕ, ◌+◌, ◌*◌, ◌-◌, ◌<◌, ◌≤◌, inl, inr, Bool, true, false, cond, ℤ, pos, neg_ℤ, List, length, map, ◌++◌, refl, sym, ap, subst, ◌∙◌, arith}
+use Rattle.std.proofs.Common.{◌≡◌, ◌⊎◌, ℕ, ◌+◌, ◌*◌, ◌-◌, ◌<◌, inl, inr, Bool, true, false, cond, ℤ, pos, List, length, map, ◌++◌, refl, sym, ap, subst, ◌∙◌, arith}
 use Rattle.std.specs.Prelude.{nat_lt}
 use Rattle.std.proofs.lemmas.Bool.{cases_lt, le-ltb, lt-ltb}
 use Rattle.chain_terms.specs.Chains.{all_edges}
@@ -121,8 +121,8 @@ face_of_p p q f low =
         | inr (j, e) ↦ let known = (subst (IsListOf m n) (pair_name_p m f l j low e) a).1 in omega (arith, known, e)
       ];
       lists = ap (λ t. cond t (lists_of_p n f) (lists_of_q m (f - m))) (lt-ltb f m low)
-      ∙ ap (λ l. l ++ map (PairP f) (upto n)) (map-up_from_same (λ i. HalfP (3 * f + i)) name 0 3 (λ i a b. sym (half_name_p m f i low (omega (arith, b)))))
-      ∙ ap (λ l. map name (upto 3) ++ l) (map-up_from_same (PairP f) (λ j. name (3 + j)) 0 n (λ j a b. sym (pair_name_p m f (3 + j) j low refl)));
+          ∙ ap (λ l. l ++ map (PairP f) (upto n)) (map-up_from_same (λ i. HalfP (3 * f + i)) name 0 3 (λ i a b. sym (half_name_p m f i low (omega (arith, b)))))
+          ∙ ap (λ l. map name (upto 3) ++ l) (map-up_from_same (PairP f) (λ j. name (3 + j)) 0 n (λ j a b. sym (pair_name_p m f (3 + j) j low refl)));
     }
 
 pub face_of_q : (p q : Side) (g : ℕ) → g < length q.triples → IsFace p q q QVertex (length p.triples + g) g (length p.triples) (list_name (length p.triples) (length p.triples + g))
@@ -144,7 +144,7 @@ face_of_q p q g low =
         | inr (j, e) ↦ let known = (subst (IsListOf m n) (pair_name_q m g l j e) a).1 in omega (arith, known, e)
       ];
       lists = ap (λ t. cond t (lists_of_p n (m + g)) (lists_of_q m (m + g - m))) (le-ltb (m + g) m (omega arith))
-      ∙ ap (lists_of_q m) back
-      ∙ ap (λ l. l ++ map (PairQ g) (upto m)) (map-up_from_same (λ i. HalfQ (3 * g + i)) name 0 3 (λ i a b. sym (half_name_q m g i (omega (arith, b)))))
-      ∙ ap (λ l. map name (upto 3) ++ l) (map-up_from_same (PairQ g) (λ j. name (3 + j)) 0 m (λ j a b. sym (pair_name_q m g (3 + j) j refl)));
+          ∙ ap (lists_of_q m) back
+          ∙ ap (λ l. l ++ map (PairQ g) (upto m)) (map-up_from_same (λ i. HalfQ (3 * g + i)) name 0 3 (λ i a b. sym (half_name_q m g i (omega (arith, b)))))
+          ∙ ap (λ l. map name (upto 3) ++ l) (map-up_from_same (PairQ g) (λ j. name (3 + j)) 0 m (λ j a b. sym (pair_name_q m g (3 + j) j refl)));
     }

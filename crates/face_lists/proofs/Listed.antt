@@ -7,14 +7,17 @@ use Rattle.std.proofs.lemmas.List.Elements.{Contains-get_or}
 use Rattle.chain_terms.specs.Chains.{all_edges}
 use Rattle.chain_terms.specs.Ranks.{twin}
 use Rattle.chain_laws.proofs.Twins.{twin_runs_back}
+use Rattle.mb_base.specs.declared.op.Op.{Op}
 use Rattle.mb_base.specs.declared.results.Origin.{Origin}
 use Rattle.mb_base.specs.declared.results.Origin.TheVariants.{PEdge, PVertex, QEdge, QVertex}
+use Rattle.side_terms.specs.Hits.{AreHits}
 use Rattle.side_terms.specs.Sides.{IsSide, Side}
 use Rattle.halfedge.proofs.Edges.{length-all_edges}
-use Rattle.assembly_terms.specs.Lists.{Copy, HalfP, HalfQ, IsListOf, ListName, PairP, PairQ, at_same, incidence, no_copy, standing, way, way_round}
-use Rattle.retained_verts.proofs.Origins.{IsFrom}
+use Rattle.assembly_terms.specs.Lists.{Copy, HalfP, HalfQ, IsListOf, ListName, PairP, PairQ, at_same, incidence, no_copy, way, way_round}
+use Rattle.assembly_terms.specs.Prescribed.{Numbers, prescribed}
+use Rattle.retained_verts.proofs.Origins.{IsFrom, all_from}
 use Rattle.face_lists.specs.declared.stands.Stand.{Stand}
-use Rattle.face_lists.specs.Agreement.{AreStandsOf, IsHitCopy, StandsAs, list_name}
+use Rattle.face_lists.specs.Agreement.{AreStandsOf, IsHitCopy, list_name}
 use Rattle.face_lists.proofs.Signs.{apart_at, no_side}
 
 -- a half-edge is one of an edge's two, or does not stand along it
@@ -48,6 +51,7 @@ face_known side known f e low some =
     nothing (pos zero) = inl refl
     nothing (pos (suc n)) = inr (λ e. omega (arith, ints, e))
     nothing (negsuc n) = inr (λ e. omega (arith, ints, e))
+
     by_ways : (K : Type 0) (x y z : ℤ) → ((x ≡ pos 0 → ⊥) → K) → ((y ≡ pos 0 → ⊥) → K) → ((z ≡ pos 0 → ⊥) → K) → ((x +ℤ (y +ℤ (z +ℤ pos 0)) ≡ pos 0) → ⊥) → K
     by_ways K x y z a b c some = elim (nothing x) as (λ _. K) [
       | inr d ↦ a d
@@ -111,3 +115,8 @@ are_listed p q cs stands known other records from i d l =
     let name = list_name (length p.triples) s.face s.list in
     let z = incidence (all_edges p.triples) (all_edges q.triples) name c.origin in
     of_sides p q known other name c.origin (from s.copy no_copy says.0) says.1 (λ none. no_side c.negative s.start z none says.2)
+
+-- those of the prescribed copies
+pub prescribed_listed : (op : Op) (p q : Side) (n : Numbers) → IsSide p → IsSide q → AreHits (all_edges p.triples) (length q.triples) n.x12 → AreHits (all_edges q.triples) (length p.triples) n.x21 →
+    (stands : List Stand) → AreStandsOf (all_edges p.triples) (all_edges q.triples) (length p.triples) (prescribed op p q n) stands → AreListed p q stands
+prescribed_listed op p q n known other x12 x21 stands records = are_listed p q (prescribed op p q n) stands known other records (all_from op p q n x12 x21)

@@ -1,5 +1,5 @@
 -- The entries of a pair's list tell how all copies stand in it.
-use Rattle.std.proofs.Common.{◌≡◌, ℕ, ◌+◌, ◌<◌, inl, inr, Bool, ℤ, pos, List, map, length, get_or, arith}
+use Rattle.std.proofs.Common.{ℕ, ◌+◌, ◌<◌, inl, inr, Bool, List, map, length, get_or, arith}
 use Rattle.std.specs.List.{Contains}
 use Rattle.chain_terms.specs.Chains.{all_edges}
 use Rattle.mb_base.specs.declared.results.Entry.{Entry}

@@ -2,10 +2,10 @@
 use Rattle.std.proofs.Common.{◌≡◌, ℕ, zero, suc, ◌+◌, ◌<◌, ◌≤◌, List, [], ◌∷◌, ◌++◌, map, refl, sym, ap, ◌∙◌, arith}
 use Rattle.std.specs.List.{All, flat_map}
 use Rattle.std.proofs.lemmas.List.Elements.{All-cons, All-drop, All-head, All-tail}
-use Rattle.chain_terms.specs.Sums.{up_from, upto}
+use Rattle.chain_terms.specs.Sums.{upto}
 use Rattle.face_lists.specs.declared.stands.Stand.{Stand}
 use Rattle.face_lists.specs.Entries.{list_count}
-use Rattle.face_lists.specs.Parts.{after, front, groups, half_part, rest}
+use Rattle.face_lists.specs.Parts.{after, groups, half_part, rest}
 use Rattle.face_lists.proofs.Groups.{Steps, front_is, groups_are, map-up_from_same, map-up_from_shift, nonempty, of_list, rest_has, rest_steps}
 
 -- the records of a half-edge

@@ -1,5 +1,5 @@
 -- Lists of numbers that rise strictly, from one number on and below another.
-use Rattle.std.proofs.Common.{◌≡◌, ℕ, zero, suc, ◌+◌, ◌<◌, ◌≤◌, Bool, true, false, cond, List, [], ◌∷◌, ◌++◌, map, filter, length, get_or, refl, ap, arith}
+use Rattle.std.proofs.Common.{ℕ, zero, suc, ◌+◌, ◌<◌, ◌≤◌, Bool, List, [], ◌∷◌, ◌++◌, map, filter, length, get_or, arith}
 use Rattle.std.proofs.lemmas.Bool.{cond_both}
 use Rattle.chain_terms.specs.Sums.{up_from}
 use Rattle.chain_laws.specs.Ascending.{Ascends}

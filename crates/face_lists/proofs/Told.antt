@@ -1,13 +1,13 @@
 -- Entries that tell how numbers stand: their starts are the numbers above 0, their ends those below.
-use Rattle.std.proofs.Common.{◌≡◌, ◌↔◌, ℕ, ◌<◌, Bool, true, false, not, ℤ, pos, List, map, filter, length, int_lt, refl, sym, ap, subst, ◌∙◌, arith}
-use Rattle.std.specs.Prelude.{◌<ℤ◌, T}
+use Rattle.std.proofs.Common.{◌≡◌, ℕ, ◌<◌, Bool, true, false, ℤ, pos, List, map, filter, int_lt, refl, ap, subst, ◌∙◌}
+use Rattle.std.specs.Prelude.{T}
 use Rattle.std.specs.List.{Contains}
 use Rattle.std.proofs.lemmas.Float.{T_from_true}
 use Rattle.std.proofs.lemmas.Bool.{not-true}
 use Rattle.chain_terms.specs.Sums.{upto}
 use Rattle.chain_laws.proofs.Ascending.{ascending_is_filter}
 use Rattle.mb_base.specs.declared.results.Entry.{Entry}
-use Rattle.edge_pairing.specs.Entries.{chosen, ends_of, is_chosen, starts_of}
+use Rattle.edge_pairing.specs.Entries.{chosen, is_chosen}
 use Rattle.face_lists.specs.Agreement.{StandsAs}
 use Rattle.face_lists.proofs.Members.{comes_from, filter_contains, kept, map_contains}
 use Rattle.face_lists.proofs.Rising.{Rises, rises-filter, rises_ascends}
