@@ -16,7 +16,7 @@ use Rattle.face_lists.proofs.CanPair.{face_can}
 use Rattle.face_lists.proofs.FaceRecords.{face_records}
 use Rattle.face_lists.proofs.FaceSegments.{KnownFace, face_same}
 use Rattle.face_lists.proofs.ListKinds.{face_of_p, face_of_q}
-use Rattle.face_lists.proofs.Listed.{AreListed}
+use Rattle.face_lists.proofs.SideLists.{AreListed}
 
 -- the lists of a face's records are its own
 own_lists : (p q : Side) (stands : List Stand) → AreListed p q stands → (x : ℕ) → All (λ s. IsListOf (length p.triples) (length q.triples) (list_name (length p.triples) x s.list)) (records_of stands x)

@@ -7,12 +7,12 @@ mod Faces
 mod Groups
 mod HalfLists
 mod ListKinds
-mod Listed
 mod Members
 mod PairLists
 mod Parts
 mod Rising
 mod RunBlocks
 mod RunEntries
+mod SideLists
 mod Signs
 mod Told
