@@ -15,7 +15,7 @@ use Rattle.face_lists.specs.declared.stands.Stand.{Stand}
 use Rattle.face_lists.specs.Agreement.{AreStandsOf, Ascend, HaveLists, IsHitCopy, StandsAs, list_name, no_stand, records_of}
 use Rattle.face_lists.specs.Entries.{entry_of}
 use Rattle.face_lists.specs.Stands.{stands_before}
-use Rattle.face_lists.proofs.Groups.{Steps, of_list, of_list_all}
+use Rattle.face_lists.proofs.ListGroups.{Steps, of_list, of_list_all}
 use Rattle.face_lists.proofs.Members.{comes_from, filter_contains, kept, map_contains}
 use Rattle.face_lists.proofs.Rising.{Rises}
 use Rattle.face_lists.proofs.Told.{entry}

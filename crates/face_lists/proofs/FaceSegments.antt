@@ -18,7 +18,7 @@ use Rattle.face_lists.specs.declared.stands.Stand.{Stand}
 use Rattle.face_lists.specs.Entries.{entry_of}
 use Rattle.face_lists.specs.Parts.{after, half_entries, half_part, half_segments, pair_segments, pairs_segments, segments_by}
 use Rattle.face_lists.proofs.FaceRecords.{AreRecords}
-use Rattle.face_lists.proofs.Groups.{of_list}
+use Rattle.face_lists.proofs.ListGroups.{of_list}
 use Rattle.face_lists.proofs.HalfLists.{HaveRuns, KnownHalf, half_tells, runs_between}
 use Rattle.face_lists.proofs.ListKinds.{IsFace}
 use Rattle.face_lists.proofs.PairLists.{pair_tells}

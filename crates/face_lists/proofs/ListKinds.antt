@@ -11,7 +11,7 @@ use Rattle.assembly_terms.specs.Lists.{HalfP, HalfQ, IsListOf, ListName, PairP, 
 use Rattle.edge_pairing.specs.Pairing.{paired_across}
 use Rattle.segment_terms.specs.Segments.{lists_of, paired_in, paired_on_edge}
 use Rattle.face_lists.specs.Agreement.{IsHitCopy, list_name}
-use Rattle.face_lists.proofs.Groups.{map-up_from_same}
+use Rattle.face_lists.proofs.ListGroups.{map-up_from_same}
 
 -- a vertex of a side
 abbrev pub IsVertexOf : (ℕ → Origin) → Origin → Type 0

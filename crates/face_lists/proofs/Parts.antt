@@ -6,7 +6,7 @@ use Rattle.chain_terms.specs.Sums.{upto}
 use Rattle.face_lists.specs.declared.stands.Stand.{Stand}
 use Rattle.face_lists.specs.Entries.{list_count}
 use Rattle.face_lists.specs.Parts.{after, groups, half_part, rest}
-use Rattle.face_lists.proofs.Groups.{Steps, front_is, groups_are, map-up_from_same, map-up_from_shift, nonempty, of_list, rest_has, rest_steps}
+use Rattle.face_lists.proofs.ListGroups.{Steps, front_is, groups_are, map-up_from_same, map-up_from_shift, nonempty, of_list, rest_has, rest_steps}
 
 -- the records of a half-edge
 pub part_is : (l : ℕ) (ss : List Stand) → l < 3 → Steps 0 ss → half_part l ss ≡ of_list l ss

@@ -23,6 +23,7 @@ use Rattle.face_lists.specs.Parts.{no_run}
 use Rattle.face_lists.specs.Runs.{runs_from}
 use Rattle.face_lists.specs.Stands.{hit_stands, sorted_stands, stands_before}
 use Rattle.face_lists.specs.declared.stands.Stand.{Stand}
+use Rattle.face_lists.proofs.SideLists.{prescribed_listed}
 use Rattle.face_lists.proofs.Blocks.{all_copies}
 use Rattle.face_lists.proofs.Differing.{AreThree, IsWithinCopies, differ_append, hits_differ, hits_within}
 use Rattle.face_lists.proofs.HitCopies.{AreTold, copy_number, told_each, told_only}
@@ -255,6 +256,7 @@ module _ (op : Op) (p q : Side) (n : Numbers) (p_known : IsSide p) (q_known : Is
     q_order = runs_in_order (q_number op) (p_kept op n) k n.w30 (omega arith);
     hit_copies = hit_copies;
     later = all_sorted (λ s. k ≤ s.copy) stands_before (p_stands ++ q_stands) later;
+    listed = prescribed_listed op p q n p_known q_known x12 x21 stands hit_copies;
     ascend = sorted_ascend (p_stands ++ q_stands) differ;
   }
 
