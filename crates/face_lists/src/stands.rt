@@ -96,6 +96,7 @@ fn push_hits(
     first: u32,
 ) -> Result<u32, NoMemory>
     requires few { AreFewFaces bases.edges bases.faces }
+    requires triples { length twins.now.triples ≤ 100000000 }
     requires hits { AreHits (all_edges twins.now.triples) 100000000 hits.now }
     requires fits { first + hit_count op hits.now < 2 ^ 32 }
     ensures stands { OnOk result (stands.new.items ≡ stands.old.items ++ hit_stands op (all_edges twins.now.triples) bases.edges bases.faces first hits.now) }
