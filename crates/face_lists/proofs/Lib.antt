@@ -1,3 +1,5 @@
 mod Blocks
 mod Growing
+mod OneWay
+mod RecordOrder
 mod RunBlocks

@@ -71,6 +71,7 @@ pub fn stands_of(
     ensures { IfOk result (λ stands. stands.items ≡ sorted_stands op p.now q.now hits.now.x12.items hits.now.x21.items first) }
 {
     let mut stands = Vec::new(alloc);
+    let (p_twins, q_twins) = (p.twins(), q.twins());
     let p_faces = p.triples().len() as u32;
     let of_p = Bases {
         edges: 0,
@@ -80,8 +81,8 @@ pub fn stands_of(
         edges: p_faces,
         faces: 0,
     };
-    let next = push_hits(&mut stands, op, p.twins(), of_p, &hits.x12, first)?;
-    push_hits(&mut stands, op, q.twins(), of_q, &hits.x21, next)?;
+    let next = push_hits(&mut stands, op, p_twins, of_p, &hits.x12, first)?;
+    push_hits(&mut stands, op, q_twins, of_q, &hits.x21, next)?;
     stands.sort_unstable();
     Ok(stands)
 }
