@@ -1,5 +1,6 @@
 mod Blocks
 mod Growing
 mod OneWay
+mod Pieces
 mod RecordOrder
 mod RunBlocks
