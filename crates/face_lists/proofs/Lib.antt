@@ -1,4 +1,5 @@
 mod Blocks
+mod FaceParts
 mod Growing
 mod OneWay
 mod Pieces
