@@ -1,7 +1,9 @@
 mod Blocks
 mod FaceParts
+mod Groups
 mod Growing
 mod OneWay
 mod Pieces
 mod RecordOrder
 mod RunBlocks
+mod Tests

@@ -18,19 +18,13 @@ use Rattle.halfedge.proofs.Around.{pair_up}
 use Rattle.halfedge.proofs.Edges.{length-all_edges}
 use Rattle.face_lists.specs.Stands.{all_stands, copy_stands, hit_stands, one_hit_stands, six_stands}
 use Rattle.face_lists.specs.declared.stands.Stand.{Stand}
+use Rattle.face_lists.proofs.Tests.{not_same, same}
 
 -- the two triangles of an edge, and the face that it crosses, are three source faces
 pub record AreThree (own other lower upper face : ℕ) : Type 0 where
   pub apart : lower / 3 ≢ upper / 3
   pub first : own + lower / 3 ≢ other + face
   pub second : own + upper / 3 ≢ other + face
-
--- a triangle is no other
-not_same : (x y : ℕ) → x ≢ y → (x == y) ≡ false
-not_same x y d = grind (arith, nat_tests, d)
-
-same : (x : ℕ) → (x == x) ≡ true
-same x = grind (arith, nat_tests)
 
 -- whether a copy starts in a list of a source face
 abbrev way : (own lower upper face : ℕ) → Bool → ℕ → ℕ → Bool

@@ -2,7 +2,6 @@
 use Rattle.std.proofs.Common.{◌≡◌, ℕ, zero, suc, ◌+◌, ◌-◌, ◌<◌, ◌≤◌, ◌==◌, List, [], ◌∷◌, ◌++◌, Bool, true, false, cond, map, length, take, drop, get_or, ℤ, refl, sym, ap, ◌∙◌, arith, inl, inr, subst}
 use Rattle.std.specs.List.{All, flat_map}
 use Rattle.std.proofs.lemmas.Bool.{eqb-true}
-use Rattle.std.proofs.lemmas.Bool.Decides.{nat_tests}
 use Rattle.std.proofs.lemmas.List.Concat.{flat_map-cons}
 use Rattle.std.proofs.lemmas.List.Elements.{All-head, All-tail}
 use Rattle.std.proofs.lemmas.List.{drop-drop, drop_more, length-drop, map-append}
@@ -11,6 +10,7 @@ use Rattle.mb_base.specs.declared.results.Segment.{Segment}
 use Rattle.face_lists.specs.Entries.{list_count, list_end}
 use Rattle.face_lists.specs.Parts.{front, groups, pair_segments, pairs_segments, rest, with_stand}
 use Rattle.face_lists.specs.declared.stands.Stand.{Stand}
+use Rattle.face_lists.proofs.Tests.{same}
 
 -- the edges of a list of segments that grew
 pub edges_more : (new old slice more : List Segment) (made : List (ℕ × ℕ)) → new ≡ old ++ slice → slice ≡ more → map edge_of more ≡ made → map edge_of new ≡ map edge_of old ++ made
@@ -29,12 +29,9 @@ list_count_at_most (s ∷ ss) l = at_most (s.list == l) (list_count ss l) (lengt
 pub end_within : (ss : List Stand) (begin l : ℕ) → begin ≤ length ss → list_end ss begin l ≤ length ss
 end_within ss begin l h = omega (arith, h, list_count_at_most (drop begin ss) l, length-drop begin ss)
 
-same_list : (l : ℕ) → (l == l) ≡ true
-same_list l = grind (arith, nat_tests)
-
 -- the first record is of its list
 pub count_first : (s : Stand) (ss : List Stand) → list_count (s ∷ ss) s.list ≡ suc (list_count ss s.list)
-count_first s ss = ap (λ b. cond b (suc (list_count ss s.list)) 0) (same_list s.list)
+count_first s ss = ap (λ b. cond b (suc (list_count ss s.list)) 0) (same s.list)
 
 -- a record in front of groups, the first of which begins with t
 in_front : (s t : Stand) (ts : List Stand) (m : ℕ) (b : Bool) → (b ≡ true → m ≡ list_count ts s.list) → groups (t ∷ ts) ≡ (t ∷ take m ts) ∷ groups (drop m ts) →
