@@ -1,5 +1,5 @@
 -- A face's records, cut where its lists end.
-use Rattle.std.proofs.Common.{◌≡◌, ℕ, ◌+◌, ◌-◌, ◌*◌, List, [], ◌∷◌, ◌++◌, length, take, drop, ℤ, append_assoc, refl, sym, ap, ◌∙◌, arith}
+use Rattle.std.proofs.Common.{◌≡◌, ℕ, ◌+◌, ◌-◌, ◌*◌, List, [], ◌++◌, take, drop, ℤ, append_assoc, ap, ◌∙◌, arith}
 use Rattle.side_terms.specs.Sides.{Side}
 use Rattle.face_lists.specs.Entries.{list_count, list_end}
 use Rattle.face_lists.specs.Parts.{after, front, half_part, half_segments, pairs_segments, rest, segments_by}

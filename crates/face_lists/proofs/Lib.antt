@@ -1,9 +1,9 @@
 mod Blocks
-mod FaceParts
-mod Groups
-mod Growing
-mod OneWay
-mod Pieces
-mod RecordOrder
+pub mod FaceParts
+pub mod Groups
+pub mod Growing
+pub mod OneWay
+pub mod Pieces
+pub mod RecordOrder
 mod RunBlocks
-mod Tests
+pub mod Tests

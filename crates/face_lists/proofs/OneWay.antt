@@ -1,12 +1,11 @@
 -- In one list of one source face a copy of a hit stands one way.
 use Rattle.std.proofs.Common.{◌≡◌, ◌≢◌, ℕ, zero, suc, ◌+◌, ◌/◌, ◌%◌, ◌<◌, ◌≤◌, ◌==◌, nat_lt, List, [], ◌∷◌, ◌++◌, Bool, true, false, not, cond, length, get_or, nat_abs, int_lt, pos, refl, sym, ap, ◌∙◌, arith, inl, inr}
-use Rattle.std.specs.List.{All, Contains, flat_map}
+use Rattle.std.specs.List.{All, Contains}
 use Rattle.std.proofs.lemmas.Bool.Decides.{nat_tests}
 use Rattle.std.proofs.lemmas.List.Elements.{All-append, All-cons, All-contains, All-head, All-nil, All-tail, All-weaker, Contains-append_cases}
 use Rattle.std.proofs.lemmas.List.Sums.{sum_by-cons}
 use Rattle.chain_terms.specs.Chains.{all_edges}
 use Rattle.chain_terms.specs.Ranks.{twin}
-use Rattle.chain_terms.specs.Sums.{up_from}
 use Rattle.assembly_terms.specs.Prescribed.{hit_count, hit_number_of}
 use Rattle.mb_base.specs.declared.op.Op.{Op}
 use Rattle.mb_base.specs.declared.results.Hit.{Hit}
@@ -118,11 +117,11 @@ one_way-append m ss ts left right low high s t a b face list copy = elim (Contai
   | inl x ↦ elim (Contains-append_cases ss ts t b) as (λ _. s.start ≡ t.start) [
     | inl y ↦ left s t x y face list copy
     | inr y ↦ absurd (omega (arith, All-contains (λ (r : Stand). r.copy < m) ss s low x, All-contains (λ (r : Stand). m ≤ r.copy) ts t high y, copy))
-    ]
+  ]
   | inr x ↦ elim (Contains-append_cases ss ts t b) as (λ _. s.start ≡ t.start) [
     | inl y ↦ absurd (omega (arith, All-contains (λ (r : Stand). r.copy < m) ss t low y, All-contains (λ (r : Stand). m ≤ r.copy) ts s high x, copy))
     | inr y ↦ right s t x y face list copy
-    ]
+  ]
 ]
 
 -- records of copies up to m, and of those from m on

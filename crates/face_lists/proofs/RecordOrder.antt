@@ -1,8 +1,8 @@
 -- Records sorted by face, list and copy.
-use Rattle.std.proofs.Common.{is_lt, ◌≡◌, ◌+◌, ◌<◌, ℕ, true, false, Bool, List, length, get_or, refl, sym, ap, ◌∙◌, arith}
+use Rattle.std.proofs.Common.{is_lt, ◌≡◌, ◌+◌, ℕ, true, false, Bool, List, get_or, refl, ap, ◌∙◌, arith}
 use Rattle.std.specs.Cmp.{IsStrictWeakOrder, IsTotalOrder}
 use Rattle.std.specs.List.{Contains}
-use Rattle.std.specs.List.Sorted.{IsPermutation, IsSorted, IsSortedBy}
+use Rattle.std.specs.List.Sorted.{IsPermutation, IsSorted}
 use Rattle.std.specs.Ordering.{bool_cmp, nat_cmp, ordering_reverse, ordering_then}
 use Rattle.std.specs.declared.cmp.Ordering.{Ordering}
 use Rattle.std.specs.declared.cmp.Ordering.TheVariants.{Equal, Greater, Less}
@@ -83,5 +83,5 @@ pub sorted_records : (ss order : List Stand) → IsOneWay ss → IsPermutation s
 sorted_records ss order one moved up =
     sort_is stands_before place_order ss order moved
     (λ k d low high. not_less (nat_cmp (get_or order (k + 1) d).face (get_or order k d).face) (nat_cmp (get_or order (k + 1) d).list (get_or order k d).list) (nat_cmp (get_or order (k + 1) d).copy (get_or order k d).copy)
-      (bool_cmp (get_or order (k + 1) d).start (get_or order k d).start) (up k d low high))
+    (bool_cmp (get_or order (k + 1) d).start (get_or order k d).start) (up k d low high))
     (tied ss one)

@@ -17,7 +17,11 @@ pub fn plane_of(side: &Side, face: u32) -> FacePlane
     ensures below { result.drop < 3 }
 {
     let [a, b, c] = side.triples()[face as usize];
-    FacePlane::of(vertex_point(side, a), vertex_point(side, b), vertex_point(side, c))
+    FacePlane::of(
+        vertex_point(side, a),
+        vertex_point(side, b),
+        vertex_point(side, c),
+    )
 }
 
 // The point of a vertex.

@@ -14,7 +14,7 @@ use std::alloc::Global;
 
 /// A copy in a list of a source face, as a start or as an end. Source faces are those of the first mesh, then those of the
 /// second. Of a face's lists 0, 1 and 2 are those of its half-edges, and 3 more than a face of the other mesh is that of the
-/// pair with it. Such values compare by face, list and copy.
+/// pair with it. Such values compare by face, list and copy, and then an end comes before a start.
 #[derive(Clone, Copy, Debug, PartialEq, Eq, PartialOrd, Ord, Drop)]
 pub struct Stand {
     pub face: u32,

@@ -1,4 +1,3 @@
-use Rattle.std.proofs.Common.{◌+◌}
 use Rattle.face_lists.proofs.Growing.{grown, run_more}
 use Rattle.face_lists.proofs.entries.push_run.Goals as goal
 

@@ -1,8 +1,8 @@
-use Rattle.std.proofs.Common.{◌≡◌, [], ◌++◌, map, ap, ◌∙◌}
+use Rattle.std.proofs.Common.{◌≡◌, ◌++◌, map, ap, ◌∙◌}
 use Rattle.edge_pairing.specs.Entries.{ends_of, place_in, starts_of}
 use Rattle.edge_pairing.specs.Pairing.{paired_across}
 use Rattle.face_lists.specs.Entries.{entry_of}
-use Rattle.face_lists.proofs.Pieces.{edges_more, groups_front}
+use Rattle.face_lists.proofs.Pieces.{edges_more}
 use Rattle.face_lists.proofs.segments.push_pair.Goals as goal
 
 pub returns : goal.returns

@@ -1,4 +1,4 @@
-use Rattle.std.proofs.Common.{◌≡◌, ◌+◌, ◌-◌, ◌<◌, ◌≤◌, ◌++◌, append_assoc, length, map, take, drop, arith, ap, ◌∙◌, sym}
+use Rattle.std.proofs.Common.{◌-◌, ◌++◌, append_assoc, map, take, drop, arith, ap, ◌∙◌, sym}
 use Rattle.edge_pairing.specs.Entries.{edge_of}
 use Rattle.face_lists.specs.Agreement.{no_stand}
 use Rattle.face_lists.specs.Entries.{entry_of}
@@ -24,6 +24,6 @@ loop-begin-preserved c =
     record {
       below = c.list_end-end.ensures.within;
       value = ap (λ l. l ++ pairs_segments points (drop end ss)) c.in_ok-push_pair.ensures ∙ append_assoc (map edge_of c.loop-begin.segments.items) slice (pairs_segments points (drop end ss))
-        ∙ ap (λ l. map edge_of c.loop-begin.segments.items ++ l) (sym (pair_by_pair points ss begin end no_stand c.loop-begin-test.true c.list_end-end.ensures.value)) ∙ c.loop-begin.invariant.value;
+          ∙ ap (λ l. map edge_of c.loop-begin.segments.items ++ l) (sym (pair_by_pair points ss begin end no_stand c.loop-begin-test.true c.list_end-end.ensures.value)) ∙ c.loop-begin.invariant.value;
       paired = (group_by_group (λ g. CanBePaired points (map entry_of g)) ss begin end no_stand c.loop-begin-test.true c.list_end-end.ensures.value c.loop-begin.invariant.paired).1;
     }

@@ -1,10 +1,9 @@
-use Rattle.std.proofs.Common.{◌≡◌, ◌+◌, ◌-◌, ◌*◌, ◌++◌, ◌∙◌, map, ap, take, drop, subst, sym}
+use Rattle.std.proofs.Common.{◌+◌, ◌-◌, ◌*◌, ◌++◌, ◌∙◌, map, ap, take, drop, subst, sym}
 use Rattle.std.specs.List.{All}
 use Rattle.std.proofs.lemmas.List.{take_rest}
 use Rattle.edge_pairing.specs.Entries.{edge_of}
 use Rattle.face_lists.specs.Entries.{entry_of}
 use Rattle.face_lists.specs.Parts.{CanBePaired, groups, half_entries, pairs_segments}
-use Rattle.face_lists.specs.declared.stands.Stand.{Stand}
 use Rattle.face_lists.proofs.FaceParts.{AreEnds, third_part, third_rest, whole_face}
 use Rattle.face_lists.proofs.segments.segments_of_face.Goals as goal
 

@@ -1,4 +1,4 @@
-use Rattle.std.proofs.Common.{◌≡◌, ◌+◌, ◌++◌, ap, ◌∙◌}
+use Rattle.std.proofs.Common.{◌++◌, ap, ◌∙◌}
 use Rattle.face_lists.proofs.Growing.{copies_more, grown}
 use Rattle.face_lists.proofs.stands.push_copies.Goals as goal
 

@@ -29,7 +29,7 @@ returns c =
     let one = all_one_way op p q x12 x21 c.args.first c.twins-p_twins.ensures.side c.twins-q_twins.ensures.side c.requires.x12 c.requires.x21 in
     let long : length c.triples.result.now ≡ length p.triples = sym (length-map c.triples.result.now triple_of) ∙ ap length c.triples.ensures.value in
     let made = both op p q x12 x21 c.args.first c.twins-p_twins.result.now.triples c.twins-q_twins.result.now.triples (length c.triples.result.now) c.in_ok-next.next c.deref.result.now c.deref-2.result.now
-      c.new-stands.result.items c.push_hits.new.stands.items c.push_hits-2.new.stands.items c.new-stands.ensures.items c.twins-p_twins.ensures.triples c.twins-q_twins.ensures.triples long
-      c.deref.ensures.value c.deref-2.ensures.value c.in_ok-next.ensures.stands c.in_ok-next.ensures.next c.in_ok-push_hits.ensures.stands in
+    c.new-stands.result.items c.push_hits.new.stands.items c.push_hits-2.new.stands.items c.new-stands.ensures.items c.twins-p_twins.ensures.triples c.twins-q_twins.ensures.triples long
+    c.deref.ensures.value c.deref-2.ensures.value c.in_ok-next.ensures.stands c.in_ok-next.ensures.next c.in_ok-push_hits.ensures.stands in
     sorted_records (all_stands op p q x12 x21 c.args.first) c.sort_unstable.new.self.items one
     (subst (λ l. IsPermutation l c.sort_unstable.new.self.items) made c.sort_unstable.ensures.permutation) c.sort_unstable.ensures.sorted
