@@ -28,3 +28,11 @@ mod TellCopies
 mod Told
 mod VertexCopies
 mod VertexRuns
+pub mod FaceParts
+pub mod Groups
+pub mod Growing
+pub mod OneWay
+pub mod Pieces
+pub mod RecordOrder
+mod RunBlocks
+pub mod Tests
