@@ -1,5 +1,5 @@
 -- The copies of what is included lie in blocks, one behind the other.
-use Rattle.std.proofs.Common.{◌≡◌, ℕ, zero, suc, ◌+◌, ◌-◌, ◌<◌, ◌≤◌, ℤ, pos, List, [], ◌∷◌, ◌++◌, length, get_or, replicate, nat_abs, int_lt, refl, sym, ap, ◌∙◌, subst, arith, inl, inr}
+use Rattle.std.proofs.Common.{◌≡◌, ℕ, zero, suc, ◌+◌, ◌-◌, ◌<◌, ◌≤◌, pos, List, [], ◌∷◌, ◌++◌, length, get_or, nat_abs, refl, ap, ◌∙◌, arith, inl, inr}
 use Rattle.std.specs.List.{flat_map}
 use Rattle.std.proofs.lemmas.List.{get_or_append_left, get_or-append_right, get_or-replicate, length-append, length-replicate}
 use Rattle.std.proofs.lemmas.Bool.{cases_lt}
@@ -29,7 +29,8 @@ pub copy_in : (is : List Included) (j k : ℕ) → j < length is → k < nat_abs
 copy_in [] j k l m = absurd (omega (arith, l))
 copy_in (i ∷ is) zero k l m =
     let inside : k < length (copies_of i) = omega (arith, m, length-copies_of i) in
-    get_or_append_left (copies_of i) (all_copies is) no_copy k inside ∙ get_or-replicate (nat_abs i.number) k (copy_of i) no_copy m
+    let here : 0 + k ≡ k = omega arith in
+    ap (λ n. get_or (copies_of i ++ all_copies is) n no_copy) here ∙ get_or_append_left (copies_of i) (all_copies is) no_copy k inside ∙ get_or-replicate (nat_abs i.number) k (copy_of i) no_copy m
 copy_in (i ∷ is) (suc j) k l m =
     let at = nat_abs i.number + before is j + k in
     let shift : at - nat_abs i.number ≡ before is j + k = omega arith in
@@ -46,7 +47,7 @@ pub record LiesIn (is : List Included) (v : ℕ) : Type 0 where
 pub lies_in : (is : List Included) (v : ℕ) → v < length (all_copies is) → LiesIn is v
 lies_in [] v l = absurd (omega (arith, l))
 lies_in (i ∷ is) v l = elim (cases_lt v (nat_abs i.number)) as (λ _. LiesIn (i ∷ is) v) [
-  | inl here ↦ record { block = 0; place = v; within = omega arith; inside = here; at = refl }
+  | inl here ↦ record { block = 0; place = v; within = omega arith; inside = here; at = omega arith }
   | inr past ↦
       let later = lies_in is (v - nat_abs i.number) (omega (arith, past, l, length-append (copies_of i) (all_copies is), length-copies_of i)) in
       record { block = suc later.block; place = later.place; within = omega (arith, later.within); inside = later.inside; at = omega (arith, past, later.at) }

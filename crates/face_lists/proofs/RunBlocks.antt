@@ -1,30 +1,26 @@
 -- The run of each vertex is its block of copies.
-use Rattle.std.proofs.Common.{◌≡◌, ◌↔◌, ℕ, ◌+◌, ◌-◌, ◌<◌, ◌≤◌, ℤ, pos, List, length, get_or, nat_abs, int_lt, refl, sym, ap, ◌∙◌, subst, arith, inl, inr}
-use Rattle.std.proofs.lemmas.Bool.{cases_eq, cases_lt}
-use Rattle.mb_base.specs.declared.results.Origin.{Origin}
+use Rattle.std.proofs.Common.{◌≡◌, ℕ, ◌+◌, ◌-◌, ◌<◌, ◌≤◌, pos, List, length, get_or, nat_abs, int_lt, sym, ap, ◌∙◌, arith}
 use Rattle.assembly_terms.specs.Lists.{Copy, no_copy}
 use Rattle.assembly_terms.specs.Prescribed.{Included, copy_of}
 use Rattle.face_lists.specs.Agreement.{IsRunOf}
-use Rattle.face_lists.specs.Parts.{no_run}
-use Rattle.face_lists.specs.Runs.{runs_from}
 use Rattle.face_lists.specs.declared.runs.Run.{Run}
-use Rattle.face_lists.proofs.Blocks.{LiesIn, all_copies, before, before_all, before_ascends, copy_in, lies_in, no_included}
+use Rattle.face_lists.proofs.Blocks.{all_copies, before, before_all, before_ascends, copy_in, lies_in, no_included}
 
 -- the run of the j-th of what is included
 abbrev pub block_run : List Included → ℕ → Run
 block_run is j = record { first = before is j; count = nat_abs (get_or is j no_included).number; negative = int_lt (get_or is j no_included).number (pos 0) }
 
--- no two are of one origin
-abbrev pub AreApart : List Included → Type 0
-AreApart is = (j k : ℕ) → j < length is → k < length is → (get_or is j no_included).origin ≡ (get_or is k no_included).origin → j ≡ k
+-- no other is of the origin of the j-th
+abbrev pub IsAlone : List Included → ℕ → Type 0
+IsAlone is j = (k : ℕ) → k < length is → (get_or is k no_included).origin ≡ (get_or is j no_included).origin → k ≡ j
 
 -- a copy of the j-th lies in its block
-in_block : (is : List Included) → AreApart is → (j v : ℕ) → j < length is → v < length (all_copies is) → (get_or (all_copies is) v no_copy).origin ≡ (get_or is j no_included).origin →
+in_block : (is : List Included) (j v : ℕ) → IsAlone is j → v < length (all_copies is) → (get_or (all_copies is) v no_copy).origin ≡ (get_or is j no_included).origin →
     (before is j ≤ v) × (v < before is j + nat_abs (get_or is j no_included).number)
-in_block is apart j v l m same =
+in_block is j v alone m same =
     let at = lies_in is v m in
     let copy : get_or (all_copies is) v no_copy ≡ copy_of (get_or is at.block no_included) = ap (λ n. get_or (all_copies is) n no_copy) at.at ∙ copy_in is at.block at.place at.within at.inside in
-    let one : at.block ≡ j = apart at.block j at.within l (sym (ap (λ (c : Copy). c.origin) copy) ∙ same) in
+    let one : at.block ≡ j = alone at.block at.within (sym (ap (λ (c : Copy). c.origin) copy) ∙ same) in
     let low : before is at.block ≡ before is j = ap (before is) one in
     let size : nat_abs (get_or is at.block no_included).number ≡ nat_abs (get_or is j no_included).number = ap (λ k. nat_abs (get_or is k no_included).number) one in
     (omega (arith, at.at, low), omega (arith, at.at, low, size, at.inside))
@@ -36,9 +32,10 @@ of_block is j v l low high =
     sym (ap (λ n. get_or (all_copies is) n no_copy) at) ∙ copy_in is j (v - before is j) l (omega (arith, low, high))
 
 -- so it is the run of its origin
-pub block_is_run : (is : List Included) → AreApart is → (j : ℕ) → j < length is → IsRunOf (all_copies is) (get_or is j no_included).origin (block_run is j)
-block_is_run is apart j l = record {
+pub block_is_run : (is : List Included) (j : ℕ) → j < length is → IsAlone is j → IsRunOf (all_copies is) (get_or is j no_included).origin (get_or is j no_included).point (block_run is j)
+block_is_run is j l alone = record {
   within = omega (arith, before_ascends is j (length is) l (omega arith), before_all is);
-  there = λ v m. (in_block is apart j v l m, λ c. ap (λ (k : Copy). k.origin) (of_block is j v l c.0 c.1));
+  there = λ v m. (in_block is j v alone m, λ c. ap (λ (k : Copy). k.origin) (of_block is j v l c.0 c.1));
   signed = λ v low high. ap (λ (k : Copy). k.negative) (of_block is j v l low high);
+  lies = λ v low high. ap (λ (k : Copy). k.point) (of_block is j v l low high);
 }

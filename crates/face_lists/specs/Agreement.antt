@@ -6,7 +6,7 @@ use Rattle.mb_base.specs.declared.results.Origin.{Origin}
 use Rattle.mb_base.specs.declared.results.Origin.TheVariants.{PEdge, PVertex, QEdge, QVertex}
 use Rattle.side_terms.specs.Sides.{IsSide, Side}
 use Rattle.segment_terms.specs.Segments.{vertex_point}
-use Rattle.assembly_terms.specs.Lists.{Copy, HalfP, HalfQ, ListName, PairP, PairQ, no_copy, standing}
+use Rattle.assembly_terms.specs.Lists.{Copy, HalfP, HalfQ, IsListOf, ListName, PairP, PairQ, no_copy, standing}
 use Rattle.face_lists.specs.declared.runs.Run.{Run}
 use Rattle.face_lists.specs.declared.stands.Stand.{Stand}
 use Rattle.face_lists.specs.Parts.{no_run}
@@ -64,7 +64,7 @@ Ascend stands = (i j : ℕ) → i < j → j < length stands → stands_before (g
 abbrev pub records_of : List Stand → ℕ → List Stand
 records_of stands x = filter (λ s. s.face == x) stands
 
--- runs and records that tell all copies: those of vertices come before number k, those of hits from there on
+-- runs and records that tell all copies: those of vertices come before number k, those of hits from there on, in lists of the two sides
 pub record HaveLists (p q : Side) (cs : List Copy) (k : ℕ) (p_runs q_runs : List Run) (stands : List Stand) : Type 0 where
   pub p_side : IsSide p
   pub q_side : IsSide q
@@ -74,4 +74,5 @@ pub record HaveLists (p q : Side) (cs : List Copy) (k : ℕ) (p_runs q_runs : Li
   pub q_order : AreInOrder k q_runs
   pub hit_copies : AreStandsOf (all_edges p.triples) (all_edges q.triples) (length p.triples) cs stands
   pub later : All (λ s. k ≤ s.copy) stands
+  pub listed : All (λ s. IsListOf (length p.triples) (length q.triples) (list_name (length p.triples) s.face s.list)) stands
   pub ascend : Ascend stands

@@ -1,5 +1,6 @@
 pub mod Agreement
 pub mod Entries
+pub mod Groups
 pub mod Laws
 pub mod Parts
 pub mod Runs

@@ -1,5 +1,5 @@
 -- Where copies of hits stand: their source faces and lists.
-use Rattle.std.specs.Prelude.{ℕ, suc, ◌+◌, ◌*◌, ◌/◌, ◌%◌, ◌≤◌, ℤ, pos, List, [], ◌∷◌, ◌++◌, Bool, not, cond, ◌==◌, map, length, nat_abs, int_lt, nat_lt, drop}
+use Rattle.std.specs.Prelude.{ℕ, suc, ◌+◌, ◌/◌, ◌%◌, ◌≤◌, pos, List, [], ◌∷◌, ◌++◌, Bool, not, cond, ◌==◌, length, nat_abs, int_lt, drop}
 use Rattle.std.specs.List.{flat_map}
 use Rattle.std.specs.Ordering.{is_lt, nat_cmp, ordering_then}
 use Rattle.chain_terms.specs.Chains.{all_edges}

@@ -37,7 +37,9 @@ pub fn push_stands(entries: &mut Vec<Entry>, stands: &[Stand]) -> Result<(), NoM
 /// Where the records of a list end among those of a face from a place on, at which they begin if there are any.
 pub fn list_end(stands: &[Stand], begin: usize, list: u32) -> usize
     requires { begin ≤ length stands.now }
-    ensures { result ≡ list_end stands.now begin list }
+    ensures value { result ≡ list_end stands.now begin list }
+    ensures from { begin ≤ result }
+    ensures within { result ≤ length stands.now }
 {
     let mut end = begin;
     while end < stands.len() && stands[end].list == list {

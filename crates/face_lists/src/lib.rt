@@ -4,6 +4,7 @@
 #![tactic(auto)]
 
 mod entries;
+pub mod group_laws;
 pub mod laws;
 mod places;
 mod runs;

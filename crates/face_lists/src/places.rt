@@ -16,8 +16,20 @@ pub fn plane_of(side: &Side, face: u32) -> FacePlane
     ensures axis { result.drop ≡ plane_drop_of side.now face }
     ensures below { result.drop < 3 }
 {
-    let [a, b, c] = side.face(face);
-    FacePlane::of(point_of(&a), point_of(&b), point_of(&c))
+    let [a, b, c] = side.triples()[face as usize];
+    FacePlane::of(
+        vertex_point(side, a),
+        vertex_point(side, b),
+        vertex_point(side, c),
+    )
+}
+
+// The point of a vertex.
+fn vertex_point(side: &Side, vertex: u32) -> Point
+    requires { vertex < length side.now.corners }
+    ensures { result ≡ vertex_point side.now vertex }
+{
+    point_of(&side.corners()[vertex as usize])
 }
 
 /// The ends of an edge, whichever of its half-edges this is: of the lower one the point where it starts, and that where it

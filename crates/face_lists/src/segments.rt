@@ -1,5 +1,5 @@
 // The segments of one source face.
-ghost use Rattle.std.specs.Prelude.{◌≡◌, ◌+◌, ◌*◌, ◌<◌, ◌++◌, IfOk, OnOk, length, map};
+ghost use Rattle.std.specs.Prelude.{◌≡◌, ◌+◌, ◌*◌, ◌<◌, ◌^◌, ◌++◌, IfOk, OnOk, length, map};
 ghost use Rattle.std.specs.List.{All};
 ghost use Rattle.chain_terms.specs.Chains.{all_edges};
 ghost use Rattle.chain_terms.specs.Ranks.{start};
@@ -33,17 +33,30 @@ pub fn segments_of_face(
     ensures { IfOk result (λ segments. map edge_of segments.items ≡ segments_by side.now runs.now points.now face stands.now) }
 {
     let mut segments = Vec::new(alloc);
+    let half = first_half(side, face);
     let first = list_end(stands, 0, 0);
     let part = &stands[..first];
-    push_half(alloc, &mut segments, side, runs, 3 * face, part, points)?;
+    push_half(alloc, &mut segments, side, runs, half, part, points)?;
     let second = list_end(stands, first, 1);
     let part = &stands[first..second];
-    push_half(alloc, &mut segments, side, runs, 3 * face + 1, part, points)?;
+    push_half(alloc, &mut segments, side, runs, half + 1, part, points)?;
     let third = list_end(stands, second, 2);
     let part = &stands[second..third];
-    push_half(alloc, &mut segments, side, runs, 3 * face + 2, part, points)?;
+    push_half(alloc, &mut segments, side, runs, half + 2, part, points)?;
     push_pairs(alloc, &mut segments, &stands[third..], points)?;
     Ok(segments)
+}
+
+// The first half-edge of a face.
+fn first_half(side: &Side, face: u32) -> u32
+    requires { face < length side.now.triples }
+    ensures value { result ≡ 3 * face }
+    ensures below { result + 2 < 3 * length side.now.triples }
+    ensures fits { result + 2 < 2 ^ 32 }
+{
+    // Read so that what a side keeps is known here: so few triangles that the product fits.
+    let _ = side.triples();
+    3 * face
 }
 
 // Adds the segments of a half-edge with these records.

@@ -14,7 +14,7 @@ use std::alloc::Global;
 
 /// A copy in a list of a source face, as a start or as an end. Source faces are those of the first mesh, then those of the
 /// second. Of a face's lists 0, 1 and 2 are those of its half-edges, and 3 more than a face of the other mesh is that of the
-/// pair with it. Such values compare by face, list and copy.
+/// pair with it. Such values compare by face, list and copy, and then an end comes before a start.
 #[derive(Clone, Copy, Debug, PartialEq, Eq, PartialOrd, Ord, Drop)]
 pub struct Stand {
     pub face: u32,
@@ -71,6 +71,7 @@ pub fn stands_of(
     ensures { IfOk result (λ stands. stands.items ≡ sorted_stands op p.now q.now hits.now.x12.items hits.now.x21.items first) }
 {
     let mut stands = Vec::new(alloc);
+    let (p_twins, q_twins) = (p.twins(), q.twins());
     let p_faces = p.triples().len() as u32;
     let of_p = Bases {
         edges: 0,
@@ -80,8 +81,8 @@ pub fn stands_of(
         edges: p_faces,
         faces: 0,
     };
-    let next = push_hits(&mut stands, op, p.twins(), of_p, &hits.x12, first)?;
-    push_hits(&mut stands, op, q.twins(), of_q, &hits.x21, next)?;
+    let next = push_hits(&mut stands, op, p_twins, of_p, &hits.x12, first)?;
+    push_hits(&mut stands, op, q_twins, of_q, &hits.x21, next)?;
     stands.sort_unstable();
     Ok(stands)
 }
@@ -96,6 +97,7 @@ fn push_hits(
     first: u32,
 ) -> Result<u32, NoMemory>
     requires few { AreFewFaces bases.edges bases.faces }
+    requires triples { length twins.now.triples ≤ 100000000 }
     requires hits { AreHits (all_edges twins.now.triples) 100000000 hits.now }
     requires fits { first + hit_count op hits.now < 2 ^ 32 }
     ensures stands { OnOk result (stands.new.items ≡ stands.old.items ++ hit_stands op (all_edges twins.now.triples) bases.edges bases.faces first hits.now) }

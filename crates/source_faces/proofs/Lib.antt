@@ -1,3 +1,8 @@
+mod Copies
+mod Flat
+mod Halves
+mod PlainFaces
+mod Rings
 pub mod Added
 pub mod Faces
 pub mod Forced

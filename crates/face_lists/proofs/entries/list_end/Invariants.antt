@@ -2,11 +2,11 @@ use Rattle.std.proofs.Common.{◌≡◌, ◌≤◌, ◌+◌, ◌-◌, length, dr
 use Rattle.face_lists.specs.Entries.{list_count, list_end}
 use Rattle.face_lists.proofs.entries.list_end.Given as goal
 
-abbrev pub invariant-loop : goal.invariant-loop
-invariant-loop l = record {
+abbrev pub invariant-loop-end : goal.invariant-loop-end
+invariant-loop-end l = record {
   below : l.end ≤ length l.stands;
   value : l.end + list_count (drop l.end l.stands) l.list ≡ list_end l.stands l.begin l.list;
 }
 
-abbrev pub decreases-loop : goal.decreases-loop
-decreases-loop l = length l.stands - l.end
+abbrev pub decreases-loop-end : goal.decreases-loop-end
+decreases-loop-end l = length l.stands - l.end

@@ -5,12 +5,12 @@ use Rattle.face_lists.specs.Entries.{entry_of}
 use Rattle.face_lists.specs.Parts.{CanBePaired, groups, pairs_segments}
 use Rattle.face_lists.proofs.segments.push_pairs.Given as goal
 
-abbrev pub invariant-loop : goal.invariant-loop
-invariant-loop l = record {
+abbrev pub invariant-loop-begin : goal.invariant-loop-begin
+invariant-loop-begin l = record {
   below : l.begin ≤ length l.stands;
   value : map edge_of l.segments.items ++ pairs_segments l.points (drop l.begin l.stands) ≡ map edge_of l.fn.segments.items ++ pairs_segments l.points l.stands;
   paired : All (λ g. CanBePaired l.points (map entry_of g)) (groups (drop l.begin l.stands));
 }
 
-abbrev pub decreases-loop : goal.decreases-loop
-decreases-loop l = length l.stands - l.begin
+abbrev pub decreases-loop-begin : goal.decreases-loop-begin
+decreases-loop-begin l = length l.stands - l.begin

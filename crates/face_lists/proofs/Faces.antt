@@ -1,0 +1,88 @@
+-- Runs and records that tell all copies give each face its segments, and these can be paired.
+use Rattle.std.proofs.Common.{◌≡◌, ℕ, ◌+◌, ◌<◌, ◌==◌, List, map, length, get_or, subst}
+use Rattle.std.specs.List.{All}
+use Rattle.std.proofs.lemmas.Bool.{eqb-true}
+use Rattle.std.proofs.lemmas.List.Elements.{All-filter, filter_passes}
+use Rattle.mb_base.specs.declared.results.Origin.TheVariants.{PVertex, QVertex}
+use Rattle.side_terms.specs.Sides.{Side}
+use Rattle.assembly_terms.specs.Lists.{Copy, IsListOf}
+use Rattle.assembly_terms.specs.Standing.{IsBalanced}
+use Rattle.segment_terms.specs.Segments.{place_of, segments_of}
+use Rattle.face_lists.specs.declared.runs.Run.{Run}
+use Rattle.face_lists.specs.declared.stands.Stand.{Stand}
+use Rattle.face_lists.specs.Agreement.{HaveLists, list_name, records_of}
+use Rattle.face_lists.specs.Parts.{CanBeSegments, segments_by}
+use Rattle.face_lists.proofs.CanPair.{face_can}
+use Rattle.face_lists.proofs.FaceRecords.{face_records}
+use Rattle.face_lists.proofs.FaceSegments.{KnownFace, face_same}
+use Rattle.face_lists.proofs.ListKinds.{face_of_p, face_of_q}
+use Rattle.face_lists.proofs.SideLists.{AreListed}
+
+-- the lists of a face's records are its own
+own_lists : (p q : Side) (stands : List Stand) → AreListed p q stands → (x : ℕ) → All (λ s. IsListOf (length p.triples) (length q.triples) (list_name (length p.triples) x s.list)) (records_of stands x)
+own_lists p q stands listed x i d l =
+    let ss = records_of stands x in
+    let s = get_or ss i d in
+    let Known : ℕ → Type 0 = λ y. IsListOf (length p.triples) (length q.triples) (list_name (length p.triples) y s.list) in
+    let here : s.face ≡ x = eqb-true s.face x (filter_passes (λ (t : Stand). t.face == x) stands i d l) in
+    subst Known here (All-filter (λ (t : Stand). t.face == x) (λ t. IsListOf (length p.triples) (length q.triples) (list_name (length p.triples) t.face t.list)) stands listed i d l)
+
+-- what is known of a face of P, and of a face of Q
+abbrev known_p : (p q : Side) (cs : List Copy) (k : ℕ) (p_runs q_runs : List Run) (stands : List Stand) → HaveLists p q cs k p_runs q_runs stands → AreListed p q stands → (f : ℕ) → f < length p.triples → KnownFace
+known_p p q cs k p_runs q_runs stands lists listed f low =
+    let face = face_of_p p q f low in
+    record {
+      p = p;
+      q = q;
+      side = p;
+      origin = PVertex;
+      copies = cs;
+      later = k;
+      runs = p_runs;
+      source = f;
+      number = f;
+      others = length q.triples;
+      name = list_name (length p.triples) f;
+      stands = records_of stands f;
+      face = face;
+      have = record { known = lists.p_side; copies = lists.p_copies; order = lists.p_order };
+      records = face_records p q cs k p_runs q_runs stands lists f;
+      few = λ i d l. face.few (get_or (records_of stands f) i d).list (own_lists p q stands listed f i d l);
+    }
+
+abbrev known_q : (p q : Side) (cs : List Copy) (k : ℕ) (p_runs q_runs : List Run) (stands : List Stand) → HaveLists p q cs k p_runs q_runs stands → AreListed p q stands → (g : ℕ) → g < length q.triples → KnownFace
+known_q p q cs k p_runs q_runs stands lists listed g low =
+    let x = length p.triples + g in
+    let face = face_of_q p q g low in
+    record {
+      p = p;
+      q = q;
+      side = q;
+      origin = QVertex;
+      copies = cs;
+      later = k;
+      runs = q_runs;
+      source = x;
+      number = g;
+      others = length p.triples;
+      name = list_name (length p.triples) x;
+      stands = records_of stands x;
+      face = face;
+      have = record { known = lists.q_side; copies = lists.q_copies; order = lists.q_order };
+      records = face_records p q cs k p_runs q_runs stands lists x;
+      few = λ i d l. face.few (get_or (records_of stands x) i d).list (own_lists p q stands listed x i d l);
+    }
+
+-- the segments of each
+pub segments_given : (p q : Side) (cs : List Copy) (k : ℕ) (p_runs q_runs : List Run) (stands : List Stand) → HaveLists p q cs k p_runs q_runs stands → AreListed p q stands →
+    ((f : ℕ) → f < length p.triples → segments_by p p_runs (map (λ c. c.point) cs) f (records_of stands f) ≡ segments_of p q cs (place_of cs) f)
+    × ((g : ℕ) → g < length q.triples → segments_by q q_runs (map (λ c. c.point) cs) g (records_of stands (length p.triples + g)) ≡ segments_of p q cs (place_of cs) (length p.triples + g))
+segments_given p q cs k p_runs q_runs stands lists listed =
+    ((λ f low. face_same (known_p p q cs k p_runs q_runs stands lists listed f low)), (λ g low. face_same (known_q p q cs k p_runs q_runs stands lists listed g low)))
+
+-- and that they can be paired
+pub segments_can : (p q : Side) (cs : List Copy) (k : ℕ) (p_runs q_runs : List Run) (stands : List Stand) → HaveLists p q cs k p_runs q_runs stands → AreListed p q stands → IsBalanced p q cs →
+    ((f : ℕ) → f < length p.triples → CanBeSegments p p_runs (map (λ c. c.point) cs) f (records_of stands f))
+    × ((g : ℕ) → g < length q.triples → CanBeSegments q q_runs (map (λ c. c.point) cs) g (records_of stands (length p.triples + g)))
+segments_can p q cs k p_runs q_runs stands lists listed balance =
+    ((λ f low. face_can (known_p p q cs k p_runs q_runs stands lists listed f low) balance), (λ g low. face_can (known_q p q cs k p_runs q_runs stands lists listed g low) balance))

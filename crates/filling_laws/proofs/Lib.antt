@@ -1,0 +1,6 @@
+mod Counted
+mod Few
+mod Fillings
+mod Loops
+mod Parts
+mod Together
