@@ -1,5 +1,5 @@
 -- The faces of one side as source faces: what each is filled from, and what all of them add.
-use Rattle.std.specs.Prelude.{◌≡◌, ℕ, ◌+◌, ◌<◌, ℤ, List, ◌++◌, count_by, map, length, nat_lt}
+use Rattle.std.specs.Prelude.{◌≡◌, ℕ, ◌+◌, ◌<◌, ℤ, List, ◌++◌, map, length}
 use Rattle.chain_terms.specs.Sums.{upto}
 use Rattle.mesh_terms.specs.Meshes.{triples_of}
 use Rattle.ring_cutting.specs.Cuts.{Cut}
@@ -50,7 +50,3 @@ pub record AreAll (cs : List Cut) (all : SourceTriangles) : Type 0 where
   pub triples : triples_of all.triples.items ≡ all_triples cs
   pub source : all.source.items ≡ sources_of 0 cs
   pub forced : all.forced ≡ forced_of cs
-
--- how many records are of source faces before number x
-abbrev pub count_below : List Stand → ℕ → ℕ
-count_below stands x = count_by (λ s. nat_lt s.face x) stands

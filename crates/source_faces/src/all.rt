@@ -3,8 +3,9 @@ ghost use Rattle.std.specs.Prelude.{◌≡◌, ◌+◌, ◌≤◌, IfOk, OnOk, l
 ghost use Rattle.mesh_terms.specs.Meshes.{triples_of};
 ghost use Rattle.retained_verts.specs.Handed.{copies};
 ghost use Rattle.filling_terms.specs.Filled.{all_filled, all_triples, forced_of, sources_of};
+ghost use Rattle.face_lists.specs.Groups.{earlier};
 ghost use Rattle.source_faces.specs.Given.{AreGiven};
-ghost use Rattle.source_faces.specs.Parts.{AreAdded, AreAll, HaveParts, both_parts, count_below, parts_of};
+ghost use Rattle.source_faces.specs.Parts.{AreAdded, AreAll, HaveParts, both_parts, parts_of};
 
 use crate::face::push_face;
 use crate::given::given_have_parts;
@@ -75,10 +76,10 @@ fn push_faces(
 ) -> Result<usize, NoMemory>
     requires first { first ≤ 100000000 }
     requires parts { HaveParts side.now runs.now points.now first stands.now }
-    requires begin { begin ≡ count_below stands.now first }
+    requires begin { begin ≡ earlier stands.now first }
     requires few { all.old.forced ≤ length all.old.triples.items }
     ensures added { OnOk result (AreAdded first (parts_of side.now runs.now points.now first stands.now (length side.now.triples)) all.old all.new) }
-    ensures follow { IfOk result (λ place. place ≡ count_below stands.now (first + length side.now.triples)) }
+    ensures follow { IfOk result (λ place. place ≡ earlier stands.now (first + length side.now.triples)) }
     ensures few { OnOk result (all.new.forced ≤ length all.new.triples.items) }
 {
     let mut begin = begin;

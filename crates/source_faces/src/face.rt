@@ -4,7 +4,6 @@ ghost use Rattle.face_lists.specs.Parts.{AreRuns};
 ghost use Rattle.source_faces.specs.Adding.{IsAdded, filled_by};
 ghost use Rattle.source_faces.specs.Parts.{CanBePart, HaveCopies};
 
-use crate::laws::plain_faces_are_copied;
 use crate::plain::{are_equal, push_copies};
 use crate::triangles::SourceTriangles;
 use face_lists::{Run, Stand, plane_of, segments_of_face};
@@ -35,7 +34,6 @@ pub fn push_face(
     ensures few { OnOk result (all.new.forced ≤ length all.new.triples.items) }
 {
     if stands.is_empty() && are_equal(runs, side.triples()[face as usize]) {
-        plain_faces_are_copied();
         return push_copies(all, side, runs, face, source);
     }
     let filled = filled_face(alloc, side, runs, face, stands, points)?;

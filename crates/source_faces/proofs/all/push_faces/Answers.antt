@@ -1,19 +1,18 @@
 use Rattle.std.proofs.Common.{◌≡◌, ◌+◌, ◌-◌, List, take, drop, length, arith, sym, ap, subst, ◌∙◌}
 use Rattle.std.proofs.lemmas.List.{length-map}
 use Rattle.face_lists.specs.Agreement.{records_of}
+use Rattle.face_lists.specs.Groups.{earlier}
 use Rattle.face_lists.specs.declared.stands.Stand.{Stand}
 use Rattle.mesh_terms.specs.Meshes.{triple_of}
 use Rattle.source_faces.specs.Adding.{filled_by}
-use Rattle.source_faces.specs.Parts.{AreAdded, CanBePart, count_below, parts_of}
-use Rattle.source_faces.proofs.Groups.{few_below, group_there, next_there}
+use Rattle.source_faces.specs.Parts.{AreAdded, CanBePart, parts_of}
+use Rattle.source_faces.proofs.Groups.{end_there, group_there, next_there}
 use Rattle.source_faces.proofs.Joined.{one_more}
 use Rattle.source_faces.proofs.all.push_faces.Goals as goal
 
 pub slice_bounds-records-end : goal.slice_bounds-records-end
 slice_bounds-records-end c =
-    let x = c.args.first + c.loop-face.face in
-    let next = next_there c.args.stands.now x c.loop-face.begin c.group_end-end.result c.requires.parts.ascend c.loop-face.invariant.next c.group_end-end.ensures in
-    omega (arith, next, few_below c.args.stands.now (x + 1))
+    end_there c.args.stands.now (c.args.first + c.loop-face.face) c.loop-face.begin c.group_end-end.result c.requires.parts.ascend c.loop-face.invariant.next c.group_end-end.ensures
 
 pub push_face-requires-clause-part : goal.push_face-requires-clause-part
 push_face-requires-clause-part c =
@@ -37,7 +36,7 @@ loop-face-preserved c =
     let there = group_there stands (x + f) begin end c.requires.parts.ascend c.loop-face.invariant.next c.group_end-end.ensures in
     let on : x + f + 1 ≡ x + (f + 1) = omega arith in
     record {
-      next = next ∙ ap (count_below stands) on;
+      next = next ∙ ap (earlier stands) on;
       added = one_more x f (λ g. filled_by side runs points g (records_of stands (x + g))) (filled_by side runs points f (take (end - begin) (drop begin stands))) c.args.all.now c.loop-face.all c.push_face.new.all (ap (filled_by side runs points f) there) c.loop-face.invariant.added c.in_ok-push_face.ensures.added;
       few = c.in_ok-push_face.ensures.few;
     }
@@ -53,4 +52,4 @@ returns-clause-added c =
     subst (λ n. AreAdded c.args.first (parts_of c.args.side.now c.args.runs.now c.args.points.now c.args.first c.args.stands.now n) c.args.all.now c.loop-face.all) (done c) c.loop-face.invariant.added
 
 pub returns-clause-follow : goal.returns-clause-follow
-returns-clause-follow c = c.loop-face.invariant.next ∙ ap (λ n. count_below c.args.stands.now (c.args.first + n)) (done c)
+returns-clause-follow c = c.loop-face.invariant.next ∙ ap (λ n. earlier c.args.stands.now (c.args.first + n)) (done c)

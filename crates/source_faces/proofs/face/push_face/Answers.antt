@@ -9,6 +9,7 @@ use Rattle.source_faces.specs.Adding.{IsAdded, are_equal_runs, face_copies, fill
 use Rattle.source_faces.proofs.Faces.{at_face}
 use Rattle.source_faces.proofs.Forced.{forced_copies, forced_with}
 use Rattle.source_faces.proofs.Outcomes.{on_ok}
+use Rattle.source_faces.proofs.PlainFaces.{copied}
 use Rattle.source_faces.proofs.face.push_face.Goals as goal
 
 pub are_equal-requires : goal.are_equal-requires
@@ -31,7 +32,7 @@ returns-then-are_equal-clause-added c =
     let none = none_listed c.args.stands.now (sym c.is_empty.ensures ∙ c.if-is_empty.true) in
     let alike = ap (are_equal_runs runs) (sym (at_face side.triples c.triples.result.now f c.triples.ensures.value c.requires.face)) ∙ sym c.are_equal.ensures ∙ c.if-are_equal.true in
     let have = c.requires.copies in
-    let plain = c.plain_faces_are_copied.ensures side runs points have.last c.triples.ensures.side have.are have.order have.lie f c.requires.face alike in
+    let plain = copied side runs points have.last c.triples.ensures.side have.are have.order have.lie f c.requires.face alike in
     let same : face_copies side runs f ≡ filled_by side runs points f c.args.stands.now = sym plain ∙ ap (filled_by side runs points f) (sym none) in
     subst (λ (k : Cut). OnOk c.push_copies.result (IsAdded c.args.source k c.args.all.now c.push_copies.new.all)) same c.push_copies.ensures
 
