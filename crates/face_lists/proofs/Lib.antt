@@ -34,5 +34,4 @@ pub mod Growing
 pub mod OneWay
 pub mod Pieces
 pub mod RecordOrder
-mod RunBlocks
 pub mod Tests

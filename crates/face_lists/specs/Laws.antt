@@ -13,14 +13,14 @@ use Rattle.face_lists.specs.declared.stands.Stand.{Stand}
 use Rattle.face_lists.specs.Agreement.{HaveLists, records_of}
 use Rattle.face_lists.specs.Parts.{CanBeSegments, segments_by}
 use Rattle.face_lists.specs.Runs.{runs_from}
-use Rattle.face_lists.specs.Stands.{group_end, sorted_stands}
+use Rattle.face_lists.specs.Stands.{sorted_stands}
 
 -- the runs of both sides' vertices and the sorted records of the hits tell the prescribed copies
 abbrev pub PrescribedHaveLists : Type 0
 PrescribedHaveLists = (op : Op) (p q : Side) (n : Numbers) → IsSide p → IsSide q → length n.w03 ≡ length p.corners → length n.w30 ≡ length q.corners →
     AreHits (all_edges p.triples) (length q.triples) n.x12 → AreHits (all_edges q.triples) (length p.triples) n.x21 →
     HaveLists p q (prescribed op p q n) (p_kept op n + q_kept op n) (runs_from 0 (map (p_number op) n.w03)) (runs_from (p_kept op n) (map (q_number op) n.w30))
-      (sorted_stands op p q n.x12 n.x21 (p_kept op n + q_kept op n))
+    (sorted_stands op p q n.x12 n.x21 (p_kept op n + q_kept op n))
 
 -- the segments that runs and records give a face are its segments
 abbrev pub ListsGiveSegments : Type 0
