@@ -6,6 +6,7 @@ use Rattle.std.proofs.lemmas.Int.{ints}
 use Rattle.std.proofs.lemmas.Bool.Decides.{nat_tests}
 use Rattle.std.proofs.lemmas.List.Elements.{All-append, All-nil, All-cons, All-head, All-tail}
 use Rattle.text_terms.specs.Lines.{joined_lines, without_mark}
+use Rattle.text_terms.specs.Coordinates.{on_grid, coordinate}
 use Rattle.text_terms.specs.Numbers.{grid_number, is_on_grid, cut_at}
 use Rattle.mesh_terms.specs.Faults.{Fault, Points, Triangles, Bad, Over}
 use Rattle.mesh_terms.specs.Limits.{Limits, IsLawful}
@@ -14,9 +15,9 @@ use Rattle.mesh_terms.specs.Meshes.{Triple, Soup, HasThree, IsBelow, soup_of, is
 use Rattle.mesh_terms.specs.Points.{IsOnGrid, IsPoint}
 use Rattle.unused_points.specs.Used.{IsSound}
 use Rattle.unused_points.proofs.KeptMesh.{kept_mesh, few_kept}
-use Rattle.obj_terms.specs.FirstFault.{then_read, put_read, each_read, on_line}
+use Rattle.text_terms.specs.FirstFault.{then_read, put_read, each_read, on_line}
 use Rattle.obj_terms.specs.Faces.{is_slash, whole_number, item_tail, named_vertex, item_vertex, face_fan, has_repeat}
-use Rattle.obj_terms.specs.Obj.{Gathered, nothing_gathered, with_point, with_triples, on_grid, coordinate, point_coordinates, obj_point, face_vertices, obj_triples, obj_face, passed_over, obj_line, obj_lines, word_lines, obj}
+use Rattle.obj_terms.specs.Obj.{Gathered, nothing_gathered, with_point, with_triples, point_coordinates, obj_point, face_vertices, obj_triples, obj_face, passed_over, obj_line, obj_lines, word_lines, obj}
 use Rattle.obj_terms.proofs.Fans.{face_three, face_below}
 use Rattle.obj_laws.specs.Within.{IsWithin}
 

@@ -3,7 +3,7 @@ use Rattle.std.specs.Prelude.{◌≡◌, pos, negsuc, get_or, List, [], ◌∷�
 use Rattle.std.proofs.Common.{refl}
 use Rattle.std.specs.Fmt.{digits}
 use Rattle.mesh_terms.specs.Limits.{Limits}
-use Rattle.obj_terms.specs.Written.{line_of}
+use Rattle.text_terms.specs.Written.{line_of}
 use Rattle.run_terms.specs.Files.{Bytes, Files}
 use Rattle.run_terms.specs.Runs.{Ask, Write, Say}
 use Rattle.run_terms.specs.Tasks.{NoCommand, NoFile, FaultyMesh, Refusal, Part}

@@ -4,7 +4,7 @@ use borrow.Author.Tests.{not-true, not-false}
 use Rattle.std.specs.List.{position_or_len}
 use Rattle.text_laws.proofs.Words.{words_of-last, words_of-more}
 use Rattle.text_terms.specs.Lines.{is_blank, begins_word, words_of, add_first}
-use Rattle.obj_text.proofs.Positions.{position_or_len-here, position_or_len-past}
+use Rattle.text_lines.proofs.Positions.{position_or_len-here, position_or_len-past}
 
 -- no blank
 abbrev pub is_mark : ℕ → Bool

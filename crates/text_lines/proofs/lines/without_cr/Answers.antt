@@ -1,7 +1,7 @@
 use Rattle.std.proofs.Common.{◌≡◌, ℕ, List, [], ◌∷◌, ◌++◌, sym, ne_eqb}
 use Rattle.text_terms.specs.Lines.{without_cr}
-use Rattle.obj_text.proofs.LineSteps.{without_cr-drops, without_cr-keeps}
-use Rattle.obj_text.proofs.lines.without_cr.Goals as goal
+use Rattle.text_lines.proofs.LineSteps.{without_cr-drops, without_cr-keeps}
+use Rattle.text_lines.proofs.lines.without_cr.Goals as goal
 
 -- the front of a line that ends in CR
 drops : (line front : List ℕ) (last : ℕ) → line ≡ front ++ last ∷ [] → last ≡ 13 → front ≡ without_cr line

@@ -2,8 +2,8 @@ use Rattle.std.proofs.Common.{◌∙◌, rules, tests, ap, length, unwrap_or}
 use Rattle.std.proofs.lemmas.Iterator.{YieldsList-from_slice}
 use Rattle.std.proofs.lemmas.Iterator.Search.{position_from_yields_List}
 use Rattle.text_terms.specs.Lines.{is_blank}
-use Rattle.obj_text.proofs.Positions.{unwrap_or-position}
-use Rattle.obj_text.proofs.words.first_blank.Goals as goal
+use Rattle.text_lines.proofs.Positions.{unwrap_or-position}
+use Rattle.text_lines.proofs.words.first_blank.Goals as goal
 
 pub returns : goal.returns
 returns c =

@@ -1,6 +1,6 @@
-use Rattle.obj_text.proofs.Positions.{position_or_len-le}
-use Rattle.obj_text.proofs.WordSteps.{is_mark, words_of-past_blanks, begins_word-past_blanks}
-use Rattle.obj_text.proofs.words.after_blanks.Goals as goal
+use Rattle.text_lines.proofs.Positions.{position_or_len-le}
+use Rattle.text_lines.proofs.WordSteps.{is_mark, words_of-past_blanks, begins_word-past_blanks}
+use Rattle.text_lines.proofs.words.after_blanks.Goals as goal
 
 pub split_at-requires : goal.split_at-requires
 split_at-requires c = rw c.first_mark.ensures (position_or_len-le is_mark c.args.text.now)

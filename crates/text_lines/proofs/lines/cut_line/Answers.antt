@@ -2,8 +2,8 @@ use Rattle.std.proofs.Common.{◌≡◌, ℕ, ◌<◌, ◌≤◌, Bool, true, fa
 use Rattle.std.specs.Prelude.{◌==◌}
 use Rattle.std.proofs.Math.Seq.{take-length, drop-length}
 use Rattle.text_terms.specs.Lines.{raw_lines}
-use Rattle.obj_text.proofs.LineSteps.{raw_lines-cut, raw_lines-last}
-use Rattle.obj_text.proofs.lines.cut_line.Goals as goal
+use Rattle.text_lines.proofs.LineSteps.{raw_lines-cut, raw_lines-last}
+use Rattle.text_lines.proofs.lines.cut_line.Goals as goal
 
 -- a test that is not passed fails
 fails : (b : Bool) → (b ≡ true → ⊥) → b ≡ false
