@@ -1,5 +1,5 @@
 -- The grammar of ASCII STL: what each word may be, and what comes after it.
-use Rattle.std.specs.Prelude.{ℕ, List, Bool, if◌then◌else◌, codes, Option, Some, None}
+use Rattle.std.specs.Prelude.{ℕ, List, if◌then◌else◌, codes, Option, Some, None}
 use Rattle.std.specs.Str.{str_eq_ignore_ascii_case}
 
 -- what the next word of the file has to be

@@ -1,8 +1,8 @@
 -- The points and triangles of an ASCII STL file, or its first fault; corners at one point are one point.
-use Rattle.std.specs.Prelude.{ℕ, ◌+◌, ℤ, List, [], ◌∷◌, ◌++◌, Bool, ◌||◌, ◌==◌, if◌then◌else◌, nat_lt, length, map, filter, Option, Some, None, Result, Ok, Err}
+use Rattle.std.specs.Prelude.{ℕ, ◌+◌, ℤ, List, [], ◌∷◌, ◌++◌, Bool, ◌||◌, ◌==◌, if◌then◌else◌, nat_lt, length, map, Option, Some, None, Result, Ok, Err}
 use Rattle.std.specs.Cmp.Lexicographic.{pointwise}
 use Rattle.std.specs.Ordering.{int_eq}
-use Rattle.std.specs.List.{position_or_len}
+use Rattle.std.specs.List.{count_by, position_or_len}
 use Rattle.text_terms.specs.Coordinates.{coordinate}
 use Rattle.text_terms.specs.FirstFault.{then_read, read_each, on_line}
 use Rattle.text_terms.specs.Lines.{words_of, lines_of, without_mark, numbered}
@@ -38,20 +38,23 @@ with_corner points v s =
     let corners = s.corners ++ v ∷ [] in
     record { points = points; triples = s.triples; corners = corners; numbers = []; place = after_corners corners }
 
--- a corner is the first equal point, or a new one where the limit allows it
-abbrev pub weld : Limits → Gathered → List ℤ → Result Gathered Fault
-weld limits s p =
-    let v = position_or_len (same_point p) s.points in
-    let seen = length s.points + 1 in
-    if nat_lt v (length s.points) then Ok (with_corner s.points v s)
+-- the number of a point among these: that of the first equal one, or the next, where the limit allows it; and the points with it
+abbrev pub welded : Limits → List (List ℤ) → List ℤ → Result (ℕ × List (List ℤ)) Fault
+welded limits points p =
+    let v = position_or_len (same_point p) points in
+    let seen = length points + 1 in
+    if nat_lt v (length points) then Ok (v, points)
     else if nat_lt limits.points seen then Err (Over Points seen)
-    else Ok (with_corner (s.points ++ p ∷ []) v s)
+    else Ok (v, points ++ p ∷ [])
+
+abbrev pub with_corner_at : Gathered → Result (ℕ × List (List ℤ)) Fault → Result Gathered Fault
+with_corner_at s welded = then_read welded (λ r. Ok (with_corner r.1 r.0 s))
 
 -- the third number of a corner makes it
 abbrev pub with_number : Limits → Gathered → ℤ → Result Gathered Fault
 with_number limits s z =
     let numbers = s.numbers ++ z ∷ [] in
-    if length numbers == 3 then weld limits s numbers
+    if length numbers == 3 then with_corner_at s (welded limits s.points numbers)
     else Ok (record { points = s.points; triples = s.triples; corners = s.corners; numbers = numbers; place = Number })
 
 -- some point twice
@@ -60,7 +63,7 @@ repeats t = (t.0 == t.1) || (t.1 == t.2) || (t.2 == t.0)
 
 -- after the end of a facet
 abbrev pub with_triples : List Triple → Gathered → Gathered
-with_triples triples s = record { points = s.points; triples = triples; corners = []; numbers = []; place = InSolid }
+with_triples triples s = record { points = s.points; triples = triples; corners = []; numbers = s.numbers; place = InSolid }
 
 -- a triangle with a repeated point is dropped; another is added where the limit allows it
 abbrev pub end_facet : Limits → Gathered → Result Gathered Fault
@@ -101,7 +104,7 @@ stl_lines k limits ls s = read_each (λ l t. stl_line k limits l.0 l.1 t) ls s
 
 -- line 1 plus the number of line feeds
 abbrev pub last_line : List ℕ → ℕ
-last_line bytes = 1 + length (filter (λ c. c == 10) bytes)
+last_line bytes = 1 + count_by (λ c. c == 10) bytes
 
 -- the file may end after a solid alone; points that no triangle uses are dropped and counted
 abbrev pub at_end : ℕ → Gathered → Place → Result Soup Fault
