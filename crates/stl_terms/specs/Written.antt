@@ -6,8 +6,12 @@ use Rattle.text_terms.specs.Written.{line_of, three_numbers}
 use Rattle.mesh_terms.specs.Meshes.{Triple}
 
 -- vertex X Y Z
+abbrev pub corner_text : ℕ → List ℤ → List ℕ
+corner_text k p = line_of (codes "vertex " ++ three_numbers k p)
+
+-- the corner at point v of these points
 abbrev pub corner_line : ℕ → List (List ℤ) → ℕ → List ℕ
-corner_line k points v = line_of (codes "vertex " ++ three_numbers k (get_or points v []))
+corner_line k points v = corner_text k (get_or points v [])
 
 abbrev pub facet_text : ℕ → List (List ℤ) → Triple → List ℕ
 facet_text k points t =
