@@ -22,7 +22,7 @@ begins_name (c ∷ cs) = is_ascii_alphabetic c
 
 -- one to 32 bytes: an ASCII letter, then ASCII letters, digits and _
 abbrev pub is_name : Bytes → Bool
-is_name w = begins_name w && list_all is_name_byte w && nat_le (length w) 32
+is_name w = begins_name w && nat_le (length w) 32 && list_all is_name_byte w
 
 -- the suffix is that of a mesh file
 abbrev pub is_mesh_name : Bytes → Bool
