@@ -1,12 +1,13 @@
 // The operands of a command.
 ghost use Rattle.std.specs.Prelude.{◌≡◌, ◌≤◌, map, length, None, Some, IfOk, OnOk, IfErr, IfSome, IsNone};
 ghost use Rattle.script_lang.specs.Commands.{most_operands};
-ghost use Rattle.script_terms.specs.Operands.{is_mesh_name, is_name, is_name_byte, new_name_fault, file_name_fault};
+ghost use Rattle.script_terms.specs.Operands.{is_name, is_name_byte, new_name_fault, file_name_fault};
 
 use crate::commands::MOST;
 use crate::fault::{BAD_NAME, BAD_SUFFIX};
 use crate::words::Words;
 use arrayvec::ArrayVec;
+use mesh_names::is_mesh_name;
 
 /// The longest name.
 const LONGEST: usize = 32;
@@ -28,14 +29,6 @@ fn is_name(word: &[u8]) -> bool
     first.is_ascii_alphabetic()
         && word.len() <= LONGEST
         && word.iter().all(|byte| is_name_byte(*byte))
-}
-
-/// Whether a name has the suffix of a mesh file, ASCII case ignored.
-fn is_mesh_name(name: &[u8]) -> bool
-    ensures { result ≡ is_mesh_name name.now }
-{
-    let start = name.len().saturating_sub(4);
-    name[start..].eq_ignore_ascii_case(b".obj")
 }
 
 /// The text of a word that is a name; else the kind of its fault.

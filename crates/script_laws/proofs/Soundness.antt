@@ -7,10 +7,11 @@ use Rattle.std.proofs.lemmas.List.Elements.{All-nil, All-cons, All-head, All-tai
 use Rattle.mesh_terms.specs.Faults.{Fault}
 use Rattle.mb_base.specs.declared.op.Op.{Op}
 use Rattle.mb_base.specs.declared.op.Op.TheVariants.{Union, Intersect, Subtract}
-use Rattle.obj_terms.specs.FirstFault.{then_read, on_line}
+use Rattle.text_terms.specs.FirstFault.{then_read, on_line}
 use Rattle.run_terms.specs.Files.{Bytes}
 use Rattle.script_terms.specs.Commands.{Command, load, save, combine, commands, named_in, command_named}
-use Rattle.script_terms.specs.Operands.{is_name, is_mesh_name, new_name_fault, old_name_fault, file_name_fault, operands_fault, or_later}
+use Rattle.play_terms.specs.Formats.{is_mesh_name}
+use Rattle.script_terms.specs.Operands.{is_name, new_name_fault, old_name_fault, file_name_fault, operands_fault, or_later}
 use Rattle.script_terms.specs.Scripts.{unless_refused, command_step, step_by, script_line, script_lines, numbered_words, script}
 use Rattle.script_terms.specs.Sound.{IsSound, AreSound}
 use Rattle.script_terms.specs.Steps.{Line, Step, is_given}
