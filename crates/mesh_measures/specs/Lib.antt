@@ -1,0 +1,3 @@
+pub mod Euler
+pub mod Volume
+pub mod Walks
