@@ -1,6 +1,6 @@
-use Rattle.std.proofs.Common.{arith, rules, ◌≡◌, ◌<◌, ◌*◌, ◌+◌, [], ℕ, ℤ, List, length, get_or, sym, ◌∙◌, ap, subst}
+use Rattle.std.proofs.Common.{arith, rules, ◌≡◌, ◌<◌, ◌*◌, ◌+◌, [], false, ℕ, ℤ, List, length, get_or, sym, ◌∙◌, ap, subst}
 use Rattle.std.specs.List.{All}
-use Rattle.std.proofs.lemmas.List.{length-map, with_items_is}
+use Rattle.std.proofs.lemmas.List.{get_or_default, length-map, with_items_is}
 use Rattle.chain_terms.specs.Chains.{all_edges}
 use Rattle.component_terms.specs.Components.{HasComponents}
 use Rattle.halfedge.proofs.Edges.{length-all_edges}
@@ -31,17 +31,20 @@ loop-v-preserved c =
     let es = all_edges mesh.triples in
     let v = c.loop-v.v in
     let seen = c.loop-v.seen.items in
+    let low : v < length seen = omega (arith, c.loop-v-test.true, c.loop-v.invariant.walked.full) in
+    let read : get_or seen v false ≡ c.index.result.now = get_or_default seen v false c.index.result.now low ∙ sym c.index.ensures in
     elim c.if-not-index.branch [
       | then-not-index+in_ok-mark_class w ↦
           let marked = subst (λ l. IsClassMarked es v l w.mark_class.new.seen) w.deref_mut.ensures.value
           (subst (λ ts. IsClassMarked (all_edges ts) v w.deref_mut.result.now w.mark_class.new.seen) w.triples-then-not-index.ensures.value w.in_ok-mark_class.ensures.marked) in
+          let full : length w.mark_class.new.seen ≡ c.loop-v.seen.len = omega (arith, marked.full, c.loop-v.seen.ok.0) in
           record {
-            walked = walked_same es n (v + 1) c.if-not-index.seen.items w.mark_class.new.seen c.if-not-index.count (c.loop-v.count + 1) (ap (λ l. l.items) w.seen-is ∙ with_items_is c.loop-v.seen w.mark_class.new.seen marked.full) w.count-is
-            (walked_class es n v seen c.loop-v.count w.mark_class.new.seen c.triples.ensures.accepted.closed c.loop-v.invariant.walked w.if-not-index.true marked);
+            walked = walked_same es n (v + 1) c.if-not-index.seen.items w.mark_class.new.seen c.if-not-index.count (c.loop-v.count + 1) (ap (λ l. l.items) w.seen-is ∙ with_items_is c.loop-v.seen w.mark_class.new.seen full) w.count-is
+            (walked_class es n v seen c.loop-v.count w.mark_class.new.seen c.triples.ensures.accepted.closed c.loop-v.invariant.walked (read ∙ w.if-not-index.true) marked);
             empty = ap (λ l. l.items) w.stack-is ∙ w.in_ok-mark_class.ensures.empty;
           }
       | else-not-index w ↦ record {
-          walked = walked_same es n (v + 1) c.if-not-index.seen.items seen c.if-not-index.count c.loop-v.count (ap (λ l. l.items) w.seen-is) w.count-is (walked_past es n v seen c.loop-v.count c.loop-v.invariant.walked w.if-not-index.false);
+          walked = walked_same es n (v + 1) c.if-not-index.seen.items seen c.if-not-index.count c.loop-v.count (ap (λ l. l.items) w.seen-is) w.count-is (walked_past es n v seen c.loop-v.count c.loop-v.invariant.walked (read ∙ w.if-not-index.false));
           empty = ap (λ l. l.items) w.stack-is ∙ c.loop-v.invariant.empty;
         }
     ]
