@@ -1,3 +1,1 @@
-pub mod Euler
-pub mod Volume
 pub mod Walks

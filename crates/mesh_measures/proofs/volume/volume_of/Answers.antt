@@ -6,7 +6,7 @@ use Rattle.std.proofs.lemmas.List.{get_or-map, length-map}
 use Rattle.chain_terms.specs.Sums.{total}
 use Rattle.chain_laws.specs.Sums.{IsWithin, total-map, total_more}
 use Rattle.mesh_terms.specs.Meshes.{Triple, IsBelow, triple_of, triples_of}
-use Rattle.mesh_measures.specs.Volume.{triangle_determinant, volume6_of}
+use Rattle.made_terms.specs.Volume.{triangle_determinant, volume6_of}
 use Rattle.mesh_measures.proofs.volume.volume_of.Goals as goal
 
 -- the sum so far and one more determinant fit 128 bits
