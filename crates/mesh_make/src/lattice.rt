@@ -32,7 +32,7 @@ pub fn make_lattice(alloc: Global, n: u32, seed: u32, limits: &Limits) -> Result
     ensures points { IfOk result (λ m. m.points ≡ lattice_points n seed) }
     ensures triples { IfOk result (λ m. m.triples ≡ lattice_triples n) }
 {
-    let boxes = n * n * n;
+    let boxes = cube(n);
     if let Some(fault) = excess(limits, u64::from(8 * boxes), u64::from(12 * boxes)) {
         return Err(fault);
     }
@@ -41,13 +41,22 @@ pub fn make_lattice(alloc: Global, n: u32, seed: u32, limits: &Limits) -> Result
     Ok(mesh_of(alloc, points, &triples)?)
 }
 
+// How many boxes there are.
+fn cube(n: u32) -> u32
+    requires { n ≤ 60 }
+    ensures value { result ≡ n * n * n }
+    ensures small { result ≤ 216000 }
+{
+    n * n * n
+}
+
 // The points of all boxes.
 fn lattice_points(alloc: Global, n: u32, seed: u32) -> Result<Vec<Point>, NoMemory>
     requires few { n ≤ 60 }
     requires seed { seed ≤ 999999 }
     ensures { IfOk result (λ points. points.items ≡ lattice_points n seed) }
 {
-    let mut points = Vec::with_capacity(alloc, 8 * (n * n * n) as usize)?;
+    let mut points = Vec::with_capacity(alloc, 8 * cube(n) as usize)?;
     for i in 0..n {
         push_layer(&mut points, n, seed, i)?;
     }

@@ -1,9 +1,9 @@
 // Meshes of made points and triangles.
-ghost use Rattle.std.specs.Prelude.{◌≡◌, Bool, IfOk, length};
+ghost use Rattle.std.specs.Prelude.{◌≡◌, Bool, IfOk, None, length};
 ghost use Rattle.mesh_terms.specs.Meshes.{IsAccepted, triples_of};
 ghost use Rattle.made_terms.specs.Refusals.{excess, solid_fault};
 ghost use Rattle.mesh_make.specs.Refused.{IsRefusedFor, refusal};
-ghost use Rattle.mesh_make.specs.Solids.{IsSolid};
+ghost use Rattle.mesh_make.specs.Solids.{IsSolid, AreFew, AreFine};
 
 use crate::fault::MakeFault;
 use crate::rows::{all_on_grid, push_points};
@@ -41,7 +41,8 @@ fn solid_fault(
     triangles: u64,
     limits: &Limits,
 ) -> Option<MakeFault>
-    ensures { result ≡ refusal (solid_fault flat limits.now rows.now triangles) }
+    ensures value { result ≡ refusal (solid_fault flat limits.now rows.now triangles) }
+    ensures fine { result ≡ None → AreFine rows.now triangles }
 {
     if flat {
         return Some(MakeFault::FlatSolid);
@@ -54,7 +55,8 @@ fn solid_fault(
 
 /// Which limit so many points and triangles exceed.
 pub fn excess(limits: &Limits, points: u64, triangles: u64) -> Option<MakeFault>
-    ensures { result ≡ refusal (excess limits.now points triangles) }
+    ensures value { result ≡ refusal (excess limits.now points triangles) }
+    ensures few { result ≡ None → AreFew points triangles }
 {
     if points > u64::from(limits.points()) {
         let what = Counted::Points;

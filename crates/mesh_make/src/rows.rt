@@ -2,6 +2,7 @@
 ghost use Rattle.std.specs.Prelude.{◌≡◌, ◌≤◌, ◌^◌, ◌++◌, List, true, OnOk, Some, None, if◌then◌else◌, unsigned_abs};
 ghost use Rattle.mesh_terms.specs.Points.{IsPoint};
 ghost use Rattle.text_terms.specs.Numbers.{is_on_grid};
+ghost use Rattle.made_terms.specs.Solids.{moved};
 ghost use Rattle.made_terms.specs.Refusals.{is_grid_point, all_on_grid};
 
 use mb_base::{NoMemory, Point};
@@ -16,6 +17,17 @@ pub fn row_of(point: Point) -> [i64; 3]
 {
     let [x, y, z] = point.at();
     [i64::from(x), i64::from(y), i64::from(z)]
+}
+
+/// The row with x, y and z added to that of a point.
+pub fn moved_row(row: &[i64; 3], x: i64, y: i64, z: i64) -> [i64; 3]
+    requires on_grid { IsPoint row.now }
+    requires x_small { unsigned_abs x ≤ 2 ^ 31 }
+    requires y_small { unsigned_abs y ≤ 2 ^ 31 }
+    requires z_small { unsigned_abs z ≤ 2 ^ 31 }
+    ensures { result ≡ moved x y z row.now }
+{
+    [row[0] + x, row[1] + y, row[2] + z]
 }
 
 /// The point of a row on the grid.

@@ -14,7 +14,7 @@ ghost use Rattle.mesh_make.specs.Refused.{IsRefusedFor};
 
 use crate::fault::MakeFault;
 use crate::made::solid;
-use crate::rows::row_of;
+use crate::rows::{moved_row, row_of};
 use mb_base::{Limits, Point};
 use mesh_check::Mesh;
 use std::alloc::Global;
@@ -121,12 +121,11 @@ fn tetra_rows(at: &[i64; 3], size: i64) -> [[i64; 3]; 4]
     requires small { unsigned_abs size ≤ 2 ^ 31 }
     ensures { result ≡ tetra_points at.now size }
 {
-    let [x, y, z] = *at;
     [
-        [x, y, z],
-        [x + size, y, z],
-        [x, y + size, z],
-        [x, y, z + size],
+        moved_row(at, 0, 0, 0),
+        moved_row(at, size, 0, 0),
+        moved_row(at, 0, size, 0),
+        moved_row(at, 0, 0, size),
     ]
 }
 
@@ -137,14 +136,12 @@ fn prism_rows(at: &[i64; 3], size: i64, height: i64) -> [[i64; 3]; 6]
     requires low { unsigned_abs height ≤ 2 ^ 31 }
     ensures { result ≡ prism_points at.now size height }
 {
-    let [x, y, z] = *at;
-    let top = z + height;
     [
-        [x, y, z],
-        [x + size, y, z],
-        [x, y + size, z],
-        [x, y, top],
-        [x + size, y, top],
-        [x, y + size, top],
+        moved_row(at, 0, 0, 0),
+        moved_row(at, size, 0, 0),
+        moved_row(at, 0, size, 0),
+        moved_row(at, 0, 0, height),
+        moved_row(at, size, 0, height),
+        moved_row(at, 0, size, height),
     ]
 }

@@ -4,7 +4,7 @@ ghost use Rattle.made_terms.specs.Motions.{shifted, scaled};
 ghost use Rattle.made_terms.specs.Refusals.{all_on_grid};
 ghost use Rattle.mesh_make.specs.Moves.{moves, IsSmall};
 
-use crate::rows::{is_grid_point, point_of, row_of};
+use crate::rows::{is_grid_point, moved_row, point_of, row_of};
 use mb_base::{NoMemory, Point};
 use std::alloc::Global;
 
@@ -21,7 +21,7 @@ pub fn stay(points: &[Point], motion: &GridMotion) -> bool
     ensures { result ≡ all_on_grid (map (moves motion.now) points.now) }
 {
     for point in points {
-        if !is_grid_point(&moved_row(*point, motion)) {
+        if !is_grid_point(&row_after(*point, motion)) {
             return false;
         }
     }
@@ -40,7 +40,7 @@ pub fn moved_points(
 {
     let mut moved = Vec::with_capacity(alloc, points.len())?;
     for point in points {
-        match point_of(&moved_row(*point, motion)) {
+        match point_of(&row_after(*point, motion)) {
             Some(point) => moved.push(point)?,
             // All points stay on the grid.
             None => unreachable!(),
@@ -50,7 +50,7 @@ pub fn moved_points(
 }
 
 // The coordinates of a moved point.
-fn moved_row(point: Point, motion: &GridMotion) -> [i64; 3]
+fn row_after(point: Point, motion: &GridMotion) -> [i64; 3]
     requires { IsSmall motion.now }
     ensures { result ≡ moves motion.now point }
 {
@@ -64,9 +64,8 @@ fn moved_row(point: Point, motion: &GridMotion) -> [i64; 3]
 fn shifted_row(point: Point, by: [i32; 3]) -> [i64; 3]
     ensures { result ≡ shifted by point }
 {
-    let [x, y, z] = row_of(point);
-    let [u, v, w] = by;
-    [x + i64::from(u), y + i64::from(v), z + i64::from(w)]
+    let [x, y, z] = by;
+    moved_row(&row_of(point), i64::from(x), i64::from(y), i64::from(z))
 }
 
 // The coordinates of a point, multiplied by the factor.

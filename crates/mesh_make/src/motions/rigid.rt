@@ -1,5 +1,7 @@
 // Motions that keep the grid.
-ghost use Rattle.std.specs.Prelude.{◌≡◌, ◌<◌, IfOk, map};
+ghost use Rattle.std.specs.Prelude.{◌≡◌, ◌<◌, IfOk, map, neg_ℤ};
+ghost use Rattle.mesh_terms.specs.Points.{IsOnGrid};
+ghost use Rattle.made_terms.specs.Solids.{point};
 ghost use Rattle.mesh_terms.specs.Meshes.{triples_of};
 ghost use Rattle.made_terms.specs.Motions.{mirrored, quarter_turned, turned_over};
 
@@ -28,15 +30,10 @@ fn mirrored_point(point: Point, axis: u8) -> Point
     ensures { result ≡ mirrored axis point }
 {
     let [x, y, z] = point.at();
-    let moved = match axis {
-        0 => Point::of(-x, y, z),
-        1 => Point::of(x, -y, z),
-        _ => Point::of(x, y, -z),
-    };
-    match moved {
-        Some(moved) => moved,
-        // The other sign keeps a coordinate on the grid.
-        None => unreachable!(),
+    match axis {
+        0 => point_at(turned(x), y, z),
+        1 => point_at(x, turned(y), z),
+        _ => point_at(x, y, turned(z)),
     }
 }
 
@@ -58,14 +55,32 @@ fn turned_point(point: Point, axis: u8) -> Point
     ensures { result ≡ quarter_turned axis point }
 {
     let [x, y, z] = point.at();
-    let moved = match axis {
-        0 => Point::of(x, -z, y),
-        1 => Point::of(z, y, -x),
-        _ => Point::of(-y, x, z),
-    };
-    match moved {
-        Some(moved) => moved,
-        // The other sign keeps a coordinate on the grid.
+    match axis {
+        0 => point_at(x, turned(z), y),
+        1 => point_at(z, y, turned(x)),
+        _ => point_at(turned(y), x, z),
+    }
+}
+
+// A coordinate with the other sign.
+fn turned(coordinate: i32) -> i32
+    requires { IsOnGrid coordinate }
+    ensures value { result ≡ neg_ℤ coordinate }
+    ensures on_grid { IsOnGrid result }
+{
+    -coordinate
+}
+
+// The point with coordinates on the grid.
+fn point_at(x: i32, y: i32, z: i32) -> Point
+    requires x { IsOnGrid x }
+    requires y { IsOnGrid y }
+    requires z { IsOnGrid z }
+    ensures { result ≡ point x y z }
+{
+    match Point::of(x, y, z) {
+        Some(point) => point,
+        // All three are on the grid.
         None => unreachable!(),
     }
 }
