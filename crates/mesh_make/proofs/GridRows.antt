@@ -19,11 +19,16 @@ row_on_grid [] i all low = absurd (omega (arith, low))
 row_on_grid (p ∷ ps) zero all low = (and_parts (is_grid_point p) (all_on_grid ps) all).0
 row_on_grid (p ∷ ps) (suc i) all low = row_on_grid ps i (and_parts (is_grid_point p) (all_on_grid ps) all).1 (omega (arith, low))
 
+-- one row further
+further : (f : List ℤ → List ℤ) (i : ℕ) (p : List ℤ) (ps : List (List ℤ)) → all_on_grid (map f (drop (i + 1) ps)) ≡ all_on_grid (map f (drop (suc i + 1) (p ∷ ps)))
+further f i p ps = let one : suc (i + 1) ≡ suc i + 1 = omega arith in ap (λ k. all_on_grid (map f (drop k (p ∷ ps)))) one
+
 -- where the first rows are on the grid, all are so far as the rest is
 pub rest_decides : (f : List ℤ → List ℤ) (ps : List (List ℤ)) (i : ℕ) → i < length ps → is_grid_point (f (get_or ps i [])) ≡ true → all_on_grid (map f (drop i ps)) ≡ all_on_grid (map f (drop (i + 1) ps))
 rest_decides f [] i low is = absurd (omega (arith, low))
 rest_decides f (p ∷ ps) zero low is = rw is refl
-rest_decides f (p ∷ ps) (suc i) low is = rest_decides f ps i (omega (arith, low)) is
+rest_decides f (p ∷ ps) (suc i) low is =
+    rest_decides f ps i (omega (arith, low)) is ∙ further f i p ps
 
 -- where one is not, not all are
 pub one_decides : (f : List ℤ → List ℤ) (ps : List (List ℤ)) (i : ℕ) → i < length ps → is_grid_point (f (get_or ps i [])) ≡ false → all_on_grid (map f (drop i ps)) ≡ false

@@ -1,25 +1,32 @@
 -- Lattices: the triangles are a solid, the points are on the grid, and how many there are.
 use Rattle.std.proofs.Common.{◌≡◌, ◌<◌, ◌≤◌, ◌+◌, ◌*◌, ◌%◌, ℕ, zero, suc, ℤ, pos, true, List, [], ◌∷◌, ◌++◌, length, map, refl, sym, ◌∙◌, ap, subst, arith, length-append}
-use Rattle.std.specs.Prelude.{◌&&◌}
+use Rattle.std.specs.Prelude.{◌&&◌, Bool, if◌then◌else◌, Some}
 use Rattle.std.specs.List.{flat_map}
 use Rattle.std.proofs.lemmas.Bool.Decides.{nat_tests}
 use Rattle.std.proofs.lemmas.Bool.{and_parts, and_from}
+use Rattle.std.proofs.Math.Nat.{mul_assoc}
 use Rattle.std.proofs.lemmas.Grind.{flat_map-append}
-use Rattle.std.proofs.lemmas.List.{append-nil, length-map}
+use Rattle.std.proofs.lemmas.List.{append-nil, append_assoc, length-map}
 use Rattle.std.proofs.lemmas.List.Elements.{All-nil}
 use Rattle.chain_terms.specs.Sums.{upto}
 use Rattle.chain_laws.proofs.Places.{upto_more}
-use Rattle.made_terms.specs.Lattice.{further, boxes_triples, lattice_box, lattice_row, lattice_layer, lattice_points, lattice_side}
-use Rattle.made_terms.specs.Refusals.{is_grid_point, all_on_grid}
+use Rattle.made_terms.specs.Lattice.{further, boxes_triples, lattice_box, lattice_row, lattice_layer, lattice_points, lattice_triples, lattice_side}
+use Rattle.made_terms.specs.Refusals.{is_grid_point, all_on_grid, excess, lattice_fault, Outside}
 use Rattle.made_terms.specs.Solids.{point, box_points, box_triples}
 use Rattle.text_terms.specs.Numbers.{is_on_grid}
+use Rattle.mesh_terms.specs.Limits.{Limits}
+use Rattle.mesh_terms.specs.Meshes.{IsAccepted}
 use Rattle.mesh_make.specs.Solids.{IsSolid}
-use Rattle.mesh_make.proofs.SolidTests.{box_solid}
+use Rattle.mesh_make.proofs.SolidTests.{box_solid, solid_accepted}
 use Rattle.mesh_make.proofs.Unions.{solid_union}
 
 -- one more number in front of which all stand
 pub flat_map_more : {X : Type 0} (f : ℕ → List X) (n : ℕ) → flat_map f (upto (n + 1)) ≡ flat_map f (upto n) ++ f n
 flat_map_more f n = ap (flat_map f) (upto_more n) ∙ flat_map-append f (upto n) (n ∷ []) ∙ ap (λ l. flat_map f (upto n) ++ l) (append-nil (f n))
+
+-- what is pushed once more
+pub pushed_more : {X : Type 0} (f : ℕ → List X) (n : ℕ) (old before new : List X) → before ≡ old ++ flat_map f (upto n) → new ≡ before ++ f n → new ≡ old ++ flat_map f (upto (n + 1))
+pushed_more f n old before new e g = g ∙ ap (λ l. l ++ f n) e ∙ append_assoc old (flat_map f (upto n)) (f n) ∙ ap (λ l. old ++ l) (sym (flat_map_more f n))
 
 -- one more box
 pub boxes_more : (n : ℕ) → boxes_triples (n + 1) ≡ boxes_triples n ++ map (further (8 * n)) box_triples
@@ -86,3 +93,19 @@ lattice_on_grid n seed few =
     on_grid-flat_map (lattice_layer n seed) n n (omega arith) (λ i a.
     on_grid-flat_map (lattice_row n seed i) n n (omega arith) (λ j b.
     on_grid-flat_map (lattice_box seed i j) n n (omega arith) (λ k c. lattice_box_on_grid seed i j k (omega (arith, a, few)) (omega (arith, b, few)) (omega (arith, c, few)))))
+
+-- any number of boxes that is asked for is accepted
+pub boxes_accepted : (n : ℕ) → n ≤ 216000 → IsAccepted (8 * n) (boxes_triples n)
+boxes_accepted n few = solid_accepted (8 * n) (boxes_triples n) (boxes_solid n) (omega (arith, few)) (omega (arith, few, length-boxes n))
+
+-- as many points as the boxes have
+pub points_of_boxes : (n seed boxes : ℕ) → boxes ≡ n * n * n → length (lattice_points n seed) ≡ 8 * boxes
+points_of_boxes n seed boxes is =
+    let first : 8 * n * n * n ≡ 8 * (n * n * n) = ap (λ k. k * n) (mul_assoc 8 n n) ∙ mul_assoc 8 (n * n) n in
+    length-lattice n seed ∙ first ∙ ap (λ k. 8 * k) (sym is)
+
+-- a lattice is refused for its counts alone
+pub lattice_refused : (limits : Limits) (n seed boxes : ℕ) → n ≤ 60 → boxes ≡ n * n * n → lattice_fault limits n seed ≡ excess limits (8 * boxes) (12 * boxes)
+lattice_refused limits n seed boxes few is =
+    ap (λ (b : Bool). if b then excess limits (length (lattice_points n seed)) (length (lattice_triples n)) else Some Outside) (lattice_on_grid n seed few)
+    ∙ ap (λ k. excess limits k (length (lattice_triples n))) (points_of_boxes n seed boxes is) ∙ ap (excess limits (8 * boxes)) (length-boxes (n * n * n) ∙ ap (λ k. 12 * k) (sym is))

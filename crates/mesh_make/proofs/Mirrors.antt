@@ -8,7 +8,7 @@ use Rattle.made_terms.specs.Motions.{turned_over}
 use Rattle.mesh_terms.specs.Meshes.{Triple, HasThree, IsBelow, IsAccepted, has, is_used}
 
 -- the last two of three tests in the other order
-last_exchanged : (a b c : Bool) → (a || (c || b)) ≡ (a || (b || c))
+last_exchanged : (a b c : Bool) → ((a || c) || b) ≡ ((a || b) || c)
 last_exchanged true b c = refl
 last_exchanged false true true = refl
 last_exchanged false true false = refl

@@ -31,7 +31,8 @@ same_further p a w = elim (cases_Bool (a == w)) as (λ _. (p + a == p + w) ≡ (
 used_further : (p w : ℕ) (us : List Triple) → is_used (map (further p) us) (p + w) ≡ is_used us w
 used_further p w [] = refl
 used_further p w (u ∷ us) =
-    let here : has (further p u) (p + w) ≡ has u w = ap (λ b. b || ((p + u.1 == p + w) || (p + u.2 == p + w))) (same_further p u.0 w) ∙ ap (λ b. (u.0 == w) || (b || (p + u.2 == p + w))) (same_further p u.1 w) ∙ ap (λ b. (u.0 == w) || ((u.1 == w) || b)) (same_further p u.2 w) in
+    let here : has (further p u) (p + w) ≡ has u w =
+    ap (λ b. (b || (p + u.1 == p + w)) || (p + u.2 == p + w)) (same_further p u.0 w) ∙ ap (λ b. ((u.0 == w) || b) || (p + u.2 == p + w)) (same_further p u.1 w) ∙ ap (λ b. ((u.0 == w) || (u.1 == w)) || b) (same_further p u.2 w) in
     ap (λ b. b || is_used (map (further p) us) (p + w)) here ∙ ap (λ b. has u w || b) (used_further p w us)
 
 either : (b c : Bool) → c ≡ true → (b || c) ≡ true

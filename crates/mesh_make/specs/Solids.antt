@@ -15,8 +15,8 @@ pub record IsSolid (points : ℕ) (ts : List Triple) : Type 0 where
 
 -- few enough for any mesh
 pub record AreFew (points triangles : ℕ) : Type 0 where
-  pub points : points ≤ most_points
-  pub triangles : triangles ≤ most_triangles
+  pub few_points : points ≤ most_points
+  pub few_triangles : triangles ≤ most_triangles
 
 -- rows on the grid that are few enough, as so many triangles are
 pub record AreFine (rows : List (List ℤ)) (triangles : ℕ) : Type 0 where

@@ -36,9 +36,19 @@ pub fn make_lattice(alloc: Global, n: u32, seed: u32, limits: &Limits) -> Result
     if let Some(fault) = excess(limits, u64::from(8 * boxes), u64::from(12 * boxes)) {
         return Err(fault);
     }
+    Ok(lattice_of(alloc, n, seed)?)
+}
+
+// The lattice, whatever the limits.
+fn lattice_of(alloc: Global, n: u32, seed: u32) -> Result<Mesh, NoMemory>
+    requires few { n ≤ 60 }
+    requires seed { seed ≤ 999999 }
+    ensures points { IfOk result (λ m. m.points ≡ lattice_points n seed) }
+    ensures triples { IfOk result (λ m. m.triples ≡ lattice_triples n) }
+{
     let points = lattice_points(alloc, n, seed)?;
-    let triples = boxes_triples(alloc, boxes)?;
-    Ok(mesh_of(alloc, points, &triples)?)
+    let triples = boxes_triples(alloc, cube(n))?;
+    mesh_of(alloc, points, &triples)
 }
 
 // How many boxes there are.

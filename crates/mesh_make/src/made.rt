@@ -29,9 +29,19 @@ pub fn solid(
     if let Some(fault) = solid_fault(flat, rows, triples.len() as u64, limits) {
         return Err(fault);
     }
+    Ok(solid_of(alloc, rows, triples)?)
+}
+
+// The mesh of these rows as points and of these triangles.
+fn solid_of(alloc: Global, rows: &[[i64; 3]], triples: &[[u32; 3]]) -> Result<Mesh, NoMemory>
+    requires solid { IsSolid (length rows.now) (triples_of triples.now) }
+    requires fine { AreFine rows.now (length triples.now) }
+    ensures points { IfOk result (λ m. m.points ≡ rows.now) }
+    ensures triples { IfOk result (λ m. m.triples ≡ triples_of triples.now) }
+{
     let mut points = Vec::with_capacity(alloc, rows.len())?;
     push_points(&mut points, rows)?;
-    Ok(mesh_of(alloc, points, triples)?)
+    mesh_of(alloc, points, triples)
 }
 
 // Why these rows as points and so many triangles make no solid, which may be flat.

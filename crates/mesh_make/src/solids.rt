@@ -70,7 +70,7 @@ pub fn make_tetra(alloc: Global, at: Point, size: i32, limits: &Limits) -> Resul
     ensures triples { IfOk result (λ m. m.triples ≡ tetra_triples) }
 {
     let rows = tetra_rows(&row_of(at), i64::from(size));
-    solid(alloc, size <= 0, &rows, &TETRA, limits)
+    solid(alloc, is_flat(size), &rows, &TETRA, limits)
 }
 
 /// The prism over a triangle with a right angle at a corner, from which the edges go so far along x and y, and so high
@@ -87,7 +87,7 @@ pub fn make_prism(
     ensures triples { IfOk result (λ m. m.triples ≡ prism_triples) }
 {
     let rows = prism_rows(&row_of(at), i64::from(size), i64::from(height));
-    solid(alloc, size <= 0 || height <= 0, &rows, &PRISM, limits)
+    solid(alloc, are_flat(size, height), &rows, &PRISM, limits)
 }
 
 // Whether the low corner is not below the high one on some axis.
@@ -95,6 +95,20 @@ fn is_flat_box(low: &[i64; 3], high: &[i64; 3]) -> bool
     ensures { result ≡ is_flat_box low.now high.now }
 {
     high[0] <= low[0] || high[1] <= low[1] || high[2] <= low[2]
+}
+
+// Whether the size is not above 0.
+fn is_flat(size: i32) -> bool
+    ensures { result ≡ int_le size (pos 0) }
+{
+    size <= 0
+}
+
+// Whether the size or the height is not.
+fn are_flat(size: i32, height: i32) -> bool
+    ensures { result ≡ int_le size (pos 0) || int_le height (pos 0) }
+{
+    size <= 0 || height <= 0
 }
 
 /// The corners of the box between two opposite ones.
