@@ -12,7 +12,7 @@ ghost use Rattle.made_terms.specs.Lattice.{
 };
 ghost use Rattle.made_terms.specs.Refusals.{lattice_fault};
 ghost use Rattle.made_terms.specs.Solids.{box_triples};
-ghost use Rattle.mesh_make.specs.Refused.{IsRefusedFor};
+ghost use Rattle.mesh_make.specs.Refused.{IsRefusedFor, refusal};
 
 use crate::fault::MakeFault;
 use crate::made::{excess, mesh_of};
@@ -32,11 +32,19 @@ pub fn make_lattice(alloc: Global, n: u32, seed: u32, limits: &Limits) -> Result
     ensures points { IfOk result (λ m. m.points ≡ lattice_points n seed) }
     ensures triples { IfOk result (λ m. m.triples ≡ lattice_triples n) }
 {
-    let boxes = cube(n);
-    if let Some(fault) = excess(limits, u64::from(8 * boxes), u64::from(12 * boxes)) {
+    if let Some(fault) = lattice_fault(n, seed, limits) {
         return Err(fault);
     }
     Ok(lattice_of(alloc, n, seed)?)
+}
+
+// Why there is no such lattice: the counts of its points and triangles alone, since it lies on the grid.
+fn lattice_fault(n: u32, seed: u32, limits: &Limits) -> Option<MakeFault>
+    requires { n ≤ 60 }
+    ensures { result ≡ refusal (lattice_fault limits.now n seed) }
+{
+    let boxes = cube(n);
+    excess(limits, u64::from(8 * boxes), u64::from(12 * boxes))
 }
 
 // The lattice, whatever the limits.
