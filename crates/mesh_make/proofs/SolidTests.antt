@@ -59,9 +59,9 @@ closed_by_test : (es : List (ℕ × ℕ)) → list_all (even_test es) es ≡ tru
 closed_by_test es h a b = elim (cases_lt 0 (dir es a b)) as (λ _. dir es a b ≡ dir es b a) [
   | inl some ↦ eqb-true (dir es a b) (dir es b a) (passes_inside (even_test es) es (a, b) h (dir_contains es a b some))
   | inr none ↦ elim (cases_lt 0 (dir es b a)) as (λ _. dir es a b ≡ dir es b a) [
-      | inl some ↦ sym (eqb-true (dir es b a) (dir es a b) (passes_inside (even_test es) es (b, a) h (dir_contains es b a some)))
-      | inr nor ↦ omega (arith, none, nor)
-    ]
+    | inl some ↦ sym (eqb-true (dir es b a) (dir es a b) (passes_inside (even_test es) es (b, a) h (dir_contains es b a some)))
+    | inr nor ↦ omega (arith, none, nor)
+  ]
 ]
 
 -- a number below n is one of those below n

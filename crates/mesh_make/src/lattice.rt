@@ -117,11 +117,7 @@ fn lattice_box(seed: u32, i: u32, j: u32, k: u32) -> [[i64; 3]; 8]
     ensures { result ≡ lattice_box seed i j k }
 {
     let side = i64::from(10 * (1 + (i + 2 * j + 3 * k + seed) % 4));
-    let [x, y, z] = [
-        i64::from(100 * i),
-        i64::from(100 * j),
-        i64::from(100 * k),
-    ];
+    let [x, y, z] = [i64::from(100 * i), i64::from(100 * j), i64::from(100 * k)];
     box_rows(&[x, y, z], &[x + side, y + side, z + side])
 }
 

@@ -10,6 +10,8 @@ mod made;
 mod motions;
 mod rows;
 mod solids;
+#[cfg(test)]
+mod tests;
 
 pub use fault::MakeFault;
 pub use lattice::make_lattice;

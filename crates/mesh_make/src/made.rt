@@ -45,12 +45,7 @@ fn solid_of(alloc: Global, rows: &[[i64; 3]], triples: &[[u32; 3]]) -> Result<Me
 }
 
 // Why these rows as points and so many triangles make no solid, which may be flat.
-fn solid_fault(
-    flat: bool,
-    rows: &[[i64; 3]],
-    triangles: u64,
-    limits: &Limits,
-) -> Option<MakeFault>
+fn solid_fault(flat: bool, rows: &[[i64; 3]], triangles: u64, limits: &Limits) -> Option<MakeFault>
     ensures value { result ≡ refusal (solid_fault flat limits.now rows.now triangles) }
     ensures fine { result ≡ None → AreFine rows.now triangles }
 {

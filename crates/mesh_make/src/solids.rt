@@ -59,7 +59,13 @@ pub fn make_box(alloc: Global, low: Point, high: Point, limits: &Limits) -> Resu
     ensures triples { IfOk result (λ m. m.triples ≡ box_triples) }
 {
     let (low, high) = (row_of(low), row_of(high));
-    solid(alloc, is_flat_box(&low, &high), &box_rows(&low, &high), &BOX, limits)
+    solid(
+        alloc,
+        is_flat_box(&low, &high),
+        &box_rows(&low, &high),
+        &BOX,
+        limits,
+    )
 }
 
 /// The tetrahedron with three right angles at a corner, from which its edges go so far along x, y and z. It is flat where

@@ -62,17 +62,17 @@ reached_new es hs h end old below seen stack r at free low = record {
   ends = all_ends es hs h (set seen end true) (λ g i. marked_kept seen end (finish es g) (r.ends g i)) (subst (IsMarked (set seen end true)) at (marked_here seen end low));
   fresh = λ w n. elim (marked_cases seen end w n) as (λ _. IsMarked old w ⊎ (Contains (stack ++ end ∷ []) w × IsEnd es (hs ++ h ∷ []) w)) [
     | inl m ↦ elim (r.fresh w m) as (λ _. IsMarked old w ⊎ (Contains (stack ++ end ∷ []) w × IsEnd es (hs ++ h ∷ []) w)) [
-        | inl y ↦ inl y
-        | inr s ↦ inr (Contains-append_left stack (end ∷ []) w s.0, end_kept es hs h w s.1)
-      ]
+      | inl y ↦ inl y
+      | inr s ↦ inr (Contains-append_left stack (end ∷ []) w s.0, end_kept es hs h w s.1)
+    ]
     | inr e ↦ inr (subst (Contains (stack ++ end ∷ [])) e (Contains-push stack end), end_here es hs h w (sym at ∙ e))
   ];
   lower = λ w i. Contains-append_left stack (end ∷ []) w (r.lower w i);
   stacked = λ w n. elim (Contains-push_cases stack end w n) as (λ _. Contains below w ⊎ IsEnd es (hs ++ h ∷ []) w) [
     | inl i ↦ elim (r.stacked w i) as (λ _. Contains below w ⊎ IsEnd es (hs ++ h ∷ []) w) [
-        | inl y ↦ inl y
-        | inr s ↦ inr (end_kept es hs h w s)
-      ]
+      | inl y ↦ inl y
+      | inr s ↦ inr (end_kept es hs h w s)
+    ]
     | inr e ↦ inr (end_here es hs h w (sym at ∙ e))
   ];
   as_many = omega (arith, r.as_many, fewer seen end low free, length-append stack (end ∷ []));

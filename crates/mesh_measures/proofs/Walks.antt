@@ -61,12 +61,12 @@ walk_goes_on es v x old seen rest new stack w r =
       ahead = λ a b m some. elim (r.fresh a m) as (λ _. IsMarked new b ⊎ Contains stack a) [
         | inr s ↦ inr s.0
         | inl y ↦ elim (w.ahead a b y some) as (λ _. IsMarked new b ⊎ Contains stack a) [
-            | inl n ↦ inl (r.kept b n)
-            | inr i ↦ elim (Contains-push_cases rest x a i) as (λ _. IsMarked new b ⊎ Contains stack a) [
-                | inl deep ↦ inr (r.lower a deep)
-                | inr e ↦ inl (marked_end b (spoke_to es x b (subst (λ n. 0 < dir es n b) (sym e) some)))
-              ]
+          | inl n ↦ inl (r.kept b n)
+          | inr i ↦ elim (Contains-push_cases rest x a i) as (λ _. IsMarked new b ⊎ Contains stack a) [
+            | inl deep ↦ inr (r.lower a deep)
+            | inr e ↦ inl (marked_end b (spoke_to es x b (subst (λ n. 0 < dir es n b) (sym e) some)))
           ]
+        ]
       ];
       stacked = λ a inside. elim (r.stacked a inside) as (λ _. IsMarked new a × IsJoined es v a) [
         | inl deep ↦ let below = w.stacked a (Contains-append_left rest (x ∷ []) a deep) in (r.kept a below.0, below.1)

@@ -9,11 +9,7 @@ use mb_base::{NoMemory, Point};
 use std::alloc::Global;
 
 /// The points, each with the other sign on one coordinate.
-pub fn mirrored_points(
-    alloc: Global,
-    points: &[Point],
-    axis: u8,
-) -> Result<Vec<Point>, NoMemory>
+pub fn mirrored_points(alloc: Global, points: &[Point], axis: u8) -> Result<Vec<Point>, NoMemory>
     requires { axis < 3 }
     ensures { IfOk result (λ moved. moved.items ≡ map (mirrored axis) points.now) }
 {

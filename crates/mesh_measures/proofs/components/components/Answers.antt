@@ -40,13 +40,13 @@ loop-v-preserved c =
           let full : length w.mark_class.new.seen ≡ c.loop-v.seen.len = omega (arith, marked.full, c.loop-v.seen.ok.0) in
           record {
             walked = walked_same es n (v + 1) c.if-not-index.seen.items w.mark_class.new.seen c.if-not-index.count (c.loop-v.count + 1) (ap (λ l. l.items) w.seen-is ∙ with_items_is c.loop-v.seen w.mark_class.new.seen full) w.count-is
-            (walked_class es n v seen c.loop-v.count w.mark_class.new.seen c.triples.ensures.accepted.closed c.loop-v.invariant.walked (read ∙ w.if-not-index.true) marked);
+                (walked_class es n v seen c.loop-v.count w.mark_class.new.seen c.triples.ensures.accepted.closed c.loop-v.invariant.walked (read ∙ w.if-not-index.true) marked);
             empty = ap (λ l. l.items) w.stack-is ∙ w.in_ok-mark_class.ensures.empty;
           }
       | else-not-index w ↦ record {
-          walked = walked_same es n (v + 1) c.if-not-index.seen.items seen c.if-not-index.count c.loop-v.count (ap (λ l. l.items) w.seen-is) w.count-is (walked_past es n v seen c.loop-v.count c.loop-v.invariant.walked (read ∙ w.if-not-index.false));
-          empty = ap (λ l. l.items) w.stack-is ∙ c.loop-v.invariant.empty;
-        }
+        walked = walked_same es n (v + 1) c.if-not-index.seen.items seen c.if-not-index.count c.loop-v.count (ap (λ l. l.items) w.seen-is) w.count-is (walked_past es n v seen c.loop-v.count c.loop-v.invariant.walked (read ∙ w.if-not-index.false));
+        empty = ap (λ l. l.items) w.stack-is ∙ c.loop-v.invariant.empty;
+      }
     ]
 
 pub returns : goal.returns
