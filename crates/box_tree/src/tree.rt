@@ -6,7 +6,7 @@ ghost use Rattle.box_tree.specs.Touching.{IsBox, touching_numbers};
 
 use crate::MOST_BOXES;
 use crate::bounds::Bounds;
-use crate::extent::{Grid, coarse_shift, extent};
+use crate::extent::coarse_shift;
 use crate::nodes::{Entry, Node, nodes_over};
 use crate::order::entries_of;
 use crate::touching::Touching;
@@ -53,9 +53,8 @@ impl Tree {
         requires boxes { All IsBox boxes.now }
         ensures { IfOk result (λ tree. tree ≡ boxes.now) }
     {
-        let all = extent(boxes);
-        let shift = coarse_shift(&all);
-        let entries = entries_of(alloc, boxes, &Grid::over(&all), shift)?;
+        let shift = coarse_shift(boxes);
+        let entries = entries_of(alloc, boxes, shift)?;
         let nodes = nodes_over(alloc, &entries)?;
         let boxes = copied(alloc, boxes)?;
         Ok(Tree {
