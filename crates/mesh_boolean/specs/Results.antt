@@ -29,12 +29,12 @@ pub record ArePrescribed (op : Op) (p q : Side) (n : Numbers) (r : Prescribed) :
   pub halfedges : r.halfedges ≡ prescribed_halfedges op p q n
 
 -- the triangles of a source face
-abbrev pub triples_at : ℕ → List ℕ → List Triple → List Triple
-triples_at x source ts = map (λ m. m.1) (filter (λ m. m.0 == x) (zip source ts))
+abbrev pub triples_of_face : ℕ → List ℕ → List Triple → List Triple
+triples_of_face x source ts = map (λ m. m.1) (filter (λ m. m.0 == x) (zip source ts))
 
 -- those over prescribed vertices
 abbrev pub face_triples : List ℕ → List ℕ → List Triple → ℕ → List Triple
-face_triples from source ts x = map (named_by from) (triples_at x source ts)
+face_triples from source ts x = map (named_by from) (triples_of_face x source ts)
 
 -- each triangle has a source face; over prescribed vertices the triangles of each face have three different ones and are
 -- bounded by the segments of that face

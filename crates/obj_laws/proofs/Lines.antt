@@ -5,7 +5,7 @@ use Rattle.std.specs.List.{All, flat_map}
 use Rattle.std.proofs.lemmas.Bool.Decides.{nat_tests}
 use Rattle.std.proofs.lemmas.List.Elements.{All-head, All-tail}
 use Rattle.text_terms.specs.Lines.{add_first, raw_lines, without_cr, lines_of}
-use Rattle.obj_terms.specs.Written.{line_of}
+use Rattle.text_terms.specs.Written.{line_of}
 use Rattle.obj_laws.proofs.Bytes.{Above, Above-lower}
 
 -- a byte above n is not n
@@ -26,7 +26,7 @@ without_cr-line (c ∷ []) above = ap (λ (b : Bool). cond b [] (c ∷ [])) (oth
 without_cr-line (c ∷ d ∷ cs) above = ap (λ (xs : List ℕ). c ∷ xs) (without_cr-line (d ∷ cs) above.1)
 
 -- a written line is the first line
-lines_of-line : (line rest : List ℕ) → Above 13 line → lines_of (line_of line ++ rest) ≡ line ∷ lines_of rest
+pub lines_of-line : (line rest : List ℕ) → Above 13 line → lines_of (line_of line ++ rest) ≡ line ∷ lines_of rest
 lines_of-line line rest above =
     ap lines_of (append_assoc line (10 ∷ []) rest)
     ∙ ap (λ (ls : List (List ℕ)). map without_cr ls) (raw_lines-line line rest (Above-lower 10 13 line (omega arith) above))
