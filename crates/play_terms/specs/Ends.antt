@@ -1,12 +1,13 @@
 -- How a run ends: the status, the line that tells it, and the counts of faults.
 use Rattle.std.specs.Prelude.{◌≡◌, ◌<◌, ℕ, [], Bool, false, ◌⊎◌, Result, Ok, Err}
 use Rattle.run_terms.specs.Files.{Bytes, Grew}
-use Rattle.run_terms.specs.Tasks.{Cause, NoCommand, NoFile, FaultyMesh, PastLimit}
+use Rattle.run_terms.specs.Tasks.{Cause, NoCommand, FaultyScript, NoFile, FaultyMesh, PastLimit}
 use Rattle.run_terms.specs.Meets.{Why, Refused, Unread, Unwritten, Unsaid, Starved, Faults}
 use Rattle.play_terms.specs.Lines.{read_fault, write_fault, report_fault, no_memory}
 
 abbrev pub cause_status : Cause → ℕ
 cause_status NoCommand = 1
+cause_status FaultyScript = 2
 cause_status NoFile = 3
 cause_status FaultyMesh = 4
 cause_status PastLimit = 5

@@ -3,9 +3,10 @@ use Rattle.std.specs.Prelude.{List, [], ◌∷◌, ◌++◌, Result, Ok, Err}
 use Rattle.run_terms.specs.Files.{Bytes, Files, put}
 use Rattle.run_terms.specs.Runs.{Action, Ask, Write, Say}
 
--- why what is asked for can't be had: the words are of no command, a file is not there, a mesh is faulty, or a count is past its limit
+-- why what is asked for can't be had: the words are of no command, a script is faulty, a file is not there, a mesh is faulty, or a count is past its limit
 pub data Cause : Type 0 where
   NoCommand : Cause
+  FaultyScript : Cause
   NoFile : Cause
   FaultyMesh : Cause
   PastLimit : Cause

@@ -1,0 +1,2 @@
+mod PlayRows
+mod ScriptRows

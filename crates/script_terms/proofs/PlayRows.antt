@@ -1,0 +1,151 @@
+-- The plays of small scripts, computed.
+use Rattle.std.specs.Prelude.{◌≡◌, pos, List, [], ◌∷◌, ◌++◌, ◌&&◌, if◌then◌else◌, codes, bytes_eq, None, Ok, Err}
+use Rattle.std.proofs.Common.{refl}
+use Rattle.std.specs.Fmt.{digits}
+use Rattle.std.specs.Char.{encode_utf8}
+use Rattle.std.specs.Str.{chars, is_utf8}
+use Rattle.mesh_terms.specs.Limits.{Limits}
+use Rattle.mesh_terms.specs.Meshes.{Mesh}
+use Rattle.obj_terms.specs.Written.{line_of, obj_text}
+use Rattle.run_terms.specs.Files.{Bytes, Files, put}
+use Rattle.run_terms.specs.Runs.{Action, Ask, Write, Say}
+use Rattle.run_terms.specs.Tasks.{FaultyScript, NoFile, PastLimit, Part}
+use Rattle.script_terms.specs.Combined.{Combined}
+use Rattle.script_terms.specs.Plays.{Meanings, script_task}
+
+abbrev program : Limits
+program = record { file_bytes = 1073741824; points = 15000000; triangles = 10000000; halfedges = 6000000 }
+
+-- limits of so many bytes of a file and so many prescribed half-edges
+abbrev small : Limits
+small = record { file_bytes = 400; points = 210; triangles = 140; halfedges = 83 }
+
+-- the cube from 0 to 10
+abbrev cube : Bytes
+cube = codes "v 0 0 0\nv 10 0 0\nv 0 10 0\nv 10 10 0\nv 0 0 10\nv 10 0 10\nv 0 10 10\nv 10 10 10\nf 1 4 2\nf 1 3 4\nf 5 6 8\nf 5 8 7\nf 1 2 5\nf 2 6 5\nf 2 4 8\nf 2 8 6\nf 4 3 7\nf 4 7 8\nf 1 5 7\nf 1 7 3\n"
+
+-- a box that stands through its top
+abbrev box : Bytes
+box = codes "v 3 4 5\nv 6 4 5\nv 3 7 5\nv 6 7 5\nv 3 4 20\nv 6 4 20\nv 3 7 20\nv 6 7 20\nf 1 4 2\nf 1 3 4\nf 5 6 8\nf 5 8 7\nf 1 2 5\nf 2 6 5\nf 2 4 8\nf 2 8 6\nf 4 3 7\nf 4 7 8\nf 1 5 7\nf 1 7 3\n"
+
+-- the two in one, as a program that was written apart from this one gives it
+abbrev union_text : Bytes
+union_text =
+    codes "v 0 0 0\nv 10 0 0\nv 0 10 0\nv 10 10 0\nv 0 0 10\nv 10 0 10\nv 0 10 10\nv 10 10 10\nv 3 4 20\nv 6 4 20\nv 3 7 20\nv 6 7 20\nv 4 4 10\nv 6 6 10\nv 5 4 10\nv 3 4 10\n"
+    ++ codes "v 6 4 10\nv 6 7 10\nv 6 5 10\nv 3 7 10\nv 5 7 10\nv 3 5 10\nf 1 4 2\nf 1 3 4\nf 13 5 6\nf 6 8 14\nf 6 14 19\nf 6 19 17\nf 6 17 15\nf 6 15 13\nf 18 14 8\nf 18 8 7\n"
+    ++ codes "f 5 13 16\nf 7 5 16\nf 7 16 22\nf 7 22 20\nf 7 20 21\nf 7 21 18\nf 1 2 5\nf 2 6 5\nf 2 4 8\nf 2 8 6\nf 4 3 7\nf 4 7 8\nf 1 5 7\nf 1 7 3\nf 9 10 12\nf 9 12 11\n"
+    ++ codes "f 13 15 9\nf 9 16 13\nf 15 17 10\nf 10 9 15\nf 14 18 12\nf 12 19 14\nf 17 19 12\nf 12 10 17\nf 20 11 21\nf 18 21 11\nf 11 12 18\nf 22 16 9\nf 9 11 22\nf 22 11 20\n"
+
+abbrev united : Mesh
+united = record {
+  points =
+      (pos 0 ∷ pos 0 ∷ pos 0 ∷ []) ∷ (pos 10 ∷ pos 0 ∷ pos 0 ∷ []) ∷ (pos 0 ∷ pos 10 ∷ pos 0 ∷ []) ∷ (pos 10 ∷ pos 10 ∷ pos 0 ∷ []) ∷
+      (pos 0 ∷ pos 0 ∷ pos 10 ∷ []) ∷ (pos 10 ∷ pos 0 ∷ pos 10 ∷ []) ∷ (pos 0 ∷ pos 10 ∷ pos 10 ∷ []) ∷ (pos 10 ∷ pos 10 ∷ pos 10 ∷ []) ∷
+      (pos 3 ∷ pos 4 ∷ pos 20 ∷ []) ∷ (pos 6 ∷ pos 4 ∷ pos 20 ∷ []) ∷ (pos 3 ∷ pos 7 ∷ pos 20 ∷ []) ∷ (pos 6 ∷ pos 7 ∷ pos 20 ∷ []) ∷
+      (pos 4 ∷ pos 4 ∷ pos 10 ∷ []) ∷ (pos 6 ∷ pos 6 ∷ pos 10 ∷ []) ∷ (pos 5 ∷ pos 4 ∷ pos 10 ∷ []) ∷ (pos 3 ∷ pos 4 ∷ pos 10 ∷ []) ∷
+      (pos 6 ∷ pos 4 ∷ pos 10 ∷ []) ∷ (pos 6 ∷ pos 7 ∷ pos 10 ∷ []) ∷ (pos 6 ∷ pos 5 ∷ pos 10 ∷ []) ∷ (pos 3 ∷ pos 7 ∷ pos 10 ∷ []) ∷
+      (pos 5 ∷ pos 7 ∷ pos 10 ∷ []) ∷ (pos 3 ∷ pos 5 ∷ pos 10 ∷ []) ∷ [];
+  triples =
+      (0, 3, 1) ∷ (0, 2, 3) ∷ (12, 4, 5) ∷ (5, 7, 13) ∷ (5, 13, 18) ∷ (5, 18, 16) ∷ (5, 16, 14) ∷ (5, 14, 12) ∷ (17, 13, 7) ∷ (17, 7, 6) ∷
+      (4, 12, 15) ∷ (6, 4, 15) ∷ (6, 15, 21) ∷ (6, 21, 19) ∷ (6, 19, 20) ∷ (6, 20, 17) ∷ (0, 1, 4) ∷ (1, 5, 4) ∷ (1, 3, 7) ∷ (1, 7, 5) ∷
+      (3, 2, 6) ∷ (3, 6, 7) ∷ (0, 4, 6) ∷ (0, 6, 2) ∷ (8, 9, 11) ∷ (8, 11, 10) ∷ (12, 14, 8) ∷ (8, 15, 12) ∷ (14, 16, 9) ∷ (9, 8, 14) ∷
+      (13, 17, 11) ∷ (11, 18, 13) ∷ (16, 18, 11) ∷ (11, 9, 16) ∷ (19, 10, 20) ∷ (17, 20, 10) ∷ (10, 11, 17) ∷ (21, 15, 8) ∷ (8, 10, 21) ∷ (21, 10, 19) ∷ [];
+}
+
+-- an operation of which a table knows the union of the cube and the box alone
+abbrev tabled : Mesh → Mesh → Combined
+tabled p q =
+    if bytes_eq (obj_text 0 p.points p.triples) cube && bytes_eq (obj_text 0 q.points q.triples) box then record { mesh = united; p_kept = 8; q_kept = 4; crossings = 10; forced = 0; halfedges = 84 }
+    else record { mesh = record { points = []; triples = [] }; p_kept = 0; q_kept = 0; crossings = 0; forced = 0; halfedges = 0 }
+
+abbrev table : Meanings
+table = record { operation = λ op p q. tabled p q }
+
+-- a script beside the cube and the box
+abbrev beside : Bytes → Files
+beside text = put (codes "s.txt") text (put (codes "cube.obj") cube (put (codes "b.obj") box (λ n. None)))
+
+abbrev play : Limits → Bytes → Part (Unit {0})
+play limits text = script_task table 0 limits (codes "s.txt") (beside text)
+
+-- the script alone is asked for, and its fault is told by this line
+abbrev refused : Bytes → Part (Unit {0})
+refused text = record { actions = Ask (codes "s.txt") ∷ []; result = Err (record { cause = FaultyScript; line = line_of text }) }
+
+abbrev uniting : Bytes
+uniting = codes "load a cube.obj\nload b b.obj\nunion u a b\nsave u u.obj\n"
+
+-- what is done up to the union
+abbrev loading : List Action
+loading =
+    Ask (codes "s.txt") ∷ Ask (codes "cube.obj") ∷ Say (line_of (codes "load a cube.obj: points 8, triangles 12, unused 0")) ∷
+    Ask (codes "b.obj") ∷ Say (line_of (codes "load b b.obj: points 8, triangles 12, unused 0")) ∷ []
+
+unites_and_saves : play program uniting
+    ≡ record {
+      actions = loading ++ Say (line_of (codes "u = union a b: kept 8 4, crossings 10, forced 0")) ∷ Write (codes "u.obj") union_text ∷
+          Say (line_of (codes "save u u.obj: points 22, triangles 40")) ∷ [];
+      result = Ok tt;
+    }
+unfolding digits chars is_utf8 encode_utf8
+unites_and_saves = refl
+
+-- more half-edges than the limit
+stops_at_the_limit : play small uniting
+    ≡ record { actions = loading; result = Err (record { cause = PastLimit; line = line_of (codes "limit halfedges 84") }) }
+unfolding digits chars is_utf8 encode_utf8
+stops_at_the_limit = refl
+
+-- a mesh that was saved is there for a later line, and a name that is given again has the later mesh
+loads_what_was_saved : play program (codes "load a b.obj\nsave a cube.obj\nload a cube.obj\nsave a c.obj\n")
+    ≡ record {
+      actions =
+          Ask (codes "s.txt") ∷ Ask (codes "b.obj") ∷ Say (line_of (codes "load a b.obj: points 8, triangles 12, unused 0")) ∷
+          Write (codes "cube.obj") box ∷ Say (line_of (codes "save a cube.obj: points 8, triangles 12")) ∷
+          Ask (codes "cube.obj") ∷ Say (line_of (codes "load a cube.obj: points 8, triangles 12, unused 0")) ∷
+          Write (codes "c.obj") box ∷ Say (line_of (codes "save a c.obj: points 8, triangles 12")) ∷ [];
+      result = Ok tt;
+    }
+unfolding digits chars is_utf8 encode_utf8
+loads_what_was_saved = refl
+
+-- the lines before a file that is not there were done
+stops_at_a_missing_file : play program (codes "load a cube.obj\nload b none.obj\nload c b.obj\n")
+    ≡ record {
+      actions =
+          Ask (codes "s.txt") ∷ Ask (codes "cube.obj") ∷ Say (line_of (codes "load a cube.obj: points 8, triangles 12, unused 0")) ∷
+          Ask (codes "none.obj") ∷ [];
+      result = Err (record { cause = NoFile; line = line_of (codes "none.obj: missing") });
+    }
+unfolding digits chars is_utf8 encode_utf8
+stops_at_a_missing_file = refl
+
+-- no file is asked for where a later line is faulty
+reads_the_whole_script_first : play program (codes "load a cube.obj\nunion c a b\n") ≡ refused (codes "s.txt:2: 23 NameNotDefined")
+unfolding digits chars is_utf8 encode_utf8
+reads_the_whole_script_first = refl
+
+-- a fault of each kind is told
+record FaultsAreTold : Type 0 where
+  word : play program (codes "cut a b\n") ≡ refused (codes "s.txt:1: 20 BadWord")
+  count : play program (codes "load a\n") ≡ refused (codes "s.txt:1: 21 WrongCount")
+  name : play program (codes "load 1a cube.obj\n") ≡ refused (codes "s.txt:1: 22 BadName")
+  old : play program (codes "save a a.obj\n") ≡ refused (codes "s.txt:1: 23 NameNotDefined")
+  suffix : play program (codes "load a cube.ply\n") ≡ refused (codes "s.txt:1: 25 BadSuffix")
+
+tells_each_kind : FaultsAreTold
+unfolding digits chars is_utf8 encode_utf8
+tells_each_kind = record { word = refl; count = refl; name = refl; old = refl; suffix = refl }
+
+refuses_a_missing_script : script_task table 0 program (codes "s.txt") (λ n. None)
+    ≡ record { actions = Ask (codes "s.txt") ∷ []; result = Err (record { cause = NoFile; line = line_of (codes "s.txt: missing") }) }
+refuses_a_missing_script = refl
+
+-- a script is no longer than the limit on files
+refuses_a_long_script : play (record { file_bytes = 15; points = 210; triangles = 140; halfedges = 83 }) (codes "load a cube.obj\n")
+    ≡ record { actions = Ask (codes "s.txt") ∷ []; result = Err (record { cause = PastLimit; line = line_of (codes "limit file_bytes 16") }) }
+unfolding digits
+refuses_a_long_script = refl
+
+says_nothing_for_no_line : play program (codes "# nothing\n") ≡ record { actions = Ask (codes "s.txt") ∷ []; result = Ok tt }
+says_nothing_for_no_line = refl

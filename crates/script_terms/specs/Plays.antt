@@ -1,0 +1,89 @@
+-- What a script does: its file is asked for and read, and then its steps are done in order, over the names and files as they are by then.
+use Rattle.std.specs.Prelude.{ℕ, List, [], ◌∷◌, if◌then◌else◌, nat_lt, bytes_eq, Option, Some, None, Result, Ok, Err}
+use Rattle.mesh_terms.specs.Faults.{Halfedges, Fault}
+use Rattle.mesh_terms.specs.Limits.{Limits}
+use Rattle.mesh_terms.specs.Meshes.{Mesh}
+use Rattle.run_terms.specs.Files.{Bytes}
+use Rattle.run_terms.specs.Tasks.{Refusal, Task, give, then_task}
+use Rattle.play_terms.specs.Commands.{ask_file, ask_mesh, write_mesh, say_line}
+use Rattle.play_terms.specs.Lines.{over}
+use Rattle.mb_base.specs.declared.op.Op.{Op}
+use Rattle.script_terms.specs.Combined.{Combined}
+use Rattle.script_terms.specs.Lines.{load_line, save_line, combine_line, script_refusal}
+use Rattle.script_terms.specs.Scripts.{script}
+use Rattle.script_terms.specs.Steps.{Line, Step, Load, Save, Combine}
+
+-- what the steps need of geometry: what an operation gives of two meshes
+pub record Meanings : Type 0 where
+  pub operation : Op → Mesh → Mesh → Combined
+
+-- the mesh of each name that has one
+abbrev pub Named : Type 0
+Named = Bytes → Option Mesh
+
+abbrev pub no_names : Named
+no_names = λ n. None
+
+-- a name gets a mesh; all others keep theirs
+abbrev pub with_name : Bytes → Mesh → Named → Named
+with_name name m named = λ n. if bytes_eq n name then Some m else named n
+
+-- the mesh of a name; one without points where it has none
+abbrev pub mesh_or_none : Option Mesh → Mesh
+mesh_or_none None = record { points = []; triples = [] }
+mesh_or_none (Some m) = m
+
+abbrev pub mesh_at : Named → Bytes → Mesh
+mesh_at named name = mesh_or_none (named name)
+
+-- a name gets the mesh of a file, and the mesh is told
+abbrev pub load_task : ℕ → Limits → Bytes → Bytes → Named → Task Named
+load_task k limits name file named =
+    then_task (ask_mesh k limits file) (λ m.
+    then_task (say_line (load_line name file m)) (λ _.
+    give (Ok (with_name name (record { points = m.points; triples = m.triples }) named))))
+
+-- the mesh of a name is written to a file and told; the names stay
+abbrev pub save_task : ℕ → Bytes → Bytes → Mesh → Named → Task Named
+save_task k name file m named =
+    then_task (write_mesh k file m.points m.triples) (λ _.
+    then_task (say_line (save_line name file m)) (λ _.
+    give (Ok named)))
+
+-- refused where more half-edges are prescribed than the limit
+abbrev pub within : Limits → Combined → Result Combined Refusal
+within limits o = if nat_lt limits.halfedges o.halfedges then Err (over Halfedges o.halfedges) else Ok o
+
+-- a name gets what an operation gives, and that is told
+abbrev pub combine_task : Meanings → Limits → Op → Bytes → Bytes → Bytes → Named → Task Named
+combine_task means limits op name left right named =
+    then_task (give (within limits (means.operation op (mesh_at named left) (mesh_at named right)))) (λ o.
+    then_task (say_line (combine_line op name left right o)) (λ _.
+    give (Ok (with_name name o.mesh named))))
+
+-- one row for each kind of step
+abbrev pub step_task : Meanings → ℕ → Limits → Step → Named → Task Named
+step_task means k limits (Load name file) named = load_task k limits name file named
+step_task means k limits (Save name file) named = save_task k name file (mesh_at named name) named
+step_task means k limits (Combine op name left right) named = combine_task means limits op name left right named
+
+-- tasks in order, each with the value that the one before handed on
+abbrev pub in_order : {L A : Type 0} → (L → A → Task A) → List L → A → Task A
+in_order task [] a = give (Ok a)
+in_order task (l ∷ ls) a = then_task (task l a) (λ b. in_order task ls b)
+
+-- the steps of these lines in order
+abbrev pub steps_task : Meanings → ℕ → Limits → List Line → Named → Task Named
+steps_task means k limits lines named = in_order (λ l n. step_task means k limits l.1 n) lines named
+
+-- the lines of a script of this name, or its first fault as a refusal
+abbrev pub script_checked : Bytes → Result (List Line) Fault → Result (List Line) Refusal
+script_checked name (Err fault) = Err (script_refusal name fault)
+script_checked name (Ok lines) = Ok lines
+
+-- the file of a script is read, the whole script before any step
+abbrev pub script_task : Meanings → ℕ → Limits → Bytes → Task (Unit {0})
+script_task means k limits name =
+    then_task (ask_file limits name) (λ bytes.
+    then_task (give (script_checked name (script k bytes))) (λ lines.
+    then_task (steps_task means k limits lines no_names) (λ _. give (Ok tt))))

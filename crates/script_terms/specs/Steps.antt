@@ -1,0 +1,43 @@
+-- The steps of a script, and the names and files in them.
+use Rattle.std.specs.Prelude.{ℕ, List, [], ◌∷◌, false, Bool, bytes_eq}
+use Rattle.std.specs.List.{list_any}
+use Rattle.run_terms.specs.Files.{Bytes}
+use Rattle.mb_base.specs.declared.op.Op.{Op}
+
+-- a mesh of a file gets a name, the mesh of a name is written to a file, or the result of an operation gets a name
+pub data Step : Type 0 where
+  Load : (name file : Bytes) → Step
+  Save : (name file : Bytes) → Step
+  Combine : (op : Op) → (name left right : Bytes) → Step
+
+-- a step with the number of its line, from 1
+abbrev pub Line : Type 0
+Line = ℕ × Step
+
+-- the step gives this name a mesh
+abbrev pub gives : Bytes → Step → Bool
+gives w (Load name file) = bytes_eq name w
+gives w (Save name file) = false
+gives w (Combine op name left right) = bytes_eq name w
+
+-- one of the lines gives it a mesh
+abbrev pub is_given : Bytes → List Line → Bool
+is_given w lines = list_any (λ l. gives w l.1) lines
+
+-- the names whose meshes a step takes
+abbrev pub taken : Step → List Bytes
+taken (Load name file) = []
+taken (Save name file) = name ∷ []
+taken (Combine op name left right) = left ∷ right ∷ []
+
+-- the names in a step
+abbrev pub names_in : Step → List Bytes
+names_in (Load name file) = name ∷ []
+names_in (Save name file) = name ∷ []
+names_in (Combine op name left right) = name ∷ left ∷ right ∷ []
+
+-- the files that a step reads or writes
+abbrev pub files_in : Step → List Bytes
+files_in (Load name file) = file ∷ []
+files_in (Save name file) = file ∷ []
+files_in (Combine op name left right) = []
