@@ -1,0 +1,5 @@
+pub mod Assembly
+pub mod Faces
+pub mod Numbers
+pub mod Pairs
+pub mod Parts
