@@ -1,5 +1,5 @@
-pub mod Assembly
+pub mod Assembling
 pub mod Faces
-pub mod Numbers
+pub mod Finished
 pub mod Pairs
 pub mod Parts

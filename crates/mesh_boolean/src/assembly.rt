@@ -34,6 +34,7 @@ pub fn assemble(
     let _ = p.twins();
     let _ = q.twins();
     let _ = limits.halfedges();
+    // The laws of fillings.
     faces_are_filled();
     fillings_close();
     let prescribed = prescribe(alloc, op, p, q, windings, hits, limits)?;

@@ -53,28 +53,7 @@ few_halfedges l n lawful within = omega (arith, within, lawful.triangles_enough,
 pub length-points : (op : Op) (p q : Side) (windings : Windings) (hits : Hits) (l : Limits) (r : Prescribed) → ArePlaced op p q windings hits l r → length r.points.items ≡ length (copies op p q windings hits)
 length-points op p q windings hits l r placed = ap length placed.points ∙ length-map (copies op p q windings hits) (λ c. c.point)
 
--- so triangles can be made from them
-pub are_given : (op : Op) (p q : Side) (windings : Windings) (hits : Hits) (l : Limits) (r : Prescribed) → AreReady p q windings hits → ArePlaced op p q windings hits l r → AreGiven op p q windings hits r
-are_given op p q windings hits l r ready placed = record {
-  w03 = ready.known.w03;
-  w30 = ready.known.w30;
-  w03_small = ready.known.w03_small;
-  w30_small = ready.known.w30_small;
-  x12 = ready.known.x12;
-  x21 = ready.known.x21;
-  p_apart = ready.p_apart;
-  q_apart = ready.q_apart;
-  points = placed.points;
-  kept = placed.kept;
-  few =
-      let cs = copies op p q windings hits in
-      let many = few_halfedges l r.halfedges placed.lawful placed.within in
-      omega (arith, many, placed.few, length-points op p q windings hits l r placed, ap length placed.origins, length-map cs (λ c. c.origin));
-  two_lists = placed.two_lists;
-  balance = placed.balance;
-}
-
--- and their fillings are a closed mesh
+-- so they can be assembled
 pub can_be_assembled : (op : Op) (p q : Side) (windings : Windings) (hits : Hits) (l : Limits) (r : Prescribed) → AreReady p q windings hits → ArePlaced op p q windings hits l r → CanBeAssembled p q (copies op p q windings hits)
 can_be_assembled op p q windings hits l r ready placed = record {
   p_side = ready.p_side;
