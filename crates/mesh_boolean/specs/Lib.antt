@@ -1,2 +1,4 @@
+pub mod Assembly
+pub mod Faults
 pub mod Operation
 pub mod Results

@@ -1,8 +1,9 @@
 -- What the result of an operation is: the prescribed vertices and numbers, where the vertices and the triangles of the mesh come
 -- from, that each source face's triangles are bounded by its segments, that the mesh is clean, and which triangles it has.
-use Rattle.std.specs.Prelude.{◌≡◌, ℕ, ◌<◌, ◌==◌, ◌×◌, ℤ, List, [], ◌∷◌, map, length, get_or, filter}
+use Rattle.std.specs.Prelude.{◌≡◌, ◌≢◌, ℕ, ◌<◌, ◌==◌, ℤ, List, [], ◌∷◌, map, length, get_or, filter}
 use Rattle.std.specs.List.{All, Contains, zip}
 use Rattle.chain_terms.specs.Chains.{IsClosed, all_edges, boundary}
+use Rattle.chain_terms.specs.Ranks.{finish, start, twin}
 use Rattle.mesh_terms.specs.Meshes.{HasThree, Mesh, Triple}
 use Rattle.mesh_terms.specs.Twins.{twins_of}
 use Rattle.halfedge.specs.Clean.{IsClean}
@@ -10,9 +11,11 @@ use Rattle.side_terms.specs.Sides.{Side}
 use Rattle.assembly_terms.specs.Lists.{Copy}
 use Rattle.mb_base.specs.declared.op.Op.{Op}
 use Rattle.assembly_terms.specs.Prescribed.{Numbers, crossing_count, p_kept, prescribed as copies_of_numbers, prescribed_halfedges, q_kept}
+use Rattle.assembly_terms.specs.Standing.{AreConserved}
 use Rattle.ring_cutting.specs.Cuts.{Cut}
 use Rattle.segment_terms.specs.Segments.{source_count}
 use Rattle.filling_terms.specs.Filled.{all_filled, all_triples, face_segments, forced_of, points_of_copies, sources_of}
+use Rattle.pinch_split.specs.Back.{ComeFrom, named_by}
 use Rattle.pinch_split.specs.Split.{split_from, split_points, split_triples}
 use Rattle.retained_verts.specs.declared.list.Prescribed.{Prescribed}
 use Rattle.mesh_boolean.specs.Operation.{Tests, first_side, numbers_of, second_side}
@@ -25,16 +28,6 @@ pub record ArePrescribed (op : Op) (p q : Side) (n : Numbers) (r : Prescribed) :
   pub kept : r.kept ≡ p_kept op n ∷ q_kept op n ∷ []
   pub crossings : r.crossings ≡ crossing_count op n
   pub halfedges : r.halfedges ≡ prescribed_halfedges op p q n
-
--- each vertex of the mesh is a prescribed vertex and lies where that one does, and each prescribed vertex occurs
-pub record ComeFrom (points copies : List (List ℤ)) (from : List ℕ) : Type 0 where
-  pub each : length from ≡ length points
-  pub there : (v : ℕ) → v < length points → (get_or from v 0 < length copies) × (get_or points v [] ≡ get_or copies (get_or from v 0) [])
-  pub all : (w : ℕ) → w < length copies → Contains from w
-
--- a triangle with its vertices named as others
-abbrev pub named_by : List ℕ → Triple → Triple
-named_by from t = (get_or from t.0 0, get_or from t.1 0, get_or from t.2 0)
 
 -- the triangles of a source face
 abbrev pub triples_at : ℕ → List ℕ → List Triple → List Triple
@@ -52,9 +45,18 @@ pub record AreBounded (p q : Side) (cs : List Copy) (from source : List ℕ) (ts
   pub three : (x : ℕ) → All HasThree (face_triples from source ts x)
   pub bounded : (x : ℕ) → x < source_count p q → (a b : ℕ) → boundary (all_edges (face_triples from source ts x)) a b ≡ boundary (face_segments p q cs x) a b
 
--- the mesh is closed, each of its vertices has one fan, and each half-edge has the twin that it has over prescribed vertices
+-- the twin of each half-edge is another one, which runs back and has it as its twin
+pub record ArePaired (es : List (ℕ × ℕ)) : Type 0 where
+  pub within : (h : ℕ) → h < length es → twin es h < length es
+  pub another : (h : ℕ) → h < length es → twin es h ≢ h
+  pub back : (h : ℕ) → h < length es → (start es (twin es h) ≡ finish es h) × (finish es (twin es h) ≡ start es h)
+  pub again : (h : ℕ) → h < length es → twin es (twin es h) ≡ h
+
+-- the mesh is closed, its half-edges are paired, each of its vertices has one fan, and each half-edge has the twin that it has
+-- over prescribed vertices
 pub record IsCleanOver (from : List ℕ) (ts : List Triple) : Type 0 where
   pub closed : IsClosed (all_edges ts)
+  pub paired : ArePaired (all_edges ts)
   pub clean : IsClean (all_edges ts)
   pub twins : twins_of ts ≡ twins_of (map (named_by from) ts)
 
@@ -91,6 +93,10 @@ copies_in t op p q = copies_of_numbers op (first_side op p) (second_side q) (num
 -- the half-edges that are prescribed for an operation on two meshes
 abbrev pub halfedges_in : Tests → Op → Mesh → Mesh → ℕ
 halfedges_in t op p q = prescribed_halfedges op (first_side op p) (second_side q) (numbers_in t op p q)
+
+-- winding numbers change along the half-edges of both by their signed crossings, and these agree for each pair of faces
+abbrev pub ConserveIn : Tests → Op → Mesh → Mesh → Type 0
+ConserveIn t op p q = AreConserved (first_side op p) (second_side q) (numbers_in t op p q)
 
 -- each clause for what an operation on two meshes gives
 abbrev pub IsPrescribed : Tests → Op → Mesh → Mesh → Outcome → Type 0

@@ -2,13 +2,15 @@
 //! numbers prescribe it. After J. M. Smith's thesis "Towards robust inexact geometric computation" and the Manifold library.
 #![tactic(auto)]
 
-mod boolean;
+mod assembly;
+mod numbers;
+mod operate;
 mod outcome;
 mod sides;
 mod tested;
 #[cfg(test)]
 mod tests;
 
-pub use boolean::boolean;
+pub use operate::boolean;
 pub use outcome::Outcome;
 pub use tested::Tested;

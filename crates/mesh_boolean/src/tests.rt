@@ -1,26 +1,32 @@
-// Whole operations on pairs of small meshes, against those of an independent reference program.
+// Whole operations on pairs of small meshes.
 ghost use Rattle.std.specs.Prelude.{◌≡◌, ◌<◌};
 
+mod loose;
 mod low;
-mod table;
+mod solids;
 mod text;
+mod volume;
+mod worked;
 
 use crate::{Outcome, boolean};
 use edge_face::Kernels;
+use loose::LOOSE;
 use low::Low;
 use mb_base::{Limits, Op};
 use mesh_check::Mesh;
 use retained_verts::PrescribeFault;
 use rounding::{Nearest, Rounding};
 use shadow_kernels::Grid;
+use solids::SOLIDS;
 use std::alloc::Global;
 use std::marker::Brand;
 use std::process::Abort;
 use std::sync::ledger::{Blank, Ledger};
 use std::test::Fail;
 use steps::Steps;
-use table::PAIRS;
 use text::{read_mesh, read_op, text_of};
+use volume::volume6;
+use worked::WORKED;
 
 // What an operation gives.
 fn answer<K: Kernels, L: Ledger>(
@@ -29,6 +35,7 @@ fn answer<K: Kernels, L: Ledger>(
     p: &Mesh,
     q: &Mesh,
     kernels: &K,
+    limits: &Limits,
     blank: Blank,
 ) -> Result<Outcome, PrescribeFault>
     requires name { blank.name ≡ L.name }
@@ -36,10 +43,23 @@ fn answer<K: Kernels, L: Ledger>(
     requires some { 0 < blank.parts }
 {
     let mut steps = Steps::<L>::over(blank);
-    boolean(alloc, op, p, q, kernels, &Limits::program(), &mut steps)
+    boolean(alloc, op, p, q, kernels, limits, &mut steps)
 }
 
-// What it gives under a rounding, as the table writes it.
+// What it gives under a rounding.
+fn rounded<R: Rounding + Copy>(
+    alloc: Global,
+    op: Op,
+    p: &Mesh,
+    q: &Mesh,
+    rounding: R,
+    limits: &Limits,
+) -> Result<Outcome, PrescribeFault> {
+    let kernels = Grid { rounding };
+    answer::<Grid<R>, Brand>(alloc, op, p, q, &kernels, limits, Blank::new(1))
+}
+
+// That, as the tables write it.
 fn written<R: Rounding + Copy>(
     alloc: Global,
     op: Op,
@@ -47,12 +67,11 @@ fn written<R: Rounding + Copy>(
     q: &Mesh,
     rounding: R,
 ) -> Result<String, Fail> {
-    let kernels = Grid { rounding };
-    let outcome = answer::<Grid<R>, Brand>(alloc, op, p, q, &kernels, Blank::new(1))?;
+    let outcome = rounded(alloc, op, p, q, rounding, &Limits::program())?;
     text_of(alloc, &outcome)
 }
 
-// Compares what a pair gives with two lines of the table.
+// Compares what a pair gives with two lines of a table.
 fn expect_lines(
     rt: &impl Abort,
     alloc: Global,
@@ -61,11 +80,9 @@ fn expect_lines(
     low: &str,
 ) -> Result<(), Fail> {
     let mut words = meshes.split_whitespace();
-    let op = read_op(words.next().ok_or("no word")?)?;
-    let points = words.next().ok_or("no word")?;
-    let p = read_mesh(alloc, points, words.next().ok_or("no word")?)?;
-    let points = words.next().ok_or("no word")?;
-    let q = read_mesh(alloc, points, words.next().ok_or("no word")?)?;
+    let op = read_op(&mut words)?;
+    let p = read_mesh(alloc, &mut words)?;
+    let q = read_mesh(alloc, &mut words)?;
     let text = written(alloc, op, &p, &q, Nearest)?;
     assert_eq!(rt; text.as_str(), nearest, "to the nearest: {meshes}");
     let text = written(alloc, op, &p, &q, Low)?;
@@ -73,16 +90,73 @@ fn expect_lines(
     Ok(())
 }
 
-#[test]
-fn agrees_with_the_table(rt: HostRuntime) -> Result<(), Fail> {
-    let mut lines = PAIRS.lines();
+// Compares what all pairs of a table give with it, and tells how many there are.
+fn expect_table(rt: &impl Abort, alloc: Global, table: &str) -> Result<u64, Fail> {
+    let mut lines = table.lines();
     let mut pairs = 0;
     while let Some(meshes) = lines.next() {
         let nearest = lines.next().ok_or("no answer")?;
         let low = lines.next().ok_or("no answer")?;
-        expect_lines(&rt, rt.alloc(), meshes, nearest, low)?;
+        expect_lines(rt, alloc, meshes, nearest, low)?;
         pairs += 1;
     }
-    assert_eq!(rt; pairs, 111);
+    Ok(pairs)
+}
+
+#[test]
+fn agrees_on_solids_and_on_loose_parts(rt: HostRuntime) -> Result<(), Fail> {
+    assert_eq!(rt; expect_table(&rt, rt.alloc(), SOLIDS)?, 100);
+    assert_eq!(rt; expect_table(&rt, rt.alloc(), LOOSE)?, 100);
+    Ok(())
+}
+
+// The numbers of what an operation gives.
+fn numbers_of(alloc: Global, all: &Outcome) -> Result<String, Fail> {
+    let [p, q] = all.prescribed.kept;
+    let (crossings, forced) = (all.prescribed.crossings, all.forced);
+    let (points, triangles) = (all.mesh.points().len(), all.mesh.triples().len());
+    let volume = volume6(&all.mesh)?;
+    Ok(format!(in alloc; "{p} {q} {crossings} {forced} {points} {triangles} {volume}")?)
+}
+
+// Compares the numbers of a pair with the end of its line.
+fn expect_numbers(rt: &impl Abort, alloc: Global, line: &str) -> Result<(), Fail> {
+    let mut words = line.split_whitespace();
+    let op = read_op(&mut words)?;
+    let p = read_mesh(alloc, &mut words)?;
+    let q = read_mesh(alloc, &mut words)?;
+    let outcome = rounded(alloc, op, &p, &q, Nearest, &Limits::program())?;
+    let numbers = numbers_of(alloc, &outcome)?;
+    assert!(rt; line.ends_with(numbers.as_str()), "{line}: {numbers}");
+    Ok(())
+}
+
+#[test]
+fn has_the_numbers_worked_out(rt: HostRuntime) -> Result<(), Fail> {
+    for line in WORKED.lines() {
+        expect_numbers(&rt, rt.alloc(), line)?;
+    }
+    Ok(())
+}
+
+// How many half-edges are too many where so many are the limit, if any are, for a pin through a cube.
+fn too_many(alloc: Global, halfedges: u32) -> Result<Option<u64>, Fail> {
+    let line = WORKED.lines().nth(7).ok_or("no line")?;
+    let mut words = line.split_whitespace();
+    let op = read_op(&mut words)?;
+    let p = read_mesh(alloc, &mut words)?;
+    let q = read_mesh(alloc, &mut words)?;
+    let limits = Limits::of(13_090, 210, 140, halfedges).ok_or("no limits")?;
+    match rounded(alloc, op, &p, &q, Nearest, &limits) {
+        Ok(_) => Ok(None),
+        Err(PrescribeFault::TooLarge { seen }) => Ok(Some(seen)),
+        Err(PrescribeFault::NoMemory) => Err("no memory".into()),
+    }
+}
+
+#[test]
+fn half_edges_above_the_limit_are_too_many(rt: HostRuntime) -> Result<(), Fail> {
+    assert_eq!(rt; too_many(rt.alloc(), 83)?, Some(84));
+    assert_eq!(rt; too_many(rt.alloc(), 84)?, None);
     Ok(())
 }

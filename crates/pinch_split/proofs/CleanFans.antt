@@ -47,11 +47,11 @@ first_found (e ∷ es) v (suc h) below is = by (e.0 == v) refl (first_found es v
     by false n later = let on : first_at (e ∷ es) v ≡ suc (first_at es v) = ap (λ b. cond b 0 (suc (first_at es v))) n in record { least = omega (arith, on, later.least); starts = ap (start (e ∷ es)) on ∙ later.starts }
 
 -- a half-edge that starts at v
-abbrev HasHalf : List Triple → ℕ → Type 0
+abbrev pub HasHalf : List Triple → ℕ → Type 0
 HasHalf ts v = (h : ℕ) × (h < length (all_edges ts)) × (start (all_edges ts) h ≡ v)
 
 -- each used vertex has one
-used_half : (ts : List Triple) (v : ℕ) → is_used ts v ≡ true → HasHalf ts v
+pub used_half : (ts : List Triple) (v : ℕ) → is_used ts v ≡ true → HasHalf ts v
 used_half [] v used = absurd (false≢true used)
 used_half (t ∷ ts) v used = by (t.0 == v) (t.1 == v) (t.2 == v) refl refl refl used (λ later. used_half ts v later)
   where
@@ -133,7 +133,7 @@ vertex_fans points ts accepted clean = record {
     round f r = (r.steps, r.some, r.back)
 
 -- a triple has the starts of its half-edges
-triple_starts : (ts : List Triple) (i : ℕ) (d : Triple) → i < length ts → get_or ts i d ≡ (start (all_edges ts) (3 * i), start (all_edges ts) (3 * i + 1), start (all_edges ts) (3 * i + 2))
+pub triple_starts : (ts : List Triple) (i : ℕ) (d : Triple) → i < length ts → get_or ts i d ≡ (start (all_edges ts) (3 * i), start (all_edges ts) (3 * i + 1), start (all_edges ts) (3 * i + 2))
 triple_starts [] i d low = absurd (omega (arith, low))
 triple_starts (t ∷ ts) zero d low = refl
 triple_starts (t ∷ ts) (suc i) d low =

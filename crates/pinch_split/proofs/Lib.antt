@@ -1,5 +1,6 @@
 mod Examples
 pub mod Anew
+pub mod Back
 pub mod Clean
 pub mod CleanFans
 pub mod Corners

@@ -1,5 +1,5 @@
 // A mesh with one vertex for each fan.
-ghost use Rattle.std.specs.Prelude.{◌≡◌, ◌≤◌, ◌*◌, IfOk, length};
+ghost use Rattle.std.specs.Prelude.{◌≡◌, ◌≤◌, ◌*◌, IfOk, length, map};
 ghost use Rattle.std.specs.List.{All};
 ghost use Rattle.chain_terms.specs.Chains.{all_edges, IsClosed};
 ghost use Rattle.chain_terms.specs.Sums.{upto};
@@ -8,6 +8,7 @@ ghost use Rattle.mesh_terms.specs.Limits.{most_triangles};
 ghost use Rattle.mesh_terms.specs.Meshes.{HasThree, IsAccepted, IsMesh, triples_of};
 ghost use Rattle.mesh_terms.specs.Twins.{twins_of};
 ghost use Rattle.halfedge.specs.Clean.{IsClean};
+ghost use Rattle.pinch_split.specs.Back.{ComeFrom, named_by};
 ghost use Rattle.pinch_split.specs.Split.{split_from, split_points, split_triples};
 ghost use Rattle.pinch_split.specs.Given.{corners, starts_of, points_of};
 
@@ -30,6 +31,8 @@ pub fn split(alloc: Global, points: &[Point], triples: &[[u32; 3]]) -> Result<Sp
     ensures points { IfOk result (λ s. s.mesh.points ≡ split_points points.now (triples_of triples.now)) }
     ensures triples { IfOk result (λ s. s.mesh.triples ≡ split_triples (length points.now) (triples_of triples.now)) }
     ensures from { IfOk result (λ s. s.from.items ≡ split_from (length points.now) (triples_of triples.now)) }
+    ensures there { IfOk result (λ s. ComeFrom s.mesh.points points.now s.from.items) }
+    ensures back { IfOk result (λ s. map (named_by s.from.items) s.mesh.triples ≡ triples_of triples.now) }
     ensures clean { IfOk result (λ s. IsClean (all_edges s.mesh.triples)) }
     ensures twins { IfOk result (λ s. twins_of s.mesh.triples ≡ twins_of (triples_of triples.now)) }
     ensures few { IfOk result (λ s. 2 * length s.mesh.points ≤ 3 * length s.mesh.triples) }
@@ -62,6 +65,8 @@ fn whole(alloc: Global, points: &[Point], twins: Twins) -> Result<Split, NoMemor
     ensures points { IfOk result (λ s. s.mesh.points ≡ points.now) }
     ensures triples { IfOk result (λ s. s.mesh.triples ≡ twins.triples) }
     ensures from { IfOk result (λ s. s.from.items ≡ upto (length points.now)) }
+    ensures there { IfOk result (λ s. ComeFrom s.mesh.points points.now s.from.items) }
+    ensures back { IfOk result (λ s. map (named_by s.from.items) s.mesh.triples ≡ twins.triples) }
 {
     let from = numbers(alloc, points.len())?;
     let points = points.to_vec(alloc)?;
@@ -78,6 +83,8 @@ fn split_by(alloc: Global, points: &[Point], twins: Twins, fans: Fans) -> Result
     ensures points { IfOk result (λ s. s.mesh.points ≡ points_of points.now (starts_of twins.triples fans.first.items)) }
     ensures triples { IfOk result (λ s. s.mesh.triples ≡ corners fans.of.items (length twins.triples)) }
     ensures from { IfOk result (λ s. s.from.items ≡ starts_of twins.triples fans.first.items) }
+    ensures there { IfOk result (λ s. ComeFrom s.mesh.points points.now s.from.items) }
+    ensures back { IfOk result (λ s. map (named_by s.from.items) s.mesh.triples ≡ twins.triples) }
     ensures few { IfOk result (λ s. 2 * length s.mesh.points ≤ 3 * length s.mesh.triples) }
 {
     let from = starts(alloc, twins.triples(), &fans.first)?;

@@ -1,10 +1,11 @@
-// The lines of the table: pairs of meshes, and what operations give.
+// The lines of the tables: pairs of meshes, and what operations give.
 ghost use Rattle.std.specs.Prelude.{◌≤◌, IfSome};
 
 use crate::Outcome;
 use mb_base::{Op, Origin, Point, Soup};
 use mesh_check::Mesh;
 use std::alloc::Global;
+use std::str::SplitWhitespace;
 use std::test::Fail;
 
 // A digit, or a letter from a for 10 on.
@@ -48,18 +49,19 @@ fn read_triples(alloc: Global, word: &str) -> Result<Vec<[u32; 3]>, Fail> {
     Ok(triples)
 }
 
-/// The mesh of a word of coordinates and one of triangles.
-pub fn read_mesh(alloc: Global, coordinates: &str, vertices: &str) -> Result<Mesh, Fail> {
-    let points = read_points(alloc, coordinates)?;
-    let triples = read_triples(alloc, vertices)?;
+/// The mesh of the next two words, of which the first has its coordinates and the second its triangles.
+pub fn read_mesh(alloc: Global, words: &mut SplitWhitespace) -> Result<Mesh, Fail> {
+    let points = read_points(alloc, words.next().ok_or("no points")?)?;
+    let triples = read_triples(alloc, words.next().ok_or("no triangles")?)?;
     if !Soup::fits(&points, &triples) {
         return Err("no soup".into());
     }
     Ok(Mesh::check(alloc, Soup::of(points, triples, 0))?)
 }
 
-/// The operation of a word.
-pub fn read_op(word: &str) -> Result<Op, Fail> {
+/// The operation of the next word.
+pub fn read_op(words: &mut SplitWhitespace) -> Result<Op, Fail> {
+    let word = words.next().ok_or("no operation")?;
     if word == "union" {
         return Ok(Op::Union);
     }
@@ -72,59 +74,77 @@ pub fn read_op(word: &str) -> Result<Op, Fail> {
     Err("no operation".into())
 }
 
-fn push_origin(alloc: Global, text: &mut String, origin: &Origin) -> Result<(), Fail> {
-    let word = match origin {
-        Origin::PVertex { vertex } => format!(in alloc; " p{vertex}")?,
-        Origin::QVertex { vertex } => format!(in alloc; " q{vertex}")?,
-        Origin::PEdge { edge, face } => format!(in alloc; " e{edge}.{face}")?,
-        Origin::QEdge { edge, face } => format!(in alloc; " f{edge}.{face}")?,
-    };
-    Ok(text.push_str(&word)?)
-}
+const DIGITS: &[u8; 61] = b"0123456789abcdefghijklmnopqrstuvwxyzABCDEFGHIJKLMNOPQRSTUVWXY";
 
-fn push_origins(alloc: Global, text: &mut String, origins: &[Origin]) -> Result<(), Fail> {
-    text.push_str(" |")?;
-    for origin in origins {
-        push_origin(alloc, text, origin)?;
+// A number below 61 is a digit, a small letter or a great one; a greater number is Z and then 61 less.
+fn push_number(text: &mut String, number: u64) -> Result<(), Fail> {
+    for _ in 0..number / 61 {
+        text.push('Z')?;
     }
-    Ok(())
+    Ok(text.push(char::from(DIGITS[(number % 61) as usize]))?)
 }
 
-fn push_points(alloc: Global, text: &mut String, points: &[Point]) -> Result<(), Fail> {
-    text.push_str(" |")?;
-    for point in points {
-        let [x, y, z] = point.at();
-        text.push_str(&format!(in alloc; " {x} {y} {z}")?)?;
-    }
-    Ok(())
-}
-
-fn push_triples(alloc: Global, text: &mut String, triples: &[[u32; 3]]) -> Result<(), Fail> {
-    text.push_str(" |")?;
-    for [a, b, c] in triples {
-        text.push_str(&format!(in alloc; " {a} {b} {c}")?)?;
-    }
-    Ok(())
-}
-
-fn push_numbers(alloc: Global, text: &mut String, numbers: &[u32]) -> Result<(), Fail> {
-    text.push_str(" |")?;
+fn push_numbers(text: &mut String, numbers: &[u32]) -> Result<(), Fail> {
     for number in numbers {
-        text.push_str(&format!(in alloc; " {number}")?)?;
+        push_number(text, u64::from(*number))?;
+    }
+    Ok(text.push('|')?)
+}
+
+fn push_origin(text: &mut String, kind: char, origin: &[u32]) -> Result<(), Fail> {
+    text.push(kind)?;
+    for number in origin {
+        push_number(text, u64::from(*number))?;
     }
     Ok(())
 }
 
-/// What an operation gives, as the table writes it.
+fn push_origins(text: &mut String, origins: &[Origin]) -> Result<(), Fail> {
+    for origin in origins {
+        match origin {
+            Origin::PVertex { vertex } => push_origin(text, 'p', &[*vertex])?,
+            Origin::QVertex { vertex } => push_origin(text, 'q', &[*vertex])?,
+            Origin::PEdge { edge, face } => push_origin(text, 'e', &[*edge, *face])?,
+            Origin::QEdge { edge, face } => push_origin(text, 'f', &[*edge, *face])?,
+        }
+    }
+    Ok(text.push('|')?)
+}
+
+fn push_points(text: &mut String, points: &[Point]) -> Result<(), Fail> {
+    for point in points {
+        for coordinate in point.at() {
+            push_number(text, u64::try_from(coordinate).map_err(|_| "below 0")?)?;
+        }
+    }
+    Ok(text.push('|')?)
+}
+
+fn push_triples(text: &mut String, triples: &[[u32; 3]]) -> Result<(), Fail> {
+    for [a, b, c] in triples {
+        push_number(text, u64::from(*a))?;
+        push_number(text, u64::from(*b))?;
+        push_number(text, u64::from(*c))?;
+    }
+    Ok(text.push('|')?)
+}
+
+/// What an operation gives, as the tables write it, with a bar after each part: the vertices kept of each mesh, the crossings,
+/// the half-edges and the forced triangles; where each prescribed vertex comes from, p a vertex of the first mesh, q of the
+/// second, e an edge of the first with a face, f of the second; the points of these; the points and the triangles of the
+/// result; the prescribed vertex of each point; and the source face of each triangle.
 pub fn text_of(alloc: Global, all: &Outcome) -> Result<String, Fail> {
+    let mut text = String::new(alloc);
     let [p, q] = all.prescribed.kept;
-    let (crossings, halfedges) = (all.prescribed.crossings, all.prescribed.halfedges);
-    let mut text = format!(in alloc; "{p} {q} {crossings} {halfedges} {}", all.forced)?;
-    push_origins(alloc, &mut text, &all.prescribed.origins)?;
-    push_points(alloc, &mut text, &all.prescribed.points)?;
-    push_points(alloc, &mut text, all.mesh.points())?;
-    push_triples(alloc, &mut text, all.mesh.triples())?;
-    push_numbers(alloc, &mut text, &all.from)?;
-    push_numbers(alloc, &mut text, &all.source)?;
+    for number in [p, q, all.prescribed.crossings, all.prescribed.halfedges, all.forced] {
+        push_number(&mut text, number)?;
+    }
+    text.push('|')?;
+    push_origins(&mut text, &all.prescribed.origins)?;
+    push_points(&mut text, &all.prescribed.points)?;
+    push_points(&mut text, all.mesh.points())?;
+    push_triples(&mut text, all.mesh.triples())?;
+    push_numbers(&mut text, &all.from)?;
+    push_numbers(&mut text, &all.source)?;
     Ok(text)
 }

@@ -1,13 +1,16 @@
-use Rattle.std.proofs.Common.{◌≡◌, ◌<◌, ◌*◌, ℕ, List, [], length, get_or, sym, ◌∙◌, ap, subst, arith}
+use Rattle.std.proofs.Common.{◌≡◌, ◌<◌, ◌*◌, ℕ, ℤ, List, [], length, get_or, map, refl, sym, ◌∙◌, ap, subst, arith}
 use Rattle.std.specs.List.{All}
 use Rattle.std.proofs.lemmas.List.{length-map}
 use Rattle.chain_terms.specs.Chains.{all_edges}
 use Rattle.chain_terms.specs.Ranks.{start}
-use Rattle.mesh_terms.specs.Meshes.{triple_of, triples_of, IsMesh}
+use Rattle.mesh_terms.specs.Meshes.{triple_of, triples_of, IsAccepted, IsMesh}
 use Rattle.mesh_terms.specs.Twins.{IsTwinned}
 use Rattle.halfedge.specs.Laws.{AreSingle}
 use Rattle.halfedge.proofs.Edges.{length-all_edges}
-use Rattle.pinch_split.specs.Given.{corners, starts_of}
+use Rattle.pinch_split.specs.Back.{ComeFrom, named_by}
+use Rattle.pinch_split.specs.Given.{corners, points_of, starts_of}
+use Rattle.pinch_split.proofs.Anew.{HasFans}
+use Rattle.pinch_split.proofs.Back.{fans_come_from, triples_back}
 use Rattle.pinch_split.proofs.Clean.{few_fans}
 use Rattle.pinch_split.proofs.Corners.{length-corners}
 use Rattle.pinch_split.proofs.Whole.{has_fans, firsts_below, starts_below, as_many_fans, twinned_anew, mesh_anew, single_anew}
@@ -82,3 +85,33 @@ returns-clause-few c =
     ap length (c.of_twins.ensures.triples ∙ c.in_ok-twins.ensures.triples ∙ triples_are c.in_ok-triples.triples.items c.triples-2.result.now of c.deref-3.result.now ts c.in_ok-triples.ensures c.triples-2.ensures.value c.deref-3.ensures.value)
     ∙ length-corners (λ h. get_or of h 0) (length ts) in
     omega (arith, points, triples, few_fans ts of first known, length-all_edges ts)
+
+-- the new vertices come from the old ones
+come_from : (made chosen points : List (List ℤ)) (read from : List ℕ) (ts : List (ℕ × ℕ × ℕ)) (of first : List ℕ) → IsAccepted (length points) ts → HasFans ts of first → made ≡ chosen → chosen ≡ points_of points read → read ≡ starts_of ts first → from ≡ starts_of ts first →
+    ComeFrom made points from
+come_from made chosen points read from ts of first accepted known is taken was same =
+    subst (λ l. ComeFrom l points from) (sym (is ∙ taken ∙ ap (points_of points) was)) (subst (ComeFrom (points_of points (starts_of ts first)) points) (sym same) (fans_come_from points ts of first accepted known))
+
+pub returns-clause-there : goal.returns-clause-there
+returns-clause-there c =
+    let ts = c.args.twins.triples in
+    let of = c.args.fans.of.items in
+    let first = c.args.fans.first.items in
+    let known = has_fans (length c.args.points.now) ts of first c.requires.accepted c.requires.fans in
+    come_from c.of_twins.result.points c.in_ok-points.points.items c.args.points.now c.deref-2.result.now c.in_ok-from.from.items ts of first c.requires.accepted known c.of_twins.ensures.points c.in_ok-points.ensures
+    (from_is c.in_ok-from.from.items c.deref-2.result.now first c.deref.result.now c.triples.result.now ts c.deref-2.ensures.value c.in_ok-from.ensures c.triples.ensures.value c.deref.ensures.value)
+    (from_is c.in_ok-from.from.items c.in_ok-from.from.items first c.deref.result.now c.triples.result.now ts refl c.in_ok-from.ensures c.triples.ensures.value c.deref.ensures.value)
+
+-- and put for them they give the triangles again
+back : (made : List (ℕ × ℕ × ℕ)) (from : List ℕ) (ts : List (ℕ × ℕ × ℕ)) (of first : List ℕ) → HasFans ts of first → made ≡ corners of (length ts) → from ≡ starts_of ts first → map (named_by from) made ≡ ts
+back made from ts of first known is same = (λ i. map (named_by (same i)) (is i)) ∙ triples_back ts of first known
+
+pub returns-clause-back : goal.returns-clause-back
+returns-clause-back c =
+    let ts = c.args.twins.triples in
+    let of = c.args.fans.of.items in
+    let first = c.args.fans.first.items in
+    let known = has_fans (length c.args.points.now) ts of first c.requires.accepted c.requires.fans in
+    back c.of_twins.result.triples c.in_ok-from.from.items ts of first known
+    (c.of_twins.ensures.triples ∙ c.in_ok-twins.ensures.triples ∙ triples_are c.in_ok-triples.triples.items c.triples-2.result.now of c.deref-3.result.now ts c.in_ok-triples.ensures c.triples-2.ensures.value c.deref-3.ensures.value)
+    (from_is c.in_ok-from.from.items c.in_ok-from.from.items first c.deref.result.now c.triples.result.now ts refl c.in_ok-from.ensures c.triples.ensures.value c.deref.ensures.value)

@@ -1,0 +1,5 @@
+pub mod Assembling
+pub mod Faces
+pub mod Finished
+pub mod Pairs
+pub mod Parts
