@@ -2,13 +2,13 @@
 ghost use Rattle.std.specs.Prelude.{◌≡◌, ◌≤◌, ◌<◌, ◌+◌, ◌^◌, ◌∷◌, [], ℕ, length, drop, map, false, IfSome, IsNone, Some};
 ghost use Rattle.std.specs.Option.{option_map};
 ghost use Rattle.mesh_terms.specs.Points.{IsOnGrid};
-ghost use Rattle.obj_terms.specs.Written.{is_obj};
 ghost use Rattle.play_terms.specs.Words.{command, copy_of, inside_of, digits_of, grid_operand, with_operand, with_digits, with_word};
 ghost use Rattle.command_words.specs.Commands.{HasFewDigits, IsNoCommand, Takes, Refuses, command_of, digits_in, given_by, given_in_all, given_with_digits, held};
 
 use arrayvec::ArrayVec;
 use grid_number::read_grid;
 use mb_base::{ArgList, Point};
+use mesh_names::is_mesh_name;
 
 /// The digits after the point of a file's numbers, where none are given.
 const DIGITS: u8 = 4;
@@ -149,14 +149,6 @@ fn read_words<'a>(words: &'a ArgList) -> Option<Given<'a>>
     Some(given)
 }
 
-// Whether a name ends with .obj, ASCII case ignored.
-fn is_obj_name(name: &[u8]) -> bool
-    ensures { result ≡ is_obj name.now }
-{
-    let start = name.len().saturating_sub(4);
-    name[start..].eq_ignore_ascii_case(b".obj")
-}
-
 // The copy with these operands.
 fn copy_with<'a>(digits: u8, operands: &[&'a str]) -> Option<Command<'a>>
     ensures command { option_map command_of result ≡ copy_of digits (map (λ w. w.now) operands.now) }
@@ -166,7 +158,7 @@ fn copy_with<'a>(digits: u8, operands: &[&'a str]) -> Option<Command<'a>>
         return None;
     }
     let (from, to) = (operands[0], operands[1]);
-    if !is_obj_name(from.as_bytes()) || !is_obj_name(to.as_bytes()) {
+    if !is_mesh_name(from.as_bytes()) || !is_mesh_name(to.as_bytes()) {
         return None;
     }
     Some(Command::CopyFile { digits, from, to })
@@ -190,7 +182,7 @@ fn inside_with<'a>(digits: u8, operands: &[&'a str]) -> Option<Command<'a>>
     if operands.len() != 4 {
         return None;
     }
-    if !is_obj_name(operands[0].as_bytes()) {
+    if !is_mesh_name(operands[0].as_bytes()) {
         return None;
     }
     let x = coordinate(operands[1], digits)?;
@@ -210,7 +202,7 @@ fn inside_with<'a>(digits: u8, operands: &[&'a str]) -> Option<Command<'a>>
 ///
 /// The first word is `copy` or `inside`. After it stand the operands and, at most once, `--digits K` or `--digits=K`, with K from 0 to 6; 4 where
 /// none is given. After the first `--` every word is an operand; before it an operand is `-` alone or does not begin with `-`. `copy` has two operands and
-/// `inside` four, where names end with `.obj`, ASCII case ignored, and the others are numbers whose values under the digits are on the grid.
+/// `inside` four, where names end with `.obj` or `.stl`, ASCII case ignored, and the others are numbers whose values under the digits are on the grid.
 pub fn read_command<'a>(words: &'a ArgList) -> Option<Command<'a>>
     ensures command { option_map command_of result ≡ command words.now }
     ensures few { IfSome result (λ command. digits_in command ≤ 6) }

@@ -54,7 +54,7 @@ fn is_inside_at(alloc: Global, words: &[&str], at: [i32; 3]) -> Result<bool, NoM
 
 #[test]
 fn other_words_are_no_command(rt: HostRuntime) -> Result<(), Fail> {
-    let others: [&[&str]; 12] = [
+    let others: [&[&str]; 13] = [
         &[],
         &["--help"],
         &["--version"],
@@ -62,7 +62,8 @@ fn other_words_are_no_command(rt: HostRuntime) -> Result<(), Fail> {
         &["--", "copy", "c.obj", "u.obj"],
         &["copy", "c.obj"],
         &["copy", "c.obj", "u.ply"],
-        &["copy", "c.obj", "u.stl"],
+        &["copy", "c.stl", "u.3mf"],
+        &["copy", "c.objstl", "u.obj"],
         &["copy", "c.obj", "u.obj", "v.obj"],
         &["copy", "c.obj", "u.obj", ""],
         &["copy", "-c.obj", "u.obj"],
@@ -70,6 +71,20 @@ fn other_words_are_no_command(rt: HostRuntime) -> Result<(), Fail> {
     ];
     for words in others {
         assert!(rt; is_no_command(rt.alloc(), words)?);
+    }
+    Ok(())
+}
+
+#[test]
+fn names_of_both_formats_are_taken(rt: HostRuntime) -> Result<(), Fail> {
+    let taken: [&[&str]; 4] = [
+        &["copy", "c.stl", "u.obj"],
+        &["copy", "c.OBJ", "u.sTl"],
+        &["copy", ".stl", "--", "-.STL"],
+        &["inside", "c.STL", "5", "4", "3"],
+    ];
+    for words in taken {
+        assert!(rt; !is_no_command(rt.alloc(), words)?);
     }
     Ok(())
 }

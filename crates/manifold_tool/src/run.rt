@@ -52,8 +52,9 @@ fn concluded<E: Sink>(ended: Result<(), Halt<'_>>, err: &mut E) -> Status
 /// it says the bytes where `out` tells them. With status 0 to 5 every action of the play was done whole, and the status and the
 /// line are those of the play's result; with 6 a file could not be read, with 7 a file or a line was written in part or not at
 /// all, and with 8 memory ran out between two actions. So where the files are told, a run whose play gives no refusal, and in which no
-/// fault came, ends with 0, or for want of memory. Whatever the files and however the run ended, each file that the play writes holds the text of a mesh, and the mesh is read of it
-/// under the same digits and limits; for a copy this mesh is the one that was read of IN, without its unused points.
+/// fault came, ends with 0, or for want of memory. Whatever the files and however the run ended, each file that the play writes holds the text of a mesh in the format of its name,
+/// and the mesh is read of its OBJ text under the same digits and limits; for a copy this mesh is the one that was read of IN, in either format, without its
+/// unused points. What is read of an STL text is not said: its points come in another order.
 ///
 /// The read faults of the shelf rise with status 6 alone, its write faults and the faults of `out` with 7 alone, and one of the two does. With
 /// 6 the read faults rose, or the shelf tells no files and a read into some space gave nothing below the size that was stated. The shelf

@@ -1,8 +1,6 @@
 -- That numbers of two sides give vertices which can be assembled, and what then is assembled.
-use Rattle.std.proofs.Common.{◌≡◌, ◌<◌, ◌≤◌, ◌+◌, ◌*◌, ◌∷◌, [], ℕ, ℤ, List, map, length, nat_abs, refl, sym, ◌∙◌, ap, subst, arith}
-use Rattle.std.specs.List.{All}
+use Rattle.std.proofs.Common.{◌≡◌, ◌≤◌, ◌∷◌, [], ℕ, List, map, length, sym, ◌∙◌, ap, subst, arith}
 use Rattle.std.proofs.lemmas.List.{length-map}
-use Rattle.std.proofs.lemmas.List.Elements.{All-weaker}
 use Rattle.mb_base.specs.declared.op.Op.{Op}
 use Rattle.mb_base.specs.declared.results.Hits.{Hits}
 use Rattle.mb_base.specs.declared.results.Windings.{Windings}
@@ -19,7 +17,6 @@ use Rattle.segment_laws.proofs.Named.{are_named}
 use Rattle.filling_terms.specs.Assembling.{CanBeAssembled}
 use Rattle.filling_terms.specs.Filled.{all_filled, all_triples, forced_of, sources_of}
 use Rattle.filling_laws.specs.Laws.{FacesAreFilled, FillingsAreAccepted, FillingsAreFew}
-use Rattle.source_faces.specs.Given.{AreGiven}
 use Rattle.source_faces.specs.declared.triangles.SourceTriangles.{SourceTriangles}
 use Rattle.mesh_boolean.specs.Assembly.{AreNumbers, IsAssembled}
 

@@ -1,6 +1,5 @@
 -- An operation on two closed meshes, as a total function of what its shadow tests answer.
-use Rattle.std.specs.Prelude.{ℕ, ◌+◌, ◌-◌, ℤ, List, [], ◌∷◌, Bool, false, map, length, replicate}
-use Rattle.chain_terms.specs.Chains.{all_edges}
+use Rattle.std.specs.Prelude.{ℕ, ℤ, List, [], ◌∷◌, false, map, length, replicate}
 use Rattle.mb_base.specs.declared.op.Op.{Op}
 use Rattle.mesh_terms.specs.Meshes.{Mesh, Triple}
 use Rattle.mesh_check.specs.Reduced.{reduced}
@@ -12,7 +11,6 @@ use Rattle.winding.specs.Windings.{winding, winding_back}
 use Rattle.assembly_terms.specs.Lists.{Copy}
 use Rattle.assembly_terms.specs.Prescribed.{Numbers, crossing_count, p_kept, prescribed, prescribed_halfedges, q_kept}
 use Rattle.pinch_split.specs.Split.{split_from, split_points, split_triples}
-use Rattle.ring_cutting.specs.Cuts.{Cut}
 use Rattle.filling_terms.specs.Filled.{all_filled, all_triples, forced_of, points_of_copies, sources_of}
 
 -- what an operation asks of its kernels: the tests of a vertex of P and a face of Q, of a face and a vertex, of an edge and a

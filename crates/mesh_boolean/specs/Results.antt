@@ -1,7 +1,7 @@
 -- What the result of an operation is: the prescribed vertices and numbers, where the vertices and the triangles of the mesh come
 -- from, that each source face's triangles are bounded by its segments, that the mesh is clean, and which triangles it has.
-use Rattle.std.specs.Prelude.{◌≡◌, ◌≢◌, ℕ, ◌<◌, ◌==◌, ℤ, List, [], ◌∷◌, map, length, get_or, filter}
-use Rattle.std.specs.List.{All, Contains, zip}
+use Rattle.std.specs.Prelude.{◌≡◌, ◌≢◌, ℕ, ◌<◌, ◌==◌, List, [], ◌∷◌, map, length, filter}
+use Rattle.std.specs.List.{All, zip}
 use Rattle.chain_terms.specs.Chains.{IsClosed, all_edges, boundary}
 use Rattle.chain_terms.specs.Ranks.{finish, start, twin}
 use Rattle.mesh_terms.specs.Meshes.{HasThree, Mesh, Triple}

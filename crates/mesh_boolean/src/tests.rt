@@ -93,12 +93,12 @@ fn expect_lines(
 // Compares what all pairs of a table give with it, and tells how many there are.
 fn expect_table(rt: &impl Abort, alloc: Global, table: &str) -> Result<u64, Fail> {
     let mut lines = table.lines();
-    let mut pairs = 0;
+    let mut pairs: u64 = 0;
     while let Some(meshes) = lines.next() {
         let nearest = lines.next().ok_or("no answer")?;
         let low = lines.next().ok_or("no answer")?;
         expect_lines(rt, alloc, meshes, nearest, low)?;
-        pairs += 1;
+        pairs = pairs.wrapping_add(1);
     }
     Ok(pairs)
 }

@@ -2,13 +2,12 @@
 use Rattle.std.proofs.Common.{◌≡◌, ℕ, List, [], false, Option, Result, Ok, Err, IsTrue, IfOk, IfErr, OnOk, ◌⊎◌, inl, inr, ap, sym, subst, refl, ◌∙◌, ℤ}
 use Rattle.mesh_terms.specs.Limits.{Limits}
 use Rattle.mesh_terms.specs.Meshes.{Triple}
-use Rattle.obj_terms.specs.Obj.{obj}
-use Rattle.obj_terms.specs.Written.{obj_text}
 use Rattle.run_terms.specs.Files.{Bytes, Files, Grew, put}
 use Rattle.run_terms.specs.Runs.{World, Write, Partial}
 use Rattle.run_terms.specs.Tasks.{Refusal, give}
 use Rattle.run_terms.specs.Meets.{Why, Unread, Unwritten, Starved, Seen, Meets}
 use Rattle.play_terms.specs.Commands.{ask_file, ask_mesh, bytes_in, checked, write_mesh}
+use Rattle.play_terms.specs.Formats.{mesh_soup, mesh_text}
 use Rattle.mb_outside.specs.Seen.{OnShelf, ShelfMeets, seen}
 use Rattle.mesh_files.specs.Stops.{ended_by, soup_with, why_of}
 use Rattle.mesh_files.specs.declared.reading.Read.{Read}
@@ -64,17 +63,17 @@ file_read value limits name before mid now (Err stop) same stays is meets = met_
 
 -- a mesh was read or not, after its file
 pub mesh_read : (k : ℕ) (limits : Limits) (name bytes : Bytes) (before now : OnShelf) (r : Result Read Stop)
-    → ShelfMeets (ask_file limits name) before now (Ok bytes) → ((now : Seen) → Meets (give (checked name (obj k limits bytes))) now now (ended_by soup_with name r))
+    → ShelfMeets (ask_file limits name) before now (Ok bytes) → ((now : Seen) → Meets (give (checked name (mesh_soup k limits name bytes))) now now (ended_by soup_with name r))
     → ShelfMeets (ask_mesh k limits name) before now (ended_by soup_with name r)
 mesh_read k limits name bytes before now r file mesh told outs =
-    meets_then (ask_file limits name) (λ bytes. give (checked name (obj k limits bytes))) bytes (ended_by soup_with name r) (seen before told outs) (seen now told outs) (seen now told outs)
+    meets_then (ask_file limits name) (λ bytes. give (checked name (mesh_soup k limits name bytes))) bytes (ended_by soup_with name r) (seen before told outs) (seen now told outs) (seen now told outs)
     (file told outs) (mesh (seen now told outs))
 
 -- a mesh was not read, since its file was not
 pub mesh_unread : (k : ℕ) (limits : Limits) (name : Bytes) (before now : OnShelf) (stop : Stop)
     → ShelfMeets (ask_file limits name) before now (Err (why_of name stop)) → ShelfMeets (ask_mesh k limits name) before now (Err (why_of name stop))
 mesh_unread k limits name before now stop file told outs =
-    meets_stop (ask_file limits name) (λ bytes. give (checked name (obj k limits bytes))) (why_of name stop) (seen before told outs) (seen now told outs) (file told outs)
+    meets_stop (ask_file limits name) (λ bytes. give (checked name (mesh_soup k limits name bytes))) (why_of name stop) (seen before told outs) (seen now told outs) (file told outs)
 
 -- a file that was saved in part left a part of the writing
 saved_in_part : (name text : Bytes) (fw fv : Files) (told : Option Bytes) → IsSavedInPart name text fw fv
@@ -85,10 +84,10 @@ saved_in_part name text fw fv told (inr part) = inr (part.0, part.1, rw part.2 r
 -- the file could not be written
 pub unwritten : (k : ℕ) (name : Bytes) (points : List (List ℤ)) (triples : List Triple) (before now : OnShelf)
     → now.tells ≡ before.tells → now.read ≡ before.read → now.short ≡ before.short → Grew before.write now.write
-    → (IsTrue before.tells → IsSavedInPart name (obj_text k points triples) before.files now.files)
+    → (IsTrue before.tells → IsSavedInPart name (mesh_text k name points triples) before.files now.files)
     → ShelfMeets (write_mesh k name points triples) before now (Err (Unwritten name))
 unwritten k name points triples before now tells read short grew part told outs =
-    let text = obj_text k points triples in
+    let text = mesh_text k name points triples in
     record {
       tells = tells;
       faults = (grew, read, short, refl);
@@ -98,7 +97,7 @@ unwritten k name points triples before now tells read short grew part told outs 
 -- the file was written
 pub written_whole : (k : ℕ) (name : Bytes) (points : List (List ℤ)) (triples : List Triple) (before now : OnShelf)
     → now.tells ≡ before.tells → now.read ≡ before.read → now.short ≡ before.short → now.write ≡ before.write
-    → (IsTrue before.tells → now.files ≡ put name (obj_text k points triples) before.files)
+    → (IsTrue before.tells → now.files ≡ put name (mesh_text k name points triples) before.files)
     → ShelfMeets (write_mesh k name points triples) before now (Ok tt)
 written_whole k name points triples before now tells read short write files told outs =
     record {

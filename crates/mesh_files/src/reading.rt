@@ -4,18 +4,21 @@ ghost use Rattle.mesh_terms.specs.Limits.{IsLawful};
 ghost use Rattle.run_terms.specs.Files.{Bytes, text_of, Counts, CountsShort, IsShort, Grew};
 ghost use Rattle.run_terms.specs.Meets.{Seen, Meets};
 ghost use Rattle.run_terms.specs.Tasks.{give};
-ghost use Rattle.obj_terms.specs.Obj.{obj};
 ghost use Rattle.play_terms.specs.Commands.{ask_file, ask_mesh, checked};
+ghost use Rattle.play_terms.specs.Formats.{mesh_soup};
 ghost use Rattle.mb_outside.specs.Seen.{MeetsOnShelf, on_shelf};
+ghost use Rattle.text_lines.specs.Faults.{IsFaultOf};
 ghost use Rattle.mesh_files.specs.Pieces.{ReadsOn, IsSized};
 ghost use Rattle.mesh_files.specs.Stops.{ended_by, is_reading_stop, soup_with, why_of};
 
 use crate::stop::Stop;
-use mb_base::{Counted, Limits};
+use mb_base::{Counted, Limits, Soup, TextFault};
 use mb_outside::{Failed, Shelf};
 use mesh_check::Mesh;
+use mesh_names::is_stl_name;
 use obj_text::read_obj;
 use std::alloc::Global;
+use stl_text::read_stl;
 
 /// How many bytes one read asks for at most.
 const PIECE: usize = 65_536;
@@ -136,20 +139,45 @@ pub fn read_file<S: Shelf>(
     read_to(alloc, name, limits, size, shelf)
 }
 
-// The mesh of a text.
-fn mesh_of_text(alloc: Global, bytes: &[u8], digits: u8, limits: &Limits) -> Result<Read, Stop>
+// The points and triangles of a text, in the format of its file's name.
+fn soup_of_text(
+    alloc: Global,
+    name: &str,
+    bytes: &[u8],
+    digits: u8,
+    limits: &Limits,
+) -> Result<Soup, TextFault>
     requires { digits ≤ 6 }
-    ensures meets { (name : Bytes) (now : Seen) → Meets (give (checked name (obj digits limits.now bytes.now))) now now (ended_by soup_with name result) }
+    ensures soup { IfOk result (λ soup. mesh_soup digits limits.now name.now bytes.now ≡ Ok soup) }
+    ensures fault { IfErr result (IsFaultOf (mesh_soup digits limits.now name.now bytes.now)) }
+{
+    if is_stl_name(name.as_bytes()) {
+        read_stl(alloc, bytes, digits, limits)
+    } else {
+        read_obj(alloc, bytes, digits, limits)
+    }
+}
+
+// The mesh of a text.
+fn mesh_of_text(
+    alloc: Global,
+    name: &str,
+    bytes: &[u8],
+    digits: u8,
+    limits: &Limits,
+) -> Result<Read, Stop>
+    requires { digits ≤ 6 }
+    ensures meets { (now : Seen) → Meets (give (checked name.now (mesh_soup digits limits.now name.now bytes.now))) now now (ended_by soup_with name.now result) }
     ensures stop { IfErr result (λ stop. IsTrue (is_reading_stop stop)) }
 {
-    let soup = read_obj(alloc, bytes, digits, limits)?;
+    let soup = soup_of_text(alloc, name, bytes, digits, limits)?;
     let unused = soup.unused();
     let mesh = Mesh::check(alloc, soup)?;
     Ok(Read { mesh, unused })
 }
 
 /// Reads a mesh from a file of a shelf, where a unit has `digits` decimal digits on the grid: the file, as `read_file` does, then
-/// its text, and then whether the mesh is closed. After the stops of `read_file` come those of the text, first line first: a line that is
+/// its text, which is ASCII STL where the name ends with `.stl`, ASCII case ignored, and else OBJ, and then whether the mesh is closed. After the stops of `read_file` come those of the text, first line first: a line that is
 /// wrong, or a count of points or triangles past its limit; and then the least edge without its reverse. Where a read gave nothing
 /// below the size that was stated, the shelf's count of such reads rises, but where it stands at 2^64 - 1, its last value, it stays. It
 /// takes memory for the file's bytes and the mesh.
@@ -168,5 +196,5 @@ pub fn read_mesh<S: Shelf>(
     ensures spare { S.spare shelf.new ≡ S.spare shelf.old }
 {
     let bytes = read_file(alloc, name, limits, shelf)?;
-    mesh_of_text(alloc, &bytes, digits, limits)
+    mesh_of_text(alloc, name, &bytes, digits, limits)
 }

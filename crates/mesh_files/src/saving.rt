@@ -1,37 +1,60 @@
 // Saving a mesh to a shelf.
-ghost use Rattle.std.specs.Prelude.{◌≡◌, ◌≤◌, Some, [], IsTrue, IsOk, OnErr, OnOk, IfErr};
-ghost use Rattle.obj_terms.specs.Written.{obj_text};
+ghost use Rattle.std.specs.Prelude.{◌≡◌, ◌≤◌, ◌++◌, ℕ, Some, [], length, IsTrue, IsOk, OnErr, OnOk, IfErr};
+ghost use Rattle.std.specs.Option.{option_map};
 ghost use Rattle.run_terms.specs.Files.{Counts};
 ghost use Rattle.run_terms.specs.Meets.{Meets};
 ghost use Rattle.play_terms.specs.Commands.{write_mesh};
+ghost use Rattle.play_terms.specs.Formats.{mesh_text};
 ghost use Rattle.mb_outside.specs.Seen.{MeetsOnShelf};
+ghost use Rattle.mb_outside.specs.Sinks.{AddsPart};
 ghost use Rattle.mesh_writer.specs.Pages.{without};
 ghost use Rattle.mesh_files.specs.Pieces.{HasRoom, HoldsPart};
 ghost use Rattle.mesh_files.specs.Stops.{saved};
 
 use crate::stop::Stop;
-use mb_outside::{Failed, Shelf};
+use mb_outside::{Failed, Shelf, Sink};
 use mesh_check::Mesh;
-use mesh_writer::{PageSink, write_obj};
+use mesh_names::is_stl_name;
+use mesh_writer::{PageSink, write_obj, write_stl};
+
+// Writes the text of a mesh for a file of this name.
+fn write_text<K: Sink>(mesh: &Mesh, name: &str, digits: u8, sink: &mut K) -> Result<(), Failed>
+    requires { digits ≤ 6 }
+    ensures added { OnOk result (K.told sink.new ≡ option_map (λ held. held ++ mesh_text digits name.now mesh.now.points mesh.now.triples) (K.told sink.old)) }
+    ensures part { OnErr result (AddsPart (mesh_text digits name.now mesh.now.points mesh.now.triples) (K.told sink.old) (K.told sink.new)) }
+    ensures count { Counts (K.faults sink.old) (K.faults sink.new) result }
+    ensures other { K.other sink.new ≡ K.other sink.old }
+    ensures second { K.second sink.new ≡ K.second sink.old }
+    ensures rest { K.rest sink.new ≡ K.rest sink.old }
+    ensures loan { K.loan sink.new ≡ K.loan sink.old }
+    ensures sure { (free : ℕ) → K.room sink.old ≡ Some free → length (mesh_text digits name.now mesh.now.points mesh.now.triples) ≤ free → IsOk result }
+{
+    if is_stl_name(name.as_bytes()) {
+        write_stl(mesh, digits, sink)
+    } else {
+        write_obj(mesh, digits, sink)
+    }
+}
 
 // Appends the text of a mesh to a file that is there.
 fn append_text<S: Shelf>(mesh: &Mesh, name: &str, digits: u8, shelf: &mut S) -> Result<(), Failed>
     requires digits { digits ≤ 6 }
     requires empty { IsTrue (S.tells shelf.old) → S.files shelf.old name.now ≡ Some [] }
-    ensures text { OnOk result (IsTrue (S.tells shelf.old) → S.files shelf.new name.now ≡ Some (obj_text digits mesh.now.points mesh.now.triples)) }
-    ensures part { OnErr result (IsTrue (S.tells shelf.old) → HoldsPart (S.files shelf.new name.now) (obj_text digits mesh.now.points mesh.now.triples)) }
+    ensures text { OnOk result (IsTrue (S.tells shelf.old) → S.files shelf.new name.now ≡ Some (mesh_text digits name.now mesh.now.points mesh.now.triples)) }
+    ensures part { OnErr result (IsTrue (S.tells shelf.old) → HoldsPart (S.files shelf.new name.now) (mesh_text digits name.now mesh.now.points mesh.now.triples)) }
     ensures others { IsTrue (S.tells shelf.old) → without name.now (S.files shelf.new) ≡ without name.now (S.files shelf.old) }
     ensures writes { Counts (S.write_faults shelf.old) (S.write_faults shelf.new) result }
     ensures reads { S.read_faults shelf.new ≡ S.read_faults shelf.old }
     ensures short { S.short_reads shelf.new ≡ S.short_reads shelf.old }
     ensures told { S.tells shelf.new ≡ S.tells shelf.old }
-    ensures sure { HasRoom (S.spare shelf.old) name.now (obj_text digits mesh.now.points mesh.now.triples) → IsOk result }
+    ensures sure { HasRoom (S.spare shelf.old) name.now (mesh_text digits name.now mesh.now.points mesh.now.triples) → IsOk result }
 {
     let mut sink = PageSink::of(shelf, name);
-    write_obj(mesh, digits, &mut sink)
+    write_text(mesh, name, digits, &mut sink)
 }
 
-/// Saves a mesh as the OBJ text of a file of a shelf, where a unit has `digits` decimal digits on the grid.
+/// Saves a mesh as the text of a file of a shelf, where a unit has `digits` decimal digits on the grid: as ASCII STL where the name
+/// ends with `.stl`, ASCII case ignored, and else as OBJ.
 ///
 /// The only stop is `WriteFault`, which comes only where the shelf's count of write faults rose. The file then holds a first part
 /// of its text, or what it held. No other file changes. Where the shelf's spare is this file's and the text fits its
@@ -40,7 +63,7 @@ pub fn save_mesh<S: Shelf>(mesh: &Mesh, name: &str, digits: u8, shelf: &mut S) -
     requires { digits ≤ 6 }
     ensures meets { MeetsOnShelf S.Shelf (write_mesh digits name.now mesh.now.points mesh.now.triples) shelf.old shelf.new (saved name.now result) }
     ensures stop { IfErr result (λ stop. stop ≡ Stop.WriteFault) }
-    ensures sure { HasRoom (S.spare shelf.old) name.now (obj_text digits mesh.now.points mesh.now.triples) → IsOk result }
+    ensures sure { HasRoom (S.spare shelf.old) name.now (mesh_text digits name.now mesh.now.points mesh.now.triples) → IsOk result }
 {
     let Ok(()) = shelf.begin(name) else {
         return Err(Stop::WriteFault);

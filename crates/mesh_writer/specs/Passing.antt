@@ -1,7 +1,7 @@
 -- A text on its way to a sink by a page that holds the last of it.
 use Rattle.std.specs.Prelude.{◌≡◌, ℕ, ◌+◌, ◌-◌, ◌≤◌, ◌++◌, length, Option, Some}
 use Rattle.std.specs.Option.{option_map}
-use Rattle.run_terms.specs.Files.{Bytes}
+use Rattle.run_terms.specs.Files.{Bytes, Rose}
 use Rattle.mb_outside.specs.Sinks.{AddsPart}
 use Rattle.mb_outside.specs.declared.sink.Sink.{Ghosts as OfSink}
 
@@ -24,3 +24,23 @@ PassedOn k text held sink = Passed text held.0 held.1 (k.told sink.0) (k.told si
 -- the second, of what a page held, and of a sink of any type before and now
 abbrev pub StoppedOn : {K : Type 0} → OfSink K → Bytes → Bytes → K × K → Type 0
 StoppedOn k text held sink = Stopped text held (k.told sink.0) (k.told sink.1) (k.room sink.0)
+
+-- a sink is as it was, but for the bytes that it took, its room and its count of faults
+pub record Kept {K : Type 0} (k : OfSink K) (old new : K) : Type 0 where
+  pub other : k.other new ≡ k.other old
+  pub second : k.second new ≡ k.second old
+  pub rest : k.rest new ≡ k.rest old
+  pub loan : k.loan new ≡ k.loan old
+
+-- the text passed by a page, of what it held before and holds now, to a sink, before and now
+pub record Wrote {K : Type 0} (k : OfSink K) (text : Bytes) (held : Bytes × Bytes) (sink : K × K) : Type 0 where
+  pub passed : PassedOn k text held sink
+  pub count : k.faults sink.1 ≡ k.faults sink.0
+  pub kept : Kept k sink.0 sink.1
+
+-- the sink failed after a first part of what the page held and of the text
+pub record Broke {K : Type 0} (k : OfSink K) (text held : Bytes) (sink : K × K) : Type 0 where
+  pub stopped : StoppedOn k text held sink
+  pub later : k.faults sink.0 ≤ k.faults sink.1
+  pub rose : Rose (k.faults sink.0) (k.faults sink.1)
+  pub kept : Kept k sink.0 sink.1

@@ -5,9 +5,11 @@ mod lines;
 mod obj;
 mod page;
 mod page_sink;
+mod stl;
 
 pub use obj::write_obj;
 pub use page_sink::PageSink;
+pub use stl::write_stl;
 
 #[cfg(test)]
 mod tests;

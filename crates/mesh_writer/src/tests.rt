@@ -1,7 +1,7 @@
 // The text of a mesh, through a sink and through a file of a shelf.
 ghost use Rattle.std.specs.Prelude.{◌≤◌};
 
-use crate::{PageSink, write_obj};
+use crate::{PageSink, write_obj, write_stl};
 use mb_base::{NoMemory, Point, Soup};
 use mb_outside::{MemoryShelf, MemorySink, Shelf};
 use mesh_check::Mesh;
@@ -10,6 +10,9 @@ use std::test::Fail;
 
 const TEXT: &[u8] =
     b"v 0 0 0\nv 1.5 0 0\nv 0 -0.0001 0\nv 0 0 107374.1824\nf 1 3 2\nf 1 2 4\nf 2 3 4\nf 3 1 4\n";
+
+const SOLID: &[u8] =
+    b"solid manifold\nfacet normal 0 0 0\nouter loop\nvertex 0 0 0\nvertex 0 -0.0001 0\nvertex 1.5 0 0\nendloop\nendfacet\nfacet normal 0 0 0\nouter loop\nvertex 0 0 0\nvertex 1.5 0 0\nvertex 0 0 107374.1824\nendloop\nendfacet\nfacet normal 0 0 0\nouter loop\nvertex 1.5 0 0\nvertex 0 -0.0001 0\nvertex 0 0 107374.1824\nendloop\nendfacet\nfacet normal 0 0 0\nouter loop\nvertex 0 -0.0001 0\nvertex 0 0 0\nvertex 0 0 107374.1824\nendloop\nendfacet\nendsolid manifold\n";
 
 // A tetrahedron with coordinates that have digits after the point.
 fn tetrahedron(alloc: Global) -> Result<Option<Mesh>, NoMemory> {
@@ -40,6 +43,20 @@ fn the_text_goes_to_a_sink_and_to_a_file(rt: HostRuntime) -> Result<(), Fail> {
     assert!(rt; shelf.begin("t.obj").is_ok());
     assert!(rt; write_obj(&mesh, 4, &mut PageSink::of(&mut shelf, "t.obj")).is_ok());
     assert!(rt; shelf.get("t.obj") == Some(TEXT));
+    Ok(())
+}
+
+#[test]
+fn the_solid_goes_to_a_sink_and_to_a_file(rt: HostRuntime) -> Result<(), Fail> {
+    let alloc = rt.alloc();
+    let mesh = tetrahedron(alloc)?.ok_or("the tetrahedron is closed")?;
+    let mut sink = MemorySink::of(alloc, 1000, 7, Vec::new(alloc))?;
+    assert!(rt; write_stl(&mesh, 4, &mut sink).is_ok());
+    assert!(rt; sink.bytes() == SOLID);
+    let mut shelf = MemoryShelf::of(alloc, 1, 1000, 1000, Vec::new(alloc))?;
+    assert!(rt; shelf.begin("t.stl").is_ok());
+    assert!(rt; write_stl(&mesh, 4, &mut PageSink::of(&mut shelf, "t.stl")).is_ok());
+    assert!(rt; shelf.get("t.stl") == Some(SOLID));
     Ok(())
 }
 
@@ -89,5 +106,16 @@ fn a_page_goes_out_where_fewer_than_128_bytes_are_free(rt: HostRuntime) -> Resul
 fn a_text_that_fits_a_page_goes_out_in_one_write(rt: HostRuntime) -> Result<(), Fail> {
     let mesh = tetrahedron(rt.alloc())?.ok_or("the tetrahedron is closed")?;
     assert!(rt; taken_at_once(rt.alloc(), &mesh, 4)?.is_none());
+    Ok(())
+}
+
+#[test]
+fn a_page_of_a_solid_goes_out_after_a_line(rt: HostRuntime) -> Result<(), Fail> {
+    let mesh = flat_triangles(rt.alloc(), 0)?.ok_or("each triangle has its reverse")?;
+    let fails = vec![in rt.alloc(); 2]?;
+    let mut sink = MemorySink::of(rt.alloc(), 10_000, 10_000, fails)?;
+    // With so many bytes fewer than 128 are free for the first time after a line.
+    assert!(rt; write_stl(&mesh, 0, &mut sink).is_err());
+    assert!(rt; sink.bytes().len() == 3975);
     Ok(())
 }

@@ -6,6 +6,7 @@ use Rattle.std.proofs.lemmas.Int.{ints}
 use Rattle.std.proofs.lemmas.Bool.Decides.{nat_tests}
 use Rattle.std.proofs.lemmas.List.Elements.{All-append, All-nil, All-cons, All-head, All-tail}
 use Rattle.text_terms.specs.Lines.{joined_lines, without_mark}
+use Rattle.text_terms.specs.Coordinates.{on_grid, coordinate}
 use Rattle.text_terms.specs.Numbers.{grid_number, is_on_grid, cut_at}
 use Rattle.mesh_terms.specs.Faults.{Fault, Points, Triangles, Bad, Over}
 use Rattle.mesh_terms.specs.Limits.{Limits, IsLawful}
@@ -14,9 +15,9 @@ use Rattle.mesh_terms.specs.Meshes.{Triple, Soup, HasThree, IsBelow, soup_of, is
 use Rattle.mesh_terms.specs.Points.{IsOnGrid, IsPoint}
 use Rattle.unused_points.specs.Used.{IsSound}
 use Rattle.unused_points.proofs.KeptMesh.{kept_mesh, few_kept}
-use Rattle.obj_terms.specs.FirstFault.{then_read, put_read, each_read, on_line}
+use Rattle.text_terms.specs.FirstFault.{then_read, put_read, each_read, on_line}
 use Rattle.obj_terms.specs.Faces.{is_slash, whole_number, item_tail, named_vertex, item_vertex, face_fan, has_repeat}
-use Rattle.obj_terms.specs.Obj.{Gathered, nothing_gathered, with_point, with_triples, on_grid, coordinate, point_coordinates, obj_point, face_vertices, obj_triples, obj_face, passed_over, obj_line, obj_lines, word_lines, obj}
+use Rattle.obj_terms.specs.Obj.{Gathered, nothing_gathered, with_point, with_triples, point_coordinates, obj_point, face_vertices, obj_triples, obj_face, passed_over, obj_line, obj_lines, word_lines, obj}
 use Rattle.obj_terms.proofs.Fans.{face_three, face_below}
 use Rattle.obj_laws.specs.Within.{IsWithin}
 
@@ -29,17 +30,17 @@ pub record IsKept (limits : Limits) (s : Gathered) : Type 0 where
   pub few_triples : length s.triples ≤ limits.triangles
 
 -- what went on had something to go on with
-then_read-ok : {A B : Type 0} (r : Result A Fault) (go : A → Result B Fault) (b : B) → then_read r go ≡ Ok b → (a : A) × (r ≡ Ok a) × (go a ≡ Ok b)
+pub then_read-ok : {A B : Type 0} (r : Result A Fault) (go : A → Result B Fault) (b : B) → then_read r go ≡ Ok b → (a : A) × (r ≡ Ok a) × (go a ≡ Ok b)
 then_read-ok (Err e) go b h = absurd (cc)
 then_read-ok (Ok a) go b h = (a, refl, h)
 
 -- a line without a fault
-on_line-ok : {A : Type 0} (n : ℕ) (r : Result A ℕ) (a : A) → on_line n r ≡ Ok a → r ≡ Ok a
+pub on_line-ok : {A : Type 0} (n : ℕ) (r : Result A ℕ) (a : A) → on_line n r ≡ Ok a → r ≡ Ok a
 on_line-ok n (Err kind) a h = absurd (cc)
 on_line-ok n (Ok b) a h = cc
 
 -- a fault that was not found
-unless_ok : {A : Type 0} (b : Bool) (r : Result A Fault) (e : Fault) (a : A) → (if b then Err e else r) ≡ Ok a → (b ≡ false) × (r ≡ Ok a)
+pub unless_ok : {A : Type 0} (b : Bool) (r : Result A Fault) (e : Fault) (a : A) → (if b then Err e else r) ≡ Ok a → (b ≡ false) × (r ≡ Ok a)
 unless_ok true r e a h = absurd (cc)
 unless_ok false r e a h = (refl, h)
 
@@ -68,11 +69,11 @@ on_grid-ok (Some y) z h = by_test (is_on_grid y) 4 refl h where
       subst IsOnGrid same (omega (arith, ints, small))
   by_test false kind e g = absurd (cc)
 
-coordinate-ok : (k : ℕ) (word : List ℕ) (z : ℤ) → coordinate k word ≡ Ok z → IsOnGrid z
+pub coordinate-ok : (k : ℕ) (word : List ℕ) (z : ℤ) → coordinate k word ≡ Ok z → IsOnGrid z
 coordinate-ok k word z h = on_grid-ok (grid_number k word) z h
 
 -- three coordinates on the grid are a point
-point_of : (p : List ℤ) → length p ≡ 3 → All IsOnGrid p → IsPoint p
+pub point_of : (p : List ℤ) → length p ≡ 3 → All IsOnGrid p → IsPoint p
 point_of p three each = record { three = three; x = each 0 (pos 0) (omega (arith, three)); y = each 1 (pos 0) (omega (arith, three)); z = each 2 (pos 0) (omega (arith, three)) }
 
 -- what is read as an item is a vertex of the points so far
@@ -91,7 +92,7 @@ item_vertex-ok count word v h = by_test (item_tail (cut_at is_slash word).1) 5 h
   by_test false kind g = absurd (cc)
 
 -- with more points the vertices are still below
-below_more : (m n : ℕ) (ts : List Triple) → m ≤ n → All (IsBelow m) ts → All (IsBelow n) ts
+pub below_more : (m n : ℕ) (ts : List Triple) → m ≤ n → All (IsBelow m) ts → All (IsBelow n) ts
 below_more m n ts more all i d inside =
     let b = all i d inside in
     record { a = omega (arith, b.a); b = omega (arith, b.b); c = omega (arith, b.c) }
@@ -160,7 +161,7 @@ kept_start : (limits : Limits) → IsKept limits nothing_gathered
 kept_start limits = record { points = All-nil IsPoint; three = All-nil HasThree; below = All-nil (IsBelow 0); few_points = omega arith; few_triples = omega arith }
 
 -- the used points of a list are points of it
-used_from-all : (P : List ℤ → Type 0) (ts : List Triple) (v : ℕ) (points : List (List ℤ)) → All P points → All P (used_from ts v points)
+pub used_from-all : (P : List ℤ → Type 0) (ts : List Triple) (v : ℕ) (points : List (List ℤ)) → All P points → All P (used_from ts v points)
 used_from-all P ts v [] all = All-nil P
 used_from-all P ts v (p ∷ ps) all = by_test (is_used ts v) (used_from-all P ts (suc v) ps (All-tail P p ps all)) where
   by_test : (b : Bool) → All P (used_from ts (suc v) ps) → All P (cond b (p ∷ []) [] ++ used_from ts (suc v) ps)

@@ -7,10 +7,11 @@ use Rattle.mesh_terms.specs.Faults.{Points, Triangles, Bad, Over}
 use Rattle.mesh_terms.specs.Limits.{Limits}
 use Rattle.mesh_terms.specs.Meshes.{Triple, HasThree, IsBelow}
 use Rattle.mesh_terms.specs.Points.{coordinate_of, IsPoint}
-use Rattle.obj_terms.specs.FirstFault.{then_read, put_read, each_read, on_line}
+use Rattle.text_terms.specs.FirstFault.{then_read, put_read, each_read, on_line}
 use Rattle.obj_terms.specs.Faces.{item_vertex, face_fan, has_repeat}
-use Rattle.obj_terms.specs.Obj.{Gathered, with_point, with_triples, coordinate, obj_triples, obj_line}
-use Rattle.obj_terms.specs.Written.{three_numbers}
+use Rattle.obj_terms.specs.Obj.{Gathered, with_point, with_triples, obj_triples, obj_line}
+use Rattle.text_terms.specs.Coordinates.{coordinate}
+use Rattle.text_terms.specs.Written.{three_numbers}
 use Rattle.obj_laws.proofs.Bytes.{Above, Above-lower}
 use Rattle.obj_laws.proofs.Words.{spaced, words_of-spaced, Above-spaced}
 use Rattle.obj_laws.proofs.Plain.{IsPlain, IsPlain-letter, last_is-word}

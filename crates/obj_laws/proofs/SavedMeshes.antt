@@ -8,9 +8,10 @@ use Rattle.mesh_terms.specs.Faults.{Fault}
 use Rattle.mesh_terms.specs.Limits.{Limits, IsLawful}
 use Rattle.mesh_terms.specs.Meshes.{Triple, Soup, HasThree, IsBelow, soup_of}
 use Rattle.mesh_terms.specs.Points.{coordinate_of, IsPoint}
-use Rattle.obj_terms.specs.FirstFault.{then_read}
+use Rattle.text_terms.specs.FirstFault.{then_read}
 use Rattle.obj_terms.specs.Obj.{Gathered, nothing_gathered, obj_line, obj_lines, word_lines, obj}
-use Rattle.obj_terms.specs.Written.{line_of, point_line, face_line, obj_text}
+use Rattle.text_terms.specs.Written.{line_of}
+use Rattle.obj_terms.specs.Written.{point_line, face_line, obj_text}
 use Rattle.obj_laws.specs.Within.{IsWithin}
 use Rattle.obj_laws.specs.ReadingBack.{ReadsBack}
 use Rattle.obj_laws.proofs.Lines.{lines_of-each}

@@ -7,7 +7,7 @@ use Rattle.text_terms.specs.Numbers.{is_digit, all_digits, is_on_grid}
 use Rattle.text_terms.specs.Written.{written}
 use Rattle.mesh_terms.specs.Points.{IsOnGrid}
 use Rattle.obj_terms.specs.Faces.{is_slash, whole_number, item_tail, named_vertex, item_vertex}
-use Rattle.obj_terms.specs.Obj.{on_grid, coordinate}
+use Rattle.text_terms.specs.Coordinates.{on_grid, coordinate}
 use Rattle.grid_number.proofs.Bytes.{AreNumberBytes-written, length-written}
 use Rattle.grid_number.proofs.Cuts.{cut_at-only_digits}
 use Rattle.grid_number.proofs.ReadBack.{grid_number-written}

@@ -1,4 +1,3 @@
-pub mod FirstFault
 pub mod Faces
 pub mod Obj
 pub mod Written

@@ -1,12 +1,12 @@
 -- The points and triangles of an OBJ file, or its first fault.
-use Rattle.std.specs.Prelude.{ℕ, ◌+◌, ℤ, List, [], ◌∷◌, ◌++◌, ◌||◌, if◌then◌else◌, nat_lt, length, map, take, codes, bytes_eq, Option, Some, None, Result, Ok, Err}
+use Rattle.std.specs.Prelude.{ℕ, ◌+◌, ℤ, List, [], ◌∷◌, ◌++◌, ◌||◌, if◌then◌else◌, nat_lt, length, map, take, codes, bytes_eq, Result, Ok, Err}
 use Rattle.std.specs.List.{list_any}
 use Rattle.text_terms.specs.Lines.{words_of, before_comment, joined_lines, without_mark}
-use Rattle.text_terms.specs.Numbers.{grid_number, is_on_grid}
+use Rattle.text_terms.specs.Coordinates.{coordinate}
+use Rattle.text_terms.specs.FirstFault.{then_read, read_each, each_read, on_line}
 use Rattle.mesh_terms.specs.Faults.{Points, Triangles, Fault, Bad, Over}
 use Rattle.mesh_terms.specs.Limits.{Limits}
 use Rattle.mesh_terms.specs.Meshes.{Triple, Soup, soup_of}
-use Rattle.obj_terms.specs.FirstFault.{then_read, read_each, each_read, on_line}
 use Rattle.obj_terms.specs.Faces.{item_vertex, face_fan, has_repeat}
 
 -- what the lines so far gave
@@ -30,15 +30,6 @@ with_triples limits s ts =
     let seen = length s.triples + length ts in
     if nat_lt limits.triangles seen then Err (Over Triangles seen)
     else Ok (record { points = s.points; triples = s.triples ++ ts })
-
--- 3 where it is no number, 4 where it is off the grid
-abbrev pub on_grid : Option ℤ → Result ℤ ℕ
-on_grid None = Err 3
-on_grid (Some z) = if is_on_grid z then Ok z else Err 4
-
--- a coordinate under k digits, in grid steps
-abbrev pub coordinate : ℕ → List ℕ → Result ℤ ℕ
-coordinate k word = on_grid (grid_number k word)
 
 -- the coordinates of the words after v: three to seven, of which the first three are x, y, z; else 2
 abbrev pub point_coordinates : ℕ → ℕ → List (List ℕ) → Result (List ℤ) Fault

@@ -6,8 +6,8 @@ use borrow.Author.Tests.{not-true}
 use Rattle.text_terms.specs.Lines.{is_blank, begins_word, words_of, add_first, last_is, blank_last, is_continued, lines_of, is_comment, begins_comment, before_comment, with_next, joined_from}
 use Rattle.obj_terms.specs.Obj.{word_lines}
 use Rattle.obj_text.specs.Lines.{first_words, words_left, lines_past}
-use Rattle.obj_text.proofs.Positions.{position_or_len-past}
-use Rattle.obj_text.proofs.WordSteps.{words_of-blank, words_of-first}
+use Rattle.text_lines.proofs.Positions.{position_or_len-past}
+use Rattle.text_lines.proofs.WordSteps.{words_of-blank, words_of-first}
 use Rattle.text_laws.proofs.Words.{words_of-last, words_of-more}
 
 -- the last byte

@@ -1,6 +1,3 @@
-mod LineSteps
-mod Positions
-mod WordSteps
 mod GoesOn
 mod CutSteps
 mod DigitSteps

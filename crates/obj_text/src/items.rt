@@ -1,17 +1,17 @@
 // The coordinates of a point, and the vertices that the items of a face name.
 ghost use Rattle.std.specs.Prelude.{◌≡◌, ◌<◌, ◌≤◌, ◌∷◌, [], Ok, Err, Some, IfOk, IfErr, OnOk, All, option_copied, length, position};
 ghost use Rattle.text_terms.specs.Numbers.{cut_at};
-ghost use Rattle.mesh_terms.specs.Points.{IsOnGrid};
 ghost use Rattle.mb_base.specs.Faults.{kind_number};
-ghost use Rattle.obj_terms.specs.FirstFault.{each_read, on_line};
-ghost use Rattle.obj_terms.specs.Obj.{coordinate, point_coordinates, face_vertices};
+ghost use Rattle.text_terms.specs.FirstFault.{each_read, on_line};
+ghost use Rattle.text_terms.specs.Coordinates.{coordinate};
+ghost use Rattle.obj_terms.specs.Obj.{point_coordinates, face_vertices};
 ghost use Rattle.obj_terms.specs.Faces.{minus_first, is_whole, is_slash, item_tail, named_vertex, item_vertex};
-ghost use Rattle.obj_text.specs.Faults.{IsFaultOf};
+ghost use Rattle.text_lines.specs.Faults.{IsFaultOf};
 ghost use Rattle.obj_text.specs.Items.{digits_up_to, whole_up_to, most, IsRead};
 
 use crate::words::Words;
-use grid_number::{NumberFault, read_grid};
 use mb_base::{Point, TextFault, TextKind};
+use text_lines::{bad, coordinate};
 
 // A number of a vertex counts no further than this. There are fewer points.
 const MOST: u64 = 1 << 32;
@@ -43,20 +43,6 @@ fn point_at(x: &[u8], y: &[u8], z: &[u8], digits: u8) -> Result<Point, TextKind>
     match Point::of(x, y, z) {
         Some(point) => Ok(point),
         None => unreachable!(),
-    }
-}
-
-// A coordinate in grid steps.
-fn coordinate(word: &[u8], digits: u8) -> Result<i32, TextKind>
-    requires { digits ≤ 6 }
-    ensures value { IfOk result (λ z. coordinate digits word.now ≡ Ok z) }
-    ensures on_grid { IfOk result IsOnGrid }
-    ensures fault { IfErr result (λ kind. coordinate digits word.now ≡ Err (kind_number kind)) }
-{
-    match read_grid(word, digits) {
-        Ok(value) => Ok(value),
-        Err(NumberFault::NotANumber) => Err(TextKind::BadNumber),
-        Err(NumberFault::OutOfGrid) => Err(TextKind::OutOfGrid),
     }
 }
 
@@ -209,11 +195,4 @@ fn digits_value(word: &[u8]) -> Option<u64>
         number = (number * 10 + u64::from(*digit - b'0')).min(MOST);
     }
     Some(number)
-}
-
-/// The fault of a line.
-pub fn bad(line: u64, kind: TextKind) -> TextFault
-    ensures { result ≡ TextFault.Bad line kind }
-{
-    TextFault::Bad { line, kind }
 }

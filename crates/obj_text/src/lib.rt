@@ -18,7 +18,7 @@
 ghost use Rattle.std.specs.Prelude.{◌≡◌, ◌≤◌, Ok, IfOk, IfErr};
 ghost use Rattle.text_terms.specs.Lines.{without_mark};
 ghost use Rattle.obj_terms.specs.Obj.{obj};
-ghost use Rattle.obj_text.specs.Faults.{IsFaultOf};
+ghost use Rattle.text_lines.specs.Faults.{IsFaultOf};
 
 mod items;
 mod lines;
@@ -29,6 +29,7 @@ mod words;
 use mb_base::{Limits, Soup, TextFault};
 use reading::Reading;
 use std::alloc::Global;
+use text_lines::without_mark;
 
 /// The points and triangles of a Wavefront OBJ file in the order of the file: points in grid steps, 10 to
 /// the power of `digits` a unit, rounded to the nearest, and vertices from 0. Points that no triangle uses
@@ -53,16 +54,6 @@ pub fn read_obj(alloc: Global, bytes: &[u8], digits: u8, limits: &Limits) -> Res
     ensures fault { IfErr result (IsFaultOf (obj digits limits.now bytes.now)) }
 {
     Reading::of(alloc, without_mark(bytes), digits, limits)?.into_soup(alloc)
-}
-
-// A text without the mark at its start, if there is one.
-fn without_mark(bytes: &[u8]) -> &[u8]
-    ensures { result.now ≡ without_mark bytes.now }
-{
-    match bytes {
-        [0xef, 0xbb, 0xbf, rest @ ..] => rest,
-        _ => bytes,
-    }
 }
 
 #[cfg(test)]

@@ -1,12 +1,12 @@
 // The lines of a text, joined where they go on.
 ghost use Rattle.std.specs.Prelude.{◌≡◌, ◌<◌, ◌≤◌, ◌+◌, ◌∷◌, ◌^◌, length};
-ghost use Rattle.text_terms.specs.Lines.{lines_of, joined_lines, raw_lines, without_cr};
+ghost use Rattle.text_terms.specs.Lines.{lines_of, joined_lines};
 ghost use Rattle.obj_terms.specs.Obj.{word_lines};
 ghost use Rattle.obj_text.specs.Lines.{lines_past};
 
 use crate::words::{Words, is_continued};
-use memchr::memchr;
 use std::marker::Model;
+use text_lines::first_line;
 
 /// The lines of a text from the first to the last, each with its number, from 1, and its words. A line
 /// ends at its LF or at the end of the text, and one CR at its end is dropped. Where it goes on in the
@@ -60,16 +60,6 @@ impl<'t> Iterator for Lines<'t> {
     }
 }
 
-/// The first line of a text, without its end, and the text after it.
-pub fn first_line(text: &[u8]) -> (&[u8], &[u8])
-    requires { 0 < length text.now }
-    ensures lines { lines_of text.now ≡ result.0.now ∷ lines_of result.1.now }
-    ensures less { length result.1.now < length text.now }
-{
-    let (line, after) = cut_line(text);
-    (without_cr(line), after)
-}
-
 // What comes after a line with this number, as far as it goes on in the text after it: the number of
 // the next line, and the text from there.
 fn past_line<'t>(line: &'t [u8], after: &'t [u8], number: u64) -> (u64, &'t [u8])
@@ -85,30 +75,4 @@ fn past_line<'t>(line: &'t [u8], after: &'t [u8], number: u64) -> (u64, &'t [u8]
         number += 1;
     }
     (number + 1, after)
-}
-
-// The first line of a text without its LF, and the text after it.
-fn cut_line(text: &[u8]) -> (&[u8], &[u8])
-    requires { 0 < length text.now }
-    ensures lines { raw_lines text.now ≡ result.0.now ∷ raw_lines result.1.now }
-    ensures less { length result.1.now < length text.now }
-{
-    match memchr(b'\n', text) {
-        None => text.split_at(text.len()),
-        Some(end) => {
-            let (line, _) = text.split_at(end);
-            let (_, rest) = text.split_at(end + 1);
-            (line, rest)
-        }
-    }
-}
-
-// A line without the CR at its end, if there is one.
-fn without_cr(line: &[u8]) -> &[u8]
-    ensures { result.now ≡ without_cr line.now }
-{
-    let Some((last, front)) = line.split_last() else {
-        return line;
-    };
-    if *last == b'\r' { front } else { line }
 }

@@ -5,15 +5,16 @@ ghost use Rattle.text_terms.specs.Lines.{joined_lines};
 ghost use Rattle.mesh_terms.specs.Meshes.{triples_of, soup_of};
 ghost use Rattle.obj_terms.specs.Faces.{face_fan, has_repeat};
 ghost use Rattle.obj_terms.specs.Obj.{nothing_gathered, with_point, with_triples, obj_point, obj_face, obj_line, obj_lines, passed_over, word_lines};
-ghost use Rattle.obj_text.specs.Faults.{IsFaultOf};
+ghost use Rattle.text_lines.specs.Faults.{IsFaultOf};
 
-use crate::items::{bad, point_of, read_vertices};
+use crate::items::{point_of, read_vertices};
 use crate::lines::Lines;
 use crate::repeats::has_repeat;
 use crate::words::Words;
 use mb_base::{Counted, Limits, NoMemory, Point, Soup, TextFault, TextKind};
 use std::alloc::{AllocError, Global};
 use std::marker::Model;
+use text_lines::bad;
 use unused_points::without_unused;
 
 /// The points and the triangles that the lines so far gave.

@@ -1,11 +1,10 @@
 // The words of a line.
-ghost use Rattle.std.specs.Prelude.{◌≡◌, ◌<◌, ◌≤◌, ◌⊎◌, [], ◌∷◌, not, length, take, IsTrue, IfSome, IfNone};
-ghost use Rattle.std.specs.List.{position_or_len};
-ghost use Rattle.text_terms.specs.Lines.{is_blank, is_continued, begins_word, before_comment, words_of, lines_of, begins_comment};
+ghost use Rattle.std.specs.Prelude.{◌≡◌, ◌<◌, ◌≤◌, ◌⊎◌, [], ◌∷◌, length, take, IsTrue, IfSome, IfNone};
+ghost use Rattle.text_terms.specs.Lines.{is_continued, begins_word, before_comment, words_of, lines_of, begins_comment};
 ghost use Rattle.obj_text.specs.Lines.{first_words, words_left};
 
-use crate::lines::first_line;
 use std::marker::Model;
+use text_lines::{after_blanks, first_blank, first_line};
 
 /// The words of a line from the first to the last: longest runs of bytes that are neither a space nor a
 /// tab. A word that begins with `#` ends the line.
@@ -127,38 +126,4 @@ fn next_word<'t>(part: &'t [u8], more: &'t [u8]) -> (&'t [u8], &'t [u8])
         later = rest;
     }
     (text, later)
-}
-
-// A text from its first byte on that is no blank.
-fn after_blanks(text: &[u8]) -> &[u8]
-    ensures words { words_of result.now ≡ words_of text.now }
-    ensures word { 0 < length result.now → IsTrue (begins_word result.now) }
-{
-    let (_, rest) = text.split_at(first_mark(text));
-    rest
-}
-
-// Whether a byte separates words.
-fn is_blank(byte: u8) -> bool
-    ensures { result ≡ is_blank byte }
-{
-    byte == b' ' || byte == b'\t'
-}
-
-// The place of the first byte that is no blank, or the length.
-fn first_mark(text: &[u8]) -> usize
-    ensures { result ≡ position_or_len (λ c. not (is_blank c)) text.now }
-{
-    text.iter()
-        .position(|byte| !is_blank(*byte))
-        .unwrap_or(text.len())
-}
-
-// The place of the first blank, or the length.
-fn first_blank(text: &[u8]) -> usize
-    ensures { result ≡ position_or_len is_blank text.now }
-{
-    text.iter()
-        .position(|byte| is_blank(*byte))
-        .unwrap_or(text.len())
 }

@@ -1,5 +1,5 @@
 -- What the commands write is read again.
-use Rattle.std.proofs.Common.{◌≡◌, ◌≤◌, ℕ, ℤ, List, [], ◌∷◌, Option, Some, None, Result, Ok, Err, cond, length, ap, ◌∙◌, refl, subst}
+use Rattle.std.proofs.Common.{◌≡◌, ◌≤◌, ℕ, ℤ, Bool, true, false, if◌then◌else◌, List, [], ◌∷◌, Option, Some, None, Result, Ok, Err, cond, length, ap, ◌∙◌, refl, subst}
 use Rattle.std.proofs.lemmas.Bool.{le-ltb}
 use Rattle.std.proofs.lemmas.List.Elements.{All-nil, All-cons}
 use Rattle.chain_terms.specs.Chains.{all_edges}
@@ -10,14 +10,19 @@ use Rattle.mesh_terms.specs.OpenEdges.{open_pair}
 use Rattle.obj_terms.specs.Obj.{obj}
 use Rattle.obj_terms.specs.Written.{obj_text}
 use Rattle.obj_laws.specs.ReadingBack.{ReadsBack}
-use Rattle.obj_laws.proofs.ReadMeshes.{files_give_meshes}
+use Rattle.obj_laws.specs.Within.{IsWithin}
+use Rattle.obj_laws.proofs.ReadMeshes.{files_give_meshes as obj_gives_meshes}
 use Rattle.obj_laws.proofs.SavedMeshes.{meshes_read_back}
+use Rattle.stl_laws.proofs.ReadMeshes.{files_give_meshes as stl_gives_meshes}
+use Rattle.stl_terms.specs.Stl.{stl}
+use Rattle.stl_terms.specs.Written.{is_stl}
 use Rattle.run_terms.specs.Files.{Bytes}
 use Rattle.run_terms.specs.Runs.{Ask, Write, Say}
 use Rattle.run_terms.specs.Tasks.{Refusal, give, joined}
 use Rattle.run_laws.specs.Keeping.{Keeps}
 use Rattle.run_laws.proofs.Keeping.{keeps_give, keeps_act, keeps_then}
 use Rattle.play_terms.specs.Commands.{Meanings, ask_file, ask_mesh, bytes_in, checked, command_task, copied_task, copy_task, if_closed, inside_task, say_line, winding_task, write_mesh}
+use Rattle.play_terms.specs.Formats.{mesh_soup, mesh_text}
 use Rattle.play_terms.specs.Lines.{copied_line, over, usage, winding_line}
 use Rattle.play_terms.specs.ReadingBack.{GivesReadable, IsReadable, WritesReadable, as_saved}
 
@@ -36,20 +41,28 @@ taken_checked name (Ok s) soup is =
 
 -- where a file holds a text that reads back, and the mesh is closed, the mesh is read of it
 text_is_taken : (k : ℕ) (limits : Limits) (m : Soup) → ReadsBack k limits m.points m.triples → open_pair (all_edges m.triples) ≡ None → IsReadable k limits m
-text_is_taken k limits m back closed name files is =
+text_is_taken k limits m back closed name files other is =
     let text = obj_text k m.points m.triples in
-    let read : Result Bytes Refusal → Result Soup Refusal = λ r. (joined (Ask name ∷ []) r (λ bytes. give (checked name (obj k limits bytes)) files)).result in
+    let read : Result Bytes Refusal → Result Soup Refusal = λ r. (joined (Ask name ∷ []) r (λ bytes. give (checked name (mesh_soup k limits name bytes)) files)).result in
+    let reads : mesh_soup k limits name text ≡ Ok (as_saved m) = ap (λ b. if b then stl k limits text else obj k limits text) other ∙ back.reads in
     let short = le-ltb limits.file_bytes (length text) back.fits in
     ap (λ file. read (bytes_in limits name file)) is
     ∙ ap (λ b. read (cond b (Err (over FileBytes (length text))) (Ok text))) short
-    ∙ ap (checked name) back.reads
+    ∙ ap (checked name) reads
     ∙ ap (if_closed name (as_saved m)) closed
 
--- a mesh that was read is read again where its text is written
-pub read_again : (k : ℕ) (limits : Limits) (name bytes : Bytes) (m : Soup) → k ≤ 6 → IsLawful limits → checked name (obj k limits bytes) ≡ Ok m → IsReadable k limits m
+-- what is read of a file of either format is a mesh within the limits
+mesh_within : (k : ℕ) (limits : Limits) (name bytes : Bytes) (m : Soup) → IsLawful limits → mesh_soup k limits name bytes ≡ Ok m → IsWithin limits m.points m.triples
+mesh_within k limits name bytes m lawful is = by_format (is_stl name) is where
+  by_format : (b : Bool) → (if b then stl k limits bytes else obj k limits bytes) ≡ Ok m → IsWithin limits m.points m.triples
+  by_format true read = stl_gives_meshes k limits lawful bytes m read
+  by_format false read = obj_gives_meshes k limits lawful bytes m read
+
+-- a mesh that was read is read again where its OBJ text is written
+pub read_again : (k : ℕ) (limits : Limits) (name bytes : Bytes) (m : Soup) → k ≤ 6 → IsLawful limits → checked name (mesh_soup k limits name bytes) ≡ Ok m → IsReadable k limits m
 read_again k limits name bytes m few lawful is =
-    let taken = taken_checked name (obj k limits bytes) m is in
-    let within = files_give_meshes k limits lawful bytes m taken.0 in
+    let taken = taken_checked name (mesh_soup k limits name bytes) m is in
+    let within = mesh_within k limits name bytes m lawful taken.0 in
     text_is_taken k limits m (meshes_read_back k few limits lawful m.points m.triples within) taken.1
 
 -- a file is asked for
@@ -59,8 +72,8 @@ asked k limits name = record { actions = λ files. All-cons (WritesReadable k li
 -- the mesh that is read is read again where it is written
 pub mesh_asked : (k : ℕ) (limits : Limits) (name : Bytes) → k ≤ 6 → IsLawful limits → Keeps (WritesReadable k limits) (IsReadable k limits) (ask_mesh k limits name)
 mesh_asked k limits name few lawful =
-    keeps_then (WritesReadable k limits) (λ _. Unit {0}) (IsReadable k limits) (ask_file limits name) (λ bytes. give (checked name (obj k limits bytes))) (asked k limits name)
-    (λ bytes _. keeps_give (WritesReadable k limits) (IsReadable k limits) (checked name (obj k limits bytes)) (λ m is. read_again k limits name bytes m few lawful is))
+    keeps_then (WritesReadable k limits) (λ _. Unit {0}) (IsReadable k limits) (ask_file limits name) (λ bytes. give (checked name (mesh_soup k limits name bytes))) (asked k limits name)
+    (λ bytes _. keeps_give (WritesReadable k limits) (IsReadable k limits) (checked name (mesh_soup k limits name bytes)) (λ m is. read_again k limits name bytes m few lawful is))
 
 -- whatever the files, a mesh that is read of one is read again where it is written
 pub mesh_given : (k : ℕ) (limits : Limits) (name : Bytes) → k ≤ 6 → IsLawful limits → GivesReadable k limits name
@@ -74,7 +87,7 @@ said k limits line = keeps_act (WritesReadable k limits) (Say line) tt
 mesh_copied : (k : ℕ) (limits : Limits) (to : Bytes) (m : Soup) → IsReadable k limits m → Keeps (WritesReadable k limits) (λ _. Unit {0}) (copied_task k to m)
 mesh_copied k limits to m readable =
     keeps_then (WritesReadable k limits) (λ _. Unit {0}) (λ _. Unit {0}) (write_mesh k to m.points m.triples) (λ _. say_line (copied_line to m))
-    (keeps_act (WritesReadable k limits) (Write to (obj_text k m.points m.triples)) (m, refl, readable))
+    (keeps_act (WritesReadable k limits) (Write to (mesh_text k to m.points m.triples)) (m, refl, readable))
     (λ _ _. said k limits (copied_line to m))
 
 -- what a copy writes is read again

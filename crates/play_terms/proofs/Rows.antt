@@ -3,7 +3,7 @@ use Rattle.std.specs.Prelude.{◌≡◌, pos, negsuc, get_or, List, [], ◌∷�
 use Rattle.std.proofs.Common.{refl}
 use Rattle.std.specs.Fmt.{digits}
 use Rattle.mesh_terms.specs.Limits.{Limits}
-use Rattle.obj_terms.specs.Written.{line_of}
+use Rattle.text_terms.specs.Written.{line_of}
 use Rattle.run_terms.specs.Files.{Bytes, Files}
 use Rattle.run_terms.specs.Runs.{Ask, Write, Say}
 use Rattle.run_terms.specs.Tasks.{NoCommand, NoFile, FaultyMesh, Refusal, Part}
@@ -133,3 +133,43 @@ refuses_digits_twice = refl
 
 refuses_another_suffix : command (codes "copy" ∷ codes "a.obj" ∷ codes "b.ply" ∷ []) ≡ None
 refuses_another_suffix = refl
+
+-- the first three facets of the tetrahedron
+abbrev three_facets : Bytes
+three_facets = codes "facet normal 0 0 0\nouter loop\nvertex 0 0 0\nvertex 0 1 0\nvertex 1 0 0\nendloop\nendfacet\nfacet normal 0 0 0\nouter loop\nvertex 0 0 0\nvertex 1 0 0\nvertex 0 0 1\nendloop\nendfacet\nfacet normal 0 0 0\nouter loop\nvertex 1 0 0\nvertex 0 1 0\nvertex 0 0 1\nendloop\nendfacet\n"
+
+-- and a last one with a corner of its own
+abbrev with_last : Bytes → Bytes
+with_last e = codes "solid manifold\n" ++ three_facets ++ codes "facet normal 0 0 0\nouter loop\nvertex 0 1 0\nvertex 0 0 0\nvertex 0 0 " ++ e ++ codes "\nendloop\nendfacet\n"
+
+-- its text
+abbrev solid : Bytes
+solid = with_last (codes "1") ++ codes "endsolid manifold\n"
+
+-- and what that gives in OBJ
+abbrev welded : Bytes
+welded = codes "v 0 0 0\nv 0 1 0\nv 1 0 0\nv 0 0 1\nf 1 2 3\nf 1 3 4\nf 3 2 4\nf 2 1 4\n"
+
+-- a copy from a file with these bytes to a file of these names
+abbrev copied : Bytes → Bytes → Bytes → Part (Unit {0})
+copied from to bytes = play told program (codes "copy" ∷ from ∷ to ∷ []) (only from bytes)
+
+writes_stl : copied (codes "t.obj") (codes "t.stl") tetrahedron ≡ record { actions = Ask (codes "t.obj") ∷ Write (codes "t.stl") solid ∷ Say (line_of (codes "copied t.stl: points 4, triangles 4, unused 0")) ∷ []; result = Ok tt }
+unfolding digits
+writes_stl = refl
+
+reads_stl : copied (codes "t.StL") (codes "u.obj") solid ≡ record { actions = Ask (codes "t.StL") ∷ Write (codes "u.obj") welded ∷ Say (line_of (codes "copied u.obj: points 4, triangles 4, unused 0")) ∷ []; result = Ok tt }
+unfolding digits
+reads_stl = refl
+
+welds_corners_after_rounding : copied (codes "c.stl") (codes "u.obj") (with_last (codes "1.00001") ++ codes "endsolid") ≡ record { actions = Ask (codes "c.stl") ∷ Write (codes "u.obj") welded ∷ Say (line_of (codes "copied u.obj: points 4, triangles 4, unused 0")) ∷ []; result = Ok tt }
+unfolding digits
+welds_corners_after_rounding = refl
+
+refuses_corners_a_step_apart : copied (codes "c.stl") (codes "u.obj") (with_last (codes "1.0001") ++ codes "endsolid") ≡ record { actions = Ask (codes "c.stl") ∷ []; result = Err (record { cause = FaultyMesh; line = line_of (codes "c.stl: 11 OpenEdge 1 5") }) }
+unfolding digits
+refuses_corners_a_step_apart = refl
+
+refuses_a_cut_solid : copied (codes "t.stl") (codes "u.obj") (codes "solid manifold\nfacet normal 0 0 0\nouter loop\nvertex 0 0 0\nvertex 0 1 0\nvertex 1 0 0\nendloop\nendfacet\n") ≡ record { actions = Ask (codes "t.stl") ∷ []; result = Err (record { cause = FaultyMesh; line = line_of (codes "t.stl:9: 10 NotStl") }) }
+unfolding digits
+refuses_a_cut_solid = refl

@@ -5,11 +5,10 @@ use Rattle.mesh_terms.specs.Faults.{FileBytes, Fault}
 use Rattle.mesh_terms.specs.Limits.{Limits}
 use Rattle.mesh_terms.specs.Meshes.{Triple, Soup}
 use Rattle.mesh_terms.specs.OpenEdges.{open_pair}
-use Rattle.obj_terms.specs.Obj.{obj}
-use Rattle.obj_terms.specs.Written.{obj_text}
 use Rattle.run_terms.specs.Files.{Bytes}
 use Rattle.run_terms.specs.Runs.{Ask, Write, Say}
 use Rattle.run_terms.specs.Tasks.{Refusal, Task, give, act, then_task}
+use Rattle.play_terms.specs.Formats.{mesh_soup, mesh_text}
 use Rattle.play_terms.specs.Lines.{usage, missing, over, fault_refusal, open_refusal, copied_line, winding_line}
 use Rattle.play_terms.specs.Words.{Command, CopyFile, InsideFile, command}
 
@@ -36,13 +35,13 @@ checked name (Ok soup) = if_closed name soup (open_pair (all_edges soup.triples)
 abbrev pub ask_file : Limits → Bytes → Task Bytes
 ask_file limits name files = record { actions = Ask name ∷ []; result = bytes_in limits name (files name) }
 
--- a mesh is read under k digits: a file, and then its text and its edges
+-- a mesh is read under k digits: a file, and then its text, in the format of its name, and its edges
 abbrev pub ask_mesh : ℕ → Limits → Bytes → Task Soup
-ask_mesh k limits name = then_task (ask_file limits name) (λ bytes. give (checked name (obj k limits bytes)))
+ask_mesh k limits name = then_task (ask_file limits name) (λ bytes. give (checked name (mesh_soup k limits name bytes)))
 
--- the text of a mesh is written under k digits
+-- the text of a mesh, in the format of the name, is written under k digits
 abbrev pub write_mesh : ℕ → Bytes → List (List ℤ) → List Triple → Task (Unit {0})
-write_mesh k name points triples = act (Write name (obj_text k points triples))
+write_mesh k name points triples = act (Write name (mesh_text k name points triples))
 
 abbrev pub say_line : Bytes → Task (Unit {0})
 say_line line = act (Say line)

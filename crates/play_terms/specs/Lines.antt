@@ -3,7 +3,7 @@ use Rattle.std.specs.Prelude.{ℕ, ℤ, ◌+◌, ◌++◌, ◌==◌, if◌then�
 use Rattle.std.specs.Fmt.{signed_decimal}
 use Rattle.mesh_terms.specs.Faults.{Counted, FileBytes, Points, Triangles, Halfedges, Fault, Bad, Over}
 use Rattle.mesh_terms.specs.Meshes.{Soup}
-use Rattle.obj_terms.specs.Written.{line_of}
+use Rattle.text_terms.specs.Written.{line_of}
 use Rattle.run_terms.specs.Files.{Bytes}
 use Rattle.run_terms.specs.Tasks.{Cause, NoCommand, NoFile, FaultyMesh, PastLimit, Refusal}
 

@@ -2,8 +2,8 @@
 use Rattle.std.specs.Prelude.{◌≡◌, ℕ, ◌-◌, ℤ, nat_le, List, [], ◌∷◌, ◌++◌, Bool, not, ◌&&◌, ◌||◌, if◌then◌else◌, length, take, drop, codes, bytes_eq, Option, Some, None}
 use Rattle.std.specs.Option.{option_and_then}
 use Rattle.text_terms.specs.Numbers.{grid_number, is_on_grid}
-use Rattle.obj_terms.specs.Written.{is_obj}
 use Rattle.run_terms.specs.Files.{Bytes}
+use Rattle.play_terms.specs.Formats.{is_mesh_name}
 
 -- a command with the digits and its operands
 pub data Command : Type 0 where
@@ -64,9 +64,9 @@ digits_of [] = Some 4
 digits_of ((c ∷ []) ∷ []) = if nat_le 48 c && nat_le c 54 then Some (c - 48) else None
 digits_of _ = None
 
--- two names of OBJ files
+-- two names of mesh files
 abbrev pub copy_of : ℕ → List Bytes → Option Command
-copy_of k (from ∷ to ∷ []) = if is_obj from && is_obj to then Some (CopyFile k from to) else None
+copy_of k (from ∷ to ∷ []) = if is_mesh_name from && is_mesh_name to then Some (CopyFile k from to) else None
 copy_of k _ = None
 
 -- the value before the others, or none where one has no value
@@ -88,9 +88,9 @@ abbrev pub inside_at : ℕ → Bytes → Option (List ℤ) → Option Command
 inside_at k file None = None
 inside_at k file (Some p) = Some (InsideFile k file p)
 
--- the name of an OBJ file and three numbers
+-- the name of a mesh file and three numbers
 abbrev pub inside_of : ℕ → List Bytes → Option Command
-inside_of k (file ∷ x ∷ y ∷ z ∷ []) = if is_obj file then inside_at k file (each_value (grid_operand k) (x ∷ y ∷ z ∷ [])) else None
+inside_of k (file ∷ x ∷ y ∷ z ∷ []) = if is_mesh_name file then inside_at k file (each_value (grid_operand k) (x ∷ y ∷ z ∷ [])) else None
 inside_of k _ = None
 
 -- the command of this name with its operands under k digits

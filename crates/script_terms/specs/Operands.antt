@@ -3,7 +3,7 @@ use Rattle.std.specs.Prelude.{ℕ, nat_le, List, [], ◌∷◌, false, Bool, ◌
 use Rattle.std.specs.Char.{is_ascii_alphabetic, is_ascii_alphanumeric}
 use Rattle.std.specs.List.{list_all}
 use Rattle.std.specs.Str.{is_utf8}
-use Rattle.obj_terms.specs.Written.{is_obj}
+use Rattle.play_terms.specs.Formats.{is_mesh_name}
 use Rattle.run_terms.specs.Files.{Bytes}
 use Rattle.script_terms.specs.Steps.{Line, is_given}
 
@@ -22,11 +22,7 @@ begins_name (c ∷ cs) = is_ascii_alphabetic c
 
 -- one to 32 bytes: an ASCII letter, then ASCII letters, digits and _
 abbrev pub is_name : Bytes → Bool
-is_name w = begins_name w && list_all is_name_byte w && nat_le (length w) 32
-
--- the suffix is that of a mesh file
-abbrev pub is_mesh_name : Bytes → Bool
-is_mesh_name name = is_obj name
+is_name w = begins_name w && nat_le (length w) 32 && list_all is_name_byte w
 
 -- 22 where the word is no name
 abbrev pub new_name_fault : Bytes → Option ℕ

@@ -2,7 +2,7 @@
 use Rattle.std.specs.Prelude.{ℕ, List, [], ◌∷◌, ◌++◌, ◌==◌, if◌then◌else◌, length, Option, Some, None, Result, Ok, Err}
 use Rattle.text_terms.specs.Lines.{lines_of, numbered, without_mark}
 use Rattle.mesh_terms.specs.Faults.{Fault}
-use Rattle.obj_terms.specs.FirstFault.{then_read, read_each, on_line}
+use Rattle.text_terms.specs.FirstFault.{then_read, read_each, on_line}
 use Rattle.obj_terms.specs.Obj.{word_lines}
 use Rattle.run_terms.specs.Files.{Bytes}
 use Rattle.script_terms.specs.Commands.{Command, command_named}

@@ -1,7 +1,8 @@
 -- What is known of the steps of a script without a fault.
 use Rattle.std.specs.Prelude.{List, [], ◌∷◌, ◌++◌, IsTrue}
 use Rattle.std.specs.List.{All}
-use Rattle.script_terms.specs.Operands.{is_mesh_name, is_name}
+use Rattle.play_terms.specs.Formats.{is_mesh_name}
+use Rattle.script_terms.specs.Operands.{is_name}
 use Rattle.script_terms.specs.Steps.{Line, Step, files_in, is_given, names_in, taken}
 
 -- each name that the step takes got a mesh in a line before, each name is one, and each file has the suffix of a mesh file

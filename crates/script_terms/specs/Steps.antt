@@ -1,5 +1,5 @@
 -- The steps of a script, and the names and files in them.
-use Rattle.std.specs.Prelude.{ℕ, List, [], ◌∷◌, false, Bool, bytes_eq}
+use Rattle.std.specs.Prelude.{ℕ, List, [], ◌∷◌, false, Bool, bytes_eq, Option, Some, None}
 use Rattle.std.specs.List.{list_any}
 use Rattle.run_terms.specs.Files.{Bytes}
 use Rattle.mb_base.specs.declared.op.Op.{Op}
@@ -14,11 +14,19 @@ pub data Step : Type 0 where
 abbrev pub Line : Type 0
 Line = ℕ × Step
 
+-- the name that a step gives a mesh, if it gives one
+abbrev pub new_name : Step → Option Bytes
+new_name (Load name file) = Some name
+new_name (Save name file) = None
+new_name (Combine op name left right) = Some name
+
+abbrev pub is_that : Bytes → Option Bytes → Bool
+is_that w None = false
+is_that w (Some name) = bytes_eq w name
+
 -- the step gives this name a mesh
 abbrev pub gives : Bytes → Step → Bool
-gives w (Load name file) = bytes_eq name w
-gives w (Save name file) = false
-gives w (Combine op name left right) = bytes_eq name w
+gives w step = is_that w (new_name step)
 
 -- one of the lines gives it a mesh
 abbrev pub is_given : Bytes → List Line → Bool

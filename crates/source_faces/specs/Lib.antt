@@ -1,3 +1,4 @@
 pub mod Adding
 pub mod Given
+pub mod Parts
 pub mod Plain

@@ -1,7 +1,8 @@
 // The triangles of one source face.
-ghost use Rattle.std.specs.Prelude.{◌≡◌, ◌+◌, ◌<◌, ◌^◌, IfOk, OnOk, length};
-ghost use Rattle.face_lists.specs.Parts.{AreRuns, CanBeSegments};
-ghost use Rattle.source_faces.specs.Adding.{CanBeFilled, IsAdded, filled_by};
+ghost use Rattle.std.specs.Prelude.{◌≡◌, ◌<◌, ◌≤◌, IfOk, OnOk, length};
+ghost use Rattle.face_lists.specs.Parts.{AreRuns};
+ghost use Rattle.source_faces.specs.Adding.{IsAdded, filled_by};
+ghost use Rattle.source_faces.specs.Parts.{CanBePart, HaveCopies};
 
 use crate::plain::{are_equal, push_copies};
 use crate::triangles::SourceTriangles;
@@ -26,11 +27,11 @@ pub fn push_face(
     points: &[Point],
 ) -> Result<(), NoMemory>
     requires face { face < length side.now.triples }
-    requires runs { AreRuns side.now (length points.now) runs.now }
-    requires paired { CanBeSegments side.now runs.now points.now face stands.now }
-    requires filled { CanBeFilled side.now runs.now points.now face stands.now }
-    requires few { all.old.forced + 100000000 < 2 ^ 64 }
-    ensures { OnOk result (IsAdded source (filled_by side.now runs.now points.now face stands.now) all.old all.new) }
+    requires copies { HaveCopies side.now runs.now points.now }
+    requires part { CanBePart side.now runs.now points.now face stands.now }
+    requires few { all.old.forced ≤ length all.old.triples.items }
+    ensures added { OnOk result (IsAdded source (filled_by side.now runs.now points.now face stands.now) all.old all.new) }
+    ensures few { OnOk result (all.new.forced ≤ length all.new.triples.items) }
 {
     if stands.is_empty() && are_equal(runs, side.triples()[face as usize]) {
         return push_copies(all, side, runs, face, source);
@@ -50,10 +51,10 @@ fn filled_face(
 ) -> Result<Filled, NoMemory>
     requires face { face < length side.now.triples }
     requires runs { AreRuns side.now (length points.now) runs.now }
-    requires paired { CanBeSegments side.now runs.now points.now face stands.now }
-    requires filled { CanBeFilled side.now runs.now points.now face stands.now }
+    requires part { CanBePart side.now runs.now points.now face stands.now }
     ensures value { IfOk result (λ filled. filled ≡ filled_by side.now runs.now points.now face stands.now) }
-    ensures most { IfOk result (λ filled. filled.forced < 100000000) }
+    ensures most { IfOk result (λ filled. filled.forced ≤ length filled.triples) }
+    ensures few { IfOk result (λ filled. length filled.triples ≤ 100000000) }
 {
     let segments = segments_of_face(alloc, side, runs, face, stands, points)?;
     let loops = loops(alloc, &segments)?;

@@ -1,8 +1,9 @@
 // Faces that no edge crosses, and that cross none: their triangles are copies of them.
-ghost use Rattle.std.specs.Prelude.{◌≡◌, ◌+◌, ◌<◌, ◌^◌, true, OnOk, length, get_or};
+ghost use Rattle.std.specs.Prelude.{◌≡◌, ◌+◌, ◌<◌, ◌^◌, true, cond, OnOk, length, get_or};
 ghost use Rattle.mesh_terms.specs.Meshes.{IsBelow, triple_of};
 ghost use Rattle.face_lists.specs.Parts.{AreRuns};
-ghost use Rattle.source_faces.specs.Adding.{IsAdded, are_equal_runs, face_copies, is_flat, same_run};
+ghost use Rattle.side_terms.specs.Sides.{IsSide};
+ghost use Rattle.source_faces.specs.Adding.{IsAdded, are_equal_runs, copy_triple, face_copies, is_flat, same_run};
 
 use crate::triangles::SourceTriangles;
 use face_lists::Run;
@@ -44,19 +45,44 @@ pub fn push_copies(
 {
     let [a, b, c] = side.triples()[face as usize];
     let (a, b, c) = (runs[a as usize], runs[b as usize], runs[c as usize]);
-    if a.count > 0 && is_flat(side, face) {
-        all.forced += u64::from(a.count);
-    }
-    let (first, second) = if a.negative { (b, a) } else { (a, b) };
+    all.forced += u64::from(forced_copies(side, face, a.count));
     for i in 0..a.count {
-        all.push([first.first + i, second.first + i, c.first + i], source)?;
+        all.push(copy_triple(a, b, c, i), source)?;
     }
     Ok(())
 }
 
+// The triangle of copies number i of three vertices, turned over where the number of the first one is below 0.
+fn copy_triple(a: Run, b: Run, c: Run, i: u32) -> [u32; 3]
+    requires a { a.first + i < 2 ^ 32 }
+    requires b { b.first + i < 2 ^ 32 }
+    requires c { c.first + i < 2 ^ 32 }
+    ensures { triple_of result ≡ copy_triple a b c i }
+{
+    if a.negative {
+        [b.first + i, a.first + i, c.first + i]
+    } else {
+        [a.first + i, b.first + i, c.first + i]
+    }
+}
+
+// How many of so many copies of a face are forced.
+fn forced_copies(side: &Side, face: u32, count: u32) -> u32
+    requires side { IsSide side.now }
+    requires face { face < length side.now.triples }
+    ensures { result ≡ cond (is_flat side.now face) count 0 }
+{
+    if count > 0 && is_flat(side, face) {
+        count
+    } else {
+        0
+    }
+}
+
 // Whether the corners of a face lie on a line.
 fn is_flat(side: &Side, face: u32) -> bool
-    requires { face < length side.now.triples }
+    requires side { IsSide side.now }
+    requires face { face < length side.now.triples }
     ensures { result ≡ is_flat side.now face }
 {
     let [a, b, c] = side.face(face);

@@ -1,5 +1,5 @@
 // Triangles with their source faces.
-ghost use Rattle.std.specs.Prelude.{◌≡◌, ◌+◌, ◌<◌, ◌^◌, ◌++◌, ◌∷◌, [], OnOk, length};
+ghost use Rattle.std.specs.Prelude.{◌≡◌, ◌+◌, ◌<◌, ◌^◌, ◌++◌, ◌∷◌, [], OnOk};
 ghost use Rattle.mesh_terms.specs.Meshes.{triple_of, triples_of};
 ghost use Rattle.source_faces.specs.Adding.{IsAdded};
 

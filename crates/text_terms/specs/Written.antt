@@ -1,5 +1,6 @@
--- The decimal text of a grid number.
+-- The decimal text of a grid number, and lines of text.
 use Rattle.std.specs.Prelude.{ℕ, zero, suc, ◌+◌, ◌/◌, ◌%◌, ◌^◌, ℤ, pos, List, [], ◌∷◌, ◌++◌, true, false, Bool, if◌then◌else◌, ◌&&◌, ◌==◌, codes, decimal, int_lt, nat_abs}
+use Rattle.mesh_terms.specs.Points.{coordinate_of}
 
 -- the last k decimal digits of n
 abbrev pub last_digits : ℕ → ℕ → List ℕ
@@ -24,3 +25,11 @@ written_size k n = decimal (n / 10 ^ k) ++ written_rest k (n % 10 ^ k)
 
 abbrev pub written : ℕ → ℤ → List ℕ
 written k z = if int_lt z (pos 0) then codes "-" ++ written_size k (nat_abs z) else written_size k (nat_abs z)
+
+-- a text with the end of its line
+abbrev pub line_of : List ℕ → List ℕ
+line_of text = text ++ 10 ∷ []
+
+-- the coordinates of a point
+abbrev pub three_numbers : ℕ → List ℤ → List ℕ
+three_numbers k p = written k (coordinate_of p 0) ++ codes " " ++ written k (coordinate_of p 1) ++ codes " " ++ written k (coordinate_of p 2)

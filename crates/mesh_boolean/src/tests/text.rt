@@ -136,7 +136,13 @@ fn push_triples(text: &mut String, triples: &[[u32; 3]]) -> Result<(), Fail> {
 pub fn text_of(alloc: Global, all: &Outcome) -> Result<String, Fail> {
     let mut text = String::new(alloc);
     let [p, q] = all.prescribed.kept;
-    for number in [p, q, all.prescribed.crossings, all.prescribed.halfedges, all.forced] {
+    for number in [
+        p,
+        q,
+        all.prescribed.crossings,
+        all.prescribed.halfedges,
+        all.forced,
+    ] {
         push_number(&mut text, number)?;
     }
     text.push('|')?;

@@ -1,6 +1,6 @@
 use Rattle.retained_verts.specs.Handed.{numbers}
 use Rattle.mesh_boolean.specs.Operation.{Tests}
-use Rattle.mesh_boolean.proofs.Finished.{AreSidesOf, IsOfMeshes, IsOutcome, is_bounded, is_filled, is_prescribed, of_meshes, too_large}
+use Rattle.mesh_boolean.proofs.Finished.{IsOfMeshes, IsOutcome, is_bounded, is_filled, is_prescribed, of_meshes, too_large}
 use Rattle.mesh_boolean.proofs.operate.boolean.Given.{Over}
 use Rattle.mesh_boolean.proofs.operate.boolean.Goals as goal
 

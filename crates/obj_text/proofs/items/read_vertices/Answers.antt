@@ -2,7 +2,7 @@ use Rattle.std.proofs.Common.{◌≡◌, ℕ, ◌<◌, ◌∷◌, List, [], ap, 
 use Rattle.std.specs.List.{All}
 use Rattle.std.proofs.lemmas.List.Elements.{All-nil}
 use Rattle.std.proofs.lemmas.Result.{err_from_is_err_and}
-use Rattle.obj_terms.specs.FirstFault.{each_read}
+use Rattle.text_terms.specs.FirstFault.{each_read}
 use Rattle.obj_terms.specs.Faces.{item_vertex}
 use Rattle.obj_text.specs.Items.{read_after}
 use Rattle.obj_text.proofs.ItemSteps.{read_after-next, length-more, fault_at, three_given, left_first, left_second, left_third, left_rest, length-three}

@@ -1,0 +1,30 @@
+//! What a file of a mesh is by the suffix of its name.
+#![tactic(auto)]
+
+ghost use Rattle.std.specs.Prelude.{◌≡◌};
+ghost use Rattle.obj_terms.specs.Written.{is_obj};
+ghost use Rattle.stl_terms.specs.Written.{is_stl};
+ghost use Rattle.play_terms.specs.Formats.{is_mesh_name};
+
+/// Whether a name ends with `.obj` or `.stl`, ASCII case ignored.
+pub fn is_mesh_name(name: &[u8]) -> bool
+    ensures { result ≡ is_mesh_name name.now }
+{
+    is_obj_name(name) || is_stl_name(name)
+}
+
+/// Whether a name ends with `.stl`, ASCII case ignored.
+pub fn is_stl_name(name: &[u8]) -> bool
+    ensures { result ≡ is_stl name.now }
+{
+    let start = name.len().saturating_sub(4);
+    name[start..].eq_ignore_ascii_case(b".stl")
+}
+
+// Whether a name ends with `.obj`, ASCII case ignored.
+fn is_obj_name(name: &[u8]) -> bool
+    ensures { result ≡ is_obj name.now }
+{
+    let start = name.len().saturating_sub(4);
+    name[start..].eq_ignore_ascii_case(b".obj")
+}

@@ -1,0 +1,5 @@
+mod LineSteps
+mod NameSets
+mod NameTests
+mod Positions
+mod WordSteps
