@@ -6,7 +6,8 @@ use Rattle.std.specs.Char.{encode_utf8}
 use Rattle.std.specs.Str.{chars, is_utf8}
 use Rattle.mesh_terms.specs.Limits.{Limits}
 use Rattle.mesh_terms.specs.Meshes.{Mesh}
-use Rattle.obj_terms.specs.Written.{line_of, obj_text}
+use Rattle.obj_terms.specs.Written.{obj_text}
+use Rattle.text_terms.specs.Written.{line_of}
 use Rattle.run_terms.specs.Files.{Bytes, Files, put}
 use Rattle.run_terms.specs.Runs.{Action, Ask, Write, Say}
 use Rattle.run_terms.specs.Tasks.{FaultyScript, NoFile, PastLimit, Part}

@@ -65,7 +65,7 @@ record AreBad : Type 0 where
   later : IsBad 3 23 (two (codes "save c c.obj\nload c c.obj"))
   saved : IsBad 4 23 (two (codes "save a c.obj\nsave c a.obj"))
   old_first : IsBad 1 23 (codes "save c c.ply")
-  suffix : IsBad 1 25 (codes "load a c.stl")
+  suffix : IsBad 1 25 (codes "load a c.off")
   part : IsBad 1 25 (codes "load a obj")
   bytes : IsBad 1 25 (codes "load a " ++ 255 ∷ codes ".obj")
   first_line : IsBad 2 25 (codes "load a c.obj\nsave a c.ply\ncut")

@@ -2,7 +2,7 @@
 use Rattle.std.specs.Prelude.{ℕ, ◌++◌, ◌==◌, if◌then◌else◌, length, codes, decimal}
 use Rattle.mesh_terms.specs.Faults.{Fault, Bad, Over}
 use Rattle.mesh_terms.specs.Meshes.{Mesh, Soup}
-use Rattle.obj_terms.specs.Written.{line_of}
+use Rattle.text_terms.specs.Written.{line_of}
 use Rattle.run_terms.specs.Files.{Bytes}
 use Rattle.run_terms.specs.Tasks.{FaultyScript, Refusal}
 use Rattle.play_terms.specs.Lines.{refusal, over, counts_text}
