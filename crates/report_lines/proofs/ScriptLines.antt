@@ -1,6 +1,6 @@
 -- The parts of the lines that the steps of a script say.
 use Rattle.std.proofs.Common.{◌≡◌, ◌++◌, [], ◌∷◌, codes, ap, sym, ◌∙◌, append_assoc}
-use Rattle.obj_terms.specs.Written.{line_of}
+use Rattle.text_terms.specs.Written.{line_of}
 use Rattle.run_terms.specs.Files.{Bytes}
 use Rattle.mb_base.specs.declared.op.Op.{Op}
 use Rattle.script_terms.specs.Combined.{Combined}

@@ -1,6 +1,6 @@
 // The ends of the lines that scripts say, and of the line that tells a faulty script.
 ghost use Rattle.std.specs.Prelude.{◌≡◌, ◌≤◌, ◌++◌, codes, decimal, length, slice_index};
-ghost use Rattle.obj_terms.specs.Written.{line_of};
+ghost use Rattle.text_terms.specs.Written.{line_of};
 ghost use Rattle.script_terms.specs.Lines.{script_kind_name};
 
 use crate::tail::{Tail, put, put_pair};

@@ -1,7 +1,7 @@
 use Rattle.std.proofs.Common.{◌≡◌, ◌++◌, ◌∙◌, ap, codes}
 use Rattle.std.specs.Prelude.{slice_index}
 use Rattle.std.specs.Fmt.{decimal}
-use Rattle.obj_terms.specs.Written.{line_of}
+use Rattle.text_terms.specs.Written.{line_of}
 use Rattle.run_terms.specs.Files.{Bytes}
 use Rattle.script_terms.specs.Lines.{combine_line, combined_text}
 use Rattle.report_lines.specs.declared.script_report.OperationCounts.{OperationCounts}

@@ -1,7 +1,7 @@
 use Rattle.std.proofs.Common.{◌≡◌, ◌++◌, ◌∙◌, ap, codes, length, sym}
 use Rattle.std.proofs.lemmas.List.{length-map}
 use Rattle.mesh_terms.specs.Meshes.{Soup, triple_of}
-use Rattle.obj_terms.specs.Written.{line_of}
+use Rattle.text_terms.specs.Written.{line_of}
 use Rattle.run_terms.specs.Files.{Bytes}
 use Rattle.play_terms.specs.Lines.{counts_text}
 use Rattle.script_terms.specs.Lines.{load_line}

@@ -1,0 +1,3 @@
+pub mod FanLists
+pub mod FanNumbers
+pub mod SplitMesh
