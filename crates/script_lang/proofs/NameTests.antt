@@ -1,7 +1,6 @@
 -- Names and file names: what their tests say of them.
-use Rattle.std.proofs.Common.{◌≡◌, ℕ, zero, suc, ◌<◌, ◌≤◌, Bool, true, false, [], ◌∷◌, length, get_or, Option, Some, None, refl, ◌∙◌, sym, arith}
-use Rattle.std.specs.Prelude.{nat_le, slice_get, ◌&&◌, if◌then◌else◌}
-use Rattle.std.specs.Char.{is_ascii_alphabetic}
+use Rattle.std.proofs.Common.{◌≡◌, ℕ, zero, suc, ◌<◌, Bool, true, false, [], ◌∷◌, length, get_or, Option, Some, None, refl, arith}
+use Rattle.std.specs.Prelude.{nat_le, ◌&&◌, if◌then◌else◌}
 use Rattle.std.specs.List.{list_all}
 use Rattle.std.specs.Str.{IsUtf8, is_utf8}
 use Rattle.std.proofs.lemmas.Bool.{false_from_ne_true}
@@ -30,14 +29,6 @@ name-ascii (c ∷ cs) (suc i) e = name-ascii cs i (both (is_name_byte c) (list_a
 -- a name is a text
 pub name-utf8 : (w : Bytes) → is_name w ≡ true → IsUtf8 w
 name-utf8 w e = IsUtf8-from_ascii w (λ i. name-ascii w i (both (begins_name w && nat_le (length w) 32) (list_all is_name_byte w) e).1)
-
--- a word is a name where its first byte, its length and all of its bytes are those of one
-pub name_by : (w : Bytes) (first : ℕ) (all : Bool) → Some first ≡ slice_get w 0 → is_ascii_alphabetic first ≡ true → length w ≤ 32 → all ≡ list_all is_name_byte w → all ≡ is_name w
-name_by [] first all e letter few is = absurd (cc)
-name_by (c ∷ cs) first all e letter few is =
-    let same : first ≡ c = cc in
-    let short : nat_le (length (c ∷ cs)) 32 ≡ true = grind (arith, nat_tests) in
-    is ∙ sym (rw (sym same, letter, short) refl)
 
 -- a text with the suffix is taken
 pub file-taken : (w : Bytes) → IsUtf8 w → is_mesh_name w ≡ true → file_name_fault w ≡ None

@@ -1,5 +1,5 @@
 -- The words of a line by the places of its blanks.
-use Rattle.std.proofs.Common.{◌≡◌, ℕ, ◌<◌, Bool, true, false, cond, not, List, [], ◌∷◌, length, get_or, refl, ap, ◌∙◌, sym, arith, drop, take, ne_eqb, eq-eqb}
+use Rattle.std.proofs.Common.{◌≡◌, ℕ, ◌<◌, Bool, true, false, cond, not, List, [], ◌∷◌, length, refl, ap, ◌∙◌, sym, arith, drop, take}
 use borrow.Author.Tests.{not-true, not-false}
 use Rattle.std.specs.List.{position_or_len}
 use Rattle.text_laws.proofs.Words.{words_of-last, words_of-more}
@@ -46,25 +46,26 @@ words_of-first (c ∷ cs) e = by_next (begins_word cs) refl (words_of-first cs) 
   by_next true more i = rw (position_or_len-past is_blank c cs no_blank) (words_of-more c cs no_blank more ∙ ap (add_first c) (i more))
   by_next false last i = rw (position_or_len-past is_blank c cs no_blank, position_or_len-no_word cs last) (words_of-last c cs no_blank last)
 
+-- the first word of a text that begins one begins a comment where the text does
+is_comment-word : (text : List ℕ) → begins_word text ≡ true → is_comment (take (position_or_len is_blank text) text) ≡ is_comment text
+is_comment-word [] begins = refl
+is_comment-word (c ∷ cs) begins = ap (λ (n : ℕ). is_comment (take n (c ∷ cs))) (position_or_len-past is_blank c cs (not-true (is_blank c) begins))
+
 -- a text that begins a word which begins no comment has that word first
-pub before_comment-first : (text : List ℕ) → begins_word text ≡ true → (get_or text 0 0 ≡ 35 → ⊥) →
+pub before_comment-first : (text : List ℕ) → begins_word text ≡ true → is_comment text ≡ false →
     before_comment (words_of text) ≡ take (position_or_len is_blank text) text ∷ before_comment (words_of (drop (position_or_len is_blank text) text))
-before_comment-first [] begins plain = cc
-before_comment-first (c ∷ cs) begins plain =
-    let past = position_or_len-past is_blank c cs (not-true (is_blank c) begins) in
-    ap before_comment (words_of-first (c ∷ cs) begins)
-    ∙ plain_first (take (position_or_len is_blank (c ∷ cs)) (c ∷ cs)) (words_of (drop (position_or_len is_blank (c ∷ cs)) (c ∷ cs)))
-    (ap (λ (n : ℕ). is_comment (take n (c ∷ cs))) past ∙ ne_eqb c 35 plain) where
-      plain_first : (w : List ℕ) (ws : List (List ℕ)) → is_comment w ≡ false → before_comment (w ∷ ws) ≡ w ∷ before_comment ws
-      plain_first w ws e = ap (λ (b : Bool). cond b [] (w ∷ before_comment ws)) e
+before_comment-first text begins plain =
+    ap before_comment (words_of-first text begins)
+    ∙ first (take (position_or_len is_blank text) text) (words_of (drop (position_or_len is_blank text) text)) (is_comment-word text begins ∙ plain)
+  where
+    first : (w : List ℕ) (ws : List (List ℕ)) → is_comment w ≡ false → before_comment (w ∷ ws) ≡ w ∷ before_comment ws
+    first w ws e = ap (λ (b : Bool). cond b [] (w ∷ before_comment ws)) e
 
 -- one that begins a comment has no word
-pub before_comment-comment : (text : List ℕ) → begins_word text ≡ true → get_or text 0 0 ≡ 35 → before_comment (words_of text) ≡ []
-before_comment-comment [] begins hash = refl
-before_comment-comment (c ∷ cs) begins hash =
-    let past = position_or_len-past is_blank c cs (not-true (is_blank c) begins) in
-    ap before_comment (words_of-first (c ∷ cs) begins)
-    ∙ comment_first (take (position_or_len is_blank (c ∷ cs)) (c ∷ cs)) (words_of (drop (position_or_len is_blank (c ∷ cs)) (c ∷ cs)))
-    (ap (λ (n : ℕ). is_comment (take n (c ∷ cs))) past ∙ eq-eqb c 35 hash) where
-      comment_first : (w : List ℕ) (ws : List (List ℕ)) → is_comment w ≡ true → before_comment (w ∷ ws) ≡ []
-      comment_first w ws e = ap (λ (b : Bool). cond b [] (w ∷ before_comment ws)) e
+pub before_comment-comment : (text : List ℕ) → begins_word text ≡ true → is_comment text ≡ true → before_comment (words_of text) ≡ []
+before_comment-comment text begins hash =
+    ap before_comment (words_of-first text begins)
+    ∙ none (take (position_or_len is_blank text) text) (words_of (drop (position_or_len is_blank text) text)) (is_comment-word text begins ∙ hash)
+  where
+    none : (w : List ℕ) (ws : List (List ℕ)) → is_comment w ≡ true → before_comment (w ∷ ws) ≡ []
+    none w ws e = ap (λ (b : Bool). cond b [] (w ∷ before_comment ws)) e

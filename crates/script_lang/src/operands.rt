@@ -1,7 +1,8 @@
 // The operands of a command.
-ghost use Rattle.std.specs.Prelude.{◌≡◌, ◌≤◌, map, length, None, Some, IfOk, OnOk, IfErr, IfSome, IsNone};
+ghost use Rattle.std.specs.Prelude.{◌≡◌, ◌≤◌, nat_le, map, length, None, Some, IfOk, OnOk, IfErr, IfSome, IsNone};
+ghost use Rattle.std.specs.List.{list_all};
 ghost use Rattle.script_lang.specs.Commands.{most_operands};
-ghost use Rattle.script_terms.specs.Operands.{is_name, is_name_byte, new_name_fault, file_name_fault};
+ghost use Rattle.script_terms.specs.Operands.{begins_name, is_name, is_name_byte, new_name_fault, file_name_fault};
 
 use crate::commands::MOST;
 use crate::fault::{BAD_NAME, BAD_SUFFIX};
@@ -9,26 +10,45 @@ use crate::words::Words;
 use arrayvec::ArrayVec;
 use mesh_names::is_mesh_name;
 
-/// The longest name.
+// The longest name.
 const LONGEST: usize = 32;
 
-/// Whether a byte may stand in a name.
+// Whether a byte may stand in a name.
 fn is_name_byte(byte: u8) -> bool
     ensures { result ≡ is_name_byte byte }
 {
     byte.is_ascii_alphanumeric() || byte == b'_'
 }
 
-/// Whether a word is a name: an ASCII letter, then ASCII letters, digits and `_`, 32 bytes at most.
+// Whether a word is no longer than a name may be.
+fn is_short(word: &[u8]) -> bool
+    ensures { result ≡ nat_le (length word.now) 32 }
+{
+    word.len() <= LONGEST
+}
+
+// Whether a word begins with an ASCII letter.
+fn begins_name(word: &[u8]) -> bool
+    ensures { result ≡ begins_name word.now }
+{
+    match word.first() {
+        Some(first) => first.is_ascii_alphabetic(),
+        None => false,
+    }
+}
+
+// Whether each byte of a word may stand in a name.
+fn has_name_bytes(word: &[u8]) -> bool
+    ensures { result ≡ list_all is_name_byte word.now }
+{
+    word.iter().all(|byte| is_name_byte(*byte))
+}
+
+// Whether a word is a name.
 fn is_name(word: &[u8]) -> bool
     ensures { result ≡ is_name word.now }
 {
-    let Some(first) = word.first() else {
-        return false;
-    };
-    first.is_ascii_alphabetic()
-        && word.len() <= LONGEST
-        && word.iter().all(|byte| is_name_byte(*byte))
+    begins_name(word) && is_short(word) && has_name_bytes(word)
 }
 
 /// The text of a word that is a name; else the kind of its fault.

@@ -1,7 +1,7 @@
 // The words of a line.
 ghost use Rattle.std.specs.Prelude.{◌≡◌, ◌<◌, not, length, IsTrue};
 ghost use Rattle.std.specs.List.{position_or_len};
-ghost use Rattle.text_terms.specs.Lines.{is_blank, begins_word, before_comment, words_of};
+ghost use Rattle.text_terms.specs.Lines.{is_blank, begins_word, before_comment, is_comment, words_of};
 
 use std::marker::Model;
 
@@ -41,7 +41,7 @@ impl<'t> Iterator for Words<'t> {
 
     fn next(&mut self) -> Option<&'t [u8]> {
         let text = after_blanks(self.text);
-        if text.is_empty() || text[0] == b'#' {
+        if text.is_empty() || is_comment(text) {
             return None;
         }
         let (word, rest) = text.split_at(first_blank(text));
@@ -57,6 +57,13 @@ fn after_blanks(text: &[u8]) -> &[u8]
 {
     let (_, rest) = text.split_at(first_mark(text));
     rest
+}
+
+// Whether a text begins with `#`.
+fn is_comment(text: &[u8]) -> bool
+    ensures { result ≡ is_comment text.now }
+{
+    !text.is_empty() && text[0] == b'#'
 }
 
 // Whether a byte separates words.

@@ -1,1 +1,3 @@
-pub mod Soundness
+pub mod Keeping
+pub mod Loops
+pub mod ReadingBack

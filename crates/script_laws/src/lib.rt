@@ -1,5 +1,6 @@
-//! Laws of scripts: the steps of a script without a fault are sound; what each step keeps all of them keep; and how
-//! far a loop over steps has come.
+//! Laws of tasks in order and of the tasks of scripts: what each task keeps all in order keep; how far a loop over
+//! tasks in order has come; and whatever the files, each file that a script writes holds the text of a mesh, and the
+//! mesh is read of it again.
 //!
 //! The lemmas stand in `proofs/`, for the crates above to cite.
 #![tactic(auto)]

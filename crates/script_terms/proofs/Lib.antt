@@ -1,2 +1,3 @@
 mod PlayRows
 mod ScriptRows
+pub mod Soundness

@@ -1,0 +1,9 @@
+pub mod Halves
+pub mod Hits
+pub mod Points
+pub mod Rounds
+pub mod Runs
+pub mod Stacks
+pub mod Orders
+pub mod Starts
+pub mod Trees

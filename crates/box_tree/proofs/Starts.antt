@@ -1,0 +1,116 @@
+-- A tree when it is made, and a walk when it begins.
+use Rattle.std.proofs.Common.{◌≡◌, ◌∙◌, ℕ, ◌+◌, ◌*◌, ◌<◌, ◌≤◌, ◌^◌, List, [], ◌∷◌, ◌++◌, length, get_or, take, drop, refl, sym, ap, arith, subst, inl, inr, append-nil}
+use Rattle.std.specs.Prelude.{slice_range}
+use Rattle.std.specs.List.{All}
+use Rattle.std.specs.List.Sorted.{IsPermutation}
+use Rattle.std.proofs.lemmas.Bool.{cases_lt}
+use Rattle.std.proofs.lemmas.List.{take_all, nil_from_length}
+use Rattle.arrayvec.specs.ArrayVec.{ArrayVec}
+use Rattle.chain_terms.specs.Sums.{upto}
+use Rattle.mb_base.specs.declared.point.Box3.{Box3}
+use Rattle.box_tree.specs.declared.TheConstants.{BLOCK, MOST_BOXES}
+use Rattle.box_tree.specs.declared.bounds.Bounds.{Bounds}
+use Rattle.box_tree.specs.declared.nodes.Entry.{Entry}
+use Rattle.box_tree.specs.declared.nodes.Node.{Node}
+use Rattle.box_tree.specs.declared.walk.Question.{Question}
+use Rattle.box_tree.specs.declared.walk.Walk.{Walk}
+use Rattle.box_tree.specs.Coarse.{coarse_box}
+use Rattle.box_tree.specs.Touching.{touches, box_at, touching_among, touching_numbers}
+use Rattle.box_tree.specs.Nodes.{node_at, run_of, numbers_of, AreNodes, AreEntries, IsRoot, IsTree}
+use Rattle.box_tree.specs.Walks.{IsFair, hits, hits_below, hits_waiting, hits_left, IsQuestion, IsStack, IsWalk}
+use Rattle.box_tree.proofs.Orders.{filter_moved}
+use Rattle.box_tree.proofs.Runs.{range_none}
+use Rattle.box_tree.proofs.Stacks.{IsSmall}
+use Rattle.box_tree.proofs.Trees.{as_many, all_fair}
+
+-- a tree of its parts; the nodes are made over entries that are the same
+pub tree_made : (shift : ℕ) (boxes : List Box3) (entries same : List Entry) (nodes : List Node) → shift < 64 → AreEntries shift boxes entries → same ≡ entries →
+    AreNodes nodes same → length nodes < 2 ^ 32 → (0 < length same → IsRoot nodes same) → IsTree shift boxes entries nodes
+tree_made shift boxes entries same nodes small listed e right short root =
+    let N : List Entry → Type 0 = λ es. AreNodes nodes es in
+    let R : List Entry → Type 0 = λ es. 0 < length es → IsRoot nodes es in
+    record {
+      small = small;
+      short = short;
+      listed = listed;
+      right = subst N e right;
+      root = λ some. subst R e root (omega (arith, some, as_many shift boxes entries listed));
+    }
+
+-- a tree seen through references to its parts
+pub tree_seen : (shift : ℕ) (boxes boxes_seen : List Box3) (entries entries_seen : List Entry) (nodes nodes_seen : List Node) → boxes_seen ≡ boxes → entries_seen ≡ entries → nodes_seen ≡ nodes →
+    IsTree shift boxes entries nodes → IsTree shift boxes_seen entries_seen nodes_seen
+tree_seen shift boxes boxes_seen entries entries_seen nodes nodes_seen b e n tree =
+    let B : List Box3 → Type 0 = λ x. IsTree shift x entries nodes in
+    let E : List Entry → Type 0 = λ x. IsTree shift boxes_seen x nodes in
+    let N : List Node → Type 0 = λ x. IsTree shift boxes_seen entries_seen x in
+    subst N (sym n) (subst E (sym e) (subst B (sym b) tree))
+
+-- a stack before a walk
+pub record IsFirst (entries : List Entry) (stack : List ℕ) : Type 0 where
+  pub some : 0 < length entries → stack ≡ 0 ∷ []
+  pub none : length entries ≡ 0 → stack ≡ []
+
+-- nothing lies on an empty stack
+empty_stack : (nodes : List Node) → IsStack nodes []
+empty_stack nodes = record { there = λ i l. absurd (omega (arith, l)); small = λ i l. absurd (omega (arith, l)) }
+
+-- the first node alone on a stack
+root_stack : (nodes : List Node) (entries : List Entry) → IsRoot nodes entries → IsStack nodes (0 ∷ [])
+root_stack nodes entries root =
+    let T : ℕ → Type 0 = λ i. get_or (0 ∷ []) i 0 < length nodes in
+    let S : ℕ → Type 0 = λ i. IsSmall nodes (get_or (0 ∷ []) i 0) i in
+    let first : IsSmall nodes 0 0 = omega (arith, root.few) in
+    record {
+      there = λ i l. let e : 0 ≡ i = omega (arith, l) in subst T e root.there;
+      small = λ i l. let e : 0 ≡ i = omega (arith, l) in subst S e first;
+    }
+
+-- the stack before a walk waits in order
+first_stack : (shift : ℕ) (boxes : List Box3) (entries : List Entry) (nodes : List Node) (stack : List ℕ) → IsTree shift boxes entries nodes → IsFirst entries stack → IsStack nodes stack
+first_stack shift boxes entries nodes stack tree first =
+    let S : List ℕ → Type 0 = λ l. IsStack nodes l in
+    elim (cases_lt 0 (length entries)) as (λ _. IsStack nodes stack) [
+      | inl some ↦ subst S (sym (first.some some)) (root_stack nodes entries (tree.root (omega (arith, some, as_many shift boxes entries tree.listed))))
+      | inr none ↦ subst S (sym (first.none (omega (arith, none)))) (empty_stack nodes)
+    ]
+
+-- a walk that begins is on its way
+pub walk_begins : (shift : ℕ) (q : Question) (stack : ArrayVec ℕ) → IsTree shift q.boxes.now q.entries.now q.nodes.now → q.bounds ≡ coarse_box shift q.area → IsFirst q.entries.now stack.items →
+    IsWalk (record { question = q; stack = stack; at = 0; end = 0 })
+walk_begins shift q stack tree bounds first =
+    let F : Bounds → Type 0 = λ b. All (IsFair q.boxes.now q.area b) q.entries.now in
+    record {
+      question = record {
+        few = omega (arith, as_many shift q.boxes.now q.entries.now tree.listed, tree.listed.few);
+        short = tree.short;
+        fair = subst F (sym bounds) (all_fair shift q.boxes.now q.entries.now q.area tree.listed);
+        nodes = tree.right;
+      };
+      begins = omega arith;
+      ends = omega arith;
+      stack = first_stack shift q.boxes.now q.entries.now q.nodes.now stack.items tree first;
+    }
+
+-- the first node gives the numbers of all entries
+root_gives : (q : Question) → IsRoot q.nodes.now q.entries.now → hits_below q 0 ≡ hits q q.entries.now
+root_gives q root =
+    let count = (node_at q.nodes.now 0).count in
+    ap (λ f. hits q (run_of q.entries.now f count)) root.first ∙ ap (hits q) (take_all (BLOCK * count) q.entries.now root.all)
+
+-- the stack before a walk gives the numbers of all entries
+first_gives : (shift : ℕ) (q : Question) (stack : List ℕ) → IsTree shift q.boxes.now q.entries.now q.nodes.now → IsFirst q.entries.now stack → hits q q.entries.now ≡ hits_waiting q stack
+first_gives shift q stack tree first = elim (cases_lt 0 (length q.entries.now)) as (λ _. hits q q.entries.now ≡ hits_waiting q stack) [
+  | inl some ↦
+      let root = tree.root (omega (arith, some, as_many shift q.boxes.now q.entries.now tree.listed)) in
+      sym (ap (hits_waiting q) (first.some some) ∙ append-nil (hits_below q 0) ∙ root_gives q root)
+  | inr none ↦ ap (hits q) (nil_from_length q.entries.now (omega (arith, none))) ∙ sym (ap (hits_waiting q) (first.none (omega (arith, none))))
+]
+
+-- a walk that begins gives the numbers of all boxes that touch the area
+pub walk_gives : (shift : ℕ) (q : Question) (stack : ArrayVec ℕ) → IsTree shift q.boxes.now q.entries.now q.nodes.now → IsFirst q.entries.now stack.items →
+    IsPermutation (touching_numbers q.boxes.now q.area) (hits_left (record { question = q; stack = stack; at = 0; end = 0 }))
+walk_gives shift q stack tree first =
+    let G : List ℕ → Type 0 = λ l. IsPermutation (touching_numbers q.boxes.now q.area) l in
+    subst G (first_gives shift q stack.items tree first)
+    (filter_moved (λ k. touches (box_at q.boxes.now k) q.area) (upto (length q.boxes.now)) (numbers_of q.entries.now) tree.listed.order)

@@ -1,0 +1,4 @@
+pub mod Coarse
+pub mod Nodes
+pub mod Touching
+pub mod Walks

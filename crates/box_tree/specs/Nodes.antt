@@ -1,0 +1,92 @@
+-- Trees over boxes. The entries lie in blocks; a node stands for a run of blocks and has bounds round their entries. Nodes lie in the
+-- order of the walk: after a node of n blocks come the 2 h - 1 nodes of its first h blocks, then those of the others, with h half of n.
+use Rattle.std.specs.Prelude.{◌≡◌, ℕ, ◌+◌, ◌-◌, ◌*◌, ◌/◌, ◌^◌, ◌<◌, ◌≤◌, List, [], pos, length, get_or, map, take, drop}
+use Rattle.std.specs.List.{All}
+use Rattle.std.specs.List.Sorted.{IsPermutation}
+use Rattle.mb_base.specs.declared.point.Box3.{Box3}
+use Rattle.chain_terms.specs.Sums.{upto}
+use Rattle.box_tree.specs.declared.TheConstants.{BLOCK, MOST_BOXES}
+use Rattle.box_tree.specs.declared.bounds.Bounds.{Bounds}
+use Rattle.box_tree.specs.declared.nodes.Entry.{Entry}
+use Rattle.box_tree.specs.declared.nodes.Node.{Node}
+use Rattle.box_tree.specs.Coarse.{IsBoundsIn, coarse_box}
+use Rattle.box_tree.specs.Touching.{box_at}
+
+-- the bounds of a node that is not there
+abbrev pub no_bounds : Bounds
+no_bounds = record {
+  x = record { low = pos 0; high = pos 0 };
+  y = record { low = pos 0; high = pos 0 };
+  z = record { low = pos 0; high = pos 0 };
+}
+
+-- the node at a place
+abbrev pub node_at : List Node → ℕ → Node
+node_at nodes place = get_or nodes place (record { bounds = no_bounds; first = 0; count = 0 })
+
+-- the entry at a place that is not there
+abbrev pub no_entry : Entry
+no_entry = record { bounds = no_bounds; number = 0 }
+
+-- the entries of a run of blocks
+abbrev pub run_of : List Entry → ℕ → ℕ → List Entry
+run_of entries first count = take (BLOCK * count) (drop (BLOCK * first) entries)
+
+-- the bounds take in those of each entry
+abbrev pub IsRound : Bounds → List Entry → Type 0
+IsRound bounds entries = All (λ e. IsBoundsIn e.bounds bounds) entries
+
+-- half of a number, rounded up
+abbrev pub half : ℕ → ℕ
+half n = n - n / 2
+
+-- the node stands for a run of blocks
+pub record HasRun (node : Node) (first count : ℕ) : Type 0 where
+  pub begins : node.first ≡ first
+  pub blocks : node.count ≡ count
+
+-- a node at a place is right: its bounds are round its entries, and after it, before an end, are the nodes of its halves
+pub record IsNodeOf (end : ℕ) (nodes : List Node) (entries : List Entry) (place : ℕ) (node : Node) : Type 0 where
+  pub some : 0 < node.count
+  pub room : place + 2 * node.count ≤ end + 1
+  pub within : BLOCK * (node.first + node.count) < length entries + BLOCK
+  pub round : IsRound node.bounds (run_of entries node.first node.count)
+  pub left : 1 < node.count → HasRun (node_at nodes (place + 1)) node.first (half node.count)
+  pub right : 1 < node.count → HasRun (node_at nodes (place + 2 * half node.count)) (node.first + half node.count) (node.count - half node.count)
+
+-- the node that lies there is right
+abbrev pub IsNode : ℕ → List Node → List Entry → ℕ → Type 0
+IsNode end nodes entries place = IsNodeOf end nodes entries place (node_at nodes place)
+
+-- each node is right
+abbrev pub AreNodes : List Node → List Entry → Type 0
+AreNodes nodes entries = (place : ℕ) → place < length nodes → IsNode (length nodes) nodes entries place
+
+-- the first node stands for all blocks
+pub record IsRoot (nodes : List Node) (entries : List Entry) : Type 0 where
+  pub there : 0 < length nodes
+  pub first : (node_at nodes 0).first ≡ 0
+  pub all : length entries ≤ BLOCK * (node_at nodes 0).count
+  pub few : (node_at nodes 0).count < 2 ^ 32
+
+-- the numbers of the entries
+abbrev pub numbers_of : List Entry → List ℕ
+numbers_of entries = map (λ e. e.number) entries
+
+-- the entry of a number
+abbrev pub entry_of : ℕ → List Box3 → ℕ → Entry
+entry_of shift boxes k = record { bounds = coarse_box shift (box_at boxes k); number = k }
+
+-- the entries are those of all boxes, in some order
+pub record AreEntries (shift : ℕ) (boxes : List Box3) (entries : List Entry) : Type 0 where
+  pub few : length boxes ≤ MOST_BOXES
+  pub order : IsPermutation (upto (length boxes)) (numbers_of entries)
+  pub made : entries ≡ map (entry_of shift boxes) (numbers_of entries)
+
+-- a tree over the boxes
+pub record IsTree (shift : ℕ) (boxes : List Box3) (entries : List Entry) (nodes : List Node) : Type 0 where
+  pub small : shift < 64
+  pub short : length nodes < 2 ^ 32
+  pub listed : AreEntries shift boxes entries
+  pub right : AreNodes nodes entries
+  pub root : 0 < length boxes → IsRoot nodes entries

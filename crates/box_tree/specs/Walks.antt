@@ -1,0 +1,56 @@
+-- Walks through a tree: what is asked, the nodes that wait on the stack, and the numbers that are still to come.
+use Rattle.std.specs.Prelude.{◌≡◌, ℕ, ◌+◌, ◌-◌, ◌*◌, ◌^◌, ◌<◌, ◌≤◌, true, List, [], ◌++◌, length, get_or, slice_range, reverse}
+use Rattle.std.specs.List.{All, flat_map, sum_by}
+use Rattle.mb_base.specs.declared.point.Box3.{Box3}
+use Rattle.box_tree.specs.declared.bounds.Bounds.{Bounds}
+use Rattle.box_tree.specs.declared.nodes.Entry.{Entry}
+use Rattle.box_tree.specs.declared.nodes.Node.{Node}
+use Rattle.box_tree.specs.declared.walk.Question.{Question}
+use Rattle.box_tree.specs.declared.walk.Walk.{Walk}
+use Rattle.box_tree.specs.Coarse.{bounds_meet}
+use Rattle.box_tree.specs.Touching.{touches, box_at, touching_among}
+use Rattle.box_tree.specs.Nodes.{AreNodes, node_at, run_of, numbers_of}
+
+-- the entry has the number of a box, and its bounds meet those of the area where its box touches the area
+pub record IsFair (boxes : List Box3) (area : Box3) (bounds : Bounds) (e : Entry) : Type 0 where
+  pub number : e.number < length boxes
+  pub meets : touches (box_at boxes e.number) area ≡ true → bounds_meet e.bounds bounds ≡ true
+
+-- a question to a tree
+pub record IsQuestion (q : Question) : Type 0 where
+  pub few : length q.entries.now < 2 ^ 32
+  pub short : length q.nodes.now < 2 ^ 32
+  pub fair : All (IsFair q.boxes.now q.area q.bounds) q.entries.now
+  pub nodes : AreNodes q.nodes.now q.entries.now
+
+-- of the entries, the numbers of those whose boxes touch the area
+abbrev pub hits : Question → List Entry → List ℕ
+hits q entries = touching_among q.boxes.now q.area (numbers_of entries)
+
+-- the numbers that a node gives
+abbrev pub hits_below : Question → ℕ → List ℕ
+hits_below q place = hits q (run_of q.entries.now (node_at q.nodes.now place).first (node_at q.nodes.now place).count)
+
+-- the numbers that the nodes on a stack give, the last one first
+abbrev pub hits_waiting : Question → List ℕ → List ℕ
+hits_waiting q stack = flat_map (hits_below q) (reverse stack)
+
+-- the numbers that are still to come
+abbrev pub hits_left : Walk → List ℕ
+hits_left w = hits w.question (slice_range w.question.entries.now w.at w.end) ++ hits_waiting w.question w.stack.items
+
+-- nodes wait on the stack, and the one at place i has so few blocks that with each place the count halves
+pub record IsStack (nodes : List Node) (stack : List ℕ) : Type 0 where
+  pub there : (i : ℕ) → i < length stack → get_or stack i 0 < length nodes
+  pub small : (i : ℕ) → i < length stack → ((node_at nodes (get_or stack i 0)).count - 1) * 2 ^ i < 2 ^ 32
+
+-- a walk on its way
+pub record IsWalk (w : Walk) : Type 0 where
+  pub question : IsQuestion w.question
+  pub begins : w.at ≤ w.end
+  pub ends : w.end ≤ length w.question.entries.now
+  pub stack : IsStack w.question.nodes.now w.stack.items
+
+-- how many nodes are below those on the stack, with themselves
+abbrev pub nodes_below : List Node → List ℕ → ℕ
+nodes_below nodes stack = sum_by (λ place. 2 * (node_at nodes place).count - 1) stack

@@ -1,0 +1,24 @@
+//! A tree over boxes that finds the boxes which have a point in common with an area.
+#![tactic(auto)]
+
+mod bounds;
+mod common_point;
+mod extent;
+mod nodes;
+mod order;
+mod touching;
+mod tree;
+mod walk;
+
+pub use common_point::touch;
+pub use touching::Touching;
+pub use tree::Tree;
+
+/// The most boxes that a tree holds.
+pub const MOST_BOXES: usize = 300_000_000;
+
+/// The most entries in a block.
+const BLOCK: usize = 4;
+
+/// The places of a walk's stack. Each place has at most half as many blocks as the one below it, so some thirty are used.
+const STACK: usize = 64;

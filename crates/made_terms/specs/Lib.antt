@@ -1,0 +1,6 @@
+pub mod Euler
+pub mod Lattice
+pub mod Motions
+pub mod Refusals
+pub mod Solids
+pub mod Volume

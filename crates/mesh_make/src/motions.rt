@@ -1,0 +1,92 @@
+// Motions of meshes.
+ghost use Rattle.std.specs.Prelude.{◌≡◌, ◌≤◌, ◌<◌, IfOk, length, map, pos};
+ghost use Rattle.made_terms.specs.Motions.{
+  shifted,
+  scaled,
+  mirrored,
+  quarter_turned,
+  turned_over,
+};
+ghost use Rattle.made_terms.specs.Refusals.{moved_fault};
+ghost use Rattle.mesh_make.specs.Moves.{moves, IsSmall};
+ghost use Rattle.mesh_make.specs.Refused.{IsRefusedFor};
+
+mod grid;
+mod rigid;
+
+use crate::fault::MakeFault;
+use crate::made::mesh_of;
+use grid::{GridMotion, moved_points, stay};
+use mb_base::{NoMemory, Point};
+use mesh_check::Mesh;
+use rigid::{mirrored_points, turned_points, turned_triples};
+use std::alloc::Global;
+
+/// The mesh with `by` added to each point. `OutOfGrid` comes exactly where a coordinate would leave the grid, and then
+/// before anything is made.
+pub fn shift(alloc: Global, mesh: &Mesh, by: [i32; 3]) -> Result<Mesh, MakeFault>
+    ensures refused { IsRefusedFor (moved_fault (map (shifted by) mesh.now.points)) result }
+    ensures points { IfOk result (λ m. m.points ≡ map (shifted by) mesh.now.points) }
+    ensures triples { IfOk result (λ m. m.triples ≡ mesh.now.triples) }
+{
+    moved(alloc, mesh, &GridMotion::Shift(by))
+}
+
+/// The mesh with each coordinate multiplied by the factor. `OutOfGrid` comes exactly where a coordinate would leave the
+/// grid, and then before anything is made.
+pub fn scale(alloc: Global, mesh: &Mesh, factor: u32) -> Result<Mesh, MakeFault>
+    requires some { 1 ≤ factor }
+    requires few { factor ≤ 1000000 }
+    ensures refused { IsRefusedFor (moved_fault (map (scaled (pos factor)) mesh.now.points)) result }
+    ensures points { IfOk result (λ m. m.points ≡ map (scaled (pos factor)) mesh.now.points) }
+    ensures triples { IfOk result (λ m. m.triples ≡ mesh.now.triples) }
+{
+    moved(alloc, mesh, &GridMotion::Scale(factor))
+}
+
+/// The mesh with the other sign on one coordinate of each point, 0 to 2 for x to z, and with the last two vertices of each
+/// triangle exchanged, so that the outside stays outside.
+pub fn mirror(alloc: Global, mesh: &Mesh, axis: u8) -> Result<Mesh, NoMemory>
+    requires { axis < 3 }
+    ensures points { IfOk result (λ m. m.points ≡ map (mirrored axis) mesh.now.points) }
+    ensures triples { IfOk result (λ m. m.triples ≡ map turned_over mesh.now.triples) }
+{
+    let points = mirrored_points(alloc, mesh.points(), axis)?;
+    let triples = turned_triples(alloc, mesh.triples())?;
+    mesh_of(alloc, points, &triples)
+}
+
+/// The mesh after a quarter turn about the axis x, y or z, 0 to 2: of (x, y, z) these make (x, -z, y), (z, y, -x) and
+/// (-y, x, z).
+pub fn quarter_turn(alloc: Global, mesh: &Mesh, axis: u8) -> Result<Mesh, NoMemory>
+    requires { axis < 3 }
+    ensures points { IfOk result (λ m. m.points ≡ map (quarter_turned axis) mesh.now.points) }
+    ensures triples { IfOk result (λ m. m.triples ≡ mesh.now.triples) }
+{
+    let points = turned_points(alloc, mesh.points(), axis)?;
+    with_points(mesh, points)
+}
+
+// The mesh after a motion that may leave the grid.
+fn moved(alloc: Global, mesh: &Mesh, motion: &GridMotion) -> Result<Mesh, MakeFault>
+    requires { IsSmall motion.now }
+    ensures refused { IsRefusedFor (moved_fault (map (moves motion.now) mesh.now.points)) result }
+    ensures points { IfOk result (λ m. m.points ≡ map (moves motion.now) mesh.now.points) }
+    ensures triples { IfOk result (λ m. m.triples ≡ mesh.now.triples) }
+{
+    if !stay(mesh.points(), motion) {
+        return Err(MakeFault::OutOfGrid);
+    }
+    let points = moved_points(alloc, mesh.points(), motion)?;
+    Ok(with_points(mesh, points)?)
+}
+
+// The same triangles, with their twins, over as many other points.
+fn with_points(mesh: &Mesh, points: Vec<Point>) -> Result<Mesh, NoMemory>
+    requires { length points.items ≡ length mesh.now.points }
+    ensures points { IfOk result (λ m. m.points ≡ points.items) }
+    ensures triples { IfOk result (λ m. m.triples ≡ mesh.now.triples) }
+{
+    let twins = mesh.twins().clone()?;
+    Ok(Mesh::of_twins(points, twins))
+}

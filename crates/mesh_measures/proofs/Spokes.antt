@@ -1,0 +1,89 @@
+-- The edges that start at a vertex, as the places of that vertex among all starts.
+use Rattle.std.proofs.Common.{◌≡◌, ◌<◌, ◌*◌, ◌+◌, ◌==◌, ℕ, zero, suc, true, List, [], ◌∷◌, length, get_or, map, refl, sym, ◌∙◌, ap, subst, arith}
+use Rattle.std.specs.List.{All, Contains, flat_map}
+use Rattle.std.proofs.lemmas.Bool.{eqb-true, eq-eqb}
+use Rattle.std.proofs.lemmas.List.{get_or-map, get_or_default, length-map}
+use Rattle.std.proofs.lemmas.List.Elements.{All-contains, All-from_get_or, All-nil, All-cons, All-head, All-tail}
+use Rattle.chain_terms.specs.Chains.{dir, edges, all_edges}
+use Rattle.chain_terms.specs.Ranks.{start, finish}
+use Rattle.chain_terms.specs.Sums.{upto}
+use Rattle.chain_laws.specs.Chains.{dir_contains, dir_some}
+use Rattle.chain_laws.proofs.Ascending.{IsKept, kept_at, kept}
+use Rattle.counting_sort.specs.Buckets.{places_of}
+use Rattle.counting_sort.proofs.Upto.{get_or-map-upto}
+use Rattle.mesh_terms.specs.Meshes.{Triple, IsBelow, triple_of, triples_of}
+use Rattle.halfedge.proofs.Edges.{length-all_edges}
+use Rattle.mesh_measures.specs.Walks.{starts_of, IsEnd}
+
+-- a place of the vertex is that of an edge that starts there
+pub record IsSpoke (es : List (ℕ × ℕ)) (v h : ℕ) : Type 0 where
+  pub within : h < length es
+  pub from : start es h ≡ v
+
+-- what a filter keeps of the places is a spoke
+spoke_of_kept : (es : List (ℕ × ℕ)) (v h : ℕ) → IsKept (λ i. get_or (starts_of es) i 0 == v) 0 (length (starts_of es)) h → IsSpoke es v h
+spoke_of_kept es v h k =
+    let low : h < length es = omega (arith, k.high, length-map es (λ (e : ℕ × ℕ). e.0)) in
+    record { within = low; from = sym (get_or-map (λ (e : ℕ × ℕ). e.0) es h (0, 0) 0 low) ∙ eqb-true (get_or (starts_of es) h 0) v k.passes }
+
+-- each place of the vertex is a spoke
+pub all_spokes : (es : List (ℕ × ℕ)) (v : ℕ) → All (IsSpoke es v) (places_of (starts_of es) v)
+all_spokes es v =
+    All-from_get_or (IsSpoke es v) (places_of (starts_of es) v) 0 (λ i low. spoke_of_kept es v (get_or (places_of (starts_of es) v) i 0) (kept_at (λ h. get_or (starts_of es) h 0 == v) 0 (length (starts_of es)) i low))
+
+-- each spoke is one of the places
+pub spoke_listed : (es : List (ℕ × ℕ)) (v h : ℕ) → IsSpoke es v h → Contains (places_of (starts_of es) v) h
+spoke_listed es v h s =
+    kept (λ i. get_or (starts_of es) i 0 == v) 0 (length (starts_of es)) h (record {
+      low = omega arith;
+      high = omega (arith, s.within, length-map es (λ (e : ℕ × ℕ). e.0));
+      passes = eq-eqb (get_or (starts_of es) h 0) v (get_or-map (λ (e : ℕ × ℕ). e.0) es h (0, 0) 0 s.within ∙ s.from);
+    })
+
+-- where an edge runs from the vertex to b, b is the end of a spoke
+pub spoke_to : (es : List (ℕ × ℕ)) (v b : ℕ) → 0 < dir es v b → IsEnd es (places_of (starts_of es) v) b
+spoke_to es v b some =
+    let (h, low, at) = dir_contains es v b some in
+    let is : get_or es h (0, 0) ≡ (v, b) = get_or_default es h (0, 0) (v, b) low ∙ at in
+    (h, spoke_listed es v h (record { within = low; from = ap (λ (e : ℕ × ℕ). e.0) is }), ap (λ (e : ℕ × ℕ). e.1) is)
+
+-- and to the end of a spoke an edge runs from the vertex
+pub spoke_edge : (es : List (ℕ × ℕ)) (v b : ℕ) → IsEnd es (places_of (starts_of es) v) b → 0 < dir es v b
+spoke_edge es v b (h, inside, at) =
+    let s = All-contains (IsSpoke es v) (places_of (starts_of es) v) h (all_spokes es v) inside in
+    let is : get_or es h (0, 0) ≡ (v, b) = ap (λ n. (n, finish es h)) s.from ∙ ap (λ n. (v, n)) at in
+    dir_some es v b (h, s.within, get_or_default es h (v, b) (0, 0) s.within ∙ is)
+
+-- what is read as bucket v of so many
+pub read_spokes : (es : List (ℕ × ℕ)) (n v : ℕ) (spokes : List (List ℕ)) (bucket : List ℕ) → v < n → spokes ≡ map (places_of (starts_of es)) (upto n) → bucket ≡ get_or spokes v [] → bucket ≡ places_of (starts_of es) v
+read_spokes es n v spokes bucket low gathered read = read ∙ ap (λ (l : List (List ℕ)). get_or l v []) gathered ∙ get_or-map-upto (places_of (starts_of es)) n v [] low
+
+-- each start is below the bound of the vertices
+pub starts_below : (n : ℕ) (ts : List Triple) → All (IsBelow n) ts → All (λ k. k < n) (starts_of (all_edges ts))
+starts_below n [] all = All-nil (λ k. k < n)
+starts_below n (t ∷ ts) all =
+    let first = All-head (IsBelow n) t ts all in
+    All-cons (λ k. k < n) t.0 (t.1 ∷ t.2 ∷ starts_of (all_edges ts)) first.a (All-cons (λ k. k < n) t.1 (t.2 ∷ starts_of (all_edges ts)) first.b (All-cons (λ k. k < n) t.2 (starts_of (all_edges ts)) first.c (starts_below n ts (All-tail (IsBelow n) t ts all))))
+
+-- each end too
+ends_below : (n : ℕ) (ts : List Triple) → All (IsBelow n) ts → All (λ (e : ℕ × ℕ). e.1 < n) (all_edges ts)
+ends_below n [] all = All-nil (λ (e : ℕ × ℕ). e.1 < n)
+ends_below n (t ∷ ts) all =
+    let first = All-head (IsBelow n) t ts all in
+    let P = λ (e : ℕ × ℕ). e.1 < n in
+    All-cons P (t.0, t.1) ((t.1, t.2) ∷ (t.2, t.0) ∷ all_edges ts) first.b
+    (All-cons P (t.1, t.2) ((t.2, t.0) ∷ all_edges ts) first.c (All-cons P (t.2, t.0) (all_edges ts) first.a (ends_below n ts (All-tail (IsBelow n) t ts all))))
+
+-- so many half-edges
+pub length-halves : (triples : List (List ℕ)) → length (all_edges (triples_of triples)) ≡ 3 * length triples
+length-halves triples = omega (arith, length-all_edges (triples_of triples), length-map triples triple_of)
+
+-- a half-edge ends below the bound of the vertices
+pub finish_below : (n : ℕ) (triples : List (List ℕ)) (h : ℕ) → All (IsBelow n) (triples_of triples) → h < 3 * length triples → finish (all_edges (triples_of triples)) h < n
+finish_below n triples h all low = ends_below n (triples_of triples) all h (0, 0) (omega (arith, low, length-halves triples))
+
+-- the spokes of a vertex are half-edges of the triangles
+pub spokes_within : (triples : List (List ℕ)) (v : ℕ) (bucket : List ℕ) → bucket ≡ places_of (starts_of (all_edges (triples_of triples))) v → All (λ h. h < 3 * length triples) bucket
+spokes_within triples v bucket is =
+    subst (All (λ h. h < 3 * length triples)) (sym is)
+    (λ k d low. let s = all_spokes (all_edges (triples_of triples)) v k d low in omega (arith, s.within, length-halves triples))

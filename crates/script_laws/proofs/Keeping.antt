@@ -1,0 +1,18 @@
+-- What each of some tasks keeps, all of them in order keep.
+use Rattle.std.proofs.Common.{◌≡◌, List, [], ◌∷◌, Ok, subst}
+use Rattle.run_terms.specs.Runs.{Action}
+use Rattle.run_terms.specs.Tasks.{Task, give}
+use Rattle.run_laws.specs.Keeping.{Keeps}
+use Rattle.run_laws.proofs.Keeping.{keeps_give, keeps_then}
+use Rattle.script_terms.specs.Plays.{in_order}
+
+-- a value that is given as it is
+pub keeps_value : {A : Type 0} (P : Action → Type 0) (Q : A → Type 0) (a : A) → Q a → Keeps P Q (give (Ok a))
+keeps_value P Q a such = keeps_give P Q (Ok a) (λ b is. let same : a ≡ b = cc in subst Q same such)
+
+-- tasks in order, where each keeps it from any value that is such
+pub keeps_in_order : {L A : Type 0} (P : Action → Type 0) (Q : A → Type 0) (task : L → A → Task A) (ls : List L) (a : A)
+    → ((l : L) (a : A) → Q a → Keeps P Q (task l a)) → Q a → Keeps P Q (in_order task ls a)
+keeps_in_order P Q task [] a each such = keeps_value P Q a such
+keeps_in_order P Q task (l ∷ ls) a each such =
+    keeps_then P Q Q (task l a) (λ b. in_order task ls b) (each l a such) (λ b then. keeps_in_order P Q task ls b each then)

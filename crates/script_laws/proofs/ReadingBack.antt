@@ -1,0 +1,106 @@
+-- What a script writes is read again.
+use Rattle.std.proofs.Common.{◌≡◌, ◌≤◌, ℕ, Bool, true, false, List, [], Some, Ok, Err, refl, subst}
+use Rattle.std.specs.Prelude.{nat_lt, bytes_eq, if◌then◌else◌}
+use Rattle.std.proofs.lemmas.List.Elements.{All-nil, All-cons}
+use Rattle.mesh_terms.specs.Faults.{Halfedges}
+use Rattle.mesh_terms.specs.Limits.{Limits, IsLawful}
+use Rattle.mesh_terms.specs.Meshes.{Mesh}
+use Rattle.mb_base.specs.declared.op.Op.{Op}
+use Rattle.obj_terms.specs.Written.{obj_text}
+use Rattle.run_terms.specs.Files.{Bytes}
+use Rattle.run_terms.specs.Runs.{Action, Ask, Write, Say}
+use Rattle.run_terms.specs.Tasks.{give, then_task}
+use Rattle.run_laws.specs.Keeping.{Keeps}
+use Rattle.run_laws.proofs.Keeping.{keeps_give, keeps_act, keeps_then}
+use Rattle.play_terms.specs.Commands.{ask_file, ask_mesh, say_line, write_mesh}
+use Rattle.play_terms.specs.Lines.{over}
+use Rattle.play_terms.specs.ReadingBack.{IsReadable, WritesReadable}
+use Rattle.play_laws.proofs.ReadingBack.{mesh_asked, read_again}
+use Rattle.script_terms.specs.Combined.{Combined}
+use Rattle.script_terms.specs.Lines.{load_line, save_line, combine_line}
+use Rattle.script_terms.specs.Plays.{Meanings, Named, no_names, with_name, mesh_at, mesh_or_none, within, load_task, save_task, combine_task, step_task, steps_task, script_checked, script_task}
+use Rattle.script_terms.specs.Scripts.{script}
+use Rattle.script_terms.specs.Steps.{Line, Step, Load, Save, Combine}
+use Rattle.script_laws.specs.ReadingBack.{MeshReadable, NamesReadable, ResultsReadable, soup_of_mesh}
+use Rattle.script_laws.proofs.Keeping.{keeps_value, keeps_in_order}
+
+-- what was within the limit is what was asked for
+taken_within : (limits : Limits) (o a : Combined) → within limits o ≡ Ok a → (o ≡ a) × (nat_lt limits.halfedges o.halfedges ≡ false)
+taken_within limits o a e = by_limit (nat_lt limits.halfedges o.halfedges) refl e
+  where
+    by_limit : (b : Bool) → nat_lt limits.halfedges o.halfedges ≡ b → (if b then Err (over Halfedges o.halfedges) else Ok o) ≡ Ok a → (o ≡ a) × (nat_lt limits.halfedges o.halfedges ≡ false)
+    by_limit true past e = absurd (cc)
+    by_limit false is e = (cc, is)
+
+module _ (means : Meanings) (k : ℕ) (limits : Limits) (few : k ≤ 6) (lawful : IsLawful limits) (results : ResultsReadable means k limits) where
+  abbrev Writes : Action → Type 0
+  Writes a = WritesReadable k limits a
+
+  abbrev Names : Named → Type 0
+  Names named = NamesReadable k limits named
+
+  -- a line
+  said : (line : Bytes) → Keeps Writes (λ _. Unit {0}) (say_line line)
+  said line = keeps_act Writes (Say line) tt
+
+  -- a file is asked for
+  asked : (name : Bytes) → Keeps Writes (λ _. Unit {0}) (ask_file limits name)
+  asked name = record { actions = λ files. All-cons Writes (Ask name) [] tt (All-nil Writes); value = λ files a is. tt }
+
+  -- a mesh without points
+  empty_readable : MeshReadable k limits (record { points = []; triples = [] })
+  empty_readable = read_again k limits [] [] (soup_of_mesh (record { points = []; triples = [] })) few lawful refl
+
+  -- a name more has such a mesh
+  named_more : (name : Bytes) (m : Mesh) (named : Named) → Names named → MeshReadable k limits m → Names (with_name name m named)
+  named_more name m named all more n = by_name (bytes_eq n name)
+    where
+      by_name : (b : Bool) → MeshReadable k limits (mesh_or_none (if b then Some m else named n))
+      by_name true = more
+      by_name false = all n
+
+  -- a line is said, and a name more has such a mesh
+  told_and_named : (line name : Bytes) (m : Mesh) (named : Named) → Names named → MeshReadable k limits m
+      → Keeps Writes Names (then_task (say_line line) (λ _. give (Ok (with_name name m named))))
+  told_and_named line name m named all more =
+      keeps_then Writes (λ _. Unit {0}) Names (say_line line) (λ _. give (Ok (with_name name m named))) (said line)
+      (λ _ _. keeps_value Writes Names (with_name name m named) (named_more name m named all more))
+
+  load_keeps : (name file : Bytes) (named : Named) → Names named → Keeps Writes Names (load_task k limits name file named)
+  load_keeps name file named all =
+      keeps_then Writes (IsReadable k limits) Names (ask_mesh k limits file)
+      (λ m. then_task (say_line (load_line name file m)) (λ _. give (Ok (with_name name (record { points = m.points; triples = m.triples }) named))))
+      (mesh_asked k limits file few lawful)
+      (λ m more. told_and_named (load_line name file m) name (record { points = m.points; triples = m.triples }) named all more)
+
+  save_keeps : (name file : Bytes) (m : Mesh) (named : Named) → Names named → MeshReadable k limits m → Keeps Writes Names (save_task k name file m named)
+  save_keeps name file m named all such =
+      keeps_then Writes (λ _. Unit {0}) Names (write_mesh k file m.points m.triples) (λ _. then_task (say_line (save_line name file m)) (λ _. give (Ok named)))
+      (keeps_act Writes (Write file (obj_text k m.points m.triples)) (soup_of_mesh m, refl, such))
+      (λ _ _. keeps_then Writes (λ _. Unit {0}) Names (say_line (save_line name file m)) (λ _. give (Ok named)) (said (save_line name file m)) (λ _ _. keeps_value Writes Names named all))
+
+  combine_keeps : (op : Op) (name left right : Bytes) (named : Named) → Names named → Keeps Writes Names (combine_task means limits op name left right named)
+  combine_keeps op name left right named all =
+      let o = means.operation op (mesh_at named left) (mesh_at named right) in
+      let R : Combined → Type 0 = λ a. MeshReadable k limits a.mesh in
+      keeps_then Writes R Names (give (within limits o)) (λ a. then_task (say_line (combine_line op name left right a)) (λ _. give (Ok (with_name name a.mesh named))))
+      (keeps_give Writes R (within limits o) (λ a is. let taken = taken_within limits o a is in subst R taken.0 (results op (mesh_at named left) (mesh_at named right) (all left) (all right) taken.1)))
+      (λ a more. told_and_named (combine_line op name left right a) name a.mesh named all more)
+
+  step_keeps : (step : Step) (named : Named) → Names named → Keeps Writes Names (step_task means k limits step named)
+  step_keeps (Load name file) named all = load_keeps name file named all
+  step_keeps (Save name file) named all = save_keeps name file (mesh_at named name) named all (all name)
+  step_keeps (Combine op name left right) named all = combine_keeps op name left right named all
+
+  steps_keep : (lines : List Line) → Keeps Writes Names (steps_task means k limits lines no_names)
+  steps_keep lines = keeps_in_order Writes Names (λ l n. step_task means k limits l.1 n) lines no_names (λ l named all. step_keeps l.1 named all) (λ name. empty_readable)
+
+  -- whatever the files, each file that a script writes holds the text of a mesh, which is read of it again
+  pub script_keeps : (name : Bytes) → Keeps Writes (λ _. Unit {0}) (script_task means k limits name)
+  script_keeps name =
+      keeps_then Writes (λ _. Unit {0}) (λ _. Unit {0}) (ask_file limits name)
+      (λ bytes. then_task (give (script_checked name (script k bytes))) (λ lines. then_task (steps_task means k limits lines no_names) (λ _. give (Ok tt))))
+      (asked name)
+      (λ bytes _. keeps_then Writes (λ _. Unit {0}) (λ _. Unit {0}) (give (script_checked name (script k bytes))) (λ lines. then_task (steps_task means k limits lines no_names) (λ _. give (Ok tt)))
+      (keeps_give Writes (λ _. Unit {0}) (script_checked name (script k bytes)) (λ lines is. tt))
+      (λ lines _. keeps_then Writes Names (λ _. Unit {0}) (steps_task means k limits lines no_names) (λ _. give (Ok tt)) (steps_keep lines) (λ named all. keeps_value Writes (λ _. Unit {0}) tt tt)))
