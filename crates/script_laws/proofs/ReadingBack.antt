@@ -6,13 +6,13 @@ use Rattle.mesh_terms.specs.Faults.{Halfedges}
 use Rattle.mesh_terms.specs.Limits.{Limits, IsLawful}
 use Rattle.mesh_terms.specs.Meshes.{Mesh}
 use Rattle.mb_base.specs.declared.op.Op.{Op}
-use Rattle.obj_terms.specs.Written.{obj_text}
 use Rattle.run_terms.specs.Files.{Bytes}
 use Rattle.run_terms.specs.Runs.{Action, Ask, Write, Say}
 use Rattle.run_terms.specs.Tasks.{give, then_task}
 use Rattle.run_laws.specs.Keeping.{Keeps}
 use Rattle.run_laws.proofs.Keeping.{keeps_give, keeps_act, keeps_then}
 use Rattle.play_terms.specs.Commands.{ask_file, ask_mesh, say_line, write_mesh}
+use Rattle.play_terms.specs.Formats.{mesh_text}
 use Rattle.play_terms.specs.Lines.{over}
 use Rattle.play_terms.specs.ReadingBack.{IsReadable, WritesReadable}
 use Rattle.play_laws.proofs.ReadingBack.{mesh_asked, read_again}
@@ -76,7 +76,7 @@ module _ (means : Meanings) (k : ℕ) (limits : Limits) (few : k ≤ 6) (lawful 
   save_keeps : (name file : Bytes) (m : Mesh) (named : Named) → Names named → MeshReadable k limits m → Keeps Writes Names (save_task k name file m named)
   save_keeps name file m named all such =
       keeps_then Writes (λ _. Unit {0}) Names (write_mesh k file m.points m.triples) (λ _. then_task (say_line (save_line name file m)) (λ _. give (Ok named)))
-      (keeps_act Writes (Write file (obj_text k m.points m.triples)) (soup_of_mesh m, refl, such))
+      (keeps_act Writes (Write file (mesh_text k file m.points m.triples)) (soup_of_mesh m, refl, such))
       (λ _ _. keeps_then Writes (λ _. Unit {0}) Names (say_line (save_line name file m)) (λ _. give (Ok named)) (said (save_line name file m)) (λ _ _. keeps_value Writes Names named all))
 
   combine_keeps : (op : Op) (name left right : Bytes) (named : Named) → Names named → Keeps Writes Names (combine_task means limits op name left right named)
