@@ -36,9 +36,9 @@ least_there m [] = inl refl
 least_there m (x ∷ xs) = elim (cases_lt (least m xs) x) as (λ _. (least m (x ∷ xs) ≡ m) ⊎ ((i : ℕ) × (i < length (x ∷ xs)) × (get_or (x ∷ xs) i 0 ≡ least m (x ∷ xs)))) [
   | inl less ↦ elim (least_there m xs) as (λ _. (least m (x ∷ xs) ≡ m) ⊎ ((i : ℕ) × (i < length (x ∷ xs)) × (get_or (x ∷ xs) i 0 ≡ least m (x ∷ xs)))) [
     | inl e ↦ inl (omega (arith, less, e))
-    | inr p ↦ inr (suc p.0, (omega (arith, p.1), omega (arith, less, p.2)))
+    | inr p ↦ inr (suc p.0, omega (arith, p.1), omega (arith, less, p.2))
   ]
-  | inr more ↦ inr (0, (omega arith, omega (arith, more)))
+  | inr more ↦ inr (0, omega arith, omega (arith, more))
 ]
 
 -- a walk that returns meets whatever it meets before it has returned
@@ -152,7 +152,7 @@ module _ (points : ℕ) (ts : List Triple) (accepted : IsAccepted points ts) whe
     numbered = λ h below. subst (λ k. k < length first) (sym (read h below)) (number h below).0;
     first_in = λ k low. let r = listed_least k low in (r.below, read (get_or first k 0) r.below ∙ numbered_at (get_or first k 0) k low (sym r.itself));
     reached = λ h below. subst (λ g. SameFan es g h) (sym (leader_at h below)) (back h (leader h) below (leads h));
-    returns = λ k low. let r = returns (around es) (λ x. twin es (prev_half x)) (length es) inverse (get_or first k 0) (listed_least k low).below in (r.steps, (r.some, r.back));
+    returns = λ k low. let r = returns (around es) (λ x. twin es (prev_half x)) (length es) inverse (get_or first k 0) (listed_least k low).below in (r.steps, r.some, r.back);
     least = λ h below. subst (λ g. g ≤ h) (sym (leader_at h below)) (leader_least h h below (0, refl));
     by_start = λ j k less low. (fans_rise es 0 points j k less low).starts;
     by_half = λ j k less low. (fans_rise es 0 points j k less low).halves;
