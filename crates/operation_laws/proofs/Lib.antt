@@ -1,3 +1,5 @@
 pub mod FanLists
 pub mod FanNumbers
+pub mod Made
+pub mod ReducedSides
 pub mod SplitMesh
