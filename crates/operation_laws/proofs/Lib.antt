@@ -1,5 +1,7 @@
 pub mod FanLists
 pub mod FanNumbers
+pub mod GridNumbers
+pub mod HitPoints
 pub mod Made
 pub mod ReducedSides
 pub mod SplitMesh
