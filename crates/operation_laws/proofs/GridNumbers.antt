@@ -26,13 +26,10 @@ use Rattle.crossings.proofs.Order.{all_listed, hits_in_order}
 use Rattle.crossings.proofs.Rounds.{Lifts, pairs_agree}
 use Rattle.winding.specs.Windings.{winding, winding_back}
 use Rattle.winding.proofs.Identity.{edges_conserve, winding_listed}
-use Rattle.mesh_boolean.specs.Operation.{Tests, numbers_of}
+use Rattle.mesh_boolean.specs.Operation.{numbers_of}
+use Rattle.operation_laws.specs.Grid.{tests_of}
 use Rattle.operation_laws.proofs.HitPoints.{p_hits_on_grid, q_hits_on_grid}
 use Rattle.operation_laws.proofs.Made.{AreNumbersOf}
-
--- the tests of the grid, under a rule of rounding
-abbrev pub tests_of : Between → Settle → Tests
-tests_of w settle = record { vertex_face = vertex_face w; face_vertex = face_vertex w; edge_face = edge_face_crossing w settle; face_edge = face_edge_crossing w settle }
 
 module _ (w : Between) (stays : StaysBetween w) (settle : Settle) (settling : IsSettling settle) (p q : Side) (p_known : IsSide p) (q_known : IsSide q) where
   abbrev test12 : CrossTest

@@ -21,8 +21,8 @@ use Rattle.play_terms.specs.Lines.{over}
 use Rattle.play_laws.proofs.ReadingBack.{read_again}
 use Rattle.script_laws.specs.ReadingBack.{MeshReadable, soup_of_mesh}
 use Rattle.mesh_boolean.specs.Operation.{Outcome}
+use Rattle.operation_laws.specs.Laws.{IsGiven}
 use Rattle.operation_laws.proofs.Made.{IsMade}
-use Rattle.operation_laws.proofs.ReducedSides.{IsGiven}
 
 -- a mesh that was taken had no open pair
 taken_closed : (name : Bytes) (s soup : Soup) (pair : Option (ℕ × ℕ)) → if_closed name s pair ≡ Ok soup → (s ≡ soup) × (pair ≡ None)

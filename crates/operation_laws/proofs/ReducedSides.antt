@@ -19,11 +19,7 @@ use Rattle.lean.proofs.Corners.{corners_long, corners_whole}
 use Rattle.assembly_terms.specs.PointLaws.{corners_points}
 use Rattle.assembly_terms.specs.Points.{points_of}
 use Rattle.mesh_boolean.specs.Operation.{reduced_mesh}
-
--- an accepted mesh at points of the grid
-pub record IsGiven (m : Mesh) : Type 0 where
-  pub accepted : IsAccepted (length m.points) m.triples
-  pub on_grid : All IsPoint m.points
+use Rattle.operation_laws.specs.Laws.{IsGiven}
 
 -- a side at points of the grid, without opposite triples
 pub record IsKnown (side : Side) : Type 0 where

@@ -19,31 +19,14 @@ use Rattle.script_terms.specs.Combined.{Combined}
 use Rattle.script_terms.specs.Plays.{Meanings}
 use Rattle.script_laws.specs.ReadingBack.{MeshReadable, ResultsReadable}
 use Rattle.mesh_boolean.specs.Operation.{Outcome, Tests, first_side, numbers_of, operation, reduced_mesh, second_side}
-use Rattle.operation_laws.proofs.GridNumbers.{are_numbers, tests_of}
+use Rattle.operation_laws.specs.Grid.{grid_meanings, grid_tests, told_of}
+use Rattle.operation_laws.specs.Laws.{IsGiven, IsResult, OperationsAreAccepted, OperationsAreReadable}
+use Rattle.operation_laws.proofs.GridNumbers.{are_numbers}
 use Rattle.operation_laws.proofs.Made.{AreFilled, IsMade, is_made}
 use Rattle.operation_laws.proofs.Readable.{given_of_readable, made_within, readable_within}
-use Rattle.operation_laws.proofs.ReducedSides.{IsGiven, IsKnown, reduced_side}
+use Rattle.operation_laws.proofs.ReducedSides.{IsKnown, reduced_side}
 
--- the tests of the grid, rounded to the nearest
-abbrev pub grid_tests : Tests
-grid_tests = tests_of nearest settle_nearest
-
--- what an operation gives, as far as a script tells it
-abbrev pub told_of : Outcome → Combined
-told_of o =
-    record { mesh = record { points = o.points; triples = o.triples }; p_kept = o.p_kept; q_kept = o.q_kept; crossings = o.crossings; forced = o.forced; halfedges = o.halfedges }
-
--- what the steps of a script mean
-abbrev pub grid_meanings : Meanings
-grid_meanings = record { operation = λ op p q. told_of (operation grid_tests op p q) }
-
--- an accepted mesh at points of the grid, within limits
-pub record IsResult (limits : Limits) (o : Outcome) : Type 0 where
-  pub accepted : IsAccepted (length o.points) o.triples
-  pub on_grid : All IsPoint o.points
-  pub few_points : length o.points ≤ limits.points
-  pub few_triples : length o.triples ≤ limits.triangles
-
+-- rounding to the nearest stays between, and settles as it should
 nearest_stays : StaysBetween nearest
 nearest_stays = record { within = λ u v a b p q s t. nearest_within u v a b s.low t.low }
 
@@ -81,7 +64,7 @@ made_of laws limits lawful op p q p_given q_given within =
     operation_made laws op p q p_given q_given (few_halfedges limits (operation grid_tests op p q).halfedges lawful within)
 
 -- under lawful limits an operation on accepted meshes gives an accepted mesh within the limits, where its half-edges are
-pub operations_are_accepted : AreFilled → (limits : Limits) → IsLawful limits → (op : Op) (p q : Mesh) → IsGiven p → IsGiven q → (operation grid_tests op p q).halfedges ≤ limits.halfedges → IsResult limits (operation grid_tests op p q)
+pub operations_are_accepted : AreFilled → OperationsAreAccepted
 operations_are_accepted laws limits lawful op p q p_given q_given within =
     let made = made_of laws limits lawful op p q p_given q_given within in
     let inside = made_within limits (operation grid_tests op p q) lawful made within in
@@ -96,7 +79,7 @@ operations_are_readable laws k limits few lawful op p q p_given q_given within =
     readable_within k limits (told_of o).mesh few lawful (made_within limits o lawful made within) made.accepted.closed
 
 -- so what a script makes of meshes that are read of their texts is read of its text
-pub results_readable : AreFilled → (k : ℕ) (limits : Limits) → k ≤ 6 → IsLawful limits → ResultsReadable grid_meanings k limits
+pub results_readable : AreFilled → OperationsAreReadable
 results_readable laws k limits few lawful op p q p_readable q_readable within =
     operations_are_readable laws k limits few lawful op p q (given_of_readable k limits p lawful p_readable) (given_of_readable k limits q lawful q_readable)
     (ltb-false limits.halfedges (operation grid_tests op p q).halfedges within)
