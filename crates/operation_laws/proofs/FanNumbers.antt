@@ -1,5 +1,5 @@
 -- The list of all fans, with the number of each half-edge in it, is a numbering of the fans.
-use Rattle.std.proofs.Common.{◌≡◌, ◌<◌, ◌≤◌, ◌+◌, ◌*◌, ◌/◌, ◌%◌, ◌⊎◌, inl, inr, ℕ, zero, suc, Bool, List, [], ◌∷◌, length, get_or, map, refl, sym, ◌∙◌, ap, subst, arith}
+use Rattle.std.proofs.Common.{◌≡◌, ◌<◌, ◌≤◌, ◌*◌, ◌/◌, ◌%◌, ◌⊎◌, inl, inr, ℕ, zero, suc, List, [], ◌∷◌, length, get_or, map, refl, sym, ◌∙◌, ap, subst, arith}
 use Rattle.std.specs.Prelude.{◌==◌}
 use Rattle.std.specs.List.{Contains, position_or_len}
 use Rattle.std.proofs.lemmas.Bool.{cases_lt, eq-eqb, ne_eqb}
@@ -15,8 +15,7 @@ use Rattle.chain_laws.proofs.Walks.{returns, times-add, times_below}
 use Rattle.mesh_terms.specs.Fans.{AreFans}
 use Rattle.mesh_terms.specs.Halves.{SameFan, around, around_times, prev_half}
 use Rattle.mesh_terms.specs.Meshes.{IsAccepted, Triple}
-use Rattle.halfedge.proofs.Around.{around_inverse, times_start}
-use Rattle.halfedge.proofs.FansOnce.{IsBefore, Rises}
+use Rattle.halfedge.proofs.Around.{around_inverse}
 use Rattle.halfedge.proofs.Listed.{listed}
 use Rattle.halfedge.proofs.Marks.{one_fan, returns_again}
 use Rattle.pinch_split.specs.Split.{all_fans, fan_of, least, least_of_fan, met_from}
@@ -46,9 +45,11 @@ met_before : (s : ℕ → ℕ) (n h g : ℕ) → Returns s n h → (k : ℕ) →
 met_before s n h g return k to_g =
     let d = return.steps in
     let i = k % d in
-    let split = mod-add-div' k d in
-    (i, omega (arith, mod-lt k return.some, return.few),
-    sym (ap (λ x. times s i x) (returns_again s d h return.back (k / d))) ∙ sym (times-add s i (k / d * d) h) ∙ ap (λ m. times s m h) split ∙ to_g)
+    let split = mod-add-div' k d in (
+      i,
+      omega (arith, mod-lt k return.some, return.few),
+      sym (ap (λ x. times s i x) (returns_again s d h return.back (k / d))) ∙ sym (times-add s i (k / d * d) h) ∙ ap (λ m. times s m h) split ∙ to_g,
+    )
 
 module _ (points : ℕ) (ts : List Triple) (accepted : IsAccepted points ts) where
   abbrev es : List (ℕ × ℕ)

@@ -1,12 +1,11 @@
 -- The numbers of two sides under the tests of the grid: hits in order, at points of the grid, and all conserved.
-use Rattle.std.proofs.Common.{◌≡◌, ℕ, ℤ, pos, neg_ℤ, List, [], ◌∷◌, length, get_or, map, refl, ap, arith}
+use Rattle.std.proofs.Common.{ℕ, ℤ, pos, [], ◌∷◌, length, get_or, map, refl, ap, arith}
 use Rattle.std.proofs.lemmas.Int.{ints}
 use Rattle.std.proofs.lemmas.List.{length-map}
 use Rattle.chain_terms.specs.Chains.{all_edges}
 use Rattle.chain_terms.specs.Odd.{IsOdd}
 use Rattle.mb_base.specs.declared.point.Corner.{Corner}
 use Rattle.mesh_terms.specs.Meshes.{Triple}
-use Rattle.side_terms.specs.Conservation.{EdgeIdentity, PairIdentity, half_number}
 use Rattle.side_terms.specs.Corners.{corner_at}
 use Rattle.side_terms.specs.Hits.{AreHits}
 use Rattle.side_terms.specs.Sides.{IsSide, Side, edge_of, face_of}

@@ -1,5 +1,5 @@
 -- The points of hits lie on the grid.
-use Rattle.std.proofs.Common.{◌≡◌, ℕ, zero, suc, ℤ, pos, neg_ℤ, ◌*ℤ◌, ◌≤ℤ◌, ◌≢◌, Bool, true, false, Option, Some, None, IfSome, List, [], ◌∷◌, length, get_or, refl, arith}
+use Rattle.std.proofs.Common.{◌≡◌, ℕ, zero, suc, ℤ, pos, neg_ℤ, ◌*ℤ◌, ◌≤ℤ◌, true, false, Option, Some, None, IfSome, List, [], ◌∷◌, length, get_or, refl, arith}
 use Rattle.std.specs.List.{All, cons_option, filter_map, flat_map}
 use Rattle.std.proofs.lemmas.Int.{ints}
 use Rattle.std.proofs.lemmas.List.Elements.{All-append, All-cons, All-head, All-nil, All-tail, All-weaker}
@@ -11,7 +11,7 @@ use Rattle.mb_base.specs.declared.point.Corner.{Corner}
 use Rattle.mb_base.specs.declared.results.Hit.{Hit}
 use Rattle.mesh_terms.specs.Meshes.{Triple}
 use Rattle.mesh_terms.specs.Points.{IsOnGrid, IsPoint, coordinate_of}
-use Rattle.side_terms.specs.Boxes.{IsInBox, IsPointIn}
+use Rattle.side_terms.specs.Boxes.{IsPointIn}
 use Rattle.side_terms.specs.Corners.{AllFine, AllWhole, IsFineCorner, IsWhole, IsWholeCorner, axis, corner_at}
 use Rattle.side_terms.specs.Fine.{fine_edge}
 use Rattle.side_terms.specs.Hits.{lower_halves}

@@ -1,11 +1,11 @@
 -- A mesh that is read of its own text is accepted, at points of the grid; and what an operation makes within lawful limits is read of its text.
-use Rattle.std.proofs.Common.{◌≡◌, ◌≤◌, ℕ, Bool, true, false, if◌then◌else◌, List, [], ◌∷◌, Option, Some, None, Result, Ok, Err, length, refl, sym, ◌∙◌, ap, subst, arith}
+use Rattle.std.proofs.Common.{◌≡◌, ◌≤◌, ℕ, Bool, true, false, if◌then◌else◌, [], ◌∷◌, Option, Some, None, Result, Ok, Err, length, refl, ◌∙◌, ap, subst, arith}
 use Rattle.std.specs.Prelude.{nat_lt}
 use Rattle.chain_terms.specs.Chains.{IsClosed, all_edges}
 use Rattle.halfedge.proofs.OpenPair.{closed_from_open_pair, open_pair_closed}
 use Rattle.mesh_terms.specs.Faults.{Fault, FileBytes}
 use Rattle.mesh_terms.specs.Limits.{IsLawful, Limits}
-use Rattle.mesh_terms.specs.Meshes.{IsAccepted, Mesh, Soup}
+use Rattle.mesh_terms.specs.Meshes.{Mesh, Soup}
 use Rattle.mesh_terms.specs.OpenEdges.{open_pair}
 use Rattle.obj_terms.specs.Obj.{obj}
 use Rattle.obj_terms.specs.Written.{obj_text}
@@ -63,6 +63,10 @@ readable_within k limits m few lawful within closed =
     let text = obj_text k m.points m.triples in
     let back = meshes_read_back k few limits lawful m.points m.triples within in
     read_again k limits [] text (soup_of_mesh m) few lawful (ap (checked []) back.reads ∙ ap (if_closed [] (soup_of_mesh m)) (open_pair_closed (all_edges m.triples) closed))
+
+-- a mesh without points is read of its text too
+pub empty_readable : (k : ℕ) (limits : Limits) → k ≤ 6 → IsLawful limits → MeshReadable k limits (record { points = []; triples = [] })
+empty_readable k limits few lawful = read_again k limits [] [] (soup_of_mesh (record { points = []; triples = [] })) few lawful refl
 
 -- what is made is within lawful limits where its half-edges are
 pub made_within : (limits : Limits) (o : Outcome) → IsLawful limits → IsMade o → o.halfedges ≤ limits.halfedges → IsWithin limits o.points o.triples

@@ -1,14 +1,12 @@
 -- The sides of reduced meshes: what every side keeps, without opposite triples, at points of the grid.
-use Rattle.std.proofs.Common.{◌≡◌, ℕ, suc, ℤ, ◌*ℤ◌, Bool, cond, List, [], ◌∷◌, ◌++◌, length, sym, ◌∙◌, ap, subst, arith, refl}
-use Rattle.std.specs.List.{All, zip}
+use Rattle.std.proofs.Common.{◌≡◌, ℕ, suc, ℤ, ◌*ℤ◌, Bool, List, [], ◌∷◌, ◌++◌, length, sym, subst, arith, refl}
+use Rattle.std.specs.List.{All}
 use Rattle.std.proofs.lemmas.Bool.{cond_both}
 use Rattle.std.proofs.lemmas.Int.{ints}
 use Rattle.std.proofs.lemmas.List.Elements.{All-cons, All-head, All-nil, All-tail}
 use Rattle.mb_base.specs.declared.TheConstants.{UNIT}
-use Rattle.mb_base.specs.declared.point.Corner.{Corner}
 use Rattle.mesh_terms.specs.Meshes.{IsAccepted, Mesh, Triple, is_used, used_from}
 use Rattle.mesh_terms.specs.Points.{IsOnGrid, IsPoint, coordinate_of}
-use Rattle.mesh_terms.specs.Twins.{IsTwinned}
 use Rattle.unused_points.proofs.KeptMesh.{kept_mesh}
 use Rattle.mesh_check.specs.Reduced.{NoOpposite, kept_triples}
 use Rattle.mesh_check.proofs.ReducedMesh.{kept_sound, reduced_closed, reduced_no_opposite}

@@ -1,26 +1,21 @@
 -- Operations under the tests of the grid on accepted meshes give accepted meshes within lawful limits, which are read of their texts.
-use Rattle.std.proofs.Common.{◌≡◌, ◌≤◌, ◌<◌, ℕ, ℤ, Bool, false, List, [], ◌∷◌, length, replicate, map, ◌∙◌, arith}
-use Rattle.std.specs.List.{All}
+use Rattle.std.proofs.Common.{◌≡◌, ◌≤◌, ℕ, false, [], ◌∷◌, length, replicate, map, ◌∙◌, arith}
 use Rattle.std.proofs.lemmas.Bool.{ltb-false}
 use Rattle.std.proofs.lemmas.List.{length-map, length-replicate}
 use Rattle.chain_terms.specs.Sums.{upto}
 use Rattle.chain_laws.proofs.Places.{length-up_from}
 use Rattle.mb_base.specs.declared.op.Op.{Op}
 use Rattle.mesh_terms.specs.Limits.{IsLawful, Limits}
-use Rattle.mesh_terms.specs.Meshes.{IsAccepted, Mesh}
-use Rattle.mesh_terms.specs.Points.{IsPoint}
+use Rattle.mesh_terms.specs.Meshes.{Mesh}
 use Rattle.lean.specs.Leans.{is_up, leans_of, normals_of, vertex_normal}
-use Rattle.obj_laws.specs.Within.{IsWithin}
 use Rattle.rounding.specs.Lawful.{nearest_within, settle_monotone, settle_units}
 use Rattle.rounding.specs.Nearest.{nearest, settle_nearest}
 use Rattle.shadow_kernels.specs.Hulls.{StaysBetween}
 use Rattle.edge_face.specs.CrossLaws.{IsSettling}
-use Rattle.script_terms.specs.Combined.{Combined}
-use Rattle.script_terms.specs.Plays.{Meanings}
-use Rattle.script_laws.specs.ReadingBack.{MeshReadable, ResultsReadable}
-use Rattle.mesh_boolean.specs.Operation.{Outcome, Tests, first_side, numbers_of, operation, reduced_mesh, second_side}
-use Rattle.operation_laws.specs.Grid.{grid_meanings, grid_tests, told_of}
-use Rattle.operation_laws.specs.Laws.{IsGiven, IsResult, OperationsAreAccepted, OperationsAreReadable}
+use Rattle.script_laws.specs.ReadingBack.{MeshReadable}
+use Rattle.mesh_boolean.specs.Operation.{first_side, numbers_of, operation, reduced_mesh, second_side}
+use Rattle.operation_laws.specs.Grid.{grid_tests, told_of}
+use Rattle.operation_laws.specs.Laws.{IsGiven, OperationsAreAccepted, OperationsAreReadable}
 use Rattle.operation_laws.proofs.GridNumbers.{are_numbers}
 use Rattle.operation_laws.proofs.Made.{AreFilled, IsMade, is_made}
 use Rattle.operation_laws.proofs.Readable.{given_of_readable, made_within, readable_within}

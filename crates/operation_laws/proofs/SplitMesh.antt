@@ -1,19 +1,19 @@
 -- A closed mesh with one vertex for each fan: accepted, at points of the old one, and not much longer.
 use Rattle.std.proofs.Common.{◌≡◌, ◌<◌, ◌≤◌, ◌*◌, ℕ, ℤ, List, [], length, get_or, map, sym, ◌∙◌, ap, subst, arith}
 use Rattle.std.specs.List.{All}
-use Rattle.std.proofs.lemmas.List.{get_or-map, get_or_default, length-map}
-use Rattle.chain_terms.specs.Chains.{IsClosed, all_edges}
+use Rattle.std.proofs.lemmas.List.{get_or-map, length-map}
+use Rattle.chain_terms.specs.Chains.{all_edges}
 use Rattle.chain_terms.specs.Ranks.{start}
 use Rattle.chain_terms.specs.Sums.{upto}
-use Rattle.mesh_terms.specs.Meshes.{IsAccepted, IsMesh, Triple}
+use Rattle.mesh_terms.specs.Meshes.{IsAccepted, Triple}
 use Rattle.mesh_terms.specs.Points.{IsPoint}
 use Rattle.halfedge.proofs.Edges.{length-all_edges}
-use Rattle.pinch_split.specs.Given.{corners, starts_of}
+use Rattle.pinch_split.specs.Given.{corners}
 use Rattle.pinch_split.specs.Split.{all_fans, fan_of, split_from, split_points, split_triples}
 use Rattle.pinch_split.proofs.Anew.{HasFans, closed_anew}
 use Rattle.pinch_split.proofs.Clean.{few_fans}
 use Rattle.pinch_split.proofs.Corners.{length-corners}
-use Rattle.pinch_split.proofs.FanLists.{corners_are_split, starts_are_from}
+use Rattle.pinch_split.proofs.FanLists.{corners_are_split}
 use Rattle.pinch_split.proofs.Whole.{mesh_anew, starts_below}
 use Rattle.operation_laws.proofs.FanNumbers.{has_listed_fans}
 

@@ -1,5 +1,5 @@
 -- The laws of operations under the tests of the grid, as statements.
-use Rattle.std.specs.Prelude.{ℕ, ◌≤◌, List, length}
+use Rattle.std.specs.Prelude.{ℕ, ◌≤◌, length}
 use Rattle.std.specs.List.{All}
 use Rattle.mb_base.specs.declared.op.Op.{Op}
 use Rattle.mesh_terms.specs.Limits.{IsLawful, Limits}

@@ -1,4 +1,3 @@
-use Rattle.operation_laws.proofs.Made.{AreFilled}
 use Rattle.operation_laws.proofs.Results.{operations_are_accepted, results_readable}
 use Rattle.operation_laws.proofs.laws.operations_are_readable.Goals as goal
 
