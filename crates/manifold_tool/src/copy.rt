@@ -6,9 +6,9 @@ ghost use Rattle.run_terms.specs.Files.{Files};
 ghost use Rattle.mb_outside.specs.Seen.{MeetsOn};
 ghost use Rattle.report_lines.specs.Halts.{IsHaltOfCopy, halted};
 
-use crate::files::{ask, write};
 use mb_base::Limits;
 use mb_outside::{Shelf, Sink};
+use named_files::{ask, write};
 use report_lines::{Halt, say_copied};
 use std::alloc::Global;
 

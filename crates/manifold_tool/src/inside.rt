@@ -7,9 +7,9 @@ ghost use Rattle.mb_outside.specs.Seen.{MeetsOn};
 ghost use Rattle.report_lines.specs.Halts.{IsHaltOfInside, halted, is_unsaid};
 ghost use Rattle.manifold_tool.specs.Playing.{meanings};
 
-use crate::files::ask;
 use mb_base::{Limits, Point};
 use mb_outside::{Shelf, Sink};
+use named_files::ask;
 use report_lines::{Halt, say_winding};
 use std::alloc::Global;
 use std::sync::ledger::Ledger;

@@ -17,7 +17,6 @@ ghost use Rattle.manifold_tool.specs.Playing.{TellsEnd};
 ghost use Rattle.manifold_tool.specs.Statuses.{status_number};
 
 mod copy;
-mod files;
 mod inside;
 mod run;
 mod start;

@@ -50,6 +50,7 @@ pub fn status_at(stop: &Stop) -> Status
 {
     match stop {
         Stop::Usage => Status::Usage,
+        Stop::BadScript { .. } => Status::BadScript,
         Stop::Missing => Status::MissingFile,
         Stop::BadText { .. } | Stop::BadEdge { .. } => Status::BadMesh,
         Stop::Over { .. } => Status::Limit,

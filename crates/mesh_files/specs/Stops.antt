@@ -6,13 +6,15 @@ use Rattle.mesh_terms.specs.Meshes.{Mesh, Soup}
 use Rattle.play_terms.specs.Lines.{usage, missing, fault_refusal, open_refusal, over}
 use Rattle.run_terms.specs.Files.{Bytes}
 use Rattle.run_terms.specs.Meets.{Why, Refused, Unread, Unwritten, Starved}
+use Rattle.script_terms.specs.Lines.{script_refusal}
 use Rattle.mesh_files.specs.declared.reading.Read.{Read}
 use Rattle.mesh_files.specs.declared.stop.Stop.{Stop}
-use Rattle.mesh_files.specs.declared.stop.Stop.TheVariants.{Usage, Missing, BadText, BadEdge, Over, ReadFault, WriteFault, NoMemory}
+use Rattle.mesh_files.specs.declared.stop.Stop.TheVariants.{Usage, BadScript, Missing, BadText, BadEdge, Over, ReadFault, WriteFault, NoMemory}
 
 -- a stop at the file of this name
 abbrev pub why_of : Bytes → Stop → Why
 why_of name Usage = Refused usage
+why_of name (BadScript line kind) = Refused (script_refusal name (faults.Bad line kind))
 why_of name Missing = Refused (missing name)
 why_of name (BadText line kind) = Refused (fault_refusal name (faults.Bad line (kind_number kind)))
 why_of name (BadEdge from to) = Refused (open_refusal name (from, to))
@@ -24,6 +26,7 @@ why_of name NoMemory = Starved
 -- the outside, the file or the memory is at fault as a mesh is read
 abbrev pub is_reading_stop : Stop → Bool
 is_reading_stop Usage = false
+is_reading_stop (BadScript line kind) = false
 is_reading_stop WriteFault = false
 is_reading_stop _ = true
 

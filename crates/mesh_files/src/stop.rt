@@ -5,11 +5,12 @@ use mb_base::{Counted, TextFault, TextKind};
 use mesh_check::MeshFault;
 use std::alloc::AllocError;
 
-/// Why the words were not taken, or a file was not read or saved: it is not there; a line of its text is wrong; an edge has no
-/// reverse; a count exceeds its limit; the shelf failed; or memory ran out.
+/// Why the words or a script were not taken, or a file was not read or saved: a line of the script is wrong; the file is not there; a line of
+/// its text is wrong; an edge has no reverse; a count exceeds its limit; the shelf failed; or memory ran out.
 #[derive(Clone, Copy, Debug, PartialEq, Eq, Drop)]
 pub enum Stop {
     Usage,
+    BadScript { line: u64, kind: u8 },
     Missing,
     BadText { line: u64, kind: TextKind },
     BadEdge { from: u32, to: u32 },

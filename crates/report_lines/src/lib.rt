@@ -3,7 +3,10 @@
 
 mod halt;
 mod report;
+mod script_report;
+mod script_tail;
 mod tail;
 
 pub use halt::Halt;
 pub use report::{say_copied, say_winding, tell_halt, tell_stop};
+pub use script_report::{OperationCounts, say_combined, say_loaded, say_saved};

@@ -17,8 +17,8 @@ use mb_outside::{Failed, Sink, write_all};
 use mesh_check::Mesh;
 use mesh_files::Stop;
 
-// Writes three texts one after the other.
-fn say<K: Sink>(head: &[u8], name: &[u8], tail: &[u8], sink: &mut K) -> Result<(), Failed>
+/// Writes three texts one after the other.
+pub fn say<K: Sink>(head: &[u8], name: &[u8], tail: &[u8], sink: &mut K) -> Result<(), Failed>
     ensures added { OnOk result (K.told sink.new ≡ option_map (λ held. held ++ (head.now ++ (name.now ++ tail.now))) (K.told sink.old)) }
     ensures part { OnErr result (AddsPart (head.now ++ (name.now ++ tail.now)) (K.told sink.old) (K.told sink.new)) }
     ensures count { Counts (K.faults sink.old) (K.faults sink.new) result }

@@ -7,6 +7,7 @@ ghost use Rattle.play_terms.specs.Ends.{why_line};
 ghost use Rattle.play_terms.specs.Lines.{counts_text, kind_name, limit_name};
 ghost use Rattle.mesh_files.specs.Stops.{why_of};
 
+use crate::script_tail::script_tail;
 use arrayvec::ArrayVec;
 use itoa::Buffer;
 use mb_base::{Counted, TextKind};
@@ -15,8 +16,8 @@ use mesh_files::Stop;
 /// The end of a line.
 pub type Tail = ArrayVec<u8, 128>;
 
-// Adds a text.
-fn put(tail: &mut Tail, text: &[u8])
+/// Adds a text.
+pub fn put(tail: &mut Tail, text: &[u8])
     requires { array_vec_len tail.old + length text.now ≤ 128 }
     ensures text { tail.new.items ≡ tail.old.items ++ text.now }
     ensures len { array_vec_len tail.new ≡ array_vec_len tail.old + length text.now }
@@ -37,8 +38,8 @@ fn put_number(tail: &mut Tail, number: u64)
     put(tail, buffer.format(number).as_bytes());
 }
 
-// Adds a text and a number.
-fn put_pair(tail: &mut Tail, text: &[u8], number: u64)
+/// Adds a text and a number.
+pub fn put_pair(tail: &mut Tail, text: &[u8], number: u64)
     requires { array_vec_len tail.old + length text.now ≤ 108 }
     ensures text { tail.new.items ≡ tail.old.items ++ (text.now ++ decimal number) }
     ensures len { array_vec_len tail.new ≤ array_vec_len tail.old + length text.now + 20 }
@@ -151,6 +152,7 @@ pub fn stop_line<'a>(name: &'a str, stop: &Stop) -> (&'a [u8], Tail)
                 b"usage: manifold_tool copy IN OUT, inside FILE X Y Z or run SCRIPT, each with --digits K\n",
             ),
         ),
+        Stop::BadScript { line, kind } => (name, script_tail(*line, *kind)),
         Stop::Missing => (name, plain_tail(b": missing\n")),
         Stop::BadText { line, kind } => (name, text_tail(*line, *kind)),
         Stop::BadEdge { from, to } => (name, edge_tail(*from, *to)),

@@ -1,7 +1,9 @@
-// The files of a command: what stops at one of them carries its name.
+//! The files of a command, by name: the bytes of one are read, or the mesh in it, or a mesh is saved to one. What stops at a file carries its name.
+#![tactic(auto)]
+
 ghost use Rattle.std.specs.Prelude.{◌≡◌, ◌≤◌, false, IfErr};
 ghost use Rattle.mesh_terms.specs.Limits.{IsLawful};
-ghost use Rattle.play_terms.specs.Commands.{ask_mesh, write_mesh};
+ghost use Rattle.play_terms.specs.Commands.{ask_file, ask_mesh, write_mesh};
 ghost use Rattle.mb_outside.specs.Seen.{MeetsOnShelf};
 ghost use Rattle.mesh_files.specs.Stops.{soup_with};
 ghost use Rattle.report_lines.specs.Halts.{IsUnreadAt, IsUnwrittenAt, halted, halted_by, is_unsaid};
@@ -9,9 +11,26 @@ ghost use Rattle.report_lines.specs.Halts.{IsUnreadAt, IsUnwrittenAt, halted, ha
 use mb_base::Limits;
 use mb_outside::Shelf;
 use mesh_check::Mesh;
-use mesh_files::{Read, read_mesh, save_mesh};
+use mesh_files::{Read, read_file, read_mesh, save_mesh};
 use report_lines::Halt;
 use std::alloc::Global;
+
+/// Reads the bytes of a file, as `read_file` does.
+pub fn ask_bytes<'a, S: Shelf>(
+    alloc: Global,
+    name: &'a str,
+    limits: &Limits,
+    shelf: &mut S,
+) -> Result<Vec<u8>, Halt<'a>>
+    ensures meets { MeetsOnShelf S.Shelf (ask_file limits.now name.now) shelf.old shelf.new (halted_by (λ bytes. bytes.items) result) }
+    ensures unread { IfErr result (IsUnreadAt name.now) }
+    ensures lawful { IsLawful limits.now }
+{
+    match read_file(alloc, name, limits, shelf) {
+        Ok(bytes) => Ok(bytes),
+        Err(stop) => Err(Halt::At { name, stop }),
+    }
+}
 
 /// Reads a mesh from a file, as `read_mesh` does.
 pub fn ask<'a, S: Shelf>(

@@ -1,0 +1,9 @@
+pub mod FanLists
+pub mod FanNumbers
+pub mod GridNumbers
+pub mod HitPoints
+pub mod Made
+pub mod Readable
+pub mod ReducedSides
+pub mod Results
+pub mod SplitMesh

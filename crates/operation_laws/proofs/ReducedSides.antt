@@ -1,0 +1,78 @@
+-- The sides of reduced meshes: what every side keeps, without opposite triples, at points of the grid.
+use Rattle.std.proofs.Common.{◌≡◌, ℕ, suc, ℤ, ◌*ℤ◌, Bool, List, [], ◌∷◌, ◌++◌, length, sym, subst, arith, refl}
+use Rattle.std.specs.List.{All}
+use Rattle.std.proofs.lemmas.Bool.{cond_both}
+use Rattle.std.proofs.lemmas.Int.{ints}
+use Rattle.std.proofs.lemmas.List.Elements.{All-cons, All-head, All-nil, All-tail}
+use Rattle.mb_base.specs.declared.TheConstants.{UNIT}
+use Rattle.mesh_terms.specs.Meshes.{IsAccepted, Mesh, Triple, is_used, used_from}
+use Rattle.mesh_terms.specs.Points.{IsOnGrid, IsPoint, coordinate_of}
+use Rattle.unused_points.proofs.KeptMesh.{kept_mesh}
+use Rattle.mesh_check.specs.Reduced.{NoOpposite, kept_triples}
+use Rattle.mesh_check.proofs.ReducedMesh.{kept_sound, reduced_closed, reduced_no_opposite}
+use Rattle.side_terms.specs.Corners.{AllFine, IsFineCorner}
+use Rattle.side_terms.specs.Fine.{IsFine}
+use Rattle.side_terms.specs.Sides.{IsSide, Side, corner_of, corners_of, side_of}
+use Rattle.lean.proofs.Corners.{corners_long, corners_whole}
+use Rattle.assembly_terms.specs.PointLaws.{corners_points}
+use Rattle.assembly_terms.specs.Points.{points_of}
+use Rattle.mesh_boolean.specs.Operation.{reduced_mesh}
+use Rattle.operation_laws.specs.Laws.{IsGiven}
+
+-- a side at points of the grid, without opposite triples
+pub record IsKnown (side : Side) : Type 0 where
+  pub kept : IsSide side
+  pub apart : NoOpposite side.triples
+  pub on_grid : All IsPoint (points_of side.corners)
+
+-- what holds of all points holds of those that are used
+used_all : (P : List ℤ → Type 0) (ts : List Triple) (v : ℕ) (points : List (List ℤ)) → All P points → All P (used_from ts v points)
+used_all P ts v [] all = All-nil P
+used_all P ts v (p ∷ ps) all =
+    let rest = used_all P ts (suc v) ps (All-tail P p ps all) in
+    cond_both (is_used ts v) (p ∷ []) [] (λ l. All P (l ++ used_from ts (suc v) ps)) (λ _. All-cons P p (used_from ts (suc v) ps) (All-head P p ps all) rest) (λ _. rest)
+
+-- the reduced mesh is such a mesh
+pub reduced_given : (m : Mesh) → IsGiven m → IsGiven (reduced_mesh m)
+reduced_given m given = record {
+  accepted = record {
+    mesh = kept_mesh (kept_triples m.triples) m.points (kept_sound (length m.points) m.triples given.accepted.mesh);
+    closed = reduced_closed m.points m.triples given.accepted.mesh given.accepted.closed;
+  };
+  on_grid = used_all IsPoint (kept_triples m.triples) 0 m.points given.on_grid;
+}
+
+-- a coordinate on the grid is fine in fine steps
+fine_steps : (z f : ℤ) → f ≡ UNIT *ℤ z → IsOnGrid z → IsFine f
+fine_steps z f e on = record { low = omega (arith, ints, e, on); high = omega (arith, ints, e, on) }
+
+corner_fine : (p : List ℤ) (u : List Bool) → IsPoint p → IsFineCorner (corner_of p u)
+corner_fine p u on = record {
+  x = fine_steps (coordinate_of p 0) (UNIT *ℤ coordinate_of p 0) refl on.x;
+  y = fine_steps (coordinate_of p 1) (UNIT *ℤ coordinate_of p 1) refl on.y;
+  z = fine_steps (coordinate_of p 2) (UNIT *ℤ coordinate_of p 2) refl on.z;
+}
+
+-- so the corners of points of the grid are fine
+corners_fine : (ps : List (List ℤ)) (us : List (List Bool)) → All IsPoint ps → AllFine (corners_of ps us)
+corners_fine [] us on = All-nil IsFineCorner
+corners_fine (p ∷ ps) [] on = All-nil IsFineCorner
+corners_fine (p ∷ ps) (u ∷ us) on = All-cons IsFineCorner (corner_of p u) (corners_of ps us) (corner_fine p u (All-head IsPoint p ps on)) (corners_fine ps us (All-tail IsPoint p ps on))
+
+-- the side of such a mesh with marks for each point
+pub side_is : (m : Mesh) (ups : List (List Bool)) → IsGiven m → length ups ≡ length m.points → IsSide (side_of m ups)
+side_is m ups given each = record {
+  fine = corners_fine m.points ups given.on_grid;
+  whole = corners_whole m.points ups;
+  accepted = subst (λ n. IsAccepted n m.triples) (sym (corners_long m.points ups each)) given.accepted;
+  twinned = record { few = given.accepted.mesh.few_triples; three = given.accepted.mesh.three; closed = given.accepted.closed; each = refl };
+}
+
+-- the side of the reduced mesh
+pub reduced_side : (m : Mesh) (ups : List (List Bool)) → IsGiven m → length ups ≡ length (reduced_mesh m).points → IsKnown (side_of (reduced_mesh m) ups)
+reduced_side m ups given each =
+    let known = reduced_given m given in record {
+      kept = side_is (reduced_mesh m) ups known each;
+      apart = reduced_no_opposite m.points m.triples given.accepted.mesh;
+      on_grid = subst (All IsPoint) (sym (corners_points (reduced_mesh m).points ups known.on_grid each)) known.on_grid;
+    }

@@ -1,0 +1,80 @@
+-- Operations under the tests of the grid on accepted meshes give accepted meshes within lawful limits, which are read of their texts.
+use Rattle.std.proofs.Common.{◌≡◌, ◌≤◌, ℕ, false, [], ◌∷◌, length, replicate, map, ◌∙◌, arith}
+use Rattle.std.proofs.lemmas.Bool.{ltb-false}
+use Rattle.std.proofs.lemmas.List.{length-map, length-replicate}
+use Rattle.chain_terms.specs.Sums.{upto}
+use Rattle.chain_laws.proofs.Places.{length-up_from}
+use Rattle.mb_base.specs.declared.op.Op.{Op}
+use Rattle.mesh_terms.specs.Limits.{IsLawful, Limits}
+use Rattle.mesh_terms.specs.Meshes.{Mesh}
+use Rattle.lean.specs.Leans.{is_up, leans_of, normals_of, vertex_normal}
+use Rattle.rounding.specs.Lawful.{nearest_within, settle_monotone, settle_units}
+use Rattle.rounding.specs.Nearest.{nearest, settle_nearest}
+use Rattle.shadow_kernels.specs.Hulls.{StaysBetween}
+use Rattle.edge_face.specs.CrossLaws.{IsSettling}
+use Rattle.script_laws.specs.ReadingBack.{MeshReadable}
+use Rattle.mesh_boolean.specs.Operation.{first_side, numbers_of, operation, reduced_mesh, second_side}
+use Rattle.operation_laws.specs.Grid.{grid_tests, told_of}
+use Rattle.operation_laws.specs.Laws.{IsGiven, OperationsAreAccepted, OperationsAreReadable}
+use Rattle.operation_laws.proofs.GridNumbers.{are_numbers}
+use Rattle.operation_laws.proofs.Made.{AreFilled, IsMade, is_made}
+use Rattle.operation_laws.proofs.Readable.{given_of_readable, made_within, readable_within}
+use Rattle.operation_laws.proofs.ReducedSides.{IsKnown, reduced_side}
+
+-- rounding to the nearest stays between, and settles as it should
+nearest_stays : StaysBetween nearest
+nearest_stays = record { within = λ u v a b p q s t. nearest_within u v a b s.low t.low }
+
+nearest_settles : IsSettling settle_nearest
+nearest_settles = record { monotone = λ f g p q h. settle_monotone f g h; units = λ k p. settle_units k }
+
+-- a mark for each point
+length-leans : (op : Op) (m : Mesh) → length (leans_of op m) ≡ length m.points
+length-leans op m =
+    length-map (normals_of m.points m.triples) (map (is_up op))
+    ∙ length-map (upto (length m.points)) (vertex_normal m.points m.triples) ∙ length-up_from 0 (length m.points)
+
+first_known : (op : Op) (p : Mesh) → IsGiven p → IsKnown (first_side op p)
+first_known op p given = reduced_side p (leans_of op (reduced_mesh p)) given (length-leans op (reduced_mesh p))
+
+second_known : (q : Mesh) → IsGiven q → IsKnown (second_side q)
+second_known q given =
+    reduced_side q (replicate (length (reduced_mesh q).points) (false ∷ false ∷ false ∷ [])) given (length-replicate (length (reduced_mesh q).points) (false ∷ false ∷ false ∷ []))
+
+-- what an operation makes of accepted meshes
+pub operation_made : AreFilled → (op : Op) (p q : Mesh) → IsGiven p → IsGiven q → (operation grid_tests op p q).halfedges ≤ 60000000 → IsMade (operation grid_tests op p q)
+operation_made laws op p q p_given q_given few =
+    let one = first_known op p p_given in
+    let other = second_known q q_given in
+    let first = first_side op p in
+    let second = second_side q in
+    is_made laws op first second (numbers_of grid_tests first second) one other (are_numbers nearest nearest_stays settle_nearest nearest_settles first second one.kept other.kept) few
+
+-- the half-edges of a lawful limit are at most sixty million
+few_halfedges : (limits : Limits) (n : ℕ) → IsLawful limits → n ≤ limits.halfedges → n ≤ 60000000
+few_halfedges limits n lawful within = omega (arith, within, lawful.triangles_enough, lawful.few_triangles)
+
+made_of : AreFilled → (limits : Limits) → IsLawful limits → (op : Op) (p q : Mesh) → IsGiven p → IsGiven q → (operation grid_tests op p q).halfedges ≤ limits.halfedges → IsMade (operation grid_tests op p q)
+made_of laws limits lawful op p q p_given q_given within =
+    operation_made laws op p q p_given q_given (few_halfedges limits (operation grid_tests op p q).halfedges lawful within)
+
+-- under lawful limits an operation on accepted meshes gives an accepted mesh within the limits, where its half-edges are
+pub operations_are_accepted : AreFilled → OperationsAreAccepted
+operations_are_accepted laws limits lawful op p q p_given q_given within =
+    let made = made_of laws limits lawful op p q p_given q_given within in
+    let inside = made_within limits (operation grid_tests op p q) lawful made within in
+    record { accepted = made.accepted; on_grid = made.on_grid; few_points = inside.few_points; few_triples = inside.few_triples }
+
+-- which is read of its text
+pub operations_are_readable : AreFilled → (k : ℕ) (limits : Limits) → k ≤ 6 → IsLawful limits → (op : Op) (p q : Mesh) → IsGiven p → IsGiven q → (operation grid_tests op p q).halfedges ≤ limits.halfedges →
+    MeshReadable k limits (told_of (operation grid_tests op p q)).mesh
+operations_are_readable laws k limits few lawful op p q p_given q_given within =
+    let o = operation grid_tests op p q in
+    let made = made_of laws limits lawful op p q p_given q_given within in
+    readable_within k limits (told_of o).mesh few lawful (made_within limits o lawful made within) made.accepted.closed
+
+-- so what a script makes of meshes that are read of their texts is read of its text
+pub results_readable : AreFilled → OperationsAreReadable
+results_readable laws k limits few lawful op p q p_readable q_readable within =
+    operations_are_readable laws k limits few lawful op p q (given_of_readable k limits p lawful p_readable) (given_of_readable k limits q lawful q_readable)
+    (ltb-false limits.halfedges (operation grid_tests op p q).halfedges within)

@@ -1,0 +1,25 @@
+-- Operations under the tests of the grid.
+use Rattle.edge_face.specs.Crossings.{Settle, edge_face_crossing, face_edge_crossing}
+use Rattle.mesh_boolean.specs.Operation.{Outcome, Tests, operation}
+use Rattle.rounding.specs.Nearest.{nearest, settle_nearest}
+use Rattle.script_terms.specs.Combined.{Combined}
+use Rattle.script_terms.specs.Plays.{Meanings}
+use Rattle.shadow_kernels.specs.Shadows.{face_vertex, vertex_face}
+use Rattle.shadow_kernels.specs.Spots.{Between}
+
+-- the tests of the grid, under a rule of rounding
+abbrev pub tests_of : Between → Settle → Tests
+tests_of w settle = record { vertex_face = vertex_face w; face_vertex = face_vertex w; edge_face = edge_face_crossing w settle; face_edge = face_edge_crossing w settle }
+
+-- rounded to the nearest
+abbrev pub grid_tests : Tests
+grid_tests = tests_of nearest settle_nearest
+
+-- what an operation gives, as far as a script tells it
+abbrev pub told_of : Outcome → Combined
+told_of o =
+    record { mesh = record { points = o.points; triples = o.triples }; p_kept = o.p_kept; q_kept = o.q_kept; crossings = o.crossings; forced = o.forced; halfedges = o.halfedges }
+
+-- what the steps of a script mean
+abbrev pub grid_meanings : Meanings
+grid_meanings = record { operation = λ op p q. told_of (operation grid_tests op p q) }

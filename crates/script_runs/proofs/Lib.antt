@@ -1,0 +1,3 @@
+pub mod Naming
+pub mod Stages
+pub mod Steps

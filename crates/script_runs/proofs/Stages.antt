@@ -1,0 +1,161 @@
+-- Tasks one after the other, of which each touches the shelf or the output alone, and the steps of a script by them.
+use Rattle.std.proofs.Common.{◌≡◌, ℕ, Result, Ok, Err, ap, refl, sym, subst}
+use Rattle.mesh_terms.specs.Limits.{Limits}
+use Rattle.mesh_terms.specs.Meshes.{Mesh, Soup}
+use Rattle.mb_base.specs.declared.op.Op.{Op}
+use Rattle.mb_outside.specs.Seen.{OnOutput, OnShelf, OutputMeets, ShelfMeets, seen}
+use Rattle.play_terms.specs.Commands.{ask_mesh, say_line, write_mesh}
+use Rattle.run_terms.specs.Files.{Bytes}
+use Rattle.run_terms.specs.Meets.{Meets, Seen, Starved, Why}
+use Rattle.run_terms.specs.Tasks.{Task, give, then_task}
+use Rattle.run_laws.proofs.Tasks.{meets_starved, meets_stop, meets_then}
+use Rattle.script_terms.specs.Combined.{Combined}
+use Rattle.script_terms.specs.Lines.{combine_line, load_line, save_line}
+use Rattle.script_terms.specs.Plays.{Meanings, Named, combine_task, load_task, mesh_at, save_task, with_name, within}
+
+-- the shelf and the output together
+abbrev pub beside : OnShelf → OnOutput → Seen
+beside on out = seen on out.told out.faults
+
+-- a value that is given as it is
+meets_give : {A : Type 0} (a : A) (now : Seen) → Meets (give (Ok a)) now now (Ok a)
+meets_give a now = record { tells = refl; faults = refl; does = λ told. record { gives = refl; all_done = refl } }
+
+module _ {A B : Type 0} (t : Task A) (next : A → Task B) where
+  -- a first task that touched the shelf, and the rest
+  shelf_then : (a : A) (r : Result B Why) (before mid : OnShelf) (out : OnOutput) (now : Seen)
+      → ShelfMeets t before mid (Ok a) → Meets (next a) (beside mid out) now r → Meets (then_task t next) (beside before out) now r
+  shelf_then a r before mid out now first rest = meets_then t next a r (beside before out) (beside mid out) now (first out.told out.faults) rest
+
+  -- or that stopped
+  shelf_stop : (why : Why) (before now : OnShelf) (out : OnOutput) → ShelfMeets t before now (Err why) → Meets (then_task t next) (beside before out) (beside now out) (Err why)
+  shelf_stop why before now out first = meets_stop t next why (beside before out) (beside now out) (first out.told out.faults)
+
+  -- one that touched the output, and the rest
+  output_then : (a : A) (r : Result B Why) (on : OnShelf) (before mid : OnOutput) (now : Seen)
+      → OutputMeets t before mid (Ok a) → Meets (next a) (beside on mid) now r → Meets (then_task t next) (beside on before) now r
+  output_then a r on before mid now first rest = meets_then t next a r (beside on before) (beside on mid) now (first on) rest
+
+  -- or that stopped
+  output_stop : (why : Why) (on : OnShelf) (before now : OnOutput) → OutputMeets t before now (Err why) → Meets (then_task t next) (beside on before) (beside on now) (Err why)
+  output_stop why on before now first = meets_stop t next why (beside on before) (beside on now) (first on)
+
+-- a line was said and a name got a mesh; or one of the two was not done
+module _ (line name : Bytes) (m : Mesh) (named : Named) (on : OnShelf) (out told : OnOutput) where
+  abbrev naming : Task Named
+  naming = then_task (say_line line) (λ _. give (Ok (with_name name m named)))
+
+  unsaid : (why : Why) → OutputMeets (say_line line) out told (Err why) → Meets naming (beside on out) (beside on told) (Err why)
+  unsaid why met = output_stop (say_line line) (λ _. give (Ok (with_name name m named))) why on out told met
+
+  unnamed : OutputMeets (say_line line) out told (Ok tt) → Meets naming (beside on out) (beside on told) (Err Starved)
+  unnamed met =
+      output_then (say_line line) (λ _. give (Ok (with_name name m named))) tt (Err Starved) on out told (beside on told) met
+      (meets_starved (give (Ok (with_name name m named))) (beside on told))
+
+  named_so : (now : Named) → now ≡ with_name name m named → OutputMeets (say_line line) out told (Ok tt) → Meets naming (beside on out) (beside on told) (Ok now)
+  named_so now is met =
+      let P : Named → Type 0 = λ n. Meets naming (beside on out) (beside on told) (Ok n) in
+      subst P (sym is) (output_then (say_line line) (λ _. give (Ok (with_name name m named))) tt (Ok (with_name name m named)) on out told (beside on told) met (meets_give (with_name name m named) (beside on told)))
+
+-- a mesh is loaded
+module _ (k : ℕ) (limits : Limits) (name file : Bytes) (named : Named) (before now : OnShelf) (out told : OnOutput) where
+  abbrev loading : Task Named
+  loading = load_task k limits name file named
+
+  abbrev after_asking : Soup → Task Named
+  after_asking m = then_task (say_line (load_line name file m)) (λ _. give (Ok (with_name name (record { points = m.points; triples = m.triples }) named)))
+
+  pub load_unread : (why : Why) → ShelfMeets (ask_mesh k limits file) before now (Err why) → Meets loading (beside before out) (beside now out) (Err why)
+  load_unread why ask = shelf_stop (ask_mesh k limits file) after_asking why before now out ask
+
+  pub load_unsaid : (m : Soup) (why : Why) → ShelfMeets (ask_mesh k limits file) before now (Ok m) → OutputMeets (say_line (load_line name file m)) out told (Err why)
+      → Meets loading (beside before out) (beside now told) (Err why)
+  load_unsaid m why ask line =
+      shelf_then (ask_mesh k limits file) after_asking m (Err why) before now out (beside now told) ask
+      (unsaid (load_line name file m) name (record { points = m.points; triples = m.triples }) named now out told why line)
+
+  pub load_unnamed : (m : Soup) → ShelfMeets (ask_mesh k limits file) before now (Ok m) → OutputMeets (say_line (load_line name file m)) out told (Ok tt)
+      → Meets loading (beside before out) (beside now told) (Err Starved)
+  load_unnamed m ask line =
+      shelf_then (ask_mesh k limits file) after_asking m (Err Starved) before now out (beside now told) ask
+      (unnamed (load_line name file m) name (record { points = m.points; triples = m.triples }) named now out told line)
+
+  pub load_named : (m : Soup) (after : Named) → after ≡ with_name name (record { points = m.points; triples = m.triples }) named
+      → ShelfMeets (ask_mesh k limits file) before now (Ok m) → OutputMeets (say_line (load_line name file m)) out told (Ok tt)
+      → Meets loading (beside before out) (beside now told) (Ok after)
+  load_named m after is ask line =
+      shelf_then (ask_mesh k limits file) after_asking m (Ok after) before now out (beside now told) ask
+      (named_so (load_line name file m) name (record { points = m.points; triples = m.triples }) named now out told after is line)
+
+-- the mesh of a name, which is this one, is saved
+module _ (k : ℕ) (name file : Bytes) (of m : Mesh) (named : Named) (is : of ≡ m) (before now : OnShelf) (out told : OnOutput) where
+  abbrev saving : Mesh → Task Named
+  saving mesh = save_task k name file mesh named
+
+  abbrev after_writing : Unit {0} → Task Named
+  after_writing u = then_task (say_line (save_line name file m)) (λ _. give (Ok named))
+
+  pub save_unwritten : (why : Why) → ShelfMeets (write_mesh k file m.points m.triples) before now (Err why) → Meets (saving of) (beside before out) (beside now out) (Err why)
+  save_unwritten why write =
+      let P : Mesh → Type 0 = λ mesh. Meets (saving mesh) (beside before out) (beside now out) (Err why) in
+      subst P (sym is) (shelf_stop (write_mesh k file m.points m.triples) after_writing why before now out write)
+
+  pub save_unsaid : (why : Why) → ShelfMeets (write_mesh k file m.points m.triples) before now (Ok tt) → OutputMeets (say_line (save_line name file m)) out told (Err why)
+      → Meets (saving of) (beside before out) (beside now told) (Err why)
+  save_unsaid why write line =
+      let P : Mesh → Type 0 = λ mesh. Meets (saving mesh) (beside before out) (beside now told) (Err why) in
+      subst P (sym is)
+      (shelf_then (write_mesh k file m.points m.triples) after_writing tt (Err why) before now out (beside now told) write
+      (output_stop (say_line (save_line name file m)) (λ _. give (Ok named)) why now out told line))
+
+  pub save_told : ShelfMeets (write_mesh k file m.points m.triples) before now (Ok tt) → OutputMeets (say_line (save_line name file m)) out told (Ok tt)
+      → Meets (saving of) (beside before out) (beside now told) (Ok named)
+  save_told write line =
+      let P : Mesh → Type 0 = λ mesh. Meets (saving mesh) (beside before out) (beside now told) (Ok named) in
+      subst P (sym is)
+      (shelf_then (write_mesh k file m.points m.triples) after_writing tt (Ok named) before now out (beside now told) write
+      (output_then (say_line (save_line name file m)) (λ _. give (Ok named)) tt (Ok named) now out told (beside now told) line (meets_give named (beside now told))))
+
+-- an operation on two meshes is within the limit, or not, or ended otherwise
+abbrev pub Operates : Limits → Combined → Result Combined Why → Type 0
+Operates limits o r = (now : Seen) → Meets (give (within limits o)) now now r
+
+-- the meshes of two names, which are these, are combined
+module _ (means : Meanings) (limits : Limits) (op : Op) (name left right : Bytes) (p q : Mesh) (named : Named) (is_p : mesh_at named left ≡ p) (is_q : mesh_at named right ≡ q) (out told : OnOutput) where
+  abbrev combining : Task Named
+  combining = combine_task means limits op name left right named
+
+  abbrev given : Combined
+  given = means.operation op (mesh_at named left) (mesh_at named right)
+
+  abbrev after_operation : Combined → Task Named
+  after_operation o = then_task (say_line (combine_line op name left right o)) (λ _. give (Ok (with_name name o.mesh named)))
+
+  -- the operation on the two is that of the names
+  of_names : (r : Result Combined Why) → Operates limits (means.operation op p q) r → Operates limits given r
+  of_names r operates =
+      let P : Mesh × Mesh → Type 0 = λ m. Operates limits (means.operation op m.0 m.1) r in
+      let same : (mesh_at named left, mesh_at named right) ≡ (p, q) = λ i. (is_p i, is_q i) in
+      subst P (sym same) operates
+
+  pub combine_stopped : (why : Why) → Operates limits (means.operation op p q) (Err why) → OutputMeets combining out out (Err why)
+  combine_stopped why operates on = meets_stop (give (within limits given)) after_operation why (beside on out) (beside on out) (of_names (Err why) operates (beside on out))
+
+  pub combine_unsaid : (o : Combined) (why : Why) → Operates limits (means.operation op p q) (Ok o) → OutputMeets (say_line (combine_line op name left right o)) out told (Err why)
+      → OutputMeets combining out told (Err why)
+  combine_unsaid o why operates line on =
+      meets_then (give (within limits given)) after_operation o (Err why) (beside on out) (beside on out) (beside on told) (of_names (Ok o) operates (beside on out))
+      (unsaid (combine_line op name left right o) name o.mesh named on out told why line)
+
+  pub combine_unnamed : (o : Combined) → Operates limits (means.operation op p q) (Ok o) → OutputMeets (say_line (combine_line op name left right o)) out told (Ok tt)
+      → OutputMeets combining out told (Err Starved)
+  combine_unnamed o operates line on =
+      meets_then (give (within limits given)) after_operation o (Err Starved) (beside on out) (beside on out) (beside on told) (of_names (Ok o) operates (beside on out))
+      (unnamed (combine_line op name left right o) name o.mesh named on out told line)
+
+  pub combine_named : (o : Combined) (after : Named) → after ≡ with_name name o.mesh named → Operates limits (means.operation op p q) (Ok o)
+      → OutputMeets (say_line (combine_line op name left right o)) out told (Ok tt) → OutputMeets combining out told (Ok after)
+  combine_named o after is operates line on =
+      meets_then (give (within limits given)) after_operation o (Ok after) (beside on out) (beside on out) (beside on told) (of_names (Ok o) operates (beside on out))
+      (named_so (combine_line op name left right o) name o.mesh named on out told after is line)

@@ -1,0 +1,6 @@
+pub mod Costs
+pub mod Halts
+pub mod Names
+pub mod Operations
+pub mod Outcomes
+pub mod Texts

@@ -1,0 +1,23 @@
+-- What is done with the text of a script.
+use Rattle.std.specs.Prelude.{ℕ, Ok}
+use Rattle.mesh_terms.specs.Faults as faults
+use Rattle.mesh_terms.specs.Limits.{Limits}
+use Rattle.run_terms.specs.Files.{Bytes}
+use Rattle.run_terms.specs.Meets.{Why, Refused, Starved}
+use Rattle.run_terms.specs.Tasks.{Task, give, then_task}
+use Rattle.script_lang.specs.declared.fault.ScriptFault.{ScriptFault}
+use Rattle.script_lang.specs.declared.fault.ScriptFault.TheVariants.{Bad, NoMemory}
+use Rattle.script_terms.specs.Lines.{script_refusal}
+use Rattle.script_terms.specs.Plays.{Meanings, no_names, script_checked, steps_task}
+use Rattle.script_terms.specs.Scripts.{script}
+
+-- its lines are read, and then their steps are done
+abbrev pub text_task : Meanings → ℕ → Limits → Bytes → Bytes → Task (Unit {0})
+text_task means k limits name text =
+    then_task (give (script_checked name (script k text))) (λ lines.
+    then_task (steps_task means k limits lines no_names) (λ _. give (Ok tt)))
+
+-- why a script of this name is not done that is at fault, or for which memory is wanting
+abbrev pub why_of_fault : Bytes → ScriptFault → Why
+why_of_fault name (Bad line kind) = Refused (script_refusal name (faults.Bad line kind))
+why_of_fault name NoMemory = Starved

@@ -1,0 +1,88 @@
+// The step that combines two meshes.
+ghost use Rattle.std.specs.Prelude.{◌≡◌, ◌≤◌, ◌+◌, IfErr, IfOk, IsSome, OnErr};
+ghost use Rattle.mb_outside.specs.Seen.{MeetsOnOutput};
+ghost use Rattle.report_lines.specs.Halts.{halted_by};
+ghost use Rattle.run_terms.specs.Meets.{Meets, Seen};
+ghost use Rattle.run_terms.specs.Tasks.{give};
+ghost use Rattle.script_runs.specs.Costs.{operation_cost};
+ghost use Rattle.script_runs.specs.Halts.{IsHaltOfStep};
+ghost use Rattle.script_runs.specs.Names.{named_in};
+ghost use Rattle.script_runs.specs.Operations.{meanings};
+ghost use Rattle.script_runs.specs.Outcomes.{IsOutcome};
+ghost use Rattle.script_terms.specs.Plays.{combine_task, mesh_at, within};
+
+use crate::names::Names;
+use mb_base::{Counted, Limits, Op};
+use mb_outside::Sink;
+use mesh_boolean::{Outcome, boolean};
+use mesh_check::Mesh;
+use mesh_files::Stop;
+use report_lines::{Halt, OperationCounts, say_combined};
+use retained_verts::PrescribeFault;
+use rounding::Nearest;
+use shadow_kernels::Grid;
+use std::alloc::Global;
+use std::sync::ledger::Ledger;
+use steps::Steps;
+
+// What an operation on two meshes gives under the kernels of the grid, with rounding to the nearest.
+fn operate<'a, L: Ledger>(
+    alloc: Global,
+    op: Op,
+    p: &Mesh,
+    q: &Mesh,
+    limits: &Limits,
+    steps: &mut Steps<L>,
+) -> Result<Outcome, Halt<'a>>
+    ensures meets { (now : Seen) → Meets (give (within limits.now (meanings.operation op p.now q.now))) now now (halted_by (λ _. meanings.operation op p.now q.now) result) }
+    ensures outcome { IfOk result (IsOutcome (meanings.operation op p.now q.now)) }
+    ensures halts { IfErr result IsHaltOfStep }
+    ensures cost { steps.new ≤ steps.old + operation_cost op p.now q.now }
+{
+    let kernels = Grid { rounding: Nearest };
+    match boolean(alloc, op, p, q, &kernels, limits, steps) {
+        Ok(outcome) => Ok(outcome),
+        Err(PrescribeFault::TooLarge { seen }) => Err(Halt::At {
+            name: "",
+            stop: Stop::Over {
+                what: Counted::Halfedges,
+                seen,
+            },
+        }),
+        Err(PrescribeFault::NoMemory) => Err(Halt::NoMemory),
+    }
+}
+
+/// Gives a name what an operation makes of the meshes of two names, and reports that on the output.
+pub fn combine<'a, O: Sink, L: Ledger>(
+    alloc: Global,
+    op: Op,
+    name: &'a str,
+    left: &'a str,
+    right: &'a str,
+    limits: &Limits,
+    names: &mut Names<'a>,
+    out: &mut O,
+    steps: &mut Steps<L>,
+) -> Result<(), Halt<'a>>
+    requires left { IsSome (named_in names.old left.now) }
+    requires right { IsSome (named_in names.old right.now) }
+    ensures meets { MeetsOnOutput O.Sink (combine_task meanings limits.now op name.now left.now right.now (named_in names.old)) out.old out.new (halted_by (λ _. named_in names.new) result) }
+    ensures halts { IfErr result IsHaltOfStep }
+    ensures kept { OnErr result (names.new ≡ names.old) }
+    ensures cost { steps.new ≤ steps.old + operation_cost op (mesh_at (named_in names.old) left.now) (mesh_at (named_in names.old) right.now) }
+{
+    let (Some(p), Some(q)) = (names.mesh(left), names.mesh(right)) else {
+        unreachable!();
+    };
+    let outcome = operate(alloc, op, p, q, limits, steps)?;
+    let kept = outcome.prescribed.kept;
+    let counts = OperationCounts {
+        kept,
+        crossings: outcome.prescribed.crossings,
+        forced: outcome.forced,
+    };
+    say_combined(op, name, left, right, &counts, out)?;
+    names.define(name, outcome.mesh)?;
+    Ok(())
+}

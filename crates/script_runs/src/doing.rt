@@ -1,0 +1,84 @@
+// The steps of a script, one after the other.
+ghost use Rattle.std.specs.Prelude.{◌≡◌, ◌≤◌, ◌+◌, [], map, IfErr, IsTrue, OnErr};
+ghost use Rattle.mb_outside.specs.Seen.{MeetsOn};
+ghost use Rattle.report_lines.specs.Halts.{halted_by};
+ghost use Rattle.script_lang.specs.Steps.{line_of, step_of};
+ghost use Rattle.script_runs.specs.Costs.{lines_cost, step_cost};
+ghost use Rattle.script_runs.specs.Halts.{IsHaltOfStep};
+ghost use Rattle.script_runs.specs.Names.{HasTaken, named_in};
+ghost use Rattle.script_runs.specs.Operations.{meanings};
+ghost use Rattle.script_terms.specs.Plays.{step_task, steps_task};
+ghost use Rattle.script_terms.specs.Sound.{AreSound};
+
+use crate::combining::combine;
+use crate::loading::load;
+use crate::names::Names;
+use crate::saving::save;
+use mb_base::Limits;
+use mb_outside::{Shelf, Sink};
+use report_lines::Halt;
+use script_lang::{Line, Step};
+use std::alloc::Global;
+use std::sync::ledger::Ledger;
+use steps::Steps;
+
+/// Does a step. Each name that it takes has a mesh.
+fn do_step<'a, S: Shelf, O: Sink, L: Ledger>(
+    alloc: Global,
+    step: &Step<'a>,
+    digits: u8,
+    limits: &Limits,
+    names: &mut Names<'a>,
+    shelf: &mut S,
+    out: &mut O,
+    steps: &mut Steps<L>,
+) -> Result<(), Halt<'a>>
+    requires digits { digits ≤ 6 }
+    requires taken { HasTaken (named_in names.old) (step_of step.now) }
+    ensures meets { MeetsOn S.Shelf O.Sink (step_task meanings digits limits.now (step_of step.now) (named_in names.old)) (shelf.old, out.old) (shelf.new, out.new) (halted_by (λ _. named_in names.new) result) }
+    ensures halts { IfErr result IsHaltOfStep }
+    ensures kept { OnErr result (names.new ≡ names.old) }
+    ensures cost { steps.new ≤ steps.old + step_cost (step_of step.now) (named_in names.old) }
+{
+    match step {
+        Step::Load { name, file } => {
+            let (name, file) = (name.as_str(), file.as_str());
+            load(alloc, name, file, digits, limits, names, shelf, out)
+        }
+        Step::Save { name, file } => {
+            save(name.as_str(), file.as_str(), digits, names, shelf, out)
+        }
+        Step::Combine {
+            op,
+            name,
+            left,
+            right,
+        } => {
+            let (name, left, right) = (name.as_str(), left.as_str(), right.as_str());
+            combine(alloc, *op, name, left, right, limits, names, out, steps)
+        }
+    }
+}
+
+/// Does the steps of lines in order, each over the names, the shelf and the output as they are by then, until one stops.
+pub fn do_lines<'a, S: Shelf, O: Sink, L: Ledger>(
+    alloc: Global,
+    lines: &[Line<'a>],
+    digits: u8,
+    limits: &Limits,
+    names: &mut Names<'a>,
+    shelf: &mut S,
+    out: &mut O,
+    steps: &mut Steps<L>,
+) -> Result<(), Halt<'a>>
+    requires digits { digits ≤ 6 }
+    requires sound { AreSound [] (map line_of lines.now) }
+    ensures meets { MeetsOn S.Shelf O.Sink (steps_task meanings digits limits.now (map line_of lines.now) (named_in names.old)) (shelf.old, out.old) (shelf.new, out.new) (halted_by (λ _. named_in names.new) result) }
+    ensures halts { IfErr result IsHaltOfStep }
+    ensures cost { IsTrue (S.tells shelf.old) → steps.new ≤ steps.old + lines_cost meanings digits limits.now (map line_of lines.now) (named_in names.old) (S.files shelf.old) }
+{
+    for line in lines {
+        do_step(alloc, &line.step, digits, limits, names, shelf, out, steps)?;
+    }
+    Ok(())
+}

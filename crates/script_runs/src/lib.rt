@@ -1,0 +1,15 @@
+//! Runs the scripts of the program: the whole script is read, and then its lines load, combine and save meshes one after the other.
+//!
+//! Each call meets its task, whatever the shelf and the output. A name may be defined again: it then has the later mesh, and the earlier is freed.
+#![tactic(auto)]
+
+mod combining;
+mod doing;
+mod loading;
+mod names;
+mod running;
+mod saving;
+#[cfg(test)]
+mod tests;
+
+pub use running::run_script;

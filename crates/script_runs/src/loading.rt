@@ -1,0 +1,36 @@
+// The step that loads a mesh.
+ghost use Rattle.std.specs.Prelude.{◌≡◌, ◌≤◌, IfErr, OnErr};
+ghost use Rattle.mb_outside.specs.Seen.{MeetsOn};
+ghost use Rattle.report_lines.specs.Halts.{halted_by};
+ghost use Rattle.script_runs.specs.Halts.{IsHaltOfStep};
+ghost use Rattle.script_runs.specs.Names.{named_in};
+ghost use Rattle.script_terms.specs.Plays.{load_task};
+
+use crate::names::Names;
+use mb_base::Limits;
+use mb_outside::{Shelf, Sink};
+use named_files::ask;
+use report_lines::{Halt, say_loaded};
+use std::alloc::Global;
+
+/// Reads a mesh from a file, reports that on the output, and gives a name the mesh.
+pub fn load<'a, S: Shelf, O: Sink>(
+    alloc: Global,
+    name: &'a str,
+    file: &'a str,
+    digits: u8,
+    limits: &Limits,
+    names: &mut Names<'a>,
+    shelf: &mut S,
+    out: &mut O,
+) -> Result<(), Halt<'a>>
+    requires digits { digits ≤ 6 }
+    ensures meets { MeetsOn S.Shelf O.Sink (load_task digits limits.now name.now file.now (named_in names.old)) (shelf.old, out.old) (shelf.new, out.new) (halted_by (λ _. named_in names.new) result) }
+    ensures halts { IfErr result IsHaltOfStep }
+    ensures kept { OnErr result (names.new ≡ names.old) }
+{
+    let read = ask(alloc, file, digits, limits, shelf)?;
+    say_loaded(name, file, &read.mesh, read.unused, out)?;
+    names.define(name, read.mesh)?;
+    Ok(())
+}
