@@ -1,3 +1,6 @@
+pub mod Known
 pub mod Naming
+pub mod Progress
+pub mod Reading
 pub mod Stages
 pub mod Steps

@@ -1,10 +1,10 @@
 -- The meshes of names, from a list of names with their meshes.
-use Rattle.std.specs.Prelude.{List, [], ◌∷◌, if◌then◌else◌, bytes_eq, Option, Some, None, IsSome}
+use Rattle.std.specs.Prelude.{◌≡◌, List, [], ◌∷◌, if◌then◌else◌, bytes_eq, ◌⊎◌, Option, Some, None, IsSome, IsTrue}
 use Rattle.std.specs.List.{All}
 use Rattle.mesh_terms.specs.Meshes.{Mesh}
 use Rattle.run_terms.specs.Files.{Bytes}
-use Rattle.script_terms.specs.Plays.{Named}
-use Rattle.script_terms.specs.Steps.{Step, taken}
+use Rattle.script_terms.specs.Plays.{Named, with_name}
+use Rattle.script_terms.specs.Steps.{Step, gives, taken}
 
 -- the first mesh beside a name
 abbrev pub named_in : List (Bytes × Mesh) → Named
@@ -14,3 +14,11 @@ named_in (e ∷ es) n = if bytes_eq n e.0 then Some e.1 else named_in es n
 -- each name that the step takes has a mesh
 abbrev pub HasTaken : Named → Step → Type 0
 HasTaken named step = All (λ w. IsSome (named w)) (taken step)
+
+-- the name has some mesh, and all others have what they had
+abbrev pub IsNamed : Bytes → Named → Named → Type 0
+IsNamed name old new = (m : Mesh) × (new ≡ with_name name m old)
+
+-- the names that had a mesh have one, and so has the name that the step gives one
+abbrev pub KeepsNames : Step → Named → Named → Type 0
+KeepsNames step old new = (w : Bytes) → IsSome (old w) ⊎ IsTrue (gives w step) → IsSome (new w)

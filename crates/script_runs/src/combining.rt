@@ -1,12 +1,12 @@
 // The step that combines two meshes.
-ghost use Rattle.std.specs.Prelude.{◌≡◌, ◌≤◌, ◌+◌, IfErr, IfOk, IsSome, OnErr};
+ghost use Rattle.std.specs.Prelude.{◌≡◌, ◌≤◌, ◌+◌, IfErr, IfOk, IsSome, OnErr, OnOk};
 ghost use Rattle.mb_outside.specs.Seen.{MeetsOnOutput};
 ghost use Rattle.report_lines.specs.Halts.{halted_by};
 ghost use Rattle.run_terms.specs.Meets.{Meets, Seen};
 ghost use Rattle.run_terms.specs.Tasks.{give};
 ghost use Rattle.script_runs.specs.Costs.{operation_cost};
 ghost use Rattle.script_runs.specs.Halts.{IsHaltOfStep};
-ghost use Rattle.script_runs.specs.Names.{named_in};
+ghost use Rattle.script_runs.specs.Names.{IsNamed, named_in};
 ghost use Rattle.script_runs.specs.Operations.{meanings};
 ghost use Rattle.script_runs.specs.Outcomes.{IsOutcome};
 ghost use Rattle.script_terms.specs.Plays.{combine_task, mesh_at, within};
@@ -69,6 +69,7 @@ pub fn combine<'a, O: Sink, L: Ledger>(
     requires right { IsSome (named_in names.old right.now) }
     ensures meets { MeetsOnOutput O.Sink (combine_task meanings limits.now op name.now left.now right.now (named_in names.old)) out.old out.new (halted_by (λ _. named_in names.new) result) }
     ensures halts { IfErr result IsHaltOfStep }
+    ensures named { OnOk result (IsNamed name.now (named_in names.old) (named_in names.new)) }
     ensures kept { OnErr result (names.new ≡ names.old) }
     ensures cost { steps.new ≤ steps.old + operation_cost op (mesh_at (named_in names.old) left.now) (mesh_at (named_in names.old) right.now) }
 {

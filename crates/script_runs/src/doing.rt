@@ -1,11 +1,11 @@
 // The steps of a script, one after the other.
-ghost use Rattle.std.specs.Prelude.{◌≡◌, ◌≤◌, ◌+◌, [], map, IfErr, IsTrue, OnErr};
+ghost use Rattle.std.specs.Prelude.{◌≡◌, ◌≤◌, ◌+◌, [], map, IfErr, IsTrue, OnErr, OnOk};
 ghost use Rattle.mb_outside.specs.Seen.{MeetsOn};
 ghost use Rattle.report_lines.specs.Halts.{halted_by};
 ghost use Rattle.script_lang.specs.Steps.{line_of, step_of};
 ghost use Rattle.script_runs.specs.Costs.{lines_cost, step_cost};
 ghost use Rattle.script_runs.specs.Halts.{IsHaltOfStep};
-ghost use Rattle.script_runs.specs.Names.{HasTaken, named_in};
+ghost use Rattle.script_runs.specs.Names.{HasTaken, KeepsNames, named_in};
 ghost use Rattle.script_runs.specs.Operations.{meanings};
 ghost use Rattle.script_terms.specs.Plays.{step_task, steps_task};
 ghost use Rattle.script_terms.specs.Sound.{AreSound};
@@ -37,6 +37,7 @@ fn do_step<'a, S: Shelf, O: Sink, L: Ledger>(
     requires taken { HasTaken (named_in names.old) (step_of step.now) }
     ensures meets { MeetsOn S.Shelf O.Sink (step_task meanings digits limits.now (step_of step.now) (named_in names.old)) (shelf.old, out.old) (shelf.new, out.new) (halted_by (λ _. named_in names.new) result) }
     ensures halts { IfErr result IsHaltOfStep }
+    ensures named { OnOk result (KeepsNames (step_of step.now) (named_in names.old) (named_in names.new)) }
     ensures kept { OnErr result (names.new ≡ names.old) }
     ensures cost { steps.new ≤ steps.old + step_cost (step_of step.now) (named_in names.old) }
 {

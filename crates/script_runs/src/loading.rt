@@ -1,9 +1,9 @@
 // The step that loads a mesh.
-ghost use Rattle.std.specs.Prelude.{◌≡◌, ◌≤◌, IfErr, OnErr};
+ghost use Rattle.std.specs.Prelude.{◌≡◌, ◌≤◌, IfErr, OnErr, OnOk};
 ghost use Rattle.mb_outside.specs.Seen.{MeetsOn};
 ghost use Rattle.report_lines.specs.Halts.{halted_by};
 ghost use Rattle.script_runs.specs.Halts.{IsHaltOfStep};
-ghost use Rattle.script_runs.specs.Names.{named_in};
+ghost use Rattle.script_runs.specs.Names.{IsNamed, named_in};
 ghost use Rattle.script_terms.specs.Plays.{load_task};
 
 use crate::names::Names;
@@ -27,6 +27,7 @@ pub fn load<'a, S: Shelf, O: Sink>(
     requires digits { digits ≤ 6 }
     ensures meets { MeetsOn S.Shelf O.Sink (load_task digits limits.now name.now file.now (named_in names.old)) (shelf.old, out.old) (shelf.new, out.new) (halted_by (λ _. named_in names.new) result) }
     ensures halts { IfErr result IsHaltOfStep }
+    ensures named { OnOk result (IsNamed name.now (named_in names.old) (named_in names.new)) }
     ensures kept { OnErr result (names.new ≡ names.old) }
 {
     let read = ask(alloc, file, digits, limits, shelf)?;

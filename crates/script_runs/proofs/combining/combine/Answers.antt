@@ -67,3 +67,6 @@ returns-clause-meets g c =
     let after = on_output g.O.Sink c.say_combined.new.sink in
     let is = c.in_ok-define.ensures.named ∙ ap (λ m. with_name c.args.name.now m named) c.in_ok-outcome.ensures.outcome.mesh in
     combine_named meanings c.args.limits.now c.args.op c.args.name.now c.args.left.now c.args.right.now p q named is_p is_q out after o (named_in c.define.new.self) is c.in_ok-outcome.ensures.meets (c.in_ok-say_combined.ensures.meets o same)
+
+pub returns-clause-named : goal.returns-clause-named
+returns-clause-named g c = (c.in_ok-outcome.outcome.mesh, c.in_ok-define.ensures.named)

@@ -31,3 +31,6 @@ returns-clause-meets g c =
     load_named c.args.digits c.args.limits.now c.args.name.now c.args.file.now (named_in c.args.names.now) (on_shelf g.S.Shelf c.args.shelf.now) (on_shelf g.S.Shelf c.ask.new.shelf)
     (on_output g.O.Sink c.args.out.now) (on_output g.O.Sink c.say_loaded.new.sink) (soup_with c.in_ok-read.read) (named_in c.define.new.self) c.in_ok-define.ensures.named
     c.in_ok-read.ensures.meets c.in_ok-say_loaded.ensures.meets
+
+pub returns-clause-named : goal.returns-clause-named
+returns-clause-named g c = (c.in_ok-read.read.mesh, c.in_ok-define.ensures.named)
