@@ -19,6 +19,7 @@ pub struct Run {
 }
 
 /// The copies of each vertex of a mesh with these winding numbers, where the first copy of the first one has this number.
+/// `NoMemory` may come for any.
 pub fn runs_of(
     alloc: Global,
     op: Op,

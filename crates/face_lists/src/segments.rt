@@ -16,9 +16,9 @@ use lean::Side;
 use mb_base::{Entry, NoMemory, Point, Segment};
 use std::alloc::Global;
 
-/// The segments of a face of a side: those of its three half-edges, then those of its pairs with the faces of the other
-/// side, ascending. The runs are those of the side's vertices, and the records those of this face; the points are where the
-/// copies lie.
+/// The segments of a face of a side. Its half-edges come first; the faces of the other side that it crosses follow by their
+/// numbers. The runs are those of the side's vertices, and the records those of this face; the points are where the copies
+/// lie. `NoMemory` may come for any. The cost is that of sorting the face's copies.
 pub fn segments_of_face(
     alloc: Global,
     side: &Side,

@@ -54,7 +54,7 @@ fn concluded<E: Sink>(ended: Result<(), Halt<'_>>, err: &mut E) -> Status
 /// all, and with 8 memory ran out between two actions. So where the files are told, a run whose play gives no refusal, and in which no
 /// fault came, ends with 0, or for want of memory. Whatever the files and however the run ended, each file that the play writes holds the text of a mesh in the format of its name,
 /// and the mesh is read of its OBJ text under the same digits and limits; for a copy this mesh is the one that was read of IN, in either format, without its
-/// unused points. What is read of an STL text is not said: its points come in another order.
+/// unused points. An STL text reads as the mesh welded, its points in another order; that is a law of `stl_laws` and no clause here.
 ///
 /// The read faults of the shelf rise with status 6 alone, its write faults and the faults of `out` with 7 alone, and one of the two does. With
 /// 6 the read faults rose, or the shelf tells no files and a read into some space gave nothing below the size that was stated. The shelf

@@ -15,7 +15,7 @@ use Rattle.segment_terms.specs.Segments.{source_count}
 use Rattle.filling_terms.specs.Filled.{all_filled, all_triples, face_segments, filled_face, sources_of}
 use Rattle.pinch_split.specs.Back.{named_by}
 use Rattle.mesh_boolean.specs.Assembly.{AreFillings}
-use Rattle.mesh_boolean.specs.Results.{AreBounded, face_triples, triples_at}
+use Rattle.mesh_boolean.specs.Results.{AreBounded, face_triples, triples_of_face}
 use Rattle.mesh_boolean.proofs.Parts.{length-sources, named_at, no_part, part_at, sources_below}
 
 -- as many fillings as source faces
@@ -33,7 +33,7 @@ filled_at p q cs x below =
 faces_triples : (p q : Side) (cs : List Copy) (from source : List ℕ) (ts : List Triple) → source ≡ sources_of 0 (all_filled p q cs) → map (named_by from) ts ≡ all_triples (all_filled p q cs) →
     (x : ℕ) → face_triples from source ts x ≡ (get_or (all_filled p q cs) x no_part).triples
 faces_triples p q cs from source ts numbers back x =
-    named_at from x source ts ∙ (λ i. triples_at x (numbers i) (back i)) ∙ part_at x (all_filled p q cs)
+    named_at from x source ts ∙ (λ i. triples_of_face x (numbers i) (back i)) ∙ part_at x (all_filled p q cs)
 
 -- so the triangles of each face are bounded by its segments
 pub are_bounded : (p q : Side) (cs : List Copy) (from source : List ℕ) (ts : List Triple) → AreFillings p q cs → source ≡ sources_of 0 (all_filled p q cs) → map (named_by from) ts ≡ all_triples (all_filled p q cs) →

@@ -12,7 +12,6 @@ use Rattle.assembly_terms.specs.Lists.{Copy}
 use Rattle.mb_base.specs.declared.op.Op.{Op}
 use Rattle.assembly_terms.specs.Prescribed.{Numbers, crossing_count, p_kept, prescribed as copies_of_numbers, prescribed_halfedges, q_kept}
 use Rattle.assembly_terms.specs.Standing.{AreConserved}
-use Rattle.ring_cutting.specs.Cuts.{Cut}
 use Rattle.segment_terms.specs.Segments.{source_count}
 use Rattle.filling_terms.specs.Filled.{all_filled, all_triples, face_segments, forced_of, points_of_copies, sources_of}
 use Rattle.pinch_split.specs.Back.{ComeFrom, named_by}
@@ -30,12 +29,12 @@ pub record ArePrescribed (op : Op) (p q : Side) (n : Numbers) (r : Prescribed) :
   pub halfedges : r.halfedges ≡ prescribed_halfedges op p q n
 
 -- the triangles of a source face
-abbrev pub triples_at : ℕ → List ℕ → List Triple → List Triple
-triples_at x source ts = map (λ m. m.1) (filter (λ m. m.0 == x) (zip source ts))
+abbrev pub triples_of_face : ℕ → List ℕ → List Triple → List Triple
+triples_of_face x source ts = map (λ m. m.1) (filter (λ m. m.0 == x) (zip source ts))
 
 -- those over prescribed vertices
 abbrev pub face_triples : List ℕ → List ℕ → List Triple → ℕ → List Triple
-face_triples from source ts x = map (named_by from) (triples_at x source ts)
+face_triples from source ts x = map (named_by from) (triples_of_face x source ts)
 
 -- each triangle has a source face; over prescribed vertices the triangles of each face have three different ones and are
 -- bounded by the segments of that face
@@ -75,13 +74,6 @@ pub record IsResult (op : Op) (p q : Side) (n : Numbers) (mesh : Mesh) (r : Pres
   pub faces : AreBounded p q (copies_of_numbers op p q n) old face mesh.triples
   pub clean : IsCleanOver old mesh.triples
   pub filled : AreFilled p q (copies_of_numbers op p q n) mesh old face count
-
--- the copies that two sides prescribe, and the fillings of their faces
-abbrev pub side_copies : Tests → Op → Side → Side → List Copy
-side_copies t op p q = copies_of_numbers op p q (numbers_of t p q)
-
-abbrev pub side_parts : Tests → Op → Side → Side → List Cut
-side_parts t op p q = all_filled p q (side_copies t op p q)
 
 -- the numbers of two meshes, and the copies that they prescribe
 abbrev pub numbers_in : Tests → Op → Mesh → Mesh → Numbers

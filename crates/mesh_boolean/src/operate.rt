@@ -34,14 +34,16 @@ use steps::Steps;
 ///
 /// Both meshes are reduced, and the kernels give the crossings and the winding numbers of what is left. These prescribe the
 /// vertices. The segments between them, which lie on the edges and on the lines in which faces cross, form loops in each
-/// source face, which are filled with triangles in the plane of the face. Last, each vertex becomes one for each fan of
-/// triangles round it. The mesh is closed, each of its vertices has one fan, its vertices are those prescribed, each as often,
-/// and the triangles of each source face are bounded by its segments. It may intersect itself, since points are rounded.
+/// source face, which are filled with triangles in the plane of the face. Up to here the vertices are those prescribed, each
+/// as often. Last, each becomes one vertex for each fan of triangles round it. The mesh is closed, each of its vertices has
+/// one fan, and the triangles of each source face are bounded by its segments. It may intersect itself, since points are
+/// rounded.
 ///
 /// The answer is `TooLarge` only where the prescribed half-edges are more than `limits.halfedges()`, with their number, and
-/// there no mesh is given. `NoMemory` may come for any meshes. The mesh is within every limit: for 3 prescribed half-edges it
-/// has at most 5 triangles, and for 2 at most 5 points. Besides crossings, winding numbers and fillings it takes time in
-/// proportion to the faces and to what is prescribed, and a sort of the crossings.
+/// there no mesh is given. `NoMemory` may come for any meshes. The mesh is within the limits on points and triangles:
+/// for 3 prescribed half-edges it has at most 5 triangles, and for 2 at most 5 points. `steps` counts at most one for each
+/// vertex of the two reduced meshes. Besides crossings, winding numbers and fillings it takes time in proportion to the faces
+/// and to what is prescribed, a sort of the crossings, and, where a vertex has several fans, one of the half-edges.
 ///
 /// After J. M. Smith's thesis "Towards robust inexact geometric computation" and the Manifold library.
 pub fn boolean<K: Kernels, L: Ledger>(

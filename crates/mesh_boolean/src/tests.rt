@@ -116,7 +116,7 @@ fn numbers_of(alloc: Global, all: &Outcome) -> Result<String, Fail> {
     let (crossings, forced) = (all.prescribed.crossings, all.forced);
     let (points, triangles) = (all.mesh.points().len(), all.mesh.triples().len());
     let volume = volume6(&all.mesh)?;
-    Ok(format!(in alloc; "{p} {q} {crossings} {forced} {points} {triangles} {volume}")?)
+    Ok(format!(in alloc; " {p} {q} {crossings} {forced} {points} {triangles} {volume}")?)
 }
 
 // Compares the numbers of a pair with the end of its line.

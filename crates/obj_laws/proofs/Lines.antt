@@ -26,7 +26,7 @@ without_cr-line (c ∷ []) above = ap (λ (b : Bool). cond b [] (c ∷ [])) (oth
 without_cr-line (c ∷ d ∷ cs) above = ap (λ (xs : List ℕ). c ∷ xs) (without_cr-line (d ∷ cs) above.1)
 
 -- a written line is the first line
-lines_of-line : (line rest : List ℕ) → Above 13 line → lines_of (line_of line ++ rest) ≡ line ∷ lines_of rest
+pub lines_of-line : (line rest : List ℕ) → Above 13 line → lines_of (line_of line ++ rest) ≡ line ∷ lines_of rest
 lines_of-line line rest above =
     ap lines_of (append_assoc line (10 ∷ []) rest)
     ∙ ap (λ (ls : List (List ℕ)). map without_cr ls) (raw_lines-line line rest (Above-lower 10 13 line (omega arith) above))

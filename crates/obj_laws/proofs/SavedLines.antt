@@ -49,7 +49,7 @@ abbrev pub face_line_text : Triple → List ℕ
 face_line_text t = codes "f " ++ decimal (t.0 + 1) ++ codes " " ++ decimal (t.1 + 1) ++ codes " " ++ decimal (t.2 + 1)
 
 -- three texts with a space between them
-three_spaced : (a b c : List ℕ) → a ++ codes " " ++ b ++ codes " " ++ c ≡ a ++ 32 ∷ (b ++ 32 ∷ c)
+pub three_spaced : (a b c : List ℕ) → a ++ codes " " ++ b ++ codes " " ++ c ≡ a ++ 32 ∷ (b ++ 32 ∷ c)
 three_spaced a b c = simp append_assoc
 
 -- the line of a point as four words
@@ -95,7 +95,7 @@ each_read-three : {X Y E : Type 0} (f : X → Result Y E) (a b c : X) (x y z : Y
 each_read-three f a b c x y z p q r = λ i. put_read (p i) (put_read (q i) (put_read (r i) (Ok [])))
 
 -- a point is its three coordinates
-three_coordinates : (p : List ℤ) → length p ≡ 3 → coordinate_of p 0 ∷ coordinate_of p 1 ∷ coordinate_of p 2 ∷ [] ≡ p
+pub three_coordinates : (p : List ℤ) → length p ≡ 3 → coordinate_of p 0 ∷ coordinate_of p 1 ∷ coordinate_of p 2 ∷ [] ≡ p
 three_coordinates [] e = absurd (omega (arith, e))
 three_coordinates (x ∷ []) e = absurd (omega (arith, e))
 three_coordinates (x ∷ y ∷ []) e = absurd (omega (arith, e))

@@ -1,4 +1,4 @@
--- What is written can be read. An STL text is only said to be that of such a mesh: read again, its points stand in another order.
+-- What is written can be read. An STL text is only said to be that of such a mesh: read again, its points are welded and stand in another order.
 use Rattle.std.specs.Prelude.{◌≡◌, ℕ, false, Option, Some, None, Ok}
 use Rattle.mesh_terms.specs.Limits.{Limits}
 use Rattle.mesh_terms.specs.Meshes.{Soup}

@@ -17,8 +17,8 @@ use retained_verts::{Operand, Prescribed};
 use std::alloc::Global;
 
 /// The triangles of all source faces, those of the first side's faces and then those of the second's, from the numbers and
-/// from the vertices that these prescribe. Without the fillings it takes time in proportion to the faces, and to the crossings
-/// that of a sort.
+/// from the vertices that these prescribe, as `prescribe` gave them for the same numbers. `NoMemory` may come for any. Without
+/// the fillings it takes time in proportion to the faces, and to the crossings that of a sort.
 pub fn triangles_of(
     alloc: Global,
     op: Op,

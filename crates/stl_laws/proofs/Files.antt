@@ -33,4 +33,6 @@ files_read = record {
   over_points = refl;
   over_triangles = refl;
   within = refl;
+  renumbered = refl;
+  joined = refl;
 }

@@ -1,2 +1,3 @@
 mod Files
 pub mod ReadMeshes
+pub mod SavedMeshes

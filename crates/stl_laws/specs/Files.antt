@@ -4,6 +4,7 @@ use Rattle.mesh_terms.specs.Faults.{Fault, Points, Triangles, Bad, Over}
 use Rattle.mesh_terms.specs.Limits.{Limits, IsLawful}
 use Rattle.mesh_terms.specs.Meshes.{Triple, Soup}
 use Rattle.stl_terms.specs.Stl.{stl}
+use Rattle.stl_laws.specs.Welding.{welded_mesh}
 
 -- limits of an ordinary run
 abbrev pub wide_limits : Limits
@@ -96,3 +97,7 @@ pub record FilesRead : Type 0 where
   -- the limit on triangles, where one is kept
   pub over_triangles : stl 0 (room_for 9 1) (codes "solid\n" ++ facet (codes "0 0 0") (codes "0 1 0") (codes "1 0 0") ++ facet (codes "0 0 0") (codes "0 0 0") (codes "1 0 0") ++ facet (codes "0 0 0") (codes "0 1 0") (codes "1 0 0") ++ codes "x") ≡ Err (Over Triangles 2)
   pub within : stl 0 (room_for 3 1) (codes "solid\n" ++ facet (codes "0 0 0") (codes "0 1 0") (codes "1 0 0") ++ facet (codes "0 0 0") (codes "0 0 0") (codes "1 0 0") ++ codes "endsolid") ≡ read_as (o ∷ y ∷ x ∷ []) ((0, 1, 2) ∷ []) 0
+  -- the text of a mesh reads welded: points in the order in which the corners have them
+  pub renumbered : welded_mesh (o ∷ x ∷ y ∷ z ∷ []) ((0, 2, 1) ∷ (0, 1, 3) ∷ (1, 2, 3) ∷ (2, 0, 3) ∷ []) ≡ record { points = o ∷ y ∷ x ∷ z ∷ []; triples = (0, 1, 2) ∷ (0, 2, 3) ∷ (2, 1, 3) ∷ (1, 0, 3) ∷ [] }
+  -- those at one place as one, and without a triangle that then has a point twice
+  pub joined : welded_mesh (o ∷ x ∷ y ∷ o ∷ z ∷ []) ((3, 1, 2) ∷ (0, 2, 1) ∷ (0, 3, 4) ∷ []) ≡ record { points = o ∷ x ∷ y ∷ z ∷ []; triples = (0, 1, 2) ∷ (0, 2, 1) ∷ [] }

@@ -1,11 +1,13 @@
-//! Laws of reading ASCII STL, each as the contract of a function that does nothing.
+//! Laws of reading and writing ASCII STL, each as the contract of a function that does nothing.
 //!
-//! What is read of any file under lawful limits is a mesh within them, whose OBJ text so reads back. Of an STL text no more is said
-//! than what reading gives by its definition: points stand in the order in which the corners have them. The lemmas stand in `proofs/`.
+//! What is read of any file under lawful limits is a mesh within them, whose OBJ text so reads back; and the STL text of a mesh within
+//! them reads as the welded mesh: its points in the order in which the corners have them, those at one place as one, and without the
+//! triangles that then have a point twice. The lemmas stand in `proofs/`.
 #![tactic(auto)]
 
 ghost use Rattle.stl_laws.specs.Files.{FilesRead};
 ghost use Rattle.stl_laws.specs.Reading.{FilesGiveMeshes};
+ghost use Rattle.stl_laws.specs.Welding.{MeshesReadWelded};
 
 /// What files of the profile give, and each kind of fault, spelled out.
 pub fn spelled_files_read()
@@ -15,4 +17,9 @@ pub fn spelled_files_read()
 /// What is read of a file under lawful limits, whatever the file, is a mesh within them.
 pub fn files_give_meshes()
     ensures { FilesGiveMeshes }
+{}
+
+/// Under lawful limits the text of a mesh within them, whatever the digits, reads as the welded mesh.
+pub fn meshes_read_welded()
+    ensures { MeshesReadWelded }
 {}
