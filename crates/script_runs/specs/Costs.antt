@@ -1,0 +1,48 @@
+-- The most steps that a script counts.
+use Rattle.std.specs.Prelude.{ℕ, ◌+◌, List, [], ◌∷◌, length, Result, Ok, Err}
+use Rattle.mb_base.specs.declared.op.Op.{Op}
+use Rattle.mesh_boolean.specs.Operation.{first_side, second_side}
+use Rattle.mesh_terms.specs.Limits.{Limits}
+use Rattle.mesh_terms.specs.Meshes.{Mesh}
+use Rattle.run_terms.specs.Files.{Bytes, Files}
+use Rattle.run_terms.specs.Tasks.{Part, Refusal, Task, changed_all}
+use Rattle.play_terms.specs.Commands.{ask_file}
+use Rattle.script_terms.specs.Plays.{Meanings, Named, mesh_at, no_names, script_checked, step_task}
+use Rattle.script_terms.specs.Scripts.{script}
+use Rattle.script_terms.specs.Steps.{Combine, Line, Load, Save, Step}
+
+-- an operation counts at most one for each vertex of its two reduced meshes
+abbrev pub operation_cost : Op → Mesh → Mesh → ℕ
+operation_cost op p q = length (first_side op p).corners + length (second_side q).corners
+
+-- only operations count
+abbrev pub step_cost : Step → Named → ℕ
+step_cost (Load name file) named = 0
+step_cost (Save name file) named = 0
+step_cost (Combine op name left right) named = operation_cost op (mesh_at named left) (mesh_at named right)
+
+-- where there is no value nothing comes after
+abbrev pub cost_of_value : {A : Type 0} → Result A Refusal → (A → ℕ) → ℕ
+cost_of_value (Err why) later = 0
+cost_of_value (Ok a) later = later a
+
+-- what comes after a part, over the files as they are by then
+abbrev pub cost_after : {A : Type 0} → Part A → Files → (A → Files → ℕ) → ℕ
+cost_after p files later = cost_of_value p.result (λ a. later a (changed_all p.actions files))
+
+-- tasks in order, each of which costs what it does for the value that the one before handed on
+abbrev pub cost_in_order : {L A : Type 0} → (L → A → ℕ) → (L → A → Task A) → List L → A → Files → ℕ
+cost_in_order cost task [] a files = 0
+cost_in_order cost task (l ∷ ls) a files = cost l a + cost_after (task l a files) files (λ b now. cost_in_order cost task ls b now)
+
+-- the steps of these lines in order
+abbrev pub lines_cost : Meanings → ℕ → Limits → List Line → Named → Files → ℕ
+lines_cost means k limits lines named files = cost_in_order (λ l n. step_cost l.1 n) (λ l n. step_task means k limits l.1 n) lines named files
+
+-- the text of a script of this name
+abbrev pub text_cost : Meanings → ℕ → Limits → Bytes → Bytes → Files → ℕ
+text_cost means k limits name text files = cost_of_value (script_checked name (script k text)) (λ lines. lines_cost means k limits lines no_names files)
+
+-- the script in the file of this name
+abbrev pub script_cost : Meanings → ℕ → Limits → Bytes → Files → ℕ
+script_cost means k limits name files = cost_after (ask_file limits name files) files (text_cost means k limits name)
