@@ -29,7 +29,10 @@ pub enum Command<'a> {
         point: Point,
     },
     /// Runs the script of a file.
-    RunScript { digits: u8, script: &'a str },
+    RunScript {
+        digits: u8,
+        script: &'a str,
+    },
 }
 
 /// What the words so far gave: the operands, the digits, and whether every further word is an operand.

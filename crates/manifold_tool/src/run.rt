@@ -111,9 +111,7 @@ pub fn run<S: Shelf, O: Sink, E: Sink, L: Ledger>(
         }
         Command::RunScript { digits, script } => {
             let mut bytes = Vec::new(alloc);
-            let ended = run_script(
-                alloc, script, &mut bytes, digits, limits, shelf, out, steps,
-            );
+            let ended = run_script(alloc, script, &mut bytes, digits, limits, shelf, out, steps);
             concluded(ended, err)
         }
     }

@@ -1,6 +1,6 @@
 //! Runs the scripts of the program.
 //!
-//! This stands in for the runner: it has its contract, and answers that there is no memory.
+//! This stands in for the runner: it has its contract without the clauses `lawful` and `back`, and answers that there is no memory.
 #![tactic(auto)]
 
 mod running;

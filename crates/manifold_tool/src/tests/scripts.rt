@@ -11,7 +11,8 @@ use std::process::Abort;
 use std::sync::ledger::Blank;
 use std::test::Fail;
 
-const LOADED: &[u8] = b"load a cube.obj: points 8, triangles 12, unused 0\nload b b.obj: points 8, triangles 12, unused 0\n";
+const LOADED: &[u8] =
+    b"load a cube.obj: points 8, triangles 12, unused 0\nload b b.obj: points 8, triangles 12, unused 0\n";
 
 // A script, and what is to stand after its run.
 #[derive(Drop)]
