@@ -7,7 +7,7 @@ use Rattle.std.proofs.lemmas.Slice.Eq.{bytes_eq-Decides}
 use Rattle.std.proofs.lemmas.Bool.{cases_Bool, and_parts, leb-true, le-leb}
 use Rattle.std.specs.Option.{option_and_then}
 use Rattle.run_terms.specs.Files.{Bytes}
-use Rattle.play_terms.specs.Words.{Given, is_option_end, before_end, after_end, with_operand, with_digits, begins_with, with_word, with_more, given, digits_of, copy_of, inside_of, command_with, command_by, command}
+use Rattle.play_terms.specs.Words.{Given, is_option_end, before_end, after_end, with_operand, with_digits, begins_with, with_word, with_more, given, digits_of, copy_of, inside_of, run_of, command_with, command_by, command}
 use Rattle.command_words.specs.Commands.{Takes, Refuses, HasFewDigits, digits_text, digits_in, held, given_by, given_in_all, joined, IsNoCommand}
 use Rattle.command_words.specs.declared.commands.Command.{Command}
 use Rattle.command_words.specs.declared.commands.Given.{Given as Held}
@@ -29,7 +29,10 @@ same_choice false x = refl
 
 -- more operands than a command has
 too_many : (w : Bytes) (operands : List Bytes) (k : ℕ) → 5 ≤ length operands → command_with w operands k ≡ None
-too_many w (a ∷ b ∷ c ∷ d ∷ e ∷ rest) k long = ap (λ x. cond (bytes_eq w (codes "copy")) None x) (same_choice (bytes_eq w (codes "inside")) None) ∙ same_choice (bytes_eq w (codes "copy")) None
+too_many w (a ∷ b ∷ c ∷ d ∷ e ∷ rest) k long =
+    ap (λ x. cond (bytes_eq w (codes "copy")) None (cond (bytes_eq w (codes "inside")) None x)) (same_choice (bytes_eq w (codes "run")) None)
+    ∙ ap (λ x. cond (bytes_eq w (codes "copy")) None x) (same_choice (bytes_eq w (codes "inside")) None)
+    ∙ same_choice (bytes_eq w (codes "copy")) None
 too_many w [] k long = absurd (omega (arith, long))
 too_many w (a ∷ []) k long = absurd (omega (arith, long))
 too_many w (a ∷ b ∷ []) k long = absurd (omega (arith, long))
@@ -257,14 +260,27 @@ as_inside ws g operands k name some is few first named same digits =
     let given = (held g).operands in
     sym (command_taken ws g some is few ∙ ap (λ w. command_with w given (unwrap_or g.digits 4)) (sym first ∙ named) ∙ ap (λ n. inside_of n given) (sym digits) ∙ ap (λ l. inside_of k (map (λ w. w.now) l)) (sym same))
 
+-- fewer or more operands than one
+pub not_one : (k : ℕ) (operands : List Bytes) → (length operands ≡ 1 → ⊥) → run_of k operands ≡ None
+not_one k [] other = refl
+not_one k (a ∷ []) other = absurd (other refl)
+not_one k (a ∷ b ∷ rest) other = refl
+
+-- the words of a script
+pub as_run : (ws : List Bytes) (g : Held) (operands : List (Bor Bytes)) (k : ℕ) (name : Bytes) → (ws ≡ [] → ⊥) → given_by false (drop 1 ws) ≡ Some (held g) → HasFewDigits g
+    → name ≡ get_or ws 0 [] → name ≡ codes "run" → operands ≡ g.operands.items → k ≡ unwrap_or g.digits 4 → run_of k (map (λ w. w.now) operands) ≡ command ws
+as_run ws g operands k name some is few first named same digits =
+    let given = (held g).operands in
+    sym (command_taken ws g some is few ∙ ap (λ w. command_with w given (unwrap_or g.digits 4)) (sym first ∙ named) ∙ ap (λ n. run_of n given) (sym digits) ∙ ap (λ l. run_of k (map (λ w. w.now) l)) (sym same))
+
 -- what is not equal is told apart
 unequal : (a b : Bytes) → (a ≡ b → ⊥) → bytes_eq a b ≡ false
 unequal a b apart = elim (cases_Bool (bytes_eq a b)) [ inl is ↦ absurd (apart ((bytes_eq-Decides a b).0 is)) | inr is_not ↦ is_not ]
 
 -- words of no command
 pub as_other : (ws : List Bytes) (g : Held) (name : Bytes) → (ws ≡ [] → ⊥) → given_by false (drop 1 ws) ≡ Some (held g) → HasFewDigits g
-    → name ≡ get_or ws 0 [] → (name ≡ codes "copy" → ⊥) → (name ≡ codes "inside" → ⊥) → command ws ≡ None
-as_other ws g name some is few first no_copy no_inside =
+    → name ≡ get_or ws 0 [] → (name ≡ codes "copy" → ⊥) → (name ≡ codes "inside" → ⊥) → (name ≡ codes "run" → ⊥) → command ws ≡ None
+as_other ws g name some is few first no_copy no_inside no_run =
     let given = (held g).operands in
     let k = unwrap_or g.digits 4 in
-    command_taken ws g some is few ∙ ap (λ w. command_with w given k) (sym first) ∙ rw (unequal name (codes "copy") no_copy, unequal name (codes "inside") no_inside) refl
+    command_taken ws g some is few ∙ ap (λ w. command_with w given k) (sym first) ∙ rw (unequal name (codes "copy") no_copy, unequal name (codes "inside") no_inside, unequal name (codes "run") no_run) refl

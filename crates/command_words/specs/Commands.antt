@@ -5,12 +5,13 @@ use Rattle.play_terms.specs.Words as words
 use Rattle.play_terms.specs.Words.{Given, before_end, after_end, given, with_more, command_by}
 use Rattle.command_words.specs.declared.commands.Given.{Given as Held}
 use Rattle.command_words.specs.declared.commands.Command.{Command}
-use Rattle.command_words.specs.declared.commands.Command.TheVariants.{CopyFile, InsideFile}
+use Rattle.command_words.specs.declared.commands.Command.TheVariants.{CopyFile, InsideFile, RunScript}
 
 -- the command with its operands as bytes
 abbrev pub command_of : Command → words.Command
 command_of (CopyFile digits from to) = words.CopyFile digits from.now to.now
 command_of (InsideFile digits file point) = words.InsideFile digits file.now point
+command_of (RunScript digits script) = words.RunScript digits script.now
 
 -- the character of a digit that was given
 abbrev pub digits_text : Option ℕ → List Bytes
@@ -47,6 +48,7 @@ IsNoCommand o = (w : Bytes) → command_by w o ≡ None
 abbrev pub digits_in : Command → ℕ
 digits_in (CopyFile digits from to) = digits
 digits_in (InsideFile digits file point) = digits
+digits_in (RunScript digits script) = digits
 
 -- the digits that were given are at most 6
 abbrev pub HasFewDigits : Held → Type 0

@@ -2,7 +2,7 @@
 ghost use Rattle.std.specs.Prelude.{◌≡◌, ◌≤◌, ◌<◌, ◌+◌, ◌^◌, ◌∷◌, [], ℕ, length, drop, map, false, IfSome, IsNone, Some};
 ghost use Rattle.std.specs.Option.{option_map};
 ghost use Rattle.mesh_terms.specs.Points.{IsOnGrid};
-ghost use Rattle.play_terms.specs.Words.{command, copy_of, inside_of, digits_of, grid_operand, with_operand, with_digits, with_word};
+ghost use Rattle.play_terms.specs.Words.{command, copy_of, inside_of, run_of, digits_of, grid_operand, with_operand, with_digits, with_word};
 ghost use Rattle.command_words.specs.Commands.{HasFewDigits, IsNoCommand, Takes, Refuses, command_of, digits_in, given_by, given_in_all, given_with_digits, held};
 
 use arrayvec::ArrayVec;
@@ -27,6 +27,11 @@ pub enum Command<'a> {
         digits: u8,
         file: &'a str,
         point: Point,
+    },
+    /// Runs the script of a file.
+    RunScript {
+        digits: u8,
+        script: &'a str,
     },
 }
 
@@ -198,11 +203,27 @@ fn inside_with<'a>(digits: u8, operands: &[&'a str]) -> Option<Command<'a>>
     })
 }
 
+// The run of the script with this name.
+fn run_with<'a>(digits: u8, operands: &[&'a str]) -> Option<Command<'a>>
+    ensures command { option_map command_of result ≡ run_of digits (map (λ w. w.now) operands.now) }
+    ensures digits { IfSome result (λ command. digits_in command ≡ digits) }
+{
+    if operands.len() != 1 {
+        return None;
+    }
+    let script = operands[0];
+    if script.is_empty() {
+        return None;
+    }
+    Some(Command::RunScript { digits, script })
+}
+
 /// The command of the words of a command line; None where they are of none.
 ///
-/// The first word is `copy` or `inside`. After it stand the operands and, at most once, `--digits K` or `--digits=K`, with K from 0 to 6; 4 where
+/// The first word is `copy`, `inside` or `run`. After it stand the operands and, at most once, `--digits K` or `--digits=K`, with K from 0 to 6; 4 where
 /// none is given. After the first `--` every word is an operand; before it an operand is `-` alone or does not begin with `-`. `copy` has two operands and
-/// `inside` four, where names end with `.obj` or `.stl`, ASCII case ignored, and the others are numbers whose values under the digits are on the grid.
+/// `inside` four, where names end with `.obj` or `.stl`, ASCII case ignored, and the others are numbers whose values under the digits are on the grid. `run` has
+/// one, the name of a script, which is not empty.
 pub fn read_command<'a>(words: &'a ArgList) -> Option<Command<'a>>
     ensures command { option_map command_of result ≡ command words.now }
     ensures few { IfSome result (λ command. digits_in command ≤ 6) }
@@ -217,6 +238,7 @@ pub fn read_command<'a>(words: &'a ArgList) -> Option<Command<'a>>
     match words.get(0) {
         "copy" => copy_with(digits, given.operands.as_slice()),
         "inside" => inside_with(digits, given.operands.as_slice()),
+        "run" => run_with(digits, given.operands.as_slice()),
         _ => None,
     }
 }

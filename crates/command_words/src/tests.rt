@@ -43,7 +43,7 @@ fn is_inside_at(alloc: Global, words: &[&str], at: [i32; 3]) -> Result<bool, NoM
         return Ok(false);
     };
     match command {
-        Command::CopyFile { .. } => Ok(false),
+        Command::CopyFile { .. } | Command::RunScript { .. } => Ok(false),
         Command::InsideFile {
             digits,
             file,
@@ -52,13 +52,25 @@ fn is_inside_at(alloc: Global, words: &[&str], at: [i32; 3]) -> Result<bool, NoM
     }
 }
 
+// Whether the words run this script with so many digits.
+fn is_run_of(alloc: Global, words: &[&str], name: &str, wanted: u8) -> Result<bool, NoMemory> {
+    let list = listed(alloc, words)?;
+    match read_command(&list) {
+        Some(Command::RunScript { digits, script }) => Ok(digits == wanted && script == name),
+        _ => Ok(false),
+    }
+}
+
 #[test]
 fn other_words_are_no_command(rt: HostRuntime) -> Result<(), Fail> {
-    let others: [&[&str]; 13] = [
+    let others: [&[&str]; 16] = [
         &[],
         &["--help"],
         &["--version"],
-        &["run", "s.txt"],
+        &["run"],
+        &["run", ""],
+        &["run", "s.txt", "t.txt"],
+        &["run", "-s.txt"],
         &["--", "copy", "c.obj", "u.obj"],
         &["copy", "c.obj"],
         &["copy", "c.obj", "u.ply"],
@@ -187,6 +199,20 @@ fn digits_stand_anywhere_before_the_end_of_options(rt: HostRuntime) -> Result<()
     ];
     for (words, digits) in taken {
         assert!(rt; is_copy_with(rt.alloc(), words, digits)?);
+    }
+    Ok(())
+}
+
+#[test]
+fn a_script_has_any_name(rt: HostRuntime) -> Result<(), Fail> {
+    let taken: [(&[&str], &str, u8); 4] = [
+        (&["run", "s.txt"], "s.txt", 4),
+        (&["run", "--digits", "0", "-"], "-", 0),
+        (&["run", "--", "-s"], "-s", 4),
+        (&["run", "a part.stl", "--digits=6"], "a part.stl", 6),
+    ];
+    for (words, name, digits) in taken {
+        assert!(rt; is_run_of(rt.alloc(), words, name, digits)?);
     }
     Ok(())
 }

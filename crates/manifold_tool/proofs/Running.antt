@@ -4,12 +4,12 @@ use Rattle.std.specs.Option.{option_map}
 use Rattle.mesh_terms.specs.Limits.{Limits}
 use Rattle.run_terms.specs.Files.{Bytes, Files}
 use Rattle.run_terms.specs.Meets.{Why, Refused, Seen, Meets}
-use Rattle.play_terms.specs.Commands.{play, command_task}
 use Rattle.play_terms.specs.Lines.{usage}
 use Rattle.play_terms.specs.ReadingBack.{CopiesReadable, WritesReadable, digits_in}
 use Rattle.play_terms.specs.Words.{Command, command}
 use Rattle.command_words.specs.Commands.{command_of}
 use Rattle.command_words.specs.declared.commands.Command.{Command as Read}
+use Rattle.program_terms.specs.Commands.{play, command_task}
 use Rattle.mb_outside.specs.Seen.{OnOutput}
 use Rattle.report_lines.specs.Reports.{IsReported}
 use Rattle.manifold_tool.specs.Playing.{MeetsPlay, meanings}

@@ -3,17 +3,23 @@ use Rattle.std.specs.Prelude.{◌≡◌, ℕ, List, IsTrue, Result, Ok}
 use Rattle.mesh_terms.specs.Limits.{Limits}
 use Rattle.run_terms.specs.Files.{Bytes}
 use Rattle.run_terms.specs.Meets.{Why, Seen, Meets}
-use Rattle.play_terms.specs.Commands.{Meanings, play}
+use Rattle.play_terms.specs.Commands as commands
 use Rattle.play_terms.specs.Ends.{RiseWith, ended_line, ended_status}
 use Rattle.mb_outside.specs.Seen.{OnOutput, on_output, seen_of}
 use Rattle.mb_outside.specs.declared.shelf.Shelf.{Ghosts as OfShelf}
 use Rattle.mb_outside.specs.declared.sink.Sink.{Ghosts as OfSink}
 use Rattle.report_lines.specs.Reports.{IsReported}
+use Rattle.program_terms.specs.Commands.{Meanings, play}
+use Rattle.script_runs.specs.Operations as operations
 use Rattle.winding.specs.Windings.{winding_at}
 
 -- the winding number is that under the kernels of the grid and rounding to the nearest
+abbrev pub windings : commands.Meanings
+windings = record { winding = λ point soup. winding_at point (record { points = soup.points; triples = soup.triples }) }
+
+-- and an operation is that under the same
 abbrev pub meanings : Meanings
-meanings = record { winding = λ point soup. winding_at point (record { points = soup.points; triples = soup.triples }) }
+meanings = record { points = windings; scripts = operations.meanings }
 
 -- the status is that of this end, and its line was told on standard error
 abbrev pub TellsAs : Result (Unit {0}) Why → ℕ → OnOutput → OnOutput → Type 0

@@ -5,7 +5,7 @@ ghost use Rattle.play_terms.specs.ReadingBack.{WritesReadable};
 ghost use Rattle.run_terms.specs.Files.{Files};
 ghost use Rattle.mb_outside.specs.Seen.{MeetsOn};
 ghost use Rattle.report_lines.specs.Halts.{IsHaltOfInside, halted, is_unsaid};
-ghost use Rattle.manifold_tool.specs.Playing.{meanings};
+ghost use Rattle.manifold_tool.specs.Playing.{windings};
 
 use mb_base::{Limits, Point};
 use mb_outside::{Shelf, Sink};
@@ -30,9 +30,9 @@ pub fn inside<'a, S: Shelf, O: Sink, L: Ledger>(
     steps: &mut Steps<L>,
 ) -> Result<(), Halt<'a>>
     requires digits { digits ≤ 6 }
-    ensures meets { MeetsOn S.Shelf O.Sink (inside_task digits meanings limits.now file.now point) (shelf.old, out.old) (shelf.new, out.new) (halted result) }
+    ensures meets { MeetsOn S.Shelf O.Sink (inside_task digits windings limits.now file.now point) (shelf.old, out.old) (shelf.new, out.new) (halted result) }
     ensures halts { IfErr result (IsHaltOfInside file.now) }
-    ensures back { (files : Files) → All (WritesReadable digits limits.now) (inside_task digits meanings limits.now file.now point files).actions }
+    ensures back { (files : Files) → All (WritesReadable digits limits.now) (inside_task digits windings limits.now file.now point files).actions }
     ensures counted { OnOk result (steps.new ≡ steps.old + 1) }
     ensures stopped { IfErr result (λ halt. steps.new ≡ (if is_unsaid halt then steps.old + 1 else steps.old)) }
 {

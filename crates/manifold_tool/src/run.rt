@@ -1,14 +1,15 @@
 // The top call.
 ghost use Rattle.std.specs.Prelude.{◌≡◌, ◌≤◌, ◌<◌, ◌+◌, ℕ, ℤ, List, ◌^◌, ◌-◌, ◌↔◌, ◌⊎◌, All, IsTrue, Some, None, Ok};
-ghost use Rattle.play_terms.specs.Commands.{play};
 ghost use Rattle.play_terms.specs.Ends.{ended_line, ended_status};
 ghost use Rattle.play_terms.specs.Lines.{usage};
 ghost use Rattle.play_terms.specs.ReadingBack.{CopiesReadable, WritesReadable, digits_in};
-ghost use Rattle.play_terms.specs.Words.{IsCopy, IsInside, command};
+ghost use Rattle.play_terms.specs.Words.{IsCopy, IsInside, IsRun, command};
+ghost use Rattle.program_terms.specs.Commands.{play};
 ghost use Rattle.run_terms.specs.Files.{Bytes, Files};
 ghost use Rattle.mb_outside.specs.Seen.{on_output};
 ghost use Rattle.report_lines.specs.Halts.{halted};
 ghost use Rattle.report_lines.specs.Reports.{IsReported};
+ghost use Rattle.manifold_tool.specs.Counting.{play_cost};
 ghost use Rattle.manifold_tool.specs.Playing.{IsUntroubled, RiseOn, RunMeets, meanings};
 ghost use Rattle.manifold_tool.specs.Statuses.{IsDoneOrStarved, status_number};
 
@@ -20,6 +21,7 @@ use mb_base::{ArgList, Limits};
 use mb_outside::{Shelf, Sink};
 use mesh_files::Stop;
 use report_lines::{Halt, tell_halt, tell_stop};
+use script_runs::run_script;
 use std::alloc::Global;
 use std::sync::ledger::Ledger;
 use steps::Steps;
@@ -42,11 +44,14 @@ fn concluded<E: Sink>(ended: Result<(), Halt<'_>>, err: &mut E) -> Status
 
 /// Runs the program on the words after its name.
 ///
-/// The words are `copy IN OUT` or `inside FILE X Y Z`, with digits or without, as `read_command` has them; any other are `Usage`, and nothing is done but the
-/// usage line on `err`. A unit of the files has 10^K steps of the grid, where K are the digits. `copy` reads and checks the mesh of IN,
-/// saves it to OUT and reports that on `out` in one line. `inside` reads and checks the mesh of FILE and reports the winding number of the point in
-/// it, and counts one step; a run that ends before the number is found counts none. Whatever goes wrong first ends the run with its status and
-/// one line on `err`, and a fault of `err` changes no status. A run that ends well leaves `err` as it was.
+/// The words are `copy IN OUT`, `inside FILE X Y Z` or `run SCRIPT`, with digits or without, as `read_command` has them; any other are `Usage`, and
+/// nothing is done but the usage line on `err`. A unit of the files has 10^K steps of the grid, where K are the digits. `copy` reads and checks the mesh
+/// of IN, saves it to OUT and reports that on `out` in one line. `inside` reads and checks the mesh of FILE and reports the winding number of the point
+/// in it, and counts one step; a run that ends before the number is found counts none. `run` reads the whole script of SCRIPT, whose lines load meshes
+/// and give them names, unite, intersect and subtract them, and save them; a faulty line is `BadScript`, and then no line is done. It then does its lines
+/// in order, and reports each on `out` in one line. What was saved before a stop stays. Of a script only operations count steps; where the shelf tells
+/// its files these are at most one for each vertex of their meshes, reduced. Whatever goes wrong first ends the run with its status and one line on
+/// `err`, and a fault of `err` changes no status. A run that ends well leaves `err` as it was.
 ///
 /// The run meets its play, which is the task of its words under the limits; where the shelf tells its files, that says what was done, and of `out`
 /// it says the bytes where `out` tells them. With status 0 to 5 every action of the play was done whole, and the status and the
@@ -83,8 +88,9 @@ pub fn run<S: Shelf, O: Sink, E: Sink, L: Ledger>(
     ensures back { (files : Files) → All (WritesReadable (digits_in (command words.now)) limits.now) (play meanings limits.now words.now files).actions }
     ensures copies_uncounted { IsCopy (command words.now) → steps.new ≡ steps.old }
     ensures counted { IsInside (command words.now) → result ≡ Status.Done → steps.new ≡ steps.old + 1 }
-    ensures most { steps.new ≤ steps.old + 1 }
-    ensures uncounted { (result ≡ Status.Done → ⊥) → (result ≡ Status.WriteFault → ⊥) → steps.new ≡ steps.old }
+    ensures most { (IsRun (command words.now) → ⊥) → steps.new ≤ steps.old + 1 }
+    ensures cost { IsTrue (S.tells shelf.old) → steps.new ≤ steps.old + play_cost limits.now words.now (S.files shelf.old) }
+    ensures uncounted { (IsRun (command words.now) → ⊥) → (result ≡ Status.Done → ⊥) → (result ≡ Status.WriteFault → ⊥) → steps.new ≡ steps.old }
 {
     let Some(command) = read_command(words) else {
         tell_stop("", &Stop::Usage, err);
@@ -101,6 +107,11 @@ pub fn run<S: Shelf, O: Sink, E: Sink, L: Ledger>(
             point,
         } => {
             let ended = inside(alloc, file, point, digits, limits, shelf, out, steps);
+            concluded(ended, err)
+        }
+        Command::RunScript { digits, script } => {
+            let mut bytes = Vec::new(alloc);
+            let ended = run_script(alloc, script, &mut bytes, digits, limits, shelf, out, steps);
             concluded(ended, err)
         }
     }

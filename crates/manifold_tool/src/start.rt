@@ -1,14 +1,15 @@
 // The start of the program, over any shelf and any outputs.
-ghost use Rattle.std.specs.Prelude.{◌≡◌, ◌≤◌, ◌<◌, ◌+◌, ◌^◌, ◌-◌, ◌↔◌, [], None, All, IfOk, IfErr};
-ghost use Rattle.play_terms.specs.Commands.{play};
+ghost use Rattle.std.specs.Prelude.{◌≡◌, ◌≤◌, ◌<◌, ◌+◌, ◌^◌, ◌-◌, ◌↔◌, [], None, All, IfOk, IfErr, IsTrue};
 ghost use Rattle.play_terms.specs.Ends.{why_line, why_status};
 ghost use Rattle.play_terms.specs.Lines.{usage};
 ghost use Rattle.play_terms.specs.ReadingBack.{CopiesReadable, WritesReadable, digits_in};
-ghost use Rattle.play_terms.specs.Words.{IsCopy, IsInside, command};
+ghost use Rattle.play_terms.specs.Words.{IsCopy, IsInside, IsRun, command};
+ghost use Rattle.program_terms.specs.Commands.{play};
 ghost use Rattle.run_terms.specs.Files.{Files};
 ghost use Rattle.mb_outside.specs.Seen.{on_output};
 ghost use Rattle.mesh_files.specs.Stops.{why_of};
 ghost use Rattle.report_lines.specs.Reports.{IsReported};
+ghost use Rattle.manifold_tool.specs.Counting.{play_cost};
 ghost use Rattle.manifold_tool.specs.Playing.{IsUntroubled, ProgramMeets, RiseOn, meanings, program_limits};
 ghost use Rattle.manifold_tool.specs.Statuses.{IsDoneOrStarved, status_number};
 
@@ -50,8 +51,9 @@ pub fn start<S: Shelf, O: Sink, E: Sink, L: Ledger>(
         All (WritesReadable (digits_in (command words)) program_limits) (play meanings program_limits words files).actions) }
     ensures copies_uncounted { IfOk words (λ words. IsCopy (command words) → steps.new ≡ steps.old) }
     ensures counted { IfOk words (λ words. IsInside (command words) → result ≡ Status.Done → steps.new ≡ steps.old + 1) }
-    ensures most { IfOk words (λ _. steps.new ≤ steps.old + 1) }
-    ensures uncounted { IfOk words (λ _. (result ≡ Status.Done → ⊥) → (result ≡ Status.WriteFault → ⊥) → steps.new ≡ steps.old) }
+    ensures most { IfOk words (λ words. (IsRun (command words) → ⊥) → steps.new ≤ steps.old + 1) }
+    ensures cost { IfOk words (λ words. IsTrue (S.tells shelf.old) → steps.new ≤ steps.old + play_cost program_limits words (S.files shelf.old)) }
+    ensures uncounted { IfOk words (λ words. (IsRun (command words) → ⊥) → (result ≡ Status.Done → ⊥) → (result ≡ Status.WriteFault → ⊥) → steps.new ≡ steps.old) }
     ensures status { IfErr words (λ stop. status_number result ≡ why_status (why_of [] stop)) }
     ensures report { IfErr words (λ stop. IsReported (why_line (why_of [] stop)) (on_output E.Sink err.old) (on_output E.Sink err.new)) }
     ensures alone { IfErr words (λ _. (shelf.new ≡ shelf.old) × (out.new ≡ out.old) × (steps.new ≡ steps.old)) }

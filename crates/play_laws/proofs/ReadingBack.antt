@@ -21,9 +21,9 @@ use Rattle.run_terms.specs.Runs.{Ask, Write, Say}
 use Rattle.run_terms.specs.Tasks.{Refusal, give, joined}
 use Rattle.run_laws.specs.Keeping.{Keeps}
 use Rattle.run_laws.proofs.Keeping.{keeps_give, keeps_act, keeps_then}
-use Rattle.play_terms.specs.Commands.{Meanings, ask_file, ask_mesh, bytes_in, checked, command_task, copied_task, copy_task, if_closed, inside_task, say_line, winding_task, write_mesh}
+use Rattle.play_terms.specs.Commands.{Meanings, ask_file, ask_mesh, bytes_in, checked, copied_task, copy_task, if_closed, inside_task, say_line, winding_task, write_mesh}
 use Rattle.play_terms.specs.Formats.{mesh_soup, mesh_text}
-use Rattle.play_terms.specs.Lines.{copied_line, over, usage, winding_line}
+use Rattle.play_terms.specs.Lines.{copied_line, over, winding_line}
 use Rattle.play_terms.specs.ReadingBack.{GivesReadable, IsReadable, WritesReadable, as_saved}
 
 -- a mesh that was taken had no open pair
@@ -101,7 +101,3 @@ pub inside_keeps : (k : ℕ) (meanings : Meanings) (limits : Limits) (name : Byt
 inside_keeps k meanings limits name point few lawful =
     keeps_then (WritesReadable k limits) (IsReadable k limits) (λ _. Unit {0}) (ask_mesh k limits name) (winding_task meanings point) (mesh_asked k limits name few lawful)
     (λ m _. said k limits (winding_line (meanings.winding point m)))
-
--- words of no command write nothing
-pub refused_keeps : (k : ℕ) (meanings : Meanings) (limits : Limits) → Keeps (WritesReadable k limits) (λ _. Unit {0}) (command_task meanings limits None)
-refused_keeps k meanings limits = keeps_give (WritesReadable k limits) (λ _. Unit {0}) (Err usage) (λ a is. tt)

@@ -1,4 +1,4 @@
--- What the commands do: a file is asked for, read and checked; then a copy is written and told, or a winding number is told.
+-- What copy and inside do: a file is asked for, read and checked; then a copy is written and told, or a winding number is told.
 use Rattle.std.specs.Prelude.{ℕ, ℤ, List, if◌then◌else◌, nat_lt, length, Option, Some, None, Result, Ok, Err, [], ◌∷◌}
 use Rattle.chain_terms.specs.Chains.{all_edges}
 use Rattle.mesh_terms.specs.Faults.{FileBytes, Fault}
@@ -9,8 +9,7 @@ use Rattle.run_terms.specs.Files.{Bytes}
 use Rattle.run_terms.specs.Runs.{Ask, Write, Say}
 use Rattle.run_terms.specs.Tasks.{Refusal, Task, give, act, then_task}
 use Rattle.play_terms.specs.Formats.{mesh_soup, mesh_text}
-use Rattle.play_terms.specs.Lines.{usage, missing, over, fault_refusal, open_refusal, copied_line, winding_line}
-use Rattle.play_terms.specs.Words.{Command, CopyFile, InsideFile, command}
+use Rattle.play_terms.specs.Lines.{missing, over, fault_refusal, open_refusal, copied_line, winding_line}
 
 -- what the commands need of geometry: the winding number of a point in a mesh
 pub record Meanings : Type 0 where
@@ -59,13 +58,3 @@ winding_task meanings p m = say_line (winding_line (meanings.winding p m))
 
 abbrev pub inside_task : ℕ → Meanings → Limits → Bytes → List ℤ → Task (Unit {0})
 inside_task k meanings limits name p = then_task (ask_mesh k limits name) (winding_task meanings p)
-
--- the task of a command; words of no command are refused
-abbrev pub command_task : Meanings → Limits → Option Command → Task (Unit {0})
-command_task meanings limits None = give (Err usage)
-command_task meanings limits (Some (CopyFile k from to)) = copy_task k limits from to
-command_task meanings limits (Some (InsideFile k file p)) = inside_task k meanings limits file p
-
--- the task of the words
-abbrev pub play : Meanings → Limits → List Bytes → Task (Unit {0})
-play meanings limits words = command_task meanings limits (command words)

@@ -8,7 +8,7 @@ use Rattle.run_terms.specs.Files.{Bytes, Files}
 use Rattle.run_terms.specs.Runs.{Action, Ask, Write, Say}
 use Rattle.play_terms.specs.Commands.{ask_mesh}
 use Rattle.play_terms.specs.Formats.{mesh_text}
-use Rattle.play_terms.specs.Words.{Command, CopyFile, InsideFile}
+use Rattle.play_terms.specs.Words.{Command, CopyFile, InsideFile, RunScript}
 
 -- the points and triples of a mesh, all points used: what is to be read where the mesh was written
 abbrev pub as_saved : Soup → Soup
@@ -34,9 +34,11 @@ abbrev pub digits_in : Option Command → ℕ
 digits_in None = 4
 digits_in (Some (CopyFile k from to)) = k
 digits_in (Some (InsideFile k file p)) = k
+digits_in (Some (RunScript k script)) = k
 
 -- the mesh that a command copies is read again where its OBJ text is written
 abbrev pub CopiesReadable : Limits → Option Command → Type 0
 CopiesReadable limits None = Unit {0}
 CopiesReadable limits (Some (CopyFile k from to)) = GivesReadable k limits from
 CopiesReadable limits (Some (InsideFile k file p)) = Unit {0}
+CopiesReadable limits (Some (RunScript k script)) = Unit {0}

@@ -9,12 +9,16 @@ use Rattle.play_terms.specs.Formats.{is_mesh_name}
 pub data Command : Type 0 where
   CopyFile : (digits : ℕ) → (from : Bytes) → (to : Bytes) → Command
   InsideFile : (digits : ℕ) → (file : Bytes) → (point : List ℤ) → Command
+  RunScript : (digits : ℕ) → (script : Bytes) → Command
 
 abbrev pub IsCopy : Option Command → Type 0
 IsCopy o = (k : ℕ) × (from : Bytes) × (to : Bytes) × (o ≡ Some (CopyFile k from to))
 
 abbrev pub IsInside : Option Command → Type 0
 IsInside o = (k : ℕ) × (file : Bytes) × (point : List ℤ) × (o ≡ Some (InsideFile k file point))
+
+abbrev pub IsRun : Option Command → Type 0
+IsRun o = (k : ℕ) × (script : Bytes) × (o ≡ Some (RunScript k script))
 
 abbrev pub is_option_end : Bytes → Bool
 is_option_end word = bytes_eq word (codes "--")
@@ -93,11 +97,17 @@ abbrev pub inside_of : ℕ → List Bytes → Option Command
 inside_of k (file ∷ x ∷ y ∷ z ∷ []) = if is_mesh_name file then inside_at k file (each_value (grid_operand k) (x ∷ y ∷ z ∷ [])) else None
 inside_of k _ = None
 
+-- one operand that is not empty
+abbrev pub run_of : ℕ → List Bytes → Option Command
+run_of k (script ∷ []) = if bytes_eq script [] then None else Some (RunScript k script)
+run_of k _ = None
+
 -- the command of this name with its operands under k digits
 abbrev pub command_with : Bytes → List Bytes → ℕ → Option Command
 command_with w operands k =
     if bytes_eq w (codes "copy") then copy_of k operands
     else if bytes_eq w (codes "inside") then inside_of k operands
+    else if bytes_eq w (codes "run") then run_of k operands
     else None
 
 -- the command of this name with what was given

@@ -4,3 +4,4 @@ pub mod Names
 pub mod Operations
 pub mod Outcomes
 pub mod Texts
+pub mod Operations

@@ -15,10 +15,12 @@ use steps::Steps;
 
 #[test]
 fn other_words_are_usage(rt: HostRuntime) -> Result<(), Fail> {
-    let others: [&[&str]; 3] = [
+    let others: [&[&str]; 5] = [
         &[],
         &["copy", "c.obj", "u.ply"],
         &["inside", "c.obj", "-5", "4", "3"],
+        &["run", ""],
+        &["run", "c.obj", "u.obj"],
     ];
     for words in others {
         let case = plain(words, "c.obj", CUBE, 1, USAGE);

@@ -8,7 +8,7 @@ use Rattle.play_terms.specs.Lines.{winding_line}
 use Rattle.mesh_files.specs.Stops.{soup_with}
 use Rattle.run_terms.specs.Meets.{Unsaid}
 use Rattle.play_laws.proofs.ReadingBack.{inside_keeps}
-use Rattle.manifold_tool.specs.Playing.{meanings}
+use Rattle.manifold_tool.specs.Playing.{windings}
 use Rattle.manifold_tool.proofs.Stages.{inside_ended, inside_starved, inside_unread}
 use Rattle.manifold_tool.proofs.inside.inside.Goals as goal
 
@@ -19,19 +19,19 @@ as_found number n small few = to_z-of_z w64 number (fits_signed_from_abs w64 num
 pub returns-in_err-read-clause-meets : goal.returns-in_err-read-clause-meets
 returns-in_err-read-clause-meets g c =
     let p = err_from_is_err_and c.from_residual.result c.from_residual.ensures.1 in
-    rw (p.1, p.2) (inside_unread c.args.digits meanings c.args.limits.now c.args.file.now c.args.point _ _ (on_output g.O.Sink c.args.out.now) _ c.in_err-read.ensures.meets)
+    rw (p.1, p.2) (inside_unread c.args.digits windings c.args.limits.now c.args.file.now c.args.point _ _ (on_output g.O.Sink c.args.out.now) _ c.in_err-read.ensures.meets)
 
 pub returns-in_err-read-clause-back : goal.returns-in_err-read-clause-back
-returns-in_err-read-clause-back g c = (inside_keeps c.args.digits meanings c.args.limits.now c.args.file.now c.args.point c.requires.digits c.in_err-read.ensures.lawful).actions
+returns-in_err-read-clause-back g c = (inside_keeps c.args.digits windings c.args.limits.now c.args.file.now c.args.point c.requires.digits c.in_err-read.ensures.lawful).actions
 
 pub returns-in_err-number-clause-meets : goal.returns-in_err-number-clause-meets
 returns-in_err-number-clause-meets g c =
     let p = err_from_is_err_and c.from_residual-in_err-number.result c.from_residual-in_err-number.ensures.1 in
     rw (p.1, p.2)
-    (inside_starved c.args.digits meanings c.args.limits.now c.args.file.now c.args.point (soup_with c.in_ok-read.read) _ _ (on_output g.O.Sink c.args.out.now) c.in_ok-read.ensures.meets)
+    (inside_starved c.args.digits windings c.args.limits.now c.args.file.now c.args.point (soup_with c.in_ok-read.read) _ _ (on_output g.O.Sink c.args.out.now) c.in_ok-read.ensures.meets)
 
 pub returns-in_err-number-clause-back : goal.returns-in_err-number-clause-back
-returns-in_err-number-clause-back g c = (inside_keeps c.args.digits meanings c.args.limits.now c.args.file.now c.args.point c.requires.digits c.in_ok-read.ensures.lawful).actions
+returns-in_err-number-clause-back g c = (inside_keeps c.args.digits windings c.args.limits.now c.args.file.now c.args.point c.requires.digits c.in_ok-read.ensures.lawful).actions
 
 pub returns-in_err-say_winding-clause-meets : goal.returns-in_err-say_winding-clause-meets
 returns-in_err-say_winding-clause-meets g c =
@@ -40,22 +40,22 @@ returns-in_err-say_winding-clause-meets g c =
     let few = subst F c.drop-in_err-say_winding.view_is c.drop-in_err-say_winding.invariant.mesh.few_triples in
     let P : ℤ → Type 0 = λ number. OutputMeets (say_line (winding_line number)) (on_output g.O.Sink c.args.out.now) (on_output g.O.Sink c.say_winding.new.sink) (Err Unsaid) in
     rw (p.1, p.2)
-    (inside_ended c.args.digits meanings c.args.limits.now c.args.file.now c.args.point (soup_with c.in_ok-read.read) _ _ (on_output g.O.Sink c.args.out.now) (on_output g.O.Sink c.say_winding.new.sink) _
+    (inside_ended c.args.digits windings c.args.limits.now c.args.file.now c.args.point (soup_with c.in_ok-read.read) _ _ (on_output g.O.Sink c.args.out.now) (on_output g.O.Sink c.say_winding.new.sink) _
     c.in_ok-read.ensures.meets (subst P (as_found c.in_ok-number.number _ c.in_ok-number.ensures.size few ∙ c.in_ok-number.ensures.value) c.in_err-say_winding.ensures.meets))
 
 pub returns-in_err-say_winding-clause-back : goal.returns-in_err-say_winding-clause-back
-returns-in_err-say_winding-clause-back g c = (inside_keeps c.args.digits meanings c.args.limits.now c.args.file.now c.args.point c.requires.digits c.in_ok-read.ensures.lawful).actions
+returns-in_err-say_winding-clause-back g c = (inside_keeps c.args.digits windings c.args.limits.now c.args.file.now c.args.point c.requires.digits c.in_ok-read.ensures.lawful).actions
 
 pub returns-clause-meets : goal.returns-clause-meets
 returns-clause-meets g c =
     let F : Mesh → Type 0 = λ m. length m.triples ≤ 100000000 in
     let few = subst F c.drop-2.view_is c.drop-2.invariant.mesh.few_triples in
     let P : ℤ → Type 0 = λ number. OutputMeets (say_line (winding_line number)) (on_output g.O.Sink c.args.out.now) (on_output g.O.Sink c.say_winding.new.sink) (Ok tt) in
-    inside_ended c.args.digits meanings c.args.limits.now c.args.file.now c.args.point (soup_with c.in_ok-read.read) _ _ (on_output g.O.Sink c.args.out.now) (on_output g.O.Sink c.say_winding.new.sink) _
+    inside_ended c.args.digits windings c.args.limits.now c.args.file.now c.args.point (soup_with c.in_ok-read.read) _ _ (on_output g.O.Sink c.args.out.now) (on_output g.O.Sink c.say_winding.new.sink) _
     c.in_ok-read.ensures.meets (subst P (as_found c.in_ok-number.number _ c.in_ok-number.ensures.size few ∙ c.in_ok-number.ensures.value) c.in_ok-say_winding.ensures.meets)
 
 pub returns-clause-back : goal.returns-clause-back
-returns-clause-back g c = (inside_keeps c.args.digits meanings c.args.limits.now c.args.file.now c.args.point c.requires.digits c.in_ok-read.ensures.lawful).actions
+returns-clause-back g c = (inside_keeps c.args.digits windings c.args.limits.now c.args.file.now c.args.point c.requires.digits c.in_ok-read.ensures.lawful).actions
 
 pub returns-in_err-read-clause-halts : goal.returns-in_err-read-clause-halts
 returns-in_err-read-clause-halts g c =

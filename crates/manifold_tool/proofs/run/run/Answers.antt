@@ -1,6 +1,7 @@
 use Rattle.std.proofs.Common.{◌∙◌, ap, sym, Some, None}
 use Rattle.std.specs.Option.{option_map}
 use Rattle.command_words.specs.Commands.{command_of}
+use Rattle.manifold_tool.proofs.Counting.{cost_met, found_once, runs}
 use Rattle.manifold_tool.proofs.Running.{asked_for, copied_back, play_back, refused_met}
 use Rattle.manifold_tool.proofs.run.run.Goals as goal
 
@@ -28,3 +29,31 @@ pub returns-in-InsideFile-clause-mesh_back : goal.returns-in-InsideFile-clause-m
 returns-in-InsideFile-clause-mesh_back g c =
     let asked = asked_for c.args.words.now _ _ c.read_command.ensures.command (c.in-Some.is ∙ ap Some c.in-InsideFile.is) in
     copied_back c.args.limits.now c.args.words.now _ asked tt
+
+pub returns-in-RunScript-clause-mesh_back : goal.returns-in-RunScript-clause-mesh_back
+returns-in-RunScript-clause-mesh_back g c =
+    let asked = asked_for c.args.words.now _ _ c.read_command.ensures.command (c.in-Some.is ∙ ap Some c.in-RunScript.is) in
+    copied_back c.args.limits.now c.args.words.now _ asked tt
+
+pub returns-in-RunScript-clause-back : goal.returns-in-RunScript-clause-back
+returns-in-RunScript-clause-back g c files =
+    let asked = asked_for c.args.words.now _ _ c.read_command.ensures.command (c.in-Some.is ∙ ap Some c.in-RunScript.is) in
+    play_back c.args.limits.now c.args.words.now _ files asked (c.run_script-ended.ensures.back files)
+
+pub returns-in-InsideFile-clause-cost : goal.returns-in-InsideFile-clause-cost
+returns-in-InsideFile-clause-cost g c told =
+    let asked = asked_for c.args.words.now _ _ c.read_command.ensures.command (c.in-Some.is ∙ ap Some c.in-InsideFile.is) in
+    cost_met c.args.limits.now c.args.words.now _ _ _ _ asked (found_once c.inside-ended.result _ _ c.inside-ended.ensures.counted c.inside-ended.ensures.stopped)
+
+pub returns-in-RunScript-clause-cost : goal.returns-in-RunScript-clause-cost
+returns-in-RunScript-clause-cost g c told =
+    let asked = asked_for c.args.words.now _ _ c.read_command.ensures.command (c.in-Some.is ∙ ap Some c.in-RunScript.is) in
+    cost_met c.args.limits.now c.args.words.now _ _ _ _ asked (c.run_script-ended.ensures.cost told)
+
+pub returns-in-RunScript-clause-most : goal.returns-in-RunScript-clause-most
+returns-in-RunScript-clause-most g c other =
+    absurd (other (runs c.args.words.now _ _ (asked_for c.args.words.now _ _ c.read_command.ensures.command (c.in-Some.is ∙ ap Some c.in-RunScript.is))))
+
+pub returns-in-RunScript-clause-uncounted : goal.returns-in-RunScript-clause-uncounted
+returns-in-RunScript-clause-uncounted g c other =
+    absurd (other (runs c.args.words.now _ _ (asked_for c.args.words.now _ _ c.read_command.ensures.command (c.in-Some.is ∙ ap Some c.in-RunScript.is))))
