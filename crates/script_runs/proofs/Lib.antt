@@ -4,4 +4,4 @@ pub mod Progress
 pub mod Reading
 pub mod Stages
 pub mod Steps
-
+mod WritesBack

@@ -4,4 +4,3 @@ pub mod Names
 pub mod Operations
 pub mod Outcomes
 pub mod Texts
-pub mod Operations

@@ -1,8 +1,10 @@
 // Whole scripts.
-ghost use Rattle.std.specs.Prelude.{◌≡◌, ◌≤◌, ◌+◌, IfErr, IsTrue};
+ghost use Rattle.std.specs.Prelude.{◌≡◌, ◌≤◌, ◌+◌, All, IfErr, IsTrue};
 ghost use Rattle.mb_outside.specs.Seen.{MeetsOn};
 ghost use Rattle.mesh_terms.specs.Limits.{IsLawful};
+ghost use Rattle.play_terms.specs.ReadingBack.{WritesReadable};
 ghost use Rattle.report_lines.specs.Halts.{halted, why_in};
+ghost use Rattle.run_terms.specs.Files.{Files};
 ghost use Rattle.script_runs.specs.Costs.{script_cost, text_cost};
 ghost use Rattle.script_runs.specs.Halts.{IsHaltOfScript};
 ghost use Rattle.script_runs.specs.Operations.{meanings};
@@ -15,6 +17,7 @@ use mb_base::Limits;
 use mb_outside::{Shelf, Sink};
 use mesh_files::Stop;
 use named_files::ask_bytes;
+use operation_laws::laws::operations_are_readable;
 use report_lines::Halt;
 use script_lang::{ScriptFault, read_script};
 use std::alloc::Global;
@@ -22,6 +25,7 @@ use std::sync::ledger::Ledger;
 use steps::Steps;
 
 /// Runs the script of a file: its lines in order, once the whole script was read. It stops at the first thing that goes wrong, and what was saved before stays.
+/// Whatever the files, each file that the script writes holds the text of a mesh, which is read of its OBJ text.
 pub fn run_script<'a, S: Shelf, O: Sink, L: Ledger>(
     alloc: Global,
     name: &'a str,
@@ -37,7 +41,10 @@ pub fn run_script<'a, S: Shelf, O: Sink, L: Ledger>(
     ensures halts { IfErr result (IsHaltOfScript name.now) }
     ensures cost { IsTrue (S.tells shelf.old) → steps.new ≤ steps.old + script_cost meanings digits limits.now name.now (S.files shelf.old) }
     ensures lawful { IsLawful limits.now }
+    ensures back { (files : Files) → All (WritesReadable digits limits.now) (script_task meanings digits limits.now name.now files).actions }
 {
+    // The law of what operations give.
+    operations_are_readable();
     *bytes = ask_bytes(alloc, name, limits, shelf)?;
     run_text(alloc, name, bytes, digits, limits, shelf, out, steps)
 }

@@ -8,6 +8,7 @@ use Rattle.script_runs.specs.Costs.{text_cost}
 use Rattle.script_runs.specs.Operations.{meanings}
 use Rattle.script_runs.specs.Texts.{text_task}
 use Rattle.script_runs.proofs.Reading.{script_read, script_spent, script_unread}
+use Rattle.script_runs.proofs.WritesBack.{script_back}
 use Rattle.script_runs.proofs.running.run_script.Goals as goal
 
 pub returns-in_err-bytes-clause-meets : goal.returns-in_err-bytes-clause-meets
@@ -30,3 +31,9 @@ returns-clause-cost g c =
     let P : Bytes → Type 0 = λ bytes. c.run_text.new.steps ≤ c.args.steps.now + text_cost meanings c.args.digits c.args.limits.now c.args.name.now bytes files in
     script_spent meanings c.args.digits c.args.limits.now c.args.name.now c.in_ok-bytes.field-0.items (on_shelf g.S.Shelf c.args.shelf.now) (on_shelf g.S.Shelf c.ask_bytes.new.shelf) (on_output g.O.Sink c.args.out.now)
     c.args.steps.now c.run_text.new.steps c.in_ok-bytes.ensures.meets (λ told. subst P c.deref.ensures.value (c.run_text.ensures.cost told))
+
+pub returns-in_err-bytes-clause-back : goal.returns-in_err-bytes-clause-back
+returns-in_err-bytes-clause-back g c = script_back c.args.digits c.args.limits.now c.args.name.now c.requires.digits c.in_err-bytes.ensures.lawful c.operations_are_readable.ensures.readable
+
+pub returns-clause-back : goal.returns-clause-back
+returns-clause-back g c = script_back c.args.digits c.args.limits.now c.args.name.now c.requires.digits c.in_ok-bytes.ensures.lawful c.operations_are_readable.ensures.readable
