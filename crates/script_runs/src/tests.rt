@@ -3,8 +3,8 @@ mod files;
 
 ghost use Rattle.std.specs.Prelude.{◌≡◌, ◌<◌, IfOk};
 
-use crate::names::Names;
 use crate::combining::combine;
+use crate::names::Names;
 use crate::run_script;
 use files::{BOX, COMMON, CUBE, UNION};
 use mb_base::{Counted, Limits, NoMemory, Op};
@@ -21,7 +21,8 @@ use steps::Steps;
 
 const ROOM: usize = 4096;
 
-const LOADED: &[u8] = b"load a a.obj: points 8, triangles 12, unused 0\nload b b.obj: points 8, triangles 12, unused 0\n";
+const LOADED: &[u8] =
+    b"load a a.obj: points 8, triangles 12, unused 0\nload b b.obj: points 8, triangles 12, unused 0\n";
 
 // A script over a cube and a box, the numbers of a call of the shelf and of the output that fail, or 0, and what is to stand after it.
 #[derive(Drop)]
@@ -201,7 +202,12 @@ fn a_file_that_is_not_written_ends_the_script(rt: HostRuntime) -> Result<(), Fai
 }
 
 // A mesh of one of the files.
-fn mesh_of<'a>(alloc: Global, file: &'a str, shelf: &mut MemoryShelf, names: &mut Names<'a>) -> Result<(), Fail> {
+fn mesh_of<'a>(
+    alloc: Global,
+    file: &'a str,
+    shelf: &mut MemoryShelf,
+    names: &mut Names<'a>,
+) -> Result<(), Fail> {
     let Ok(read) = ask(alloc, file, 0, &Limits::program(), shelf) else {
         return Err("not read".into());
     };
