@@ -9,7 +9,5 @@ mod loading;
 mod names;
 mod running;
 mod saving;
-#[cfg(test)]
-mod tests;
 
 pub use running::run_script;
