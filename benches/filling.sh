@@ -12,5 +12,6 @@ cp "$top/benches/filling/main.rt.txt" crates/filling_bench/src/main.rt
 cp -r "$top/benches/filling/proofs" crates/filling_bench/proofs
 find crates/filling_bench/proofs -name '*.txt' | while read -r file; do mv "$file" "${file%.txt}"; done
 cd crates/filling_bench || exit 1
-python3 "$top/benches/filling/shapes.py" > stdin
-rt run
+python3 "$top/benches/filling/shapes.py" > shapes.txt
+rt run < /dev/null >&2 || exit 1
+out/filling_bench < shapes.txt
