@@ -3,6 +3,7 @@ use Rattle.std.specs.Prelude.{◌≡◌, ℕ, ◌+◌, ◌*◌, ◌<◌, ◌≤�
 use Rattle.std.specs.List.{All, flat_map}
 use Rattle.chain_terms.specs.Chains.{all_edges}
 use Rattle.chain_terms.specs.Ranks.{start, finish}
+use Rattle.mesh_terms.specs.Limits.{most_halfedges}
 use Rattle.mb_base.specs.declared.results.Entry.{Entry}
 use Rattle.side_terms.specs.Sides.{Side}
 use Rattle.edge_pairing.specs.Entries.{ends_of, place_in, starts_of}
@@ -84,4 +85,4 @@ pub record CanBeSegments (side : Side) (runs : List Run) (points : List (List �
 pub record AreRuns (side : Side) (points : ℕ) (runs : List Run) : Type 0 where
   pub each : length runs ≡ length side.corners
   pub below : All (λ r. r.first + r.count ≤ points) runs
-  pub few : points ≤ 60000000
+  pub few : points ≤ most_halfedges

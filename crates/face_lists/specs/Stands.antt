@@ -5,6 +5,7 @@ use Rattle.std.specs.Ordering.{is_lt, nat_cmp, ordering_then}
 use Rattle.chain_terms.specs.Chains.{all_edges}
 use Rattle.chain_terms.specs.Ranks.{twin}
 use Rattle.chain_terms.specs.Sums.{up_from}
+use Rattle.mesh_terms.specs.Limits.{most_triangles}
 use Rattle.chain_laws.specs.Sorting.{sorted_by}
 use Rattle.mb_base.specs.declared.op.Op.{Op}
 use Rattle.mb_base.specs.declared.results.Hit.{Hit}
@@ -14,8 +15,8 @@ use Rattle.face_lists.specs.declared.stands.Stand.{Stand}
 
 -- the first source face of a mesh and of the other, such that all have numbers of 32 bits
 pub record AreFewFaces (own other : ℕ) : Type 0 where
-  pub edges_few : own ≤ 100000000
-  pub faces_few : other ≤ 100000000
+  pub edges_few : own ≤ most_triangles
+  pub faces_few : other ≤ most_triangles
 
 -- copy v of a hit of an edge, with these half-edges, and a face of the other mesh; own and other are the first source faces of
 -- the mesh of the edge and of that of the face

@@ -2,6 +2,7 @@
 ghost use Rattle.std.specs.Prelude.{◌≡◌, ◌+◌, ◌*◌, ◌<◌, ◌≤◌, ◌^◌, ◌++◌, IfOk, OnOk, length};
 ghost use Rattle.assembly_terms.specs.Prescribed.{hit_count};
 ghost use Rattle.chain_terms.specs.Chains.{all_edges};
+ghost use Rattle.mesh_terms.specs.Limits.{most_triangles};
 ghost use Rattle.face_lists.specs.Stands.{AreFewFaces, hit_stands, group_end, sorted_stands, six_stands, copy_stands};
 ghost use Rattle.retained_verts.specs.Handed.{numbers};
 ghost use Rattle.side_terms.specs.Hits.{AreHits};
@@ -97,8 +98,8 @@ fn push_hits(
     first: u32,
 ) -> Result<u32, NoMemory>
     requires few { AreFewFaces bases.edges bases.faces }
-    requires triples { length twins.now.triples ≤ 100000000 }
-    requires hits { AreHits (all_edges twins.now.triples) 100000000 hits.now }
+    requires triples { length twins.now.triples ≤ most_triangles }
+    requires hits { AreHits (all_edges twins.now.triples) most_triangles hits.now }
     requires fits { first + hit_count op hits.now < 2 ^ 32 }
     ensures stands { OnOk result (stands.new.items ≡ stands.old.items ++ hit_stands op (all_edges twins.now.triples) bases.edges bases.faces first hits.now) }
     ensures next { IfOk result (λ next. next ≡ first + hit_count op hits.now) }
@@ -130,7 +131,7 @@ fn push_copies(
     requires few { AreFewFaces bases.edges bases.faces }
     requires lower { crossing.lower < 300000000 }
     requires upper { crossing.upper < 300000000 }
-    requires face { crossing.face < 100000000 }
+    requires face { crossing.face < most_triangles }
     requires fits { first + times < 2 ^ 32 }
     ensures { OnOk result (stands.new.items ≡ stands.old.items ++ copy_stands bases.edges bases.faces crossing.lower crossing.upper crossing.face crossing.positive first times) }
 {
@@ -147,7 +148,7 @@ fn six_stands(bases: Bases, crossing: Crossing, copy: u32) -> [Stand; 6]
     requires few { AreFewFaces bases.edges bases.faces }
     requires lower { crossing.lower < 300000000 }
     requires upper { crossing.upper < 300000000 }
-    requires face { crossing.face < 100000000 }
+    requires face { crossing.face < most_triangles }
     ensures { result ≡ six_stands bases.edges bases.faces crossing.lower crossing.upper crossing.face crossing.positive copy }
 {
     let Crossing {

@@ -3,6 +3,7 @@ use Rattle.std.specs.Prelude.{◌≡◌, ℕ, ◌+◌, ◌*◌, ◌<◌, ◌≤�
 use Rattle.std.specs.List.{All, concat, flat_map}
 use Rattle.chain_terms.specs.Odd.{SameChain}
 use Rattle.chain_terms.specs.Paths.{round_edges}
+use Rattle.mesh_terms.specs.Limits.{most_halfedges}
 use Rattle.face_loops.specs.Segments.{AreDifferent}
 use Rattle.face_plane.specs.Planes.{Plane, settled_plane, plane_of, point_at}
 use Rattle.face_plane.specs.Rings.{Ringy}
@@ -18,7 +19,7 @@ pub record AreFillable (loops : List (List ℕ)) (points : ℕ) : Type 0 where
   pub long : All (λ loop. 3 ≤ length loop) loops
   pub different : AreDifferent (concat loops)
   pub below : All (λ v. v < points) (concat loops)
-  pub few : length (concat loops) ≤ 60000000
+  pub few : length (concat loops) ≤ most_halfedges
 
 -- two places for each hole beside those of the loops
 abbrev pub HasPlaces : Plane → List (List ℕ) → List (List ℕ) → Type 0

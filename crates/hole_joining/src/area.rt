@@ -3,6 +3,7 @@ ghost use Rattle.std.specs.Prelude.{◌≡◌, ◌+◌, ◌*◌, ◌^◌, ◌≤
 ghost use Rattle.std.specs.List.{concat};
 ghost use Rattle.chain_laws.specs.Sums.{IsWithin};
 ghost use Rattle.chain_terms.specs.Sums.{total};
+ghost use Rattle.mesh_terms.specs.Limits.{most_halfedges};
 ghost use Rattle.face_plane.specs.Planes.{area, across, is_turned};
 ghost use Rattle.hole_joining.specs.Seen.{plane_at};
 ghost use Rattle.hole_joining.specs.Holes.{is_ring, is_hole};
@@ -60,7 +61,7 @@ pub fn is_hole(flat: &FlatPoints, ring: &[u32]) -> bool
 
 // The doubled areas of all loops, added up.
 fn total_area(flat: &FlatPoints, loops: &[Loop]) -> i128
-    requires { length (concat loops.now) ≤ 60000000 }
+    requires { length (concat loops.now) ≤ most_halfedges }
     ensures { result ≡ total (area (plane_at flat.now)) loops.now }
 {
     let mut sum = 0i128;
@@ -72,7 +73,7 @@ fn total_area(flat: &FlatPoints, loops: &[Loop]) -> i128
 
 /// Whether the doubled areas of all loops add up to less than 0.
 pub fn is_turned(flat: &FlatPoints, loops: &[Loop]) -> bool
-    requires { length (concat loops.now) ≤ 60000000 }
+    requires { length (concat loops.now) ≤ most_halfedges }
     ensures { result ≡ is_turned (plane_at flat.now) loops.now }
 {
     total_area(flat, loops) < 0

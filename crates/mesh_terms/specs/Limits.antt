@@ -8,6 +8,10 @@ most_triangles = 100000000
 abbrev pub most_points : ℕ
 most_points = 150000000
 
+-- the most half-edges that an operation prescribes
+abbrev pub most_halfedges : ℕ
+most_halfedges = 60000000
+
 -- the limits of one run
 pub record Limits : Type 0 where
   pub file_bytes : ℕ

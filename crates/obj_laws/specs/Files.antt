@@ -1,13 +1,13 @@
 -- Files of the OBJ profile, spelled out, and what they give.
 use Rattle.std.specs.Prelude.{◌≡◌, ℕ, ◌^◌, pos, neg_ℤ, List, [], ◌∷◌, Ok, Err, codes}
 use Rattle.mesh_terms.specs.Faults.{Points, Triangles, Bad, Over}
-use Rattle.mesh_terms.specs.Limits.{Limits, IsLawful}
+use Rattle.mesh_terms.specs.Limits.{Limits, IsLawful, most_halfedges, most_points, most_triangles}
 use Rattle.mesh_terms.specs.Meshes.{Soup}
 use Rattle.obj_terms.specs.Obj.{obj}
 
 -- limits of an ordinary run
 abbrev pub wide_limits : Limits
-wide_limits = record { file_bytes = 2 ^ 40; points = 150000000; triangles = 100000000; halfedges = 60000000 }
+wide_limits = record { file_bytes = 2 ^ 40; points = most_points; triangles = most_triangles; halfedges = most_halfedges }
 
 -- a cube as a modelling program writes it
 abbrev pub modelled_text : List ℕ

@@ -5,6 +5,7 @@ use Rattle.std.proofs.lemmas.List.{length-map}
 use Rattle.std.proofs.lemmas.List.Elements.{All-append, All-head, All-map, All-nil, All-replicate, All-tail}
 use Rattle.chain_terms.specs.Chains.{all_edges}
 use Rattle.chain_terms.specs.Sums.{upto}
+use Rattle.mesh_terms.specs.Limits.{most_halfedges}
 use Rattle.mb_base.specs.declared.op.Op.{Op}
 use Rattle.mb_base.specs.declared.results.Hit.{Hit}
 use Rattle.mb_base.specs.declared.results.Origin.{Origin}
@@ -53,7 +54,7 @@ pub record IsMade (o : Outcome) : Type 0 where
   pub few_points : 2 * length o.points ≤ 3 * length o.triples
 
 -- so the vertices that they prescribe can be assembled
-pub can_be_assembled : (op : Op) (p q : Side) (n : Numbers) → IsKnown p → IsKnown q → AreNumbersOf p q n → prescribed_halfedges op p q n ≤ 60000000 → CanBeAssembled p q (prescribed op p q n)
+pub can_be_assembled : (op : Op) (p q : Side) (n : Numbers) → IsKnown p → IsKnown q → AreNumbersOf p q n → prescribed_halfedges op p q n ≤ most_halfedges → CanBeAssembled p q (prescribed op p q n)
 can_be_assembled op p q n p_known q_known known few = record {
   p_side = p_known.kept;
   q_side = q_known.kept;
@@ -94,7 +95,7 @@ prescribed_at op p q n p_known q_known known =
     All-map IsPoint (λ c. c.point) (prescribed op p q n) (copies_at (p_vertices op p n ++ (q_vertices op q n ++ (p_hits op n ++ q_hits op n))) all)
 
 -- what is made of the sides
-pub is_made : AreFilled → (op : Op) (p q : Side) (n : Numbers) → IsKnown p → IsKnown q → AreNumbersOf p q n → prescribed_halfedges op p q n ≤ 60000000 → IsMade (outcome_of op p q n)
+pub is_made : AreFilled → (op : Op) (p q : Side) (n : Numbers) → IsKnown p → IsKnown q → AreNumbersOf p q n → prescribed_halfedges op p q n ≤ most_halfedges → IsMade (outcome_of op p q n)
 is_made laws op p q n p_known q_known known few =
     let cs : List Copy = prescribed op p q n in
     let ts : List Triple = all_triples (all_filled p q cs) in

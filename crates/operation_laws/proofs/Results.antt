@@ -5,7 +5,7 @@ use Rattle.std.proofs.lemmas.List.{length-map, length-replicate}
 use Rattle.chain_terms.specs.Sums.{upto}
 use Rattle.chain_laws.proofs.Places.{length-up_from}
 use Rattle.mb_base.specs.declared.op.Op.{Op}
-use Rattle.mesh_terms.specs.Limits.{IsLawful, Limits}
+use Rattle.mesh_terms.specs.Limits.{IsLawful, Limits, most_halfedges}
 use Rattle.mesh_terms.specs.Meshes.{Mesh}
 use Rattle.lean.specs.Leans.{is_up, leans_of, normals_of, vertex_normal}
 use Rattle.rounding.specs.Lawful.{nearest_within, settle_monotone, settle_units}
@@ -42,7 +42,7 @@ second_known q given =
     reduced_side q (replicate (length (reduced_mesh q).points) (false ∷ false ∷ false ∷ [])) given (length-replicate (length (reduced_mesh q).points) (false ∷ false ∷ false ∷ []))
 
 -- what an operation makes of accepted meshes
-pub operation_made : AreFilled → (op : Op) (p q : Mesh) → IsGiven p → IsGiven q → (operation grid_tests op p q).halfedges ≤ 60000000 → IsMade (operation grid_tests op p q)
+pub operation_made : AreFilled → (op : Op) (p q : Mesh) → IsGiven p → IsGiven q → (operation grid_tests op p q).halfedges ≤ most_halfedges → IsMade (operation grid_tests op p q)
 operation_made laws op p q p_given q_given few =
     let one = first_known op p p_given in
     let other = second_known q q_given in
@@ -51,7 +51,7 @@ operation_made laws op p q p_given q_given few =
     is_made laws op first second (numbers_of grid_tests first second) one other (are_numbers nearest nearest_stays settle_nearest nearest_settles first second one.kept other.kept) few
 
 -- the half-edges of a lawful limit are at most sixty million
-few_halfedges : (limits : Limits) (n : ℕ) → IsLawful limits → n ≤ limits.halfedges → n ≤ 60000000
+few_halfedges : (limits : Limits) (n : ℕ) → IsLawful limits → n ≤ limits.halfedges → n ≤ most_halfedges
 few_halfedges limits n lawful within = omega (arith, within, lawful.triangles_enough, lawful.few_triangles)
 
 made_of : AreFilled → (limits : Limits) → IsLawful limits → (op : Op) (p q : Mesh) → IsGiven p → IsGiven q → (operation grid_tests op p q).halfedges ≤ limits.halfedges → IsMade (operation grid_tests op p q)

@@ -1,5 +1,6 @@
 // Which of the two meshes: how its vertices and edges are named and counted.
 ghost use Rattle.std.specs.Prelude.{◌≡◌, ◌≤◌, nat_abs};
+ghost use Rattle.mesh_terms.specs.Limits.{most_triangles};
 ghost use Rattle.assembly_terms.specs.Prescribed.{hit_number_of};
 ghost use Rattle.side_terms.specs.Hits.{IsNumber};
 ghost use Rattle.retained_verts.specs.Parts.{edge_origin, vertex_number, vertex_origin};
@@ -36,7 +37,7 @@ impl Operand {
 
     /// How often a vertex of this mesh is included.
     pub fn number(self, op: Op, winding: i64) -> i64
-        requires { nat_abs winding ≤ 100000000 }
+        requires { nat_abs winding ≤ most_triangles }
         ensures value { result ≡ vertex_number op self winding }
         ensures small { nat_abs result ≤ 100000001 }
     {
