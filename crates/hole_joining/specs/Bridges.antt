@@ -46,7 +46,7 @@ bridged hole rings (Some b) = set rings b.ring (join (get_or rings b.ring []) b.
 abbrev pub edges_of : List (List ℕ) → List (ℕ × ℕ)
 edges_of loops = flat_map round_edges loops
 
--- whether the bridge is clear, where the asked edges are those of the rings and of the holes that are not yet joined
+-- whether the bridge is clear of all rings, of its hole, and of each hole that still waits
 abbrev pub is_clear_bridge : Plane → List (List ℕ) → List ℕ → List (List ℕ) → Bridge → Bool
 is_clear_bridge at rings hole later b = is_clear at (edges_of (rings ++ hole ∷ later)) hole (get_or rings b.ring []) b.place
 

@@ -32,7 +32,7 @@ turned_to i loop = drop i loop ++ take i loop
 abbrev pub from_start : Plane → List ℕ → List ℕ
 from_start at hole = turned_to (position_or_len (λ v. v == hole_start at hole) hole) hole
 
--- a loop whose doubled area is at least 0 is a ring, one below 0 is a hole
+-- a loop is a ring where its area is not negative, else a hole
 abbrev pub is_ring : Plane → List ℕ → Bool
 is_ring at loop = int_le (pos 0) (area at loop)
 
