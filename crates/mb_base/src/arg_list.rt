@@ -1,5 +1,5 @@
 // The words of a command line.
-ghost use Rattle.std.specs.Prelude.{◌≡◌, ◌↔◌, IsTrue, ◌<◌, ◌++◌, ◌∷◌, [], List, length, slice_index_or, IfOk, OnErr, OnOk, get_or};
+ghost use Rattle.std.specs.Prelude.{◌≡◌, ◌↔◌, IsTrue, ◌<◌, ◌++◌, ◌∷◌, [], List, length, slice_index_or, IfOk, OnErr, OnOk, get_or, map, string_bytes};
 
 use crate::NoMemory;
 use std::alloc::Global;
@@ -60,5 +60,12 @@ impl ArgList {
         ensures { result.now ≡ get_or self.now place [] }
     {
         self.words[place].as_str()
+    }
+
+    /// The words.
+    pub fn as_slice(&self) -> &[String]
+        ensures { map string_bytes result.now ≡ self.now }
+    {
+        &self.words
     }
 }

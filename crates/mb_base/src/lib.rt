@@ -4,6 +4,7 @@
 #![tactic(auto)]
 
 mod arg_list;
+mod boxes;
 mod cross_product;
 mod fault;
 mod limits;
@@ -15,6 +16,7 @@ mod soup;
 mod tests;
 
 pub use arg_list::ArgList;
+pub use boxes::box_of;
 pub use cross_product::cross;
 pub use fault::{Counted, TextFault, TextKind};
 pub use limits::{Limits, MOST_POINTS, MOST_TRIANGLES};

@@ -97,7 +97,7 @@ impl Soup {
 fn are_few(points: usize, triples: usize) -> bool
     ensures { IsTrue result ↔ ((points ≤ most_points) × (triples ≤ most_triangles)) }
 {
-    points <= 150_000_000 && triples <= 100_000_000
+    points <= MOST_POINTS as usize && triples <= MOST_TRIANGLES as usize
 }
 
 // Whether the triple names three different points of so many.

@@ -1,5 +1,5 @@
 // Rules at their edges, and each public call once with ample memory.
-use crate::{ArgList, Limits, Op, Point, Soup, cross};
+use crate::{ArgList, Corner, Limits, Op, Point, Soup, box_of, cross};
 use std::alloc::Global;
 use std::test::Fail;
 
@@ -90,6 +90,7 @@ fn a_list_gives_its_words(rt: HostRuntime) -> Result<(), Fail> {
     assert_eq!(rt; words.get(0), "union");
     assert_eq!(rt; words.get(1), "");
     assert_eq!(rt; words.get(2), "β.obj");
+    assert_eq!(rt; words.as_slice().len(), 3);
     Ok(())
 }
 
@@ -117,4 +118,23 @@ fn a_cross_product_is_normal_to_its_triangle(rt: HostRuntime) -> Result<(), Fail
     let back = Point::of(-GRID_END, GRID_END, 0).ok_or("a corner of the grid")?;
     assert_eq!(rt; cross(low, right, back), [0, 0, 1 << 62]);
     Ok(())
+}
+
+#[test]
+fn a_box_reaches_as_far_as_its_corners(rt: HostRuntime) {
+    let up = [true, false, false];
+    let corners = [
+        Corner { at: [3, -5, 0], up },
+        Corner { at: [-4, 2, 0], up },
+        Corner { at: [1, -7, 9], up },
+    ];
+    let whole = box_of(&corners);
+    assert_eq!(rt; whole.low, [-4, -7, 0]);
+    assert_eq!(rt; whole.high, [3, 2, 9]);
+    let edge = box_of(&corners[..2]);
+    assert_eq!(rt; edge.low, [-4, -5, 0]);
+    assert_eq!(rt; edge.high, [3, 2, 0]);
+    let corner = box_of(&corners[2..]);
+    assert_eq!(rt; corner.low, [1, -7, 9]);
+    assert_eq!(rt; corner.high, corner.low);
 }

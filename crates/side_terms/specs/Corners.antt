@@ -1,8 +1,9 @@
 -- Corners by their coordinates and marks.
-use Rattle.std.specs.Prelude.{◌≡◌, ℕ, ℤ, pos, ◌*ℤ◌, Bool, false, List, [], slice_index_or}
+use Rattle.std.specs.Prelude.{◌≡◌, ℕ, ℤ, ◌*ℤ◌, Bool, false, List, [], slice_index_or}
 use Rattle.std.specs.List.{All}
 use Rattle.mb_base.specs.declared.TheConstants.{UNIT}
 use Rattle.mb_base.specs.declared.point.Corner.{Corner}
+pub use Rattle.mb_base.specs.Boxes.{axis}
 use Rattle.side_terms.specs.Fine.{IsFine}
 
 -- a corner with nothing in it
@@ -12,10 +13,6 @@ blank_corner = record { at = []; up = [] }
 -- the corner at a place of a list
 abbrev pub corner_at : List Corner → ℕ → Corner
 corner_at cs i = slice_index_or cs i blank_corner
-
--- the coordinate on axis i: 0 for x, 1 for y, 2 for z
-abbrev pub axis : ℕ → Corner → ℤ
-axis i c = slice_index_or c.at i (pos 0)
 
 -- whether the corner counts as moved up on axis i
 abbrev pub up_on : ℕ → Corner → Bool
