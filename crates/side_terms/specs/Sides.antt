@@ -4,7 +4,9 @@ use Rattle.std.specs.List.{zip}
 use Rattle.chain_terms.specs.Chains.{all_edges}
 use Rattle.chain_terms.specs.Ranks.{start, finish}
 use Rattle.mb_base.specs.declared.TheConstants.{UNIT}
+use Rattle.mb_base.specs.declared.point.Box3.{Box3}
 use Rattle.mb_base.specs.declared.point.Corner.{Corner}
+use Rattle.mb_base.specs.Boxes.{box_of}
 use Rattle.mesh_terms.specs.Twins.{IsTwinned, twins_of}
 use Rattle.mesh_terms.specs.Points.{coordinate_of}
 use Rattle.mesh_terms.specs.Meshes.{Mesh, Triple, IsAccepted}
@@ -32,6 +34,10 @@ face_of corners t = corner_at corners t.0 ∷ corner_at corners t.1 ∷ corner_a
 -- the corners of the triangle with a number
 abbrev pub face_at : Side → ℕ → List Corner
 face_at side f = face_of side.corners (get_or side.triples f (0, 0, 0))
+
+-- the box of each triangle, in order
+abbrev pub face_boxes : Side → List Box3
+face_boxes side = map (λ t. box_of (face_of side.corners t)) side.triples
 
 -- the corners of the edge from a to b
 abbrev pub edge_of : List Corner → ℕ → ℕ → List Corner
