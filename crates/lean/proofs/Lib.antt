@@ -1,3 +1,4 @@
+pub mod Apart
 pub mod Corners
 pub mod Normals
 pub mod Rows

@@ -1,2 +1,3 @@
 pub mod Leans
+pub mod Trees
 pub mod Vectors

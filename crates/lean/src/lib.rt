@@ -1,13 +1,15 @@
-//! A mesh as the shadow tests take it: its points in fine steps, each with its marks, its triangles, and the twins of
-//! their half-edges. `leans` marks the first mesh of an operation; the second has no marks.
+//! A mesh as the shadow tests take it: its points in fine steps, each with its marks, its triangles with a tree over their
+//! boxes, and the twins of their half-edges. `leans` marks the first mesh of an operation; the second has no marks.
 #![tactic(auto)]
 
 mod corner;
+mod faces;
 mod marks;
 mod side;
 #[cfg(test)]
 mod tests;
 
 pub use corner::corner_of;
+pub use faces::face_of;
 pub use marks::leans;
-pub use side::Side;
+pub use side::{Side, corners_of};

@@ -4,9 +4,11 @@ ghost use Rattle.chain_terms.specs.Chains.{all_edges};
 ghost use Rattle.chain_terms.specs.Ranks.{start};
 ghost use Rattle.mesh_terms.specs.Meshes.{triples_of};
 ghost use Rattle.side_terms.specs.Corners.{corner_at, AllFine, AllWhole, IsFineCorner};
-ghost use Rattle.side_terms.specs.Sides.{IsSide, side_of, corners_of, face_at, edge_at};
+ghost use Rattle.side_terms.specs.Sides.{IsSide, side_of, corners_of, face_at, face_boxes, edge_at};
 
 use crate::corner::corner_of;
+use crate::faces::{boxes_of, face_of};
+use box_tree::Tree;
 use halfedge::Twins;
 use mb_base::{Corner, NoMemory, Point};
 use mesh_check::Mesh;
@@ -14,33 +16,42 @@ use std::alloc::Global;
 use std::marker::Model;
 
 /// A closed mesh for the shadow tests: its corners in fine steps, each with the marks of the axes on which it counts as
-/// moved up, its triangles, each as three corner numbers from 0, and the twins of their half-edges.
+/// moved up, its triangles, each as three corner numbers from 0, the twins of their half-edges, and the tree over the
+/// boxes of the triangles, numbered as they are.
 #[derive(Drop)]
 pub struct Side {
     corners: Vec<Corner>,
     twins: Twins,
+    tree: Tree,
 }
 
 impl Model for Side {
-    ghost use Rattle.side_terms.specs.Sides.{Side as TheSide, IsSide};
+    ghost use Rattle.lean.specs.Trees.{IsSideWith};
+    ghost use Rattle.side_terms.specs.Sides.{Side as TheSide};
 
     ghost Value = { TheSide };
 
     ghost view = { λ s. record { corners = s.corners.items; triples = s.twins.triples; twins = s.twins.twins } };
 
-    ghost invariant = { λ s. IsSide (record { corners = s.corners.items; triples = s.twins.triples; twins = s.twins.twins }) };
+    ghost invariant = { λ s. IsSideWith s.tree (record { corners = s.corners.items; triples = s.twins.triples; twins = s.twins.twins }) };
 }
 
 impl Side {
-    /// The side of a mesh with the marks of its points, in their order. It takes time and memory in proportion to the
-    /// points and triangles. `NoMemory` may come for any mesh.
+    /// The side of a mesh with the marks of its points, in their order. For n triangles it takes memory in proportion to
+    /// n, and time in proportion to n log n, in which the tree is built. `NoMemory` may come for any mesh.
     pub fn of(alloc: Global, mesh: &Mesh, ups: Vec<[bool; 3]>) -> Result<Side, NoMemory>
         requires { length ups.items ≡ length mesh.now.points }
         ensures { IfOk result (λ side. side ≡ side_of mesh.now ups.items) }
     {
         let corners = corners_of(alloc, mesh.points(), &ups)?;
         let twins = mesh.twins().clone()?;
-        Ok(Side { corners, twins })
+        let boxes = boxes_of(alloc, &corners, twins.triples())?;
+        let tree = Tree::build(alloc, &boxes)?;
+        Ok(Side {
+            corners,
+            twins,
+            tree,
+        })
     }
 
     /// The corners.
@@ -68,14 +79,21 @@ impl Side {
         &self.twins
     }
 
+    /// The tree over the boxes of the triangles, numbered as they are.
+    pub fn tree(&self) -> &Tree
+        ensures value { result.now ≡ face_boxes self.now }
+        ensures side { IsSide self.now }
+    {
+        &self.tree
+    }
+
     /// The corners of a triangle.
     pub fn face(&self, face: u32) -> [Corner; 3]
         requires { face < length self.now.triples }
         ensures value { result ≡ face_at self.now face }
         ensures fine { AllFine result }
     {
-        let [a, b, c] = self.triples()[face as usize];
-        [self.corner(a), self.corner(b), self.corner(c)]
+        face_of(self.corners(), &self.triples()[face as usize])
     }
 
     /// The corners at the start and the end of a half-edge.
@@ -89,8 +107,8 @@ impl Side {
         [self.corner(from), self.corner(to)]
     }
 
-    // The vertex at which a half-edge starts.
-    fn start(&self, half: u32) -> u32
+    /// The vertex at which a half-edge starts.
+    pub fn start(&self, half: u32) -> u32
         requires { half < 3 * length self.now.triples }
         ensures value { result ≡ start (all_edges self.now.triples) half }
         ensures below { result < length self.now.corners }
@@ -109,8 +127,12 @@ impl Side {
     }
 }
 
-// The corners of points with their marks.
-fn corners_of(alloc: Global, points: &[Point], ups: &[[bool; 3]]) -> Result<Vec<Corner>, NoMemory>
+/// The corners of points with their marks, in order. `NoMemory` may come for any points.
+pub fn corners_of(
+    alloc: Global,
+    points: &[Point],
+    ups: &[[bool; 3]],
+) -> Result<Vec<Corner>, NoMemory>
     requires { length ups.now ≡ length points.now }
     ensures value { IfOk result (λ corners. corners.items ≡ corners_of points.now ups.now) }
     ensures fine { IfOk result (λ corners. AllFine corners.items) }
