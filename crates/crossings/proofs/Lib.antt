@@ -1,4 +1,5 @@
 pub mod Examples
+pub mod Nearby
 pub mod Numbers
 pub mod Order
 pub mod Rounds

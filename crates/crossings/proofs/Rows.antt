@@ -1,38 +1,41 @@
 -- The lists of hits, step by step.
-use Rattle.std.proofs.Common.{◌≡◌, ℕ, ◌+◌, ◌<◌, ◌≤◌, List, [], ◌∷◌, ◌++◌, Option, Some, None, nat_lt, filter, ap, sym, ◌∙◌, append-nil, append_assoc}
+use Rattle.std.proofs.Common.{◌≡◌, ℕ, ◌+◌, ◌<◌, ◌≤◌, List, [], ◌∷◌, ◌++◌, length, get_or, take, Option, Some, None, nat_lt, filter, ap, sym, ◌∙◌, append-nil, append_assoc}
 use Rattle.std.specs.List.{cons_option, filter_map, flat_map}
 use Rattle.std.proofs.lemmas.Bool.{lt-ltb, le-ltb}
+use Rattle.std.proofs.lemmas.List.{take_more}
 use Rattle.std.proofs.lemmas.List.Elements.{filter_map-append}
 use Rattle.std.proofs.lemmas.List.Concat.{flat_map-append}
 use Rattle.chain_terms.specs.Chains.{all_edges}
 use Rattle.chain_terms.specs.Sums.{upto}
 use Rattle.chain_terms.specs.Ranks.{twin}
 use Rattle.chain_laws.proofs.Ascending.{filter-upto_yes, filter-upto_no}
-use Rattle.chain_laws.proofs.Places.{upto_more}
 use Rattle.mb_base.specs.declared.results.Hit.{Hit}
 use Rattle.edge_face.specs.declared.Cross.{Cross}
 use Rattle.side_terms.specs.Sides.{Side, edge_at, face_at}
 use Rattle.crossings.specs.Hits.{CrossTest, hit_of, hits_along}
 
--- the hits of one half-edge with the first n faces
-abbrev pub hits_to : CrossTest → Side → Side → ℕ → ℕ → List Hit
-hits_to test edges faces h n = filter_map (λ f. hit_of h f (test (edge_at edges h) (face_at faces f))) (upto n)
+-- the hits of one half-edge with some faces
+abbrev pub hits_with : CrossTest → Side → Side → ℕ → List ℕ → List Hit
+hits_with test edges faces h fs = filter_map (λ f. hit_of h f (test (edge_at edges h) (face_at faces f))) fs
 
 -- one face more
-along_more : (test : CrossTest) (edges faces : Side) (h n : ℕ) → hits_to test edges faces h (n + 1) ≡ hits_to test edges faces h n ++ cons_option (hit_of h n (test (edge_at edges h) (face_at faces n))) []
-along_more test edges faces h n =
+along_more : (test : CrossTest) (edges faces : Side) (h : ℕ) (fs : List ℕ) (i : ℕ) → i < length fs →
+    hits_with test edges faces h (take (i + 1) fs) ≡ hits_with test edges faces h (take i fs) ++ cons_option (hit_of h (get_or fs i 0) (test (edge_at edges h) (face_at faces (get_or fs i 0)))) []
+along_more test edges faces h fs i below =
     let f : ℕ → Option Hit = λ g. hit_of h g (test (edge_at edges h) (face_at faces g)) in
-    ap (filter_map f) (upto_more n) ∙ filter_map-append f (upto n) (n ∷ [])
+    ap (filter_map f) (take_more fs i 0 below) ∙ filter_map-append f (take i fs) (get_or fs i 0 ∷ [])
 
 -- one without an answer
-pub along_none : (test : CrossTest) (edges faces : Side) (h n : ℕ) → None ≡ test (edge_at edges h) (face_at faces n) → hits_to test edges faces h (n + 1) ≡ hits_to test edges faces h n
-along_none test edges faces h n e =
-    along_more test edges faces h n ∙ ap (λ o. hits_to test edges faces h n ++ cons_option (hit_of h n o) []) (sym e) ∙ append-nil (hits_to test edges faces h n)
+pub along_none : (test : CrossTest) (edges faces : Side) (h : ℕ) (fs : List ℕ) (i : ℕ) → i < length fs → None ≡ test (edge_at edges h) (face_at faces (get_or fs i 0)) →
+    hits_with test edges faces h (take (i + 1) fs) ≡ hits_with test edges faces h (take i fs)
+along_none test edges faces h fs i below e =
+    along_more test edges faces h fs i below ∙ ap (λ o. hits_with test edges faces h (take i fs) ++ cons_option (hit_of h (get_or fs i 0) o) []) (sym e) ∙ append-nil (hits_with test edges faces h (take i fs))
 
 -- one with an answer
-pub along_some : (test : CrossTest) (edges faces : Side) (h n : ℕ) (c : Cross) → Some c ≡ test (edge_at edges h) (face_at faces n) →
-    hits_to test edges faces h (n + 1) ≡ hits_to test edges faces h n ++ record { edge = h; face = n; number = c.number; at = c.at } ∷ []
-along_some test edges faces h n c e = along_more test edges faces h n ∙ ap (λ o. hits_to test edges faces h n ++ cons_option (hit_of h n o) []) (sym e)
+pub along_some : (test : CrossTest) (edges faces : Side) (h : ℕ) (fs : List ℕ) (i : ℕ) (c : Cross) → i < length fs → Some c ≡ test (edge_at edges h) (face_at faces (get_or fs i 0)) →
+    hits_with test edges faces h (take (i + 1) fs) ≡ hits_with test edges faces h (take i fs) ++ record { edge = h; face = get_or fs i 0; number = c.number; at = c.at } ∷ []
+along_some test edges faces h fs i c below e =
+    along_more test edges faces h fs i below ∙ ap (λ o. hits_with test edges faces h (take i fs) ++ cons_option (hit_of h (get_or fs i 0) o) []) (sym e)
 
 -- a push after what stands already
 pub pushed : (new old before row row' : List Hit) (h : Hit) → new ≡ old ++ h ∷ [] → old ≡ before ++ row → row' ≡ row ++ h ∷ [] → new ≡ before ++ row'

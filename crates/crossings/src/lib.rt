@@ -6,6 +6,7 @@
 
 mod both;
 mod hits;
+mod near;
 mod pairs;
 #[cfg(test)]
 mod tests;

@@ -1,10 +1,10 @@
-use Rattle.std.proofs.Common.{ℕ, ℤ, ◌∷◌, [], List, length, get_or, refl, ap, sym, ◌∙◌, subst}
+use Rattle.std.proofs.Common.{ℕ, ℤ, ◌∷◌, [], List, length, refl, ap, sym, ◌∙◌, subst}
 use Rattle.chain_terms.specs.Chains.{all_edges}
 use Rattle.mb_base.specs.declared.results.Hit.{Hit}
 use Rattle.mesh_terms.specs.Meshes.{Triple}
 use Rattle.side_terms.specs.Corners.{corner_at}
 use Rattle.shadow_kernels.specs.Counts.{shadow_of}
-use Rattle.side_terms.specs.Sides.{IsSide, edge_at, edge_of, face_at, face_of}
+use Rattle.side_terms.specs.Sides.{IsSide, edge_of, face_of}
 use Rattle.lean.proofs.Corners.{edge_fine, face_fine}
 use Rattle.side_terms.specs.Hits.{AreHits, AllCross}
 use Rattle.crossings.specs.Hits.{CrossTest, hits_of}

@@ -1,0 +1,112 @@
+-- Which faces an edge has to be asked with.
+use Rattle.std.proofs.Common.{Equal, Greater, ◌≡◌, ◌∙◌, ℕ, ◌<◌, ◌≤◌, ◌+◌, ◌==◌, cond, List, [], ◌∷◌, Option, None, Bool, true, false, length, get_or, refl, sym, ap, arith, subst, inl, inr}
+use Rattle.std.specs.List.{All, cons_option, filter, filter_map}
+use Rattle.std.specs.List.Sorted.{IsPermutation, IsSorted}
+use Rattle.std.specs.Ordering.{is_lt, nat_cmp}
+use Rattle.std.proofs.lemmas.Bool.{cases_Bool, cond_both, le-ltb}
+use Rattle.std.proofs.lemmas.Cmp.{nat_cmp_total}
+use Rattle.std.proofs.lemmas.List.{get_or-map, get_or_default, length-map}
+use Rattle.std.proofs.lemmas.List.Sums.{count_by-le-length, length-filter}
+use Rattle.std.proofs.lemmas.List.Elements.{All-head, All-tail}
+use Rattle.std.proofs.lemmas.List.Sorted.{ranks_by, sum_by-IsPermutation}
+use Rattle.chain_terms.specs.Sums.{upto}
+use Rattle.chain_laws.specs.Ascending.{Ascends}
+use Rattle.chain_laws.proofs.Ascending.{filter-ascends, kept_at}
+use Rattle.chain_laws.proofs.Places.{get_or-up_from, length-up_from}
+use Rattle.chain_laws.proofs.Sorting.{sorted_same, tie, tie-parts}
+use Rattle.mesh_terms.specs.Meshes.{Triple}
+use Rattle.mb_base.specs.declared.point.Box3.{Box3}
+use Rattle.mb_base.specs.declared.point.Corner.{Corner}
+use Rattle.mb_base.specs.declared.results.Hit.{Hit}
+use Rattle.mb_base.specs.Boxes.{box_of}
+use Rattle.side_terms.specs.Boxes.{AreApart}
+use Rattle.side_terms.specs.Corners.{AllFine}
+use Rattle.side_terms.specs.Sides.{Side, IsSide, edge_at, face_at, face_boxes, face_of}
+use Rattle.box_tree.specs.Touching.{box_at, no_box, touches, touching_numbers}
+use Rattle.lean.proofs.Apart.{boxes_apart}
+use Rattle.lean.proofs.Corners.{face_fine}
+use Rattle.crossings.specs.Apart.{apart_back}
+use Rattle.crossings.specs.Hits.{CrossTest, hit_of, hits_along}
+use Rattle.crossings.proofs.Rows.{hits_with}
+
+-- no number comes before one that is not greater
+not_less : (x y : ℕ) → y ≤ x → is_lt (nat_cmp x y) ≡ false
+not_less x y h = rw (le-ltb x y h) (cond_both (x == y) Equal Greater (λ o. is_lt o ≡ false) (λ e. refl) (λ e. refl))
+
+-- numbers of which neither comes before the other are the same
+tied : (x y : ℕ) → tie (λ x y. is_lt (nat_cmp x y)) x y ≡ true → x ≡ y
+tied x y h = let level = tie-parts (λ x y. is_lt (nat_cmp x y)) x y h in grind (arith, level.0, level.1)
+
+-- ascending numbers in another order, sorted
+pub sorted_numbers : (xs ys : List ℕ) → Ascends xs → IsPermutation xs ys → IsSorted nat_cmp ys → ys ≡ xs
+sorted_numbers xs ys up moved sorted =
+    sorted_same (λ x y. is_lt (nat_cmp x y)) (ranks_by nat_cmp_total (λ x. x)) ys xs sorted (λ k d low high. not_less (get_or xs (k + 1) d) (get_or xs k d) (later k d high))
+    (λ p. sum_by-IsPermutation (λ x. cond (p x) 1 0) xs ys moved) (λ x y a b h. tied x y h)
+  where
+    later : (k d : ℕ) → k + 1 < length xs → get_or xs k d ≤ get_or xs (k + 1) d
+    later k d h = omega (arith, up k (k + 1) (omega arith) h, get_or_default xs k d 0 (omega (arith, h)), get_or_default xs (k + 1) d 0 h)
+
+-- what is left out of a filter is not missed where it has no value
+filter_map-filter : {X Y : Type 0} (f : X → Option Y) (p : X → Bool) (xs : List X) → All (λ x. p x ≡ false → f x ≡ None) xs → filter_map f (filter p xs) ≡ filter_map f xs
+filter_map-filter f p [] none = refl
+filter_map-filter f p (x ∷ xs) none =
+    let rest = filter_map-filter f p xs (All-tail (λ x. p x ≡ false → f x ≡ None) x xs none) in
+    elim (cases_Bool (p x)) as (λ _. filter_map f (filter p (x ∷ xs)) ≡ filter_map f (x ∷ xs)) [
+      | inl y ↦ rw y (ap (cons_option (f x)) rest)
+      | inr n ↦ rw n (rest ∙ ap (λ o. cons_option o (filter_map f xs)) (sym (All-head (λ x. p x ≡ false → f x ≡ None) x xs none n)))
+    ]
+
+-- as many boxes as faces
+pub many_boxes : (faces : Side) → length (face_boxes faces) ≡ length faces.triples
+many_boxes faces = length-map faces.triples (λ (t : Triple). box_of (face_of faces.corners t))
+
+-- the box of a face
+pub face_box : (faces : Side) (f : ℕ) → f < length faces.triples → box_at (face_boxes faces) f ≡ box_of (face_at faces f)
+face_box faces f below = get_or-map (λ (t : Triple). box_of (face_of faces.corners t)) faces.triples f (0, 0, 0) no_box below
+
+-- the law that simplices apart do not cross, for edges and faces
+abbrev pub Separates : CrossTest → Type 0
+Separates test = (edge face : List Corner) (i : ℕ) → length edge ≡ 2 → length face ≡ 3 → AllFine edge → AllFine face → i < 3 → AreApart i edge face → test edge face ≡ None
+
+-- an edge has no hit with a face whose box does not touch its own
+none_beyond : (test : CrossTest) (edges faces : Side) → Separates test → IsSide faces → (h f : ℕ) → AllFine (edge_at edges h) → f < length faces.triples →
+    touches (box_at (face_boxes faces) f) (box_of (edge_at edges h)) ≡ false → test (edge_at edges h) (face_at faces f) ≡ None
+none_beyond test edges faces apart known h f fine below far =
+    let edge = edge_at edges h in
+    let face = face_at faces f in
+    let a = boxes_apart face edge (omega arith) (omega arith) (subst (λ b. touches b (box_of edge) ≡ false) (face_box faces f below) far) in
+    apart edge face a.0 refl refl fine (face_fine faces.corners known.fine (get_or faces.triples f (0, 0, 0))) a.1 (apart_back a.0 face edge a.2)
+
+-- so its hits are those with the faces whose boxes do
+pub hits_near : (test : CrossTest) (edges faces : Side) → Separates test → IsSide faces → (h : ℕ) → AllFine (edge_at edges h) →
+    hits_with test edges faces h (touching_numbers (face_boxes faces) (box_of (edge_at edges h))) ≡ hits_along test edges faces h
+hits_near test edges faces apart known h fine =
+    let n = length faces.triples in
+    let f : ℕ → Option Hit = λ g. hit_of h g (test (edge_at edges h) (face_at faces g)) in
+    let p : ℕ → Bool = λ g. touches (box_at (face_boxes faces) g) (box_of (edge_at edges h)) in
+    let each : All (λ g. p g ≡ false → f g ≡ None) (upto n) =
+    λ k d below.
+    let inside : k < n = omega (arith, below, length-up_from 0 n) in
+    let here : k ≡ get_or (upto n) k d = omega (arith, get_or-up_from 0 n k d inside) in
+    subst (λ g. p g ≡ false → f g ≡ None) here (λ far. ap (hit_of h k) (none_beyond test edges faces apart known h k fine inside far)) in
+    ap (λ m. filter_map f (filter p (upto m))) (many_boxes faces) ∙ filter_map-filter f p (upto n) each
+
+-- the numbers of the faces whose boxes touch an area ascend
+pub touching_ascends : (boxes : List Box3) (area : Box3) → Ascends (touching_numbers boxes area)
+touching_ascends boxes area = filter-ascends (λ k. touches (box_at boxes k) area) 0 (length boxes)
+
+-- and they are numbers of faces
+pub touching_below : (faces : Side) (area : Box3) → All (λ f. f < length faces.triples) (touching_numbers (face_boxes faces) area)
+touching_below faces area k d h =
+    let n = length (face_boxes faces) in
+    let p : ℕ → Bool = λ g. touches (box_at (face_boxes faces) g) area in
+    let kept = kept_at p 0 n k h in
+    let same = get_or_default (filter p (upto n)) k d 0 h in
+    omega (arith, kept.high, same, many_boxes faces)
+
+-- no more than there are
+pub touching_few : (faces : Side) (area : Box3) → length (touching_numbers (face_boxes faces) area) ≤ length faces.triples
+touching_few faces area =
+    let n = length (face_boxes faces) in
+    let p : ℕ → Bool = λ g. touches (box_at (face_boxes faces) g) area in
+    omega (arith, length-filter p (upto n), count_by-le-length p (upto n), length-up_from 0 n, many_boxes faces)
