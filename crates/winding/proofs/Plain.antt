@@ -1,7 +1,8 @@
--- A side whose marks are all unset has the winding numbers of its mesh.
+-- Corners whose marks are all unset give the winding numbers of their mesh.
 use Rattle.std.proofs.Common.{arith, ◌≡◌, ◌<◌, ℕ, ℤ, neg_ℤ, Bool, false, List, [], ◌∷◌, length, replicate, get_or, refl, ap, ◌∙◌}
 use Rattle.std.specs.List.{All}
 use Rattle.std.proofs.lemmas.List.{get_or-replicate, length-replicate}
+use Rattle.chain_terms.specs.Sums.{total}
 use Rattle.chain_laws.specs.Sums.{total-same_all}
 use Rattle.mesh_terms.specs.Meshes.{Mesh, Triple, IsBelow}
 use Rattle.mb_base.specs.declared.point.Corner.{Corner}
@@ -9,9 +10,9 @@ use Rattle.side_terms.specs.Corners.{corner_at}
 use Rattle.rounding.specs.Nearest.{nearest}
 use Rattle.shadow_kernels.specs.Shadows.{meet02}
 use Rattle.shadow_kernels.specs.ShadowLaws.{ShadowTest}
-use Rattle.side_terms.specs.Sides.{Side, corner_of, corners_of, face_of, side_of}
+use Rattle.side_terms.specs.Sides.{corner_of, corners_of, face_of}
 use Rattle.lean.proofs.Corners.{corners_at}
-use Rattle.winding.specs.Windings.{face_shadow, winding, plain_corner, plain_shadow, winding_at}
+use Rattle.winding.specs.Windings.{face_shadow, plain_corner, plain_shadow, winding_at}
 
 abbrev pub no_marks : List Bool
 no_marks = false ∷ false ∷ false ∷ []
@@ -32,15 +33,14 @@ pub plain_face : (point : List ℤ) (points : List (List ℤ)) (t : Triple) → 
     ≡ plain_shadow point (get_or points t.0 []) (get_or points t.1 []) (get_or points t.2 [])
 plain_face point points t h = rw (plain_at points t.0 h.a, plain_at points t.1 h.b, plain_at points t.2 h.c) refl
 
--- the sum over all faces of the side of a mesh
-pub plain_winding : (point : List ℤ) (mesh : Mesh) (p : Corner) (side : Side) (ups : List (List Bool)) →
-    p ≡ plain_corner point → side ≡ side_of mesh ups →
+-- the sum over all triangles on such corners
+pub plain_winding : (point : List ℤ) (mesh : Mesh) (p : Corner) (corners : List Corner) (ups : List (List Bool)) → p ≡ plain_corner point → corners ≡ corners_of mesh.points ups →
     ups ≡ replicate (length mesh.points) no_marks → All (IsBelow (length mesh.points)) mesh.triples →
-    winding nearest_test p side ≡ winding_at point mesh
-plain_winding point mesh p side ups at is plain below =
+    neg_ℤ (total (λ t. face_shadow nearest_test p (face_of corners t)) mesh.triples) ≡ winding_at point mesh
+plain_winding point mesh p corners ups at are plain below =
+    let sum : Corner → List Corner → ℤ = λ q cs. neg_ℤ (total (λ (t : Triple). face_shadow nearest_test q (face_of cs t)) mesh.triples) in
     let cs = corners_of mesh.points (replicate (length mesh.points) no_marks) in
     let f : Triple → ℤ = λ t. face_shadow nearest_test (plain_corner point) (face_of cs t) in
     let g : Triple → ℤ = λ t. plain_shadow point (get_or mesh.points t.0 []) (get_or mesh.points t.1 []) (get_or mesh.points t.2 []) in
-    let corner = ap (λ c. winding nearest_test c side) at in
-    let marks = ap (winding nearest_test (plain_corner point)) (is ∙ ap (side_of mesh) plain) in
-    corner ∙ marks ∙ ap neg_ℤ (total-same_all f g mesh.triples (λ k d h. plain_face point mesh.points (get_or mesh.triples k d) (below k d h)))
+    ap (λ q. sum q corners) at ∙ ap (sum (plain_corner point)) (are ∙ ap (corners_of mesh.points) plain)
+    ∙ ap neg_ℤ (total-same_all f g mesh.triples (λ k d h. plain_face point mesh.points (get_or mesh.triples k d) (below k d h)))

@@ -1,5 +1,5 @@
 -- The size of shadows, and the sum of shadows face by face.
-use Rattle.std.proofs.Common.{arith, ◌≡◌, ◌<◌, ◌≤◌, ◌+◌, ◌++◌, ℕ, ℤ, pos, negsuc, neg_ℤ, ◌-ℤ◌, ◌≤ℤ◌, Bool, true, false, if◌then◌else◌, Option, None, Some, List, [], ◌∷◌, map, take, length, get_or, sym, ap, ◌∙◌}
+use Rattle.std.proofs.Common.{arith, ◌≡◌, ◌<◌, ◌≤◌, ◌+◌, ◌++◌, ℕ, ℤ, pos, negsuc, neg_ℤ, ◌+ℤ◌, ◌-ℤ◌, ◌≤ℤ◌, Bool, true, false, if◌then◌else◌, Option, None, Some, List, [], ◌∷◌, map, take, length, get_or, sym, ap, ◌∙◌}
 use Rattle.std.proofs.lemmas.Int.{ints}
 use Rattle.std.proofs.lemmas.List.{map_push, take_all, take_more}
 use Rattle.chain_terms.specs.Sums.{total}
@@ -21,6 +21,18 @@ pub one_more : (f : Triple → ℤ) (ts : List Triple) (i : ℕ) (sum shadow : �
     i < length ts → sum ≡ neg_ℤ (total f (take i ts)) → shadow ≡ f (get_or ts i (0, 0, 0)) → (sum -ℤ shadow) ≡ neg_ℤ (total f (take (i + 1) ts))
 one_more f ts i sum shadow h e s =
     let more = total_more f ts i (0, 0, 0) h in omega (arith, ints, more, e, s)
+
+-- before the first face all shadows are to come
+pub none_before : (all sum : ℤ) → all ≡ sum → (pos 0 -ℤ all) ≡ neg_ℤ sum
+none_before all sum e = omega (arith, ints, e)
+
+-- one shadow less to come
+pub one_less : (winding shadow rest all whole : ℤ) → all ≡ shadow +ℤ rest → (winding -ℤ all) ≡ whole → ((winding -ℤ shadow) -ℤ rest) ≡ whole
+one_less winding shadow rest all whole e h = omega (arith, ints, e, h)
+
+-- none to come
+pub none_left : (winding all whole : ℤ) → all ≡ pos 0 → (winding -ℤ all) ≡ whole → winding ≡ whole
+none_left winding all whole e h = omega (arith, ints, e, h)
 
 -- one value more
 pub map_more : {X : Type 0} (f : X → ℤ) (xs : List X) (i : ℕ) (d : X) (new old : List ℤ) (z : ℤ) →

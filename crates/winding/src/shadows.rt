@@ -3,9 +3,13 @@ ghost use Rattle.std.specs.Prelude.{◌≡◌, ◌∷◌, [], ℤ, ◌≤ℤ◌,
 ghost use Rattle.mb_base.specs.declared.point.Corner.{Corner};
 ghost use Rattle.side_terms.specs.Corners.{AllFine, IsFineCorner};
 ghost use Rattle.shadow_kernels.specs.Counts.{shadow_of};
+ghost use Rattle.winding.specs.Lines.{line_at, HasShadowsIn};
 
-use mb_base::Corner;
+use mb_base::{Box3, Corner, UNIT};
 use shadow_kernels::{Meet, Meets};
+
+/// The end of the grid in fine steps.
+const FINE_END: i64 = UNIT << 30;
 
 /// What tells the shadow of a vertex of one side on a face of the other.
 pub trait VertexFace {
@@ -18,6 +22,12 @@ pub trait VertexFace {
         requires face_fine { AllFine face.now }
         ensures value { result ≡ vertex_shadow self.now vertex.now face.now }
         ensures size { (negsuc 0 ≤ℤ result) × (result ≤ℤ pos 1) };
+
+    /// The half of the vertical line through the vertex on which the faces lie that can have a shadow with it: any other
+    /// face has none.
+    fn half_line(&self, vertex: &Corner) -> Box3
+        requires { IsFineCorner vertex.now }
+        ensures { HasShadowsIn result (vertex_shadow self.now vertex.now) };
 }
 
 /// The vertices of P and the faces of Q.
@@ -30,6 +40,11 @@ impl<K: Meets<1, 3>> VertexFace for PVertices<'_, K> {
     fn shadow(&self, vertex: &Corner, face: &[Corner; 3]) -> i64 {
         shadow_of(self.0.meet(&[*vertex], face))
     }
+
+    // A vertex is not above a face that lies higher.
+    fn half_line(&self, vertex: &Corner) -> Box3 {
+        line_at(vertex, -FINE_END, vertex.at[2])
+    }
 }
 
 /// The vertices of Q and the faces of P.
@@ -41,6 +56,22 @@ impl<K: Meets<3, 1>> VertexFace for QVertices<'_, K> {
 
     fn shadow(&self, vertex: &Corner, face: &[Corner; 3]) -> i64 {
         shadow_of(self.0.meet(face, &[*vertex]))
+    }
+
+    // A face that lies lower is not above a vertex.
+    fn half_line(&self, vertex: &Corner) -> Box3 {
+        line_at(vertex, vertex.at[2], FINE_END)
+    }
+}
+
+// The part of the vertical line through a vertex from one height to another.
+fn line_at(vertex: &Corner, low: i64, high: i64) -> Box3
+    ensures { result ≡ line_at vertex.now low high }
+{
+    let [x, y, _] = vertex.at;
+    Box3 {
+        low: [x, y, low],
+        high: [x, y, high],
     }
 }
 

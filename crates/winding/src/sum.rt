@@ -43,7 +43,8 @@ pub fn winding_sum_back<K: Kernels, L: Ledger>(
     minus_shadows(q, p, &QVertices(kernels), steps)
 }
 
-/// Minus the sum of the shadows of a vertex and all faces of a side, counted as one step.
+/// Minus the sum of the shadows of a vertex and all faces of a side, counted as one step. The faces are looked at whose
+/// boxes touch the half of the vertical line at the vertex where faces can have shadows; the others have none.
 pub fn minus_shadows<S: VertexFace, L: Ledger>(
     vertex: &Corner,
     faces: &Side,
@@ -57,7 +58,7 @@ pub fn minus_shadows<S: VertexFace, L: Ledger>(
 {
     steps.tick();
     let mut winding: i64 = 0;
-    for face in 0..faces.triples().len() as u32 {
+    for face in faces.tree().touching(shadows.half_line(vertex)) {
         winding -= shadows.shadow(vertex, &faces.face(face));
     }
     winding
