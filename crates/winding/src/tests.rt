@@ -123,11 +123,14 @@ fn sum_from<L: Ledger>(point: Point, q: &Side, blank: Blank) -> i64
     winding_sum(&p, q, &Grid { rounding: Nearest }, &mut steps)
 }
 
+fn plain_cube(alloc: Global) -> Result<Side, Fail> {
+    let mesh = cube(alloc)?;
+    text::second_side(alloc, &mesh)
+}
+
 #[test]
 fn a_point_moved_up_lies_on_the_other_side(rt: HostRuntime) -> Result<(), Fail> {
-    let mesh = cube(rt.alloc())?;
-    let ups = vec![in rt.alloc(); [false; 3]; mesh.points().len()]?;
-    let side = Side::of(rt.alloc(), &mesh, ups)?;
+    let side = plain_cube(rt.alloc())?;
     let low = Point::of(0, 0, 0).ok_or("outside the grid")?;
     assert_eq!(rt; sum_from::<Brand>(low, &side, Blank::new(1)), 1);
     let high = Point::of(100_000, 5, 7).ok_or("outside the grid")?;

@@ -103,16 +103,15 @@ pub fn second_side(alloc: Global, mesh: &Mesh) -> Result<Side, Fail> {
     Ok(Side::of(alloc, mesh, ups)?)
 }
 
-// The sides of a line of the table.
-pub fn read_sides(alloc: Global, line: &str) -> Result<(Side, Side), Fail> {
-    let mut words = line.split_whitespace();
-    let op = words.next().ok_or("no word")?;
+// The first side of a line: the word of its operation, that of its coordinates, and that of its triangles.
+pub fn read_first(alloc: Global, op: &str, points: &str, triples: &str) -> Result<Side, Fail> {
     let op = read_op(op).ok_or("no operation")?;
-    let points = words.next().ok_or("no word")?;
-    let triples = words.next().ok_or("no word")?;
-    let first = read_mesh(alloc, points, triples)?;
-    let points = words.next().ok_or("no word")?;
-    let triples = words.next().ok_or("no word")?;
-    let second = read_mesh(alloc, points, triples)?;
-    Ok((first_side(alloc, &first, op)?, second_side(alloc, &second)?))
+    let mesh = read_mesh(alloc, points, triples)?;
+    first_side(alloc, &mesh, op)
+}
+
+// The second side of a line.
+pub fn read_second(alloc: Global, points: &str, triples: &str) -> Result<Side, Fail> {
+    let mesh = read_mesh(alloc, points, triples)?;
+    second_side(alloc, &mesh)
 }
