@@ -1,10 +1,10 @@
 -- The classes of the vertices that were looked at.
-use Rattle.std.proofs.Common.{◌≡◌, ◌⊎◌, ◌<◌, ◌≤◌, ◌+◌, ◌-◌, ℕ, Bool, true, false, List, [], ◌∷◌, ◌++◌, length, get_or, replicate, refl, sym, ◌∙◌, ap, subst, inl, inr, arith, length-append}
+use Rattle.std.proofs.Common.{◌≡◌, ◌<◌, ◌≤◌, ◌+◌, ◌-◌, ℕ, Bool, false, List, [], ◌∷◌, ◌++◌, length, get_or, replicate, refl, sym, ◌∙◌, ap, subst, inl, inr, arith, length-append}
 use Rattle.std.specs.List.{All, Contains}
 use Rattle.std.proofs.lemmas.List.{get_or_append_left, get_or-append_right, get_or-replicate, length-replicate}
 use Rattle.std.proofs.lemmas.List.Elements.{All-nil, All-push, Contains-append_left, Contains-push}
 use Rattle.std.proofs.lemmas.Bool.{cases_lt}
-use Rattle.chain_terms.specs.Chains.{dir, IsClosed}
+use Rattle.chain_terms.specs.Chains.{IsClosed}
 use Rattle.chain_laws.specs.Ascending.{Ascends}
 use Rattle.component_terms.specs.Components.{IsJoined, Here, Along, IsLeast, HasComponents}
 use Rattle.mesh_measures.specs.Walks.{IsMarked, IsUnmarked, AreWhole, IsClassMarked}

@@ -1,10 +1,10 @@
 -- The ends of more and more edges are marked.
-use Rattle.std.proofs.Common.{◌≡◌, ◌⊎◌, ◌<◌, ◌+◌, ℕ, Bool, true, List, [], ◌∷◌, ◌++◌, length, set, refl, sym, ◌∙◌, ap, subst, inl, inr, arith, length-append}
+use Rattle.std.proofs.Common.{◌≡◌, ◌⊎◌, ◌<◌, ℕ, Bool, true, List, [], ◌∷◌, ◌++◌, length, set, refl, sym, ◌∙◌, subst, inl, inr, arith, length-append}
 use Rattle.std.specs.List.{Contains}
 use Rattle.std.proofs.lemmas.List.{length-set}
 use Rattle.std.proofs.lemmas.List.Elements.{Contains-append_left, Contains-push, Contains-push_cases}
 use Rattle.chain_terms.specs.Ranks.{finish}
-use Rattle.mesh_measures.specs.Walks.{IsMarked, IsUnmarked, IsEnd, AreReached, unmarked}
+use Rattle.mesh_measures.specs.Walks.{IsMarked, IsUnmarked, IsEnd, AreReached}
 use Rattle.mesh_measures.proofs.Marks.{marked_here, marked_kept, marked_cases, fewer}
 
 -- no edge yet

@@ -1,14 +1,15 @@
 -- The edges that start at a vertex, as the places of that vertex among all starts.
-use Rattle.std.proofs.Common.{◌≡◌, ◌<◌, ◌*◌, ◌+◌, ◌==◌, ℕ, zero, suc, true, List, [], ◌∷◌, length, get_or, map, refl, sym, ◌∙◌, ap, subst, arith}
-use Rattle.std.specs.List.{All, Contains, flat_map}
+use Rattle.std.proofs.Common.{◌≡◌, ◌<◌, ◌*◌, ◌==◌, ℕ, List, [], ◌∷◌, length, get_or, map, sym, ◌∙◌, ap, subst, arith}
+use Rattle.std.specs.List.{All, Contains}
 use Rattle.std.proofs.lemmas.Bool.{eqb-true, eq-eqb}
 use Rattle.std.proofs.lemmas.List.{get_or-map, get_or_default, length-map}
-use Rattle.std.proofs.lemmas.List.Elements.{All-contains, All-from_get_or, All-nil, All-cons, All-head, All-tail}
-use Rattle.chain_terms.specs.Chains.{dir, edges, all_edges}
+use Rattle.std.proofs.lemmas.List.Elements.{All-contains, All-from_get_or, All-nil, All-cons, All-head, All-tail, All-map, All-weaker}
+use Rattle.chain_terms.specs.Chains.{dir, all_edges}
 use Rattle.chain_terms.specs.Ranks.{start, finish}
 use Rattle.chain_terms.specs.Sums.{upto}
 use Rattle.chain_laws.specs.Chains.{dir_contains, dir_some}
 use Rattle.chain_laws.proofs.Ascending.{IsKept, kept_at, kept}
+use Rattle.component_laws.specs.Laws.{AreBelow}
 use Rattle.counting_sort.specs.Buckets.{places_of}
 use Rattle.counting_sort.proofs.Upto.{get_or-map-upto}
 use Rattle.mesh_terms.specs.Meshes.{Triple, IsBelow, triple_of, triples_of}
@@ -58,21 +59,21 @@ spoke_edge es v b (h, inside, at) =
 pub read_spokes : (es : List (ℕ × ℕ)) (n v : ℕ) (spokes : List (List ℕ)) (bucket : List ℕ) → v < n → spokes ≡ map (places_of (starts_of es)) (upto n) → bucket ≡ get_or spokes v [] → bucket ≡ places_of (starts_of es) v
 read_spokes es n v spokes bucket low gathered read = read ∙ ap (λ (l : List (List ℕ)). get_or l v []) gathered ∙ get_or-map-upto (places_of (starts_of es)) n v [] low
 
+-- the edges of triangles over vertices below n join vertices below n
+pub edges_below : (n : ℕ) (ts : List Triple) → All (IsBelow n) ts → AreBelow n (all_edges ts)
+edges_below n [] all = All-nil (λ (e : ℕ × ℕ). (e.0 < n) × (e.1 < n))
+edges_below n (t ∷ ts) all =
+    let P = λ (e : ℕ × ℕ). (e.0 < n) × (e.1 < n) in
+    let first = All-head (IsBelow n) t ts all in
+    let rest = edges_below n ts (All-tail (IsBelow n) t ts all) in
+    All-cons P (t.0, t.1) ((t.1, t.2) ∷ (t.2, t.0) ∷ all_edges ts) (first.a, first.b)
+    (All-cons P (t.1, t.2) ((t.2, t.0) ∷ all_edges ts) (first.b, first.c) (All-cons P (t.2, t.0) (all_edges ts) (first.c, first.a) rest))
+
 -- each start is below the bound of the vertices
 pub starts_below : (n : ℕ) (ts : List Triple) → All (IsBelow n) ts → All (λ k. k < n) (starts_of (all_edges ts))
-starts_below n [] all = All-nil (λ k. k < n)
-starts_below n (t ∷ ts) all =
-    let first = All-head (IsBelow n) t ts all in
-    All-cons (λ k. k < n) t.0 (t.1 ∷ t.2 ∷ starts_of (all_edges ts)) first.a (All-cons (λ k. k < n) t.1 (t.2 ∷ starts_of (all_edges ts)) first.b (All-cons (λ k. k < n) t.2 (starts_of (all_edges ts)) first.c (starts_below n ts (All-tail (IsBelow n) t ts all))))
-
--- each end too
-ends_below : (n : ℕ) (ts : List Triple) → All (IsBelow n) ts → All (λ (e : ℕ × ℕ). e.1 < n) (all_edges ts)
-ends_below n [] all = All-nil (λ (e : ℕ × ℕ). e.1 < n)
-ends_below n (t ∷ ts) all =
-    let first = All-head (IsBelow n) t ts all in
-    let P = λ (e : ℕ × ℕ). e.1 < n in
-    All-cons P (t.0, t.1) ((t.1, t.2) ∷ (t.2, t.0) ∷ all_edges ts) first.b
-    (All-cons P (t.1, t.2) ((t.2, t.0) ∷ all_edges ts) first.c (All-cons P (t.2, t.0) (all_edges ts) first.a (ends_below n ts (All-tail (IsBelow n) t ts all))))
+starts_below n ts all =
+    let P = λ (e : ℕ × ℕ). (e.0 < n) × (e.1 < n) in
+    All-map (λ k. k < n) (λ (e : ℕ × ℕ). e.0) (all_edges ts) (All-weaker P (λ e. e.0 < n) (λ e ends. ends.0) (all_edges ts) (edges_below n ts all))
 
 -- so many half-edges
 pub length-halves : (triples : List (List ℕ)) → length (all_edges (triples_of triples)) ≡ 3 * length triples
@@ -80,7 +81,9 @@ length-halves triples = omega (arith, length-all_edges (triples_of triples), len
 
 -- a half-edge ends below the bound of the vertices
 pub finish_below : (n : ℕ) (triples : List (List ℕ)) (h : ℕ) → All (IsBelow n) (triples_of triples) → h < 3 * length triples → finish (all_edges (triples_of triples)) h < n
-finish_below n triples h all low = ends_below n (triples_of triples) all h (0, 0) (omega (arith, low, length-halves triples))
+finish_below n triples h all low =
+    let ends = edges_below n (triples_of triples) all h (0, 0) (omega (arith, low, length-halves triples)) in
+    ends.1
 
 -- the spokes of a vertex are half-edges of the triangles
 pub spokes_within : (triples : List (List ℕ)) (v : ℕ) (bucket : List ℕ) → bucket ≡ places_of (starts_of (all_edges (triples_of triples))) v → All (λ h. h < 3 * length triples) bucket

@@ -1,13 +1,12 @@
 -- The walk from a vertex: what is marked while it goes on.
-use Rattle.std.proofs.Common.{◌≡◌, ◌⊎◌, ◌<◌, ◌+◌, ℕ, Bool, true, List, [], ◌∷◌, ◌++◌, length, set, refl, sym, ◌∙◌, ap, subst, inl, inr, arith}
+use Rattle.std.proofs.Common.{◌≡◌, ◌⊎◌, ◌<◌, ℕ, Bool, true, List, [], ◌∷◌, ◌++◌, length, set, sym, ◌∙◌, subst, inl, inr, arith}
 use Rattle.std.specs.List.{Contains}
 use Rattle.std.proofs.lemmas.List.{length-set}
 use Rattle.std.proofs.lemmas.List.Elements.{Contains-append_left, Contains-push, Contains-push_cases}
 use Rattle.chain_terms.specs.Chains.{dir}
-use Rattle.chain_terms.specs.Ranks.{finish}
 use Rattle.component_terms.specs.Components.{IsJoined, Here, Along}
 use Rattle.counting_sort.specs.Buckets.{places_of}
-use Rattle.mesh_measures.specs.Walks.{starts_of, IsMarked, IsUnmarked, AreWhole, IsClassMarked, IsEnd, AreReached}
+use Rattle.mesh_measures.specs.Walks.{starts_of, IsMarked, AreWhole, IsClassMarked, IsEnd, AreReached}
 use Rattle.mesh_measures.proofs.Marks.{marked_here, marked_kept, marked_cases, marked_within}
 use Rattle.mesh_measures.proofs.Spokes.{spoke_to, spoke_edge}
 

@@ -2,6 +2,7 @@
 ghost use Rattle.std.specs.Prelude.{◌≡◌, ◌≤◌, IfOk, length, map};
 ghost use Rattle.chain_terms.specs.Chains.{all_edges};
 ghost use Rattle.component_terms.specs.Components.{HasComponents};
+ghost use Rattle.component_terms.specs.Counts.{component_count};
 ghost use Rattle.mesh_terms.specs.Limits.{most_triangles};
 ghost use Rattle.mesh_terms.specs.Meshes.{triples_of};
 ghost use Rattle.mesh_measures.specs.Walks.{starts_of};
@@ -17,7 +18,8 @@ use walk::mark_class;
 /// How many components the mesh has. The half-edges are gathered by the vertices at which they start; then each vertex
 /// that has no mark counts one, and all that are joined to it get theirs.
 pub fn components(alloc: Global, mesh: &Mesh) -> Result<u64, NoMemory>
-    ensures { IfOk result (λ n. HasComponents (length mesh.now.points) (all_edges mesh.now.triples) n) }
+    ensures components { IfOk result (λ n. HasComponents (length mesh.now.points) (all_edges mesh.now.triples) n) }
+    ensures count { IfOk result (λ n. n ≡ component_count (length mesh.now.points) (all_edges mesh.now.triples)) }
 {
     let points = mesh.points().len();
     let starts = starts(alloc, mesh.triples())?;

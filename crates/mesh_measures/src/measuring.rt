@@ -2,6 +2,7 @@
 ghost use Rattle.std.specs.Prelude.{◌≡◌, ◌≤◌, IfOk, length};
 ghost use Rattle.chain_terms.specs.Chains.{all_edges};
 ghost use Rattle.component_terms.specs.Components.{HasComponents};
+ghost use Rattle.component_terms.specs.Counts.{component_count};
 ghost use Rattle.mesh_terms.specs.Limits.{most_points, most_triangles};
 ghost use Rattle.made_terms.specs.Euler.{euler_of};
 ghost use Rattle.made_terms.specs.Volume.{volume6_of};
@@ -20,6 +21,7 @@ pub fn measure(alloc: Global, mesh: &Mesh) -> Result<Measure, NoMemory>
     ensures points { IfOk result (λ m. m.points ≡ length mesh.now.points) }
     ensures triangles { IfOk result (λ m. m.triangles ≡ length mesh.now.triples) }
     ensures components { IfOk result (λ m. HasComponents (length mesh.now.points) (all_edges mesh.now.triples) m.components) }
+    ensures count { IfOk result (λ m. m.components ≡ component_count (length mesh.now.points) (all_edges mesh.now.triples)) }
     ensures euler { IfOk result (λ m. m.euler ≡ euler_of (length mesh.now.points) (length mesh.now.triples)) }
     ensures volume { IfOk result (λ m. m.volume6 ≡ volume6_of mesh.now.points mesh.now.triples) }
 {

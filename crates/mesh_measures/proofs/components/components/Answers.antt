@@ -1,13 +1,13 @@
-use Rattle.std.proofs.Common.{arith, rules, ◌≡◌, ◌<◌, ◌*◌, ◌+◌, [], false, ℕ, ℤ, List, length, get_or, sym, ◌∙◌, ap, subst}
+use Rattle.std.proofs.Common.{arith, ◌≡◌, ◌<◌, ◌+◌, false, ℕ, ℤ, List, length, get_or, sym, ◌∙◌, ap, subst}
 use Rattle.std.specs.List.{All}
 use Rattle.std.proofs.lemmas.List.{get_or_default, length-map, with_items_is}
 use Rattle.chain_terms.specs.Chains.{all_edges}
 use Rattle.component_terms.specs.Components.{HasComponents}
+use Rattle.component_laws.proofs.Counted.{only}
 use Rattle.halfedge.proofs.Edges.{length-all_edges}
-use Rattle.mesh_terms.specs.Meshes.{IsBelow, triples_of}
 use Rattle.mesh_measures.specs.Walks.{starts_of, IsClassMarked}
 use Rattle.mesh_measures.proofs.Classes.{AreWalked, walked_past, walked_class, walked_all, walked_same}
-use Rattle.mesh_measures.proofs.Spokes.{starts_below}
+use Rattle.mesh_measures.proofs.Spokes.{edges_below, starts_below}
 use Rattle.mesh_measures.proofs.components.components.Goals as goal
 use Rattle.mesh_measures.proofs.components.components.Goals.{then-not-index+in_ok-mark_class, else-not-index}
 
@@ -49,11 +49,17 @@ loop-v-preserved c =
       }
     ]
 
-pub returns : goal.returns
-returns c =
+pub returns-clause-components : goal.returns-clause-components
+returns-clause-components c =
     let mesh = c.args.mesh.now in
     let n = length c.points-points.result.now in
     let es = all_edges mesh.triples in
     let all : c.loop-v.v ≡ n = omega arith in
     let walked = subst (λ v. AreWalked es n v c.loop-v.seen.items c.loop-v.count) all c.loop-v.invariant.walked in
     subst (λ (ps : List (List ℤ)). HasComponents (length ps) es c.loop-v.count) c.points-points.ensures.value (walked_all es n c.loop-v.seen.items c.loop-v.count walked)
+
+pub returns-clause-count : goal.returns-clause-count
+returns-clause-count c =
+    let mesh = c.args.mesh.now in
+    let below = edges_below (length mesh.points) mesh.triples c.triples.ensures.accepted.mesh.below in
+    only (length mesh.points) (all_edges mesh.triples) c.loop-v.count below (returns-clause-components c)

@@ -1,4 +1,4 @@
-use Rattle.std.proofs.Common.{◌≡◌, [], length}
+use Rattle.std.proofs.Common.{◌≡◌, []}
 use Rattle.chain_terms.specs.Chains.{all_edges}
 use Rattle.mesh_measures.proofs.Classes.{AreWalked}
 use Rattle.mesh_measures.proofs.components.components.Given as goal

@@ -1,11 +1,10 @@
-use Rattle.std.proofs.Common.{arith, ◌≡◌, ◌≤◌, ◌<◌, ◌*◌, ◌^◌, ◌+◌, ℕ, ℤ, ◌+ℤ◌, unsigned_abs, List, [], length, get_or, map, take, sym, ◌∙◌, ap, subst, to_z, of_z, FitsSigned}
+use Rattle.std.proofs.Common.{arith, ◌≡◌, ◌≤◌, ◌<◌, ◌*◌, ◌^◌, ◌+◌, ℕ, ℤ, ◌+ℤ◌, unsigned_abs, List, [], length, get_or, take, sym, ◌∙◌, ap, subst, to_z, of_z, FitsSigned}
 use Rattle.std.specs.List.{All}
 use Rattle.std.specs.Int.{w128}
 use Rattle.std.proofs.lemmas.Int.{ints}
 use Rattle.std.proofs.lemmas.List.{get_or-map, length-map}
-use Rattle.chain_terms.specs.Sums.{total}
 use Rattle.chain_laws.specs.Sums.{IsWithin, total-map, total_more}
-use Rattle.mesh_terms.specs.Meshes.{Triple, IsBelow, triple_of, triples_of}
+use Rattle.mesh_terms.specs.Meshes.{IsBelow, triple_of, triples_of}
 use Rattle.made_terms.specs.Volume.{triangle_determinant, volume6_of}
 use Rattle.mesh_measures.proofs.volume.volume_of.Goals as goal
 

@@ -1,11 +1,11 @@
-use Rattle.std.proofs.Common.{arith, rules, ◌≡◌, ◌<◌, ◌∷◌, ◌++◌, [], ℕ, List, length, get_or, true, set, sym, ◌∙◌, ap, subst}
+use Rattle.std.proofs.Common.{arith, ◌≡◌, ◌∷◌, ◌++◌, [], length, true, set, sym, ◌∙◌, ap, subst}
 use Rattle.chain_terms.specs.Chains.{all_edges}
 use Rattle.counting_sort.proofs.Upto.{length-map-upto}
 use Rattle.counting_sort.specs.Buckets.{places_of}
 use Rattle.mesh_terms.specs.Meshes.{triples_of}
 use Rattle.mesh_measures.specs.Walks.{starts_of, AreReached}
 use Rattle.mesh_measures.proofs.Spokes.{read_spokes, spokes_within}
-use Rattle.mesh_measures.proofs.Walks.{IsWalking, walk_begins, walk_goes_on, walk_ends, top_below}
+use Rattle.mesh_measures.proofs.Walks.{IsWalking, walk_begins, walk_goes_on, top_below}
 use Rattle.mesh_measures.proofs.components.walk.mark_class.Goals as goal
 
 pub loop-v-init : goal.loop-v-init

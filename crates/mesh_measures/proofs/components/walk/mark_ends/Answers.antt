@@ -1,8 +1,7 @@
-use Rattle.std.proofs.Common.{arith, rules, ◌≡◌, ◌<◌, ◌+◌, ◌∷◌, ◌++◌, [], ℕ, List, length, get_or, take, true, false, set, sym, ◌∙◌, ap, subst}
+use Rattle.std.proofs.Common.{arith, ◌≡◌, ◌+◌, ◌∷◌, ◌++◌, [], length, get_or, take, true, set, ◌∙◌, ap}
 use Rattle.std.proofs.lemmas.List.{take_more}
 use Rattle.chain_terms.specs.Chains.{all_edges}
 use Rattle.mesh_terms.specs.Meshes.{triples_of}
-use Rattle.mesh_measures.specs.Walks.{AreReached}
 use Rattle.mesh_measures.proofs.Ends.{reached_marked, reached_new, reached_same}
 use Rattle.mesh_measures.proofs.Spokes.{finish_below}
 use Rattle.mesh_measures.proofs.components.walk.mark_ends.Goals as goal

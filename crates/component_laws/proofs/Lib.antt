@@ -1,0 +1,4 @@
+pub mod Counted
+mod Examples
+pub mod Joined
+pub mod Labels
