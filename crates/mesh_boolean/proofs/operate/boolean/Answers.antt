@@ -14,13 +14,13 @@ returns-in_err-prescribed-clause-too_large g c =
     (record { first = c.in_ok-p.ensures.value; second = c.in_ok-q.ensures.value; numbers = c.in_ok-windings.ensures.value }) c.in_err-prescribed.ensures.too_large c.from_residual-in_err-prescribed.ensures.1
 
 -- what was assembled
-assembled : (g : Over) → (c : goal.After-drop-p-inside-4 g) → IsOfMeshes (tests g c.args.kernels.now) c.args.op c.args.p.now c.args.q.now c.in_ok-prescribed.prescribed c.in_ok-prescribed.all
+assembled : (g : Over) → (c : goal.After-drop-p-inside-7 g) → IsOfMeshes (tests g c.args.kernels.now) c.args.op c.args.p.now c.args.q.now c.in_ok-prescribed.prescribed c.in_ok-prescribed.all
 assembled g c =
     of_meshes (tests g c.args.kernels.now) c.args.op c.args.p.now c.args.q.now c.in_ok-p.p c.in_ok-q.q (numbers c.in_ok-windings.windings c.in_ok-windings.hits) c.in_ok-prescribed.prescribed c.in_ok-prescribed.all
     (record { first = c.in_ok-p.ensures.value; second = c.in_ok-q.ensures.value; numbers = c.in_ok-windings.ensures.value }) c.in_ok-prescribed.ensures.assembled
 
 -- and its mesh
-outcome : (g : Over) → (c : goal.After-drop-p-inside-4 g) → IsOutcome c.in_ok-prescribed.prescribed c.in_ok-prescribed.all c.in_ok-outcome.field-0
+outcome : (g : Over) → (c : goal.After-drop-p-inside-7 g) → IsOutcome c.in_ok-prescribed.prescribed c.in_ok-prescribed.all c.in_ok-outcome.field-0
 outcome g c = let o = c.in_ok-outcome.ensures in record { points = o.points; triples = o.triples; from = o.from; back = o.back; prescribed = o.prescribed; source = o.source; forced = o.forced }
 
 pub returns-clause-prescribed : goal.returns-clause-prescribed
