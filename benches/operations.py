@@ -54,10 +54,64 @@ def sphere(name, triangles, centre, angles):
     return len(faces)
 
 
+def strip(name, left, right, low, high):
+    """A wall between two lines of as many points, from one height to another."""
+    n = len(left)
+    points = []
+    for z in (low, high):
+        points += [(x, y, z) for x, y in left]
+        points += [(x, y, z) for x, y in right]
+    faces = []
+    for i in range(n - 1):
+        a, b, c, d = i, i + 1, n + i, n + i + 1
+        faces += [(a, b, d), (a, d, c)]
+        faces += [(2 * n + a, 2 * n + d, 2 * n + b), (2 * n + a, 2 * n + c, 2 * n + d)]
+        faces += [(a, 2 * n + b, b), (a, 2 * n + a, 2 * n + b)]
+        faces += [(c, d, 2 * n + d), (c, 2 * n + d, 2 * n + c)]
+    for a, b in ((0, n), (2 * n - 1, n - 1)):
+        faces += [(a, b, 2 * n + b), (a, 2 * n + b, 2 * n + a)]
+    write_mesh(name, points, faces)
+    return len(faces)
+
+
+def spiral(name, turns, steps, low, high):
+    line = []
+    for width in (0, 12_000):
+        side = []
+        for i in range(steps + 1):
+            angle = 2 * math.pi * turns * i / steps
+            reach = 100_000 + 30_000 * angle / (2 * math.pi) + width
+            side.append((reach * math.cos(angle), reach * math.sin(angle)))
+        line.append(side)
+    return strip(name, line[0], line[1], low, high)
+
+
+BOX = [(0, 3, 1), (0, 2, 3), (4, 5, 7), (4, 7, 6), (0, 1, 4), (1, 5, 4), (1, 3, 7), (1, 7, 5), (3, 2, 6), (3, 6, 7), (0, 4, 6), (0, 6, 2)]
+
+
+def posts(name, side):
+    """side * side upright boxes, all in one mesh."""
+    points, faces = [], []
+    for i in range(side):
+        for j in range(side):
+            x, y = 1000 * i + 17 * j, 1000 * j + 31 * i
+            base = len(points)
+            points += [(x + u, y + v, w) for w in (-500, 1500) for v in (0, 400) for u in (0, 400)]
+            faces += [(base + a, base + b, base + c) for a, b, c in BOX]
+    write_mesh(name, points, faces)
+    return len(faces)
+
+
 def spheres(triangles):
     count = sphere("a.obj", triangles, (0, 0, 0), (0.1, 0.2, 0.3))
     count += sphere("b.obj", triangles, (170_000_000, 90_000_000, 40_000_000), (1.1, 0.7, 2.3))
     return count, ["a.obj", "b.obj"], ["union u a b", "save u out.obj"]
+
+
+def lattice(n):
+    reach = 100 * n
+    script = ["lattice g %d 7" % n, "box c %d -100 -150 %d %d %d" % (reach // 2 + 5, reach + 1000, reach + 100, reach + 50)]
+    return 12 * n ** 3 + 12, [], script + ["subtract u g c", "save u out.obj"]
 
 
 def itself():
@@ -65,11 +119,33 @@ def itself():
     return count, ["a.obj"], ["union u a a", "save u out.obj"]
 
 
+def wall():
+    count = spiral("a.obj", 8, 1000, -50_000, 50_000)
+    return count + 12, ["a.obj"], ["box b -2000000 -2000000 -900000 2000000 2000000 0", "union u b a", "save u out.obj"]
+
+
+def plate(side):
+    count = posts("a.obj", side)
+    return count + 12, ["a.obj"], ["box b -5000 -5000 0 90000 70000 1000", "subtract u b a", "save u out.obj"]
+
+
+def chain():
+    script = ["box u 0 0 0 10 10 10"]
+    for i in range(1, 32):
+        script += ["box b %d 0 0 %d 10 10" % (10 * i, 10 * i + 10), "union u u b"]
+    return 12 * 32, [], script + ["save u out.obj"]
+
+
 JOBS = {
     "spheres_10k": lambda: spheres(10_000),
     "spheres_100k": lambda: spheres(100_000),
     "spheres_1m": lambda: spheres(1_000_000),
+    "lattice_20": lambda: lattice(20),
+    "lattice_30": lambda: lattice(30),
     "itself": itself,
+    "spiral": wall,
+    "plate_400": lambda: plate(20),
+    "chain": chain,
 }
 
 

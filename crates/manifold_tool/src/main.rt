@@ -1,5 +1,5 @@
-//! `manifold_tool`: unites, intersects and subtracts closed triangle meshes by the lines of a script, copies one from file to file, and says how often one winds
-//! round a point. A result is closed for any input that is accepted.
+//! `manifold_tool`: makes, moves, unites, intersects, subtracts and measures closed triangle meshes by the lines of a script, copies one from file to file, and
+//! says how often one winds round a point. A result is closed for any input that is accepted.
 //!
 //! `run` is the top call, and its contract is the program's promise. `start` hands it the program's limits, and `main` only makes the real folder and
 //! streams.

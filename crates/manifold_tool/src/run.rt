@@ -48,10 +48,11 @@ fn concluded<E: Sink>(ended: Result<(), Halt<'_>>, err: &mut E) -> Status
 /// nothing is done but the usage line on `err`. A unit of the files has 10^K steps of the grid, where K are the digits. `copy` reads and checks the mesh
 /// of IN, saves it to OUT and reports that on `out` in one line. `inside` reads and checks the mesh of FILE and reports the winding number of the point
 /// in it, and counts one step; a run that ends before the number is found counts none. `run` reads the whole script of SCRIPT, whose lines load meshes
-/// and give them names, unite, intersect and subtract them, and save them; a faulty line is `BadScript`, and then no line is done. It then does its lines
-/// in order, and reports each on `out` in one line. What was saved before a stop stays. Of a script only operations count steps; where the shelf tells
-/// its files these are at most one for each vertex of their meshes, reduced. Whatever goes wrong first ends the run with its status and one line on
-/// `err`, and a fault of `err` changes no status. A run that ends well leaves `err` as it was.
+/// or make solids and give them names, shift, scale, mirror and turn them, unite, intersect and subtract them, measure and save them; a faulty line is
+/// `BadScript`, and then no line is done. It then does its lines in order, and reports each that loads, combines, measures or saves on `out` in one line.
+/// A solid without a volume, and a solid or a moved mesh that would leave the grid, is `BadMesh`. What was saved before a stop stays. Of a script only
+/// operations count steps; where the shelf tells its files these are at most one for each vertex of their meshes, reduced. Whatever goes wrong first ends
+/// the run with its status and one line on `err`, and a fault of `err` changes no status. A run that ends well leaves `err` as it was.
 ///
 /// The run meets its play, which is the task of its words under the limits; where the shelf tells its files, that says what was done, and of `out`
 /// it says the bytes where `out` tells them. With status 0 to 5 every action of the play was done whole, and the status and the

@@ -44,7 +44,7 @@ impl Status {
     }
 }
 
-/// The status of a run that stopped at a file, or for want of its words.
+/// The status of a run that stopped at a file, at a line of its script, or for want of its words.
 pub fn status_at(stop: &Stop) -> Status
     ensures { (name : Bytes) → status_number result ≡ why_status (why_of name stop.now) }
 {
@@ -52,7 +52,10 @@ pub fn status_at(stop: &Stop) -> Status
         Stop::Usage => Status::Usage,
         Stop::BadScript { .. } => Status::BadScript,
         Stop::Missing => Status::MissingFile,
-        Stop::BadText { .. } | Stop::BadEdge { .. } => Status::BadMesh,
+        Stop::BadText { .. }
+        | Stop::BadEdge { .. }
+        | Stop::FlatSolid { .. }
+        | Stop::OutOfGrid { .. } => Status::BadMesh,
         Stop::Over { .. } => Status::Limit,
         Stop::ReadFault => Status::ReadFault,
         Stop::WriteFault => Status::WriteFault,

@@ -1,5 +1,6 @@
 // Whole runs over memory, with what users and scripts see of them: status, output, error line, files.
 mod files;
+mod made;
 mod scripts;
 mod solids;
 mod words;

@@ -3,7 +3,7 @@ ghost use Rattle.std.specs.Prelude.{◌≡◌, Bool, IfOk, None, length};
 ghost use Rattle.mesh_terms.specs.Meshes.{IsAccepted, triples_of};
 ghost use Rattle.made_terms.specs.Refusals.{excess, solid_fault};
 ghost use Rattle.mesh_make.specs.Refused.{IsRefusedFor, refusal};
-ghost use Rattle.mesh_make.specs.Solids.{IsSolid, AreFew, AreFine};
+ghost use Rattle.made_laws.specs.Solids.{IsSolid, AreFew, AreFine};
 
 use crate::fault::MakeFault;
 use crate::rows::{all_on_grid, push_points};

@@ -3,7 +3,6 @@ pub mod FanNumbers
 pub mod GridNumbers
 pub mod HitPoints
 pub mod Made
-pub mod Readable
 pub mod ReducedSides
 pub mod Results
 pub mod SplitMesh

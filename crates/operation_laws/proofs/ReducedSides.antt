@@ -17,7 +17,7 @@ use Rattle.lean.proofs.Corners.{corners_long, corners_whole}
 use Rattle.assembly_terms.specs.PointLaws.{corners_points}
 use Rattle.assembly_terms.specs.Points.{points_of}
 use Rattle.mesh_boolean.specs.Operation.{reduced_mesh}
-use Rattle.operation_laws.specs.Laws.{IsGiven}
+use Rattle.made_laws.specs.Laws.{IsGiven}
 
 -- a side at points of the grid, without opposite triples
 pub record IsKnown (side : Side) : Type 0 where

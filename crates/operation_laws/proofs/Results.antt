@@ -12,13 +12,14 @@ use Rattle.rounding.specs.Lawful.{nearest_within, settle_monotone, settle_units}
 use Rattle.rounding.specs.Nearest.{nearest, settle_nearest}
 use Rattle.shadow_kernels.specs.Hulls.{StaysBetween}
 use Rattle.edge_face.specs.CrossLaws.{IsSettling}
+use Rattle.made_laws.specs.Laws.{IsGiven, IsGivenWithin}
 use Rattle.script_laws.specs.ReadingBack.{MeshReadable}
-use Rattle.mesh_boolean.specs.Operation.{first_side, numbers_of, operation, reduced_mesh, second_side}
+use Rattle.script_laws.proofs.Readable.{readable_within, within_of_readable}
+use Rattle.mesh_boolean.specs.Operation.{Outcome, first_side, numbers_of, operation, reduced_mesh, second_side}
 use Rattle.operation_laws.specs.Grid.{grid_tests, told_of}
-use Rattle.operation_laws.specs.Laws.{IsGiven, OperationsAreAccepted, OperationsAreReadable}
+use Rattle.operation_laws.specs.Laws.{OperationsAreAccepted, OperationsAreReadable}
 use Rattle.operation_laws.proofs.GridNumbers.{are_numbers}
 use Rattle.operation_laws.proofs.Made.{AreFilled, IsMade, is_made}
-use Rattle.operation_laws.proofs.Readable.{given_of_readable, made_within, readable_within}
 use Rattle.operation_laws.proofs.ReducedSides.{IsKnown, reduced_side}
 
 -- rounding to the nearest stays between, and settles as it should
@@ -58,6 +59,14 @@ made_of : AreFilled → (limits : Limits) → IsLawful limits → (op : Op) (p q
 made_of laws limits lawful op p q p_given q_given within =
     operation_made laws op p q p_given q_given (few_halfedges limits (operation grid_tests op p q).halfedges lawful within)
 
+-- what is made is within lawful limits where its half-edges are
+made_within : (limits : Limits) (o : Outcome) → IsLawful limits → IsMade o → o.halfedges ≤ limits.halfedges → IsGivenWithin limits (told_of o).mesh
+made_within limits o lawful made within = record {
+  given = record { accepted = made.accepted; on_grid = made.on_grid };
+  few_points = omega (arith, made.few_points, made.few_triples, within, lawful.triangles_enough, lawful.points_enough);
+  few_triples = omega (arith, made.few_triples, within, lawful.triangles_enough);
+}
+
 -- under lawful limits an operation on accepted meshes gives an accepted mesh within the limits, where its half-edges are
 pub operations_are_accepted : AreFilled → OperationsAreAccepted
 operations_are_accepted laws limits lawful op p q p_given q_given within =
@@ -71,10 +80,10 @@ pub operations_are_readable : AreFilled → (k : ℕ) (limits : Limits) → k �
 operations_are_readable laws k limits few lawful op p q p_given q_given within =
     let o = operation grid_tests op p q in
     let made = made_of laws limits lawful op p q p_given q_given within in
-    readable_within k limits (told_of o).mesh few lawful (made_within limits o lawful made within) made.accepted.closed
+    readable_within k limits (told_of o).mesh few lawful (made_within limits o lawful made within)
 
 -- so what a script makes of meshes that are read of their texts is read of its text
 pub results_readable : AreFilled → OperationsAreReadable
 results_readable laws k limits few lawful op p q p_readable q_readable within =
-    operations_are_readable laws k limits few lawful op p q (given_of_readable k limits p lawful p_readable) (given_of_readable k limits q lawful q_readable)
+    operations_are_readable laws k limits few lawful op p q (within_of_readable k limits p lawful p_readable).given (within_of_readable k limits q lawful q_readable).given
     (ltb-false limits.halfedges (operation grid_tests op p q).halfedges within)

@@ -5,23 +5,19 @@ use Rattle.mb_base.specs.declared.op.Op.{Op}
 use Rattle.mesh_terms.specs.Limits.{IsLawful, Limits}
 use Rattle.mesh_terms.specs.Meshes.{IsAccepted, Mesh}
 use Rattle.mesh_terms.specs.Points.{IsPoint}
+use Rattle.made_laws.specs.Laws.{IsGiven}
 use Rattle.script_laws.specs.ReadingBack.{ResultsReadable}
 use Rattle.mesh_boolean.specs.Operation.{Outcome, operation}
 use Rattle.operation_laws.specs.Grid.{grid_meanings, grid_tests}
 
--- an accepted mesh at points of the grid
-pub record IsGiven (m : Mesh) : Type 0 where
-  pub accepted : IsAccepted (length m.points) m.triples
-  pub on_grid : All IsPoint m.points
-
--- such a mesh within limits
+-- an accepted mesh at points of the grid, within limits
 pub record IsResult (limits : Limits) (o : Outcome) : Type 0 where
   pub accepted : IsAccepted (length o.points) o.triples
   pub on_grid : All IsPoint o.points
   pub few_points : length o.points ≤ limits.points
   pub few_triples : length o.triples ≤ limits.triangles
 
--- of two such meshes an operation makes one within lawful limits, where the half-edges are within them
+-- of two accepted meshes at points of the grid an operation makes one within lawful limits, where the half-edges are within them
 abbrev pub OperationsAreAccepted : Type 0
 OperationsAreAccepted =
     (limits : Limits) → IsLawful limits → (op : Op) (p q : Mesh) → IsGiven p → IsGiven q

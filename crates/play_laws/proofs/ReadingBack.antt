@@ -58,12 +58,22 @@ mesh_within k limits name bytes m lawful is = by_format (is_stl name) is where
   by_format true read = stl_gives_meshes k limits lawful bytes m read
   by_format false read = obj_gives_meshes k limits lawful bytes m read
 
--- a mesh that was read is read again where its OBJ text is written
+-- what was read of a file is a closed mesh within the limits
+pub mesh_taken : (k : ℕ) (limits : Limits) (name bytes : Bytes) (m : Soup) → IsLawful limits → checked name (mesh_soup k limits name bytes) ≡ Ok m
+    → IsWithin limits m.points m.triples × (open_pair (all_edges m.triples) ≡ None)
+mesh_taken k limits name bytes m lawful is =
+    let taken = taken_checked name (mesh_soup k limits name bytes) m is in
+    (mesh_within k limits name bytes m lawful taken.0, taken.1)
+
+-- a closed mesh within the limits is read where its OBJ text is written
+pub closed_readable : (k : ℕ) (limits : Limits) (m : Soup) → k ≤ 6 → IsLawful limits → IsWithin limits m.points m.triples → open_pair (all_edges m.triples) ≡ None → IsReadable k limits m
+closed_readable k limits m few lawful within closed = text_is_taken k limits m (meshes_read_back k few limits lawful m.points m.triples within) closed
+
+-- so a mesh that was read is read again
 pub read_again : (k : ℕ) (limits : Limits) (name bytes : Bytes) (m : Soup) → k ≤ 6 → IsLawful limits → checked name (mesh_soup k limits name bytes) ≡ Ok m → IsReadable k limits m
 read_again k limits name bytes m few lawful is =
-    let taken = taken_checked name (mesh_soup k limits name bytes) m is in
-    let within = mesh_within k limits name bytes m lawful taken.0 in
-    text_is_taken k limits m (meshes_read_back k few limits lawful m.points m.triples within) taken.1
+    let taken = mesh_taken k limits name bytes m lawful is in
+    closed_readable k limits m few lawful taken.0 taken.1
 
 -- a file is asked for
 asked : (k : ℕ) (limits : Limits) (name : Bytes) → Keeps (WritesReadable k limits) (λ _. Unit {0}) (ask_file limits name)

@@ -16,10 +16,9 @@ pub four_before : (a b c d text line : Bytes) → line ≡ line_of text → a ++
 four_before a b c d text line is =
     sym (from_right a b c d line) ∙ ap (λ t. a ++ b ++ c ++ d ++ t) is ∙ sym (append_assoc (a ++ b ++ c ++ d) text (10 ∷ []))
 
--- four texts after another
-pub four_after : (first a b c d : Bytes) → first ++ (a ++ b ++ c ++ d) ≡ first ++ a ++ b ++ c ++ d
-four_after first a b c d =
-    sym (append_assoc first (a ++ b ++ c) d) ∙ ap (λ t. t ++ d) (sym (append_assoc first (a ++ b) c)) ∙ ap (λ t. t ++ c ++ d) (sym (append_assoc first a b))
+-- two texts before a line
+pub two_before : (a b text line : Bytes) → line ≡ line_of text → a ++ (b ++ line) ≡ line_of (a ++ b ++ text)
+two_before a b text line is = sym (append_assoc a b line) ∙ ap (λ t. a ++ b ++ t) is ∙ sym (append_assoc (a ++ b) text (10 ∷ []))
 
 -- the word of an operation with what stands round it, before a text
 op_parts : (op : Op) (left right text : Bytes) → (codes " = " ++ op_word op ++ codes " ") ++ (left ++ (codes " " ++ (right ++ text))) ≡ codes " = " ++ (operation_text op left right ++ text)
@@ -36,3 +35,11 @@ combined_parts op name left right line o is =
     ap (λ t. name ++ t) (op_parts op left right line)
     ∙ ap (λ t. name ++ (codes " = " ++ (operation_text op left right ++ t))) is
     ∙ sym (from_right name (codes " = ") (operation_text op left right) (combined_text o) (10 ∷ []))
+
+-- three texts, each with a number, put into a line one after the other
+pub three_put : (a x b y c z put_y put_z first second third last : Bytes) → first ≡ a ++ x → second ≡ first ++ (b ++ put_y) → third ≡ second ++ (c ++ put_z) → last ≡ third ++ codes "\n"
+    → put_y ≡ y → put_z ≡ z → last ≡ line_of (a ++ x ++ b ++ y ++ c ++ z)
+three_put a x b y c z put_y put_z first second third last one two three end is_y is_z =
+    let before : second ≡ a ++ x ++ b ++ y = two ∙ (λ i. one i ++ (b ++ is_y i)) ∙ sym (append_assoc (a ++ x) b y) in
+    let all : third ≡ a ++ x ++ b ++ y ++ c ++ z = three ∙ (λ i. before i ++ (c ++ is_z i)) ∙ sym (append_assoc (a ++ x ++ b ++ y) c z) in
+    end ∙ ap line_of all

@@ -1,3 +1,4 @@
 pub mod Counts
 pub mod Halts
+pub mod Measures
 pub mod Reports

@@ -9,4 +9,4 @@ mod tail;
 
 pub use halt::Halt;
 pub use report::{say_copied, say_winding, tell_halt, tell_stop};
-pub use script_report::{OperationCounts, say_combined, say_loaded, say_saved};
+pub use script_report::{OperationCounts, say_combined, say_loaded, say_measured, say_saved};

@@ -7,17 +7,20 @@ ghost use Rattle.mb_outside.specs.Sinks.{AddsPart};
 ghost use Rattle.play_terms.specs.Commands.{say_line};
 ghost use Rattle.script_terms.specs.Combined.{Combined};
 ghost use Rattle.script_terms.specs.Commands.{op_word};
-ghost use Rattle.script_terms.specs.Lines.{combine_line, load_line, save_line};
+ghost use Rattle.script_terms.specs.Lines.{combine_line, load_line, measure_line, save_line};
+ghost use Rattle.mesh_terms.specs.Meshes.{Mesh as TheMesh};
 ghost use Rattle.mesh_files.specs.Stops.{soup_of};
 ghost use Rattle.report_lines.specs.Counts.{counts_of};
+ghost use Rattle.report_lines.specs.Measures.{IsMeasureOf};
 ghost use Rattle.report_lines.specs.Reports.{said};
 
 use crate::report::say;
-use crate::script_tail::{combined_tail, saved_tail};
+use crate::script_tail::{combined_tail, measured_tail, saved_tail, size_tail};
 use crate::tail::copied_tail;
 use mb_base::Op;
 use mb_outside::{Failed, Sink, write_all};
 use mesh_check::Mesh;
+use mesh_measures::Measure;
 
 /// The numbers of an operation: how many vertices of each mesh were kept, how many crossings there are, and how many cuts were forced.
 #[derive(Clone, Copy, Debug, PartialEq, Eq, Drop)]
@@ -91,6 +94,17 @@ pub fn say_saved<K: Sink>(name: &str, file: &str, mesh: &Mesh, sink: &mut K) -> 
     let tail = saved_tail(points, triangles);
     let (name, file) = (name.as_bytes(), file.as_bytes());
     say_five(b"save ", name, b" ", file, tail.as_slice(), sink)
+}
+
+/// Reports the measures of a mesh: `NAME: points P, triangles T, components C, euler E, volume6 V`. After `Failed`, which comes only where the
+/// sink's count rose, it has a first part of the line.
+pub fn say_measured<K: Sink>(name: &str, measure: &Measure, sink: &mut K) -> Result<(), Failed>
+    ensures meets { (m : TheMesh) → IsMeasureOf m measure.now →
+        MeetsOnOutput K.Sink (say_line (measure_line name.now m)) sink.old sink.new (said result) }
+{
+    let size = size_tail(measure.points, measure.triangles);
+    let tail = measured_tail(measure.components, measure.euler, measure.volume6);
+    say(name.as_bytes(), size.as_slice(), tail.as_slice(), sink)
 }
 
 // The word of an operation, between the name that gets the result and those of the two meshes.

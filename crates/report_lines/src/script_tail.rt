@@ -1,12 +1,14 @@
-// The ends of the lines that scripts say, and of the line that tells a faulty script.
+// The ends of the lines that scripts say, and the kinds of faults of a script.
 ghost use Rattle.std.specs.Prelude.{◌≡◌, ◌≤◌, ◌++◌, codes, decimal, length, slice_index};
+ghost use Rattle.std.specs.Fmt.{signed_decimal};
+ghost use Rattle.arrayvec.specs.ArrayVec.{array_vec_len};
 ghost use Rattle.text_terms.specs.Written.{line_of};
 ghost use Rattle.script_terms.specs.Lines.{script_kind_name};
 
 use crate::tail::{Tail, put, put_pair};
 
-// The name of a kind of fault of a script.
-fn script_kind_text(kind: u8) -> &'static [u8]
+/// The name of a kind of fault of a script.
+pub fn script_kind_text(kind: u8) -> &'static [u8]
     ensures text { result.now ≡ script_kind_name kind }
     ensures short { length result.now ≤ 14 }
 {
@@ -20,16 +22,14 @@ fn script_kind_text(kind: u8) -> &'static [u8]
     }
 }
 
-/// The end of the line of a faulty script.
-pub fn script_tail(line: u64, kind: u8) -> Tail
-    ensures { result.items ≡ codes ":" ++ decimal line ++ codes ": " ++ decimal kind ++ codes " " ++ script_kind_name kind ++ codes "\n" }
+/// The numbers of points and triangles, which the lines of saved and measured meshes have.
+pub fn size_tail(points: u64, triangles: u64) -> Tail
+    ensures text { result.items ≡ codes ": points " ++ decimal points ++ codes ", triangles " ++ decimal triangles }
+    ensures short { array_vec_len result ≤ 61 }
 {
     let mut tail = Tail::new();
-    put_pair(&mut tail, b":", line);
-    put_pair(&mut tail, b": ", u64::from(kind));
-    put(&mut tail, b" ");
-    put(&mut tail, script_kind_text(kind));
-    put(&mut tail, b"\n");
+    put_pair(&mut tail, b": points ", points);
+    put_pair(&mut tail, b", triangles ", triangles);
     tail
 }
 
@@ -37,9 +37,19 @@ pub fn script_tail(line: u64, kind: u8) -> Tail
 pub fn saved_tail(points: u64, triangles: u64) -> Tail
     ensures { result.items ≡ line_of (codes ": points " ++ decimal points ++ codes ", triangles " ++ decimal triangles) }
 {
+    let mut tail = size_tail(points, triangles);
+    put(&mut tail, b"\n");
+    tail
+}
+
+/// The end of the line that reports the measures of a mesh, after the numbers of its points and triangles.
+pub fn measured_tail(components: u64, euler: i64, volume6: i128) -> Tail
+    ensures { result.items ≡ line_of (codes ", components " ++ decimal components ++ codes ", euler " ++ signed_decimal euler ++ codes ", volume6 " ++ signed_decimal volume6) }
+{
     let mut tail = Tail::new();
-    put_pair(&mut tail, b": points ", points);
-    put_pair(&mut tail, b", triangles ", triangles);
+    put_pair(&mut tail, b", components ", components);
+    put_pair(&mut tail, b", euler ", euler);
+    put_pair(&mut tail, b", volume6 ", volume6);
     put(&mut tail, b"\n");
     tail
 }

@@ -7,9 +7,9 @@ ghost use Rattle.play_terms.specs.Ends.{why_line};
 ghost use Rattle.play_terms.specs.Lines.{counts_text, kind_name, limit_name};
 ghost use Rattle.mesh_files.specs.Stops.{why_of};
 
-use crate::script_tail::script_tail;
+use crate::script_tail::script_kind_text;
 use arrayvec::ArrayVec;
-use itoa::Buffer;
+use itoa::{Buffer, Integer};
 use mb_base::{Counted, TextKind};
 use mesh_files::Stop;
 
@@ -29,20 +29,20 @@ pub fn put(tail: &mut Tail, text: &[u8])
 }
 
 // Adds a number.
-fn put_number(tail: &mut Tail, number: u64)
-    requires { array_vec_len tail.old ≤ 108 }
-    ensures text { tail.new.items ≡ tail.old.items ++ decimal number }
-    ensures len { array_vec_len tail.new ≤ array_vec_len tail.old + 20 }
+fn put_number<I: Integer>(tail: &mut Tail, number: I)
+    requires { array_vec_len tail.old + I.MAX_STR_LEN ≤ 128 }
+    ensures text { tail.new.items ≡ tail.old.items ++ I.text number }
+    ensures len { array_vec_len tail.new ≤ array_vec_len tail.old + I.MAX_STR_LEN }
 {
     let mut buffer = Buffer::new();
     put(tail, buffer.format(number).as_bytes());
 }
 
 /// Adds a text and a number.
-pub fn put_pair(tail: &mut Tail, text: &[u8], number: u64)
-    requires { array_vec_len tail.old + length text.now ≤ 108 }
-    ensures text { tail.new.items ≡ tail.old.items ++ (text.now ++ decimal number) }
-    ensures len { array_vec_len tail.new ≤ array_vec_len tail.old + length text.now + 20 }
+pub fn put_pair<I: Integer>(tail: &mut Tail, text: &[u8], number: I)
+    requires { array_vec_len tail.old + length text.now + I.MAX_STR_LEN ≤ 128 }
+    ensures text { tail.new.items ≡ tail.old.items ++ (text.now ++ I.text number) }
+    ensures len { array_vec_len tail.new ≤ array_vec_len tail.old + length text.now + I.MAX_STR_LEN }
 {
     put(tail, text);
     put_number(tail, number);
@@ -94,15 +94,16 @@ fn limit_text(what: Counted) -> &'static [u8]
     }
 }
 
-// The end of the line of a faulty text.
-fn text_tail(line: u64, kind: TextKind) -> Tail
-    ensures { result.items ≡ codes ":" ++ decimal line ++ codes ": " ++ decimal (kind_number kind) ++ codes " " ++ kind_name (kind_number kind) ++ codes "\n" }
+// The end of the line that tells a fault on a line of a file, with the number and the name of its kind.
+fn line_tail(line: u64, kind: u64, name: &[u8]) -> Tail
+    requires { length name.now ≤ 17 }
+    ensures { result.items ≡ codes ":" ++ decimal line ++ codes ": " ++ decimal kind ++ codes " " ++ name.now ++ codes "\n" }
 {
     let mut tail = Tail::new();
     put_pair(&mut tail, b":", line);
-    put_pair(&mut tail, b": ", kind_code(kind));
+    put_pair(&mut tail, b": ", kind);
     put(&mut tail, b" ");
-    put(&mut tail, kind_text(kind));
+    put(&mut tail, name);
     put(&mut tail, b"\n");
     tail
 }
@@ -152,9 +153,17 @@ pub fn stop_line<'a>(name: &'a str, stop: &Stop) -> (&'a [u8], Tail)
                 b"usage: manifold_tool copy IN OUT, inside FILE X Y Z or run SCRIPT, each with --digits K\n",
             ),
         ),
-        Stop::BadScript { line, kind } => (name, script_tail(*line, *kind)),
+        Stop::BadScript { line, kind } => {
+            let tail = line_tail(*line, u64::from(*kind), script_kind_text(*kind));
+            (name, tail)
+        }
+        Stop::OutOfGrid { line } => (name, line_tail(*line, 15, b"OutOfGrid")),
+        Stop::FlatSolid { line } => (name, line_tail(*line, 16, b"FlatSolid")),
         Stop::Missing => (name, plain_tail(b": missing\n")),
-        Stop::BadText { line, kind } => (name, text_tail(*line, *kind)),
+        Stop::BadText { line, kind } => {
+            let tail = line_tail(*line, kind_code(*kind), kind_text(*kind));
+            (name, tail)
+        }
         Stop::BadEdge { from, to } => (name, edge_tail(*from, *to)),
         Stop::Over { what, seen } => (b"", limit_tail(*what, *seen)),
         Stop::ReadFault => (name, plain_tail(b": read fault\n")),
@@ -180,8 +189,7 @@ pub fn winding_tail(number: i64) -> Tail
     ensures { result.items ≡ signed_decimal number ++ codes "\n" }
 {
     let mut tail = Tail::new();
-    let mut buffer = Buffer::new();
-    put(&mut tail, buffer.format(number).as_bytes());
+    put_number(&mut tail, number);
     put(&mut tail, b"\n");
     tail
 }

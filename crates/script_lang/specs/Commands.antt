@@ -1,22 +1,33 @@
--- The commands and operands as the definitions of scripts have them.
+-- The commands as the definitions of scripts have them.
 use Rattle.std.specs.Prelude.{ℕ}
 use Rattle.script_terms.specs.Commands as terms
-use Rattle.script_terms.specs.Operands as terms_operands
 use Rattle.script_lang.specs.declared.commands.Command.{Command}
-use Rattle.script_lang.specs.declared.commands.Command.TheVariants.{Load, Save, Combine}
-use Rattle.script_lang.specs.declared.commands.Operand.{Operand}
-use Rattle.script_lang.specs.declared.commands.Operand.TheVariants.{NewName, OldName, FileName}
+use Rattle.script_lang.specs.declared.commands.Command.TheVariants.{Load, Save, Measure, Combine, Make, Move}
+use Rattle.script_lang.specs.declared.commands.MotionKind.{MotionKind}
+use Rattle.script_lang.specs.declared.commands.MotionKind.TheVariants.{Shift, Scale, Mirror, Turn}
+use Rattle.script_lang.specs.declared.commands.SolidKind.{SolidKind}
+use Rattle.script_lang.specs.declared.commands.SolidKind.TheVariants.{Box, Tetra, Prism, Lattice}
 
 -- no command has more operands
 abbrev pub most_operands : ℕ
-most_operands = 3
+most_operands = 7
 
-abbrev pub operand_of : Operand → terms_operands.Operand
-operand_of NewName = terms_operands.NewName
-operand_of OldName = terms_operands.OldName
-operand_of FileName = terms_operands.FileName
+abbrev pub making : SolidKind → terms.Command
+making Box = terms.box
+making Tetra = terms.tetra
+making Prism = terms.prism
+making Lattice = terms.lattice
+
+abbrev pub moving : MotionKind → terms.Command
+moving Shift = terms.shift
+moving Scale = terms.scale
+moving Mirror = terms.mirror
+moving Turn = terms.turn
 
 abbrev pub command_of : Command → terms.Command
 command_of Load = terms.load
 command_of Save = terms.save
+command_of Measure = terms.measure
 command_of (Combine op) = terms.combine op
+command_of (Make solid) = making solid
+command_of (Move motion) = moving motion

@@ -1,4 +1,5 @@
 pub mod Commands
 pub mod Faults
 pub mod Names
+pub mod Operands
 pub mod Steps

@@ -15,6 +15,9 @@ pub const BAD_NAME: u8 = 22;
 /// A name is not that of an earlier line.
 pub const NAME_NOT_DEFINED: u8 = 23;
 
+/// A number is none, is off the grid or out of its range, or an axis is none.
+pub const BAD_NUMBER: u8 = 24;
+
 /// A file is no text, or has another suffix.
 pub const BAD_SUFFIX: u8 = 25;
 

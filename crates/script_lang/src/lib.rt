@@ -8,10 +8,21 @@
 //! |---|---|---|
 //! | `load` | NAME FILE | reads a mesh |
 //! | `save` | OLD FILE | writes a mesh |
+//! | `measure` | OLD | tells the measures of a mesh |
 //! | `union` `intersect` `subtract` | NAME OLD OLD | the operation on two meshes |
+//! | `box` | NAME X Y Z X Y Z | the box between two corners, the low one first |
+//! | `tetra` | NAME X Y Z SIZE | a tetrahedron with a right angle at a corner |
+//! | `prism` | NAME X Y Z SIZE HEIGHT | a prism with a right angle at a corner |
+//! | `lattice` | NAME N SEED | N boxes along each axis |
+//! | `shift` | NAME OLD X Y Z | a mesh with X, Y and Z added |
+//! | `scale` | NAME OLD FACTOR | a mesh with each coordinate multiplied |
+//! | `mirror` | NAME OLD AXIS | a mesh with the other sign on one axis |
+//! | `turn` | NAME OLD AXIS | a mesh after a quarter turn about an axis |
 //!
 //! A NAME is one to 32 bytes: an ASCII letter, then ASCII letters, digits and `_`. An OLD is the NAME of an earlier
-//! line. A FILE is a text that ends with `.obj`, ASCII case ignored.
+//! line. A FILE is a text that ends with `.obj` or `.stl`, ASCII case ignored. X, Y, Z, SIZE and HEIGHT are decimal
+//! numbers on the grid. N is from 1 to 60, SEED from 0 to 999999 and FACTOR from 1 to 1000000, each in one to seven
+//! digits. An AXIS is `x`, `y` or `z`.
 #![tactic(auto)]
 
 ghost use Rattle.std.specs.Prelude.{◌≡◌, ◌≤◌, [], Ok, IfOk, IfErr};
@@ -25,16 +36,17 @@ mod lines;
 mod names;
 mod operands;
 mod reading;
+mod solids;
 mod steps;
 mod words;
 
 pub use fault::ScriptFault;
 use reading::Reading;
 use std::alloc::Global;
-pub use steps::{Line, Script, Step, Word};
+pub use steps::{Line, Motion, Script, Solid, Step, Word};
 
 /// The steps of a script in their order, each with the number of its line, from 1. Their words are those of the
-/// script's bytes. A number among the operands would be read under so many digits; none of the commands has one.
+/// script's bytes. Numbers on the grid are read under so many digits, in grid steps; axes are 0 to 2 for x to z.
 ///
 /// The first faulty line refuses the script, with
 ///
@@ -42,6 +54,7 @@ pub use steps::{Line, Script, Step, Word};
 /// - 21 where the operands are not as many as stated, and then for the operands in their order
 /// - 22 where a NAME or OLD is no name,
 /// - 23 where an OLD is not the NAME of an earlier line,
+/// - 24 where a number is none, off the grid or out of its range, or an AXIS is none,
 /// - 25 where a FILE is no text of UTF-8, or ends otherwise.
 ///
 /// Besides these only memory may lack. The time is in proportion to the bytes, where the look-up of a name counts as

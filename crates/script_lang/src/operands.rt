@@ -1,17 +1,38 @@
 // The operands of a command.
-ghost use Rattle.std.specs.Prelude.{◌≡◌, ◌≤◌, nat_le, map, length, None, Some, IfOk, OnOk, IfErr, IfSome, IsNone};
+ghost use Rattle.std.specs.Prelude.{◌≡◌, ◌≤◌, ◌<◌, nat_le, map, length, None, Some, unwrap_or, IfOk, OnOk, IfErr, IfSome, IsNone};
 ghost use Rattle.std.specs.List.{list_all};
+ghost use Rattle.mesh_terms.specs.Points.{IsOnGrid, IsPoint};
+ghost use Rattle.text_terms.specs.Numbers.{digits_value};
 ghost use Rattle.script_lang.specs.Commands.{most_operands};
-ghost use Rattle.script_terms.specs.Operands.{begins_name, is_name, is_name_byte, new_name_fault, file_name_fault};
+ghost use Rattle.script_lang.specs.Operands.{few_digits, three_fault, three_of};
+ghost use Rattle.script_terms.specs.Operands.{
+  axis,
+  axis_fault,
+  begins_name,
+  file_name_fault,
+  is_name,
+  is_name_byte,
+  new_name_fault,
+  number_fault,
+  number_of,
+  within_fault,
+};
 
-use crate::commands::MOST;
-use crate::fault::{BAD_NAME, BAD_SUFFIX};
+use crate::fault::{BAD_NAME, BAD_NUMBER, BAD_SUFFIX};
 use crate::words::Words;
 use arrayvec::ArrayVec;
+use grid_number::read_grid;
+use mb_base::Point;
 use mesh_names::is_mesh_name;
+
+// No command has more operands.
+const MOST: usize = 7;
 
 // The longest name.
 const LONGEST: usize = 32;
+
+// The most digits of a whole number.
+const MOST_DIGITS: usize = 7;
 
 // Whether a byte may stand in a name.
 fn is_name_byte(byte: u8) -> bool
@@ -78,23 +99,106 @@ pub fn file_text(word: &[u8]) -> Result<&str, u8>
     }
 }
 
-/// The words of a line, where they are so many.
-pub fn taken<'t>(words: Words<'t>, count: usize) -> Option<ArrayVec<&'t [u8], MOST>>
-    requires { count ≤ most_operands }
+/// The number of a word in steps of the grid; else the kind of its fault.
+pub fn number(word: &[u8], digits: u8) -> Result<i32, u8>
+    requires { digits ≤ 6 }
+    ensures value { IfOk result (λ z. z ≡ number_of digits word.now) }
+    ensures on_grid { IfOk result (λ z. IsOnGrid z) }
+    ensures sound { OnOk result (number_fault digits word.now ≡ None) }
+    ensures fault { IfErr result (λ kind. number_fault digits word.now ≡ Some kind) }
+{
+    match read_grid(word, digits) {
+        Ok(number) => Ok(number),
+        Err(_) => Err(BAD_NUMBER),
+    }
+}
+
+/// The numbers of three words; else the kind of the first fault.
+pub fn three(x: &[u8], y: &[u8], z: &[u8], digits: u8) -> Result<[i32; 3], u8>
+    requires { digits ≤ 6 }
+    ensures value { IfOk result (λ p. p ≡ three_of digits x.now y.now z.now) }
+    ensures on_grid { IfOk result (λ p. IsPoint p) }
+    ensures x { OnOk result (number_fault digits x.now ≡ None) }
+    ensures y { OnOk result (number_fault digits y.now ≡ None) }
+    ensures z { OnOk result (number_fault digits z.now ≡ None) }
+    ensures fault { IfErr result (λ kind. three_fault digits x.now y.now z.now ≡ Some kind) }
+{
+    Ok([number(x, digits)?, number(y, digits)?, number(z, digits)?])
+}
+
+/// The point of three words; else the kind of the first fault.
+pub fn point(x: &[u8], y: &[u8], z: &[u8], digits: u8) -> Result<Point, u8>
+    requires { digits ≤ 6 }
+    ensures value { IfOk result (λ p. p ≡ three_of digits x.now y.now z.now) }
+    ensures x { OnOk result (number_fault digits x.now ≡ None) }
+    ensures y { OnOk result (number_fault digits y.now ≡ None) }
+    ensures z { OnOk result (number_fault digits z.now ≡ None) }
+    ensures fault { IfErr result (λ kind. three_fault digits x.now y.now z.now ≡ Some kind) }
+{
+    let [x, y, z] = three(x, y, z, digits)?;
+    match Point::of(x, y, z) {
+        Some(point) => Ok(point),
+        None => unreachable!(),
+    }
+}
+
+/// The value of one to seven digits from `low` to `high`; else the kind of the word's fault.
+pub fn within(word: &[u8], low: u32, high: u32) -> Result<u32, u8>
+    ensures value { IfOk result (λ n. n ≡ digits_value word.now) }
+    ensures sound { OnOk result (within_fault low high word.now ≡ None) }
+    ensures fault { IfErr result (λ kind. within_fault low high word.now ≡ Some kind) }
+{
+    match few_digits(word) {
+        Some(value) if low <= value && value <= high => Ok(value),
+        _ => Err(BAD_NUMBER),
+    }
+}
+
+// The value of one to seven digits; none where a word has other bytes or none, or more.
+fn few_digits(word: &[u8]) -> Option<u32>
+    ensures { result ≡ few_digits word.now }
+{
+    if word.is_empty() || word.len() > MOST_DIGITS {
+        return None;
+    }
+    let mut value = 0;
+    for digit in word {
+        if !digit.is_ascii_digit() {
+            return None;
+        }
+        value = value * 10 + u32::from(*digit - b'0');
+    }
+    Some(value)
+}
+
+/// The axis of a word, 0 to 2 for `x` to `z`; else the kind of its fault.
+pub fn axis(word: &[u8]) -> Result<u8, u8>
+    ensures value { IfOk result (λ n. n ≡ unwrap_or (axis word.now) 0) }
+    ensures sound { OnOk result (axis_fault word.now ≡ None) }
+    ensures fault { IfErr result (λ kind. axis_fault word.now ≡ Some kind) }
+{
+    if word == b"x".as_slice() {
+        Ok(0)
+    } else if word == b"y".as_slice() {
+        Ok(1)
+    } else if word == b"z".as_slice() {
+        Ok(2)
+    } else {
+        Err(BAD_NUMBER)
+    }
+}
+
+/// The words of a line, where they are no more than a command has operands.
+pub fn taken<'t>(words: Words<'t>) -> Option<ArrayVec<&'t [u8], MOST>>
     ensures words { IfSome result (λ taken. map (λ w. w.now) taken.items ≡ words.entry) }
-    ensures count { IfSome result (λ taken. length taken.items ≡ count) }
-    ensures other { IsNone result → length words.entry ≡ count → ⊥ }
+    ensures more { IsNone result → most_operands < length words.entry }
 {
     let mut taken = ArrayVec::new();
     for word in words {
-        if taken.len() == count {
+        if taken.is_full() {
             return None;
         }
         taken.push(word);
     }
-    if taken.len() == count {
-        Some(taken)
-    } else {
-        None
-    }
+    Some(taken)
 }

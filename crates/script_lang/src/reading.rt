@@ -1,21 +1,21 @@
 // The lines of a script, read one after the other.
-ghost use Rattle.std.specs.Prelude.{◌≡◌, ◌≤◌, ◌++◌, ◌∷◌, [], map, length, None, Some, Ok, Err, IfOk, OnOk, IfErr};
-ghost use Rattle.script_terms.specs.Operands.{old_name_fault, operand_fault, operands_fault};
-ghost use Rattle.script_terms.specs.Scripts.{numbered_words, script_line, script_lines, step_by};
+ghost use Rattle.std.specs.Prelude.{◌≡◌, ◌≤◌, ◌++◌, ◌∷◌, [], map, None, Some, Ok, Err, IfOk, OnOk, IfErr};
+ghost use Rattle.script_terms.specs.Operands.{old_name_fault};
+ghost use Rattle.script_terms.specs.Scripts.{command_step, numbered_words, script_line, script_lines, step_by};
 ghost use Rattle.script_terms.specs.Sound.{AreSound};
 ghost use Rattle.script_terms.specs.Steps.{gives, is_given};
-ghost use Rattle.script_lang.specs.Commands.{command_of, most_operands, operand_of};
+ghost use Rattle.script_lang.specs.Commands.{command_of, moving};
 ghost use Rattle.script_lang.specs.Faults.{IsFaultOf};
 ghost use Rattle.script_lang.specs.Steps.{line_of, step_of};
 
-use crate::commands::{Command, MOST, Operand};
+use crate::commands::{Command, MotionKind};
 use crate::fault::{BAD_WORD, NAME_NOT_DEFINED, ScriptFault, WRONG_COUNT};
 use crate::lines::Lines;
 use crate::names::Names;
-use crate::operands::{file_text, name_text, taken};
-use crate::steps::{Line, Script, Step};
+use crate::operands::{axis, file_text, name_text, taken, three, within};
+use crate::solids::solid_step;
+use crate::steps::{Line, Motion, Script, Step, Word};
 use crate::words::Words;
-use arrayvec::ArrayVec;
 use std::alloc::Global;
 use std::marker::Model;
 
@@ -94,48 +94,79 @@ impl<'a> Reading<'a> {
         ensures step { IfOk result (λ step. step_by digits self.now words.entry (Some (command_of command)) ≡ Ok (step_of step)) }
         ensures fault { IfErr result (λ kind. step_by digits self.now words.entry (Some (command_of command)) ≡ Err kind) }
     {
-        let operands = command.operands();
-        let Some(words) = taken(words, operands.len()) else {
-            return Err(WRONG_COUNT);
-        };
-        match self.texts(operands, words.as_slice(), digits) {
-            Ok(texts) => Ok(command.step(texts.as_slice())),
-            Err(kind) => Err(kind),
+        match taken(words) {
+            Some(words) => self.step_with(command, words.as_slice(), digits),
+            None => Err(WRONG_COUNT),
         }
     }
 
-    // The texts of words as these operands; else the kind of the first fault.
-    fn texts(
-        &self,
-        operands: &[Operand],
-        words: &[&'a [u8]],
-        digits: u8,
-    ) -> Result<ArrayVec<&'a str, MOST>, u8>
-        requires digits { digits ≤ 6 }
-        requires few { length operands.now ≤ most_operands }
-        requires each { length words.now ≡ length operands.now }
-        ensures texts { IfOk result (λ texts. map (λ t. t.now) texts.items ≡ map (λ w. w.now) words.now) }
-        ensures sound { OnOk result (operands_fault digits self.now (map operand_of operands.now) (map (λ w. w.now) words.now) ≡ None) }
-        ensures fault { IfErr result (λ kind. operands_fault digits self.now (map operand_of operands.now) (map (λ w. w.now) words.now) ≡ Some kind) }
-    {
-        let mut texts = ArrayVec::new();
-        for place in 0..operands.len() {
-            texts.push(self.text(operands[place], words[place], digits)?);
-        }
-        Ok(texts)
-    }
-
-    // The text of a word as this operand; else the kind of its fault.
-    fn text(&self, operand: Operand, word: &'a [u8], digits: u8) -> Result<&'a str, u8>
+    // The step of a command with these operands; else the kind of the line's fault.
+    fn step_with(&self, command: Command, operands: &[&'a [u8]], digits: u8) -> Result<Step<'a>, u8>
         requires { digits ≤ 6 }
-        ensures text { IfOk result (λ text. text.now ≡ word.now) }
-        ensures sound { OnOk result (operand_fault digits self.now (operand_of operand) word.now ≡ None) }
-        ensures fault { IfErr result (λ kind. operand_fault digits self.now (operand_of operand) word.now ≡ Some kind) }
+        ensures step { IfOk result (λ step. command_step digits self.now (map (λ w. w.now) operands.now) (command_of command) ≡ Ok (step_of step)) }
+        ensures fault { IfErr result (λ kind. command_step digits self.now (map (λ w. w.now) operands.now) (command_of command) ≡ Err kind) }
     {
-        match operand {
-            Operand::NewName => name_text(word),
-            Operand::OldName => self.old_text(word),
-            Operand::FileName => file_text(word),
+        match (command, operands) {
+            (Command::Load, &[name, file]) => Ok(Step::Load {
+                name: Word::of(name_text(name)?),
+                file: Word::of(file_text(file)?),
+            }),
+            (Command::Save, &[name, file]) => Ok(Step::Save {
+                name: Word::of(self.old_text(name)?),
+                file: Word::of(file_text(file)?),
+            }),
+            (Command::Measure, &[name]) => Ok(Step::Measure {
+                name: Word::of(self.old_text(name)?),
+            }),
+            (Command::Combine(op), &[name, left, right]) => Ok(Step::Combine {
+                op,
+                name: Word::of(name_text(name)?),
+                left: Word::of(self.old_text(left)?),
+                right: Word::of(self.old_text(right)?),
+            }),
+            (Command::Make(solid), operands) => solid_step(solid, operands, digits),
+            (Command::Move(motion), operands) => self.motion_step(motion, operands, digits),
+            _ => Err(WRONG_COUNT),
+        }
+    }
+
+    // The step that moves a mesh by these operands; else the kind of the first fault.
+    fn motion_step(
+        &self,
+        motion: MotionKind,
+        operands: &[&'a [u8]],
+        digits: u8,
+    ) -> Result<Step<'a>, u8>
+        requires { digits ≤ 6 }
+        ensures step { IfOk result (λ step. command_step digits self.now (map (λ w. w.now) operands.now) (moving motion) ≡ Ok (step_of step)) }
+        ensures fault { IfErr result (λ kind. command_step digits self.now (map (λ w. w.now) operands.now) (moving motion) ≡ Err kind) }
+    {
+        match (motion, operands) {
+            (MotionKind::Shift, &[name, source, x, y, z]) => Ok(Step::Move {
+                name: Word::of(name_text(name)?),
+                source: Word::of(self.old_text(source)?),
+                motion: Motion::Shift {
+                    by: three(x, y, z, digits)?,
+                },
+            }),
+            (MotionKind::Scale, &[name, source, factor]) => Ok(Step::Move {
+                name: Word::of(name_text(name)?),
+                source: Word::of(self.old_text(source)?),
+                motion: Motion::Scale {
+                    factor: within(factor, 1, 1_000_000)?,
+                },
+            }),
+            (MotionKind::Mirror, &[name, source, of]) => Ok(Step::Move {
+                name: Word::of(name_text(name)?),
+                source: Word::of(self.old_text(source)?),
+                motion: Motion::Mirror { axis: axis(of)? },
+            }),
+            (MotionKind::Turn, &[name, source, about]) => Ok(Step::Move {
+                name: Word::of(name_text(name)?),
+                source: Word::of(self.old_text(source)?),
+                motion: Motion::Turn { axis: axis(about)? },
+            }),
+            _ => Err(WRONG_COUNT),
         }
     }
 

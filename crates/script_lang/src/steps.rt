@@ -4,7 +4,7 @@ ghost use Rattle.script_terms.specs.Sound.{AreSound};
 ghost use Rattle.script_terms.specs.Steps.{new_name};
 ghost use Rattle.script_lang.specs.Steps.{line_of, step_of};
 
-use mb_base::Op;
+use mb_base::{Op, Point};
 use std::marker::Model;
 
 /// A word of a script, which is a text.
@@ -37,6 +37,32 @@ impl<'a> Word<'a> {
     }
 }
 
+/// A solid.
+#[derive(Clone, Copy, Drop)]
+pub enum Solid {
+    /// The box between two corners.
+    Box { low: Point, high: Point },
+    /// A tetrahedron with a right angle at a corner.
+    Tetra { at: Point, size: i32 },
+    /// A prism with a right angle at a corner.
+    Prism { at: Point, size: i32, height: i32 },
+    /// `n` boxes along each axis.
+    Lattice { n: u32, seed: u32 },
+}
+
+/// A motion of a mesh. Axes are 0 to 2 for x to z.
+#[derive(Clone, Copy, Drop)]
+pub enum Motion {
+    /// `by` is added to each point.
+    Shift { by: [i32; 3] },
+    /// Each coordinate is multiplied.
+    Scale { factor: u32 },
+    /// The coordinate on the axis gets the other sign.
+    Mirror { axis: u8 },
+    /// A quarter turn about the axis.
+    Turn { axis: u8 },
+}
+
 /// A step of a script.
 #[derive(Drop)]
 pub enum Step<'a> {
@@ -50,12 +76,27 @@ pub enum Step<'a> {
         name: Word<'a>,
         file: Word<'a>,
     },
+    /// Measures the mesh of a name.
+    Measure {
+        name: Word<'a>,
+    },
     /// Gives a name what an operation makes of two meshes, of which `left` is the first.
     Combine {
         op: Op,
         name: Word<'a>,
         left: Word<'a>,
         right: Word<'a>,
+    },
+    /// Gives a name a solid.
+    Make {
+        name: Word<'a>,
+        solid: Solid,
+    },
+    /// Gives a name the mesh of another after a motion.
+    Move {
+        name: Word<'a>,
+        source: Word<'a>,
+        motion: Motion,
     },
 }
 
@@ -65,8 +106,11 @@ impl<'a> Step<'a> {
         ensures { option_copied result ≡ new_name (step_of self.now) }
     {
         match self {
-            Step::Load { name, .. } | Step::Combine { name, .. } => Some(name.as_str()),
-            Step::Save { .. } => None,
+            Step::Save { .. } | Step::Measure { .. } => None,
+            Step::Load { name, .. }
+            | Step::Combine { name, .. }
+            | Step::Make { name, .. }
+            | Step::Move { name, .. } => Some(name.as_str()),
         }
     }
 }

@@ -1,4 +1,6 @@
 // What scripts are read as, and which line refuses one.
+ghost use Rattle.std.specs.Prelude.{◌≤◌};
+
 use super::*;
 use mb_base::Op;
 use std::test::Fail;
@@ -6,18 +8,81 @@ use std::test::Fail;
 // A name of 32 bytes.
 const LONG: &str = "abcdefghijklmnopqrstuvwxyz_ABCD9";
 
-// What stands on a line: the word of its command and its operands.
+// The word of a line's command, and its names and files.
 fn words_of<'a>(step: &Step<'a>) -> (&'static str, [&'a str; 3]) {
     match step {
         Step::Load { name, file } => ("load", [name.as_str(), file.as_str(), ""]),
         Step::Save { name, file } => ("save", [name.as_str(), file.as_str(), ""]),
+        Step::Measure { name } => ("measure", [name.as_str(), "", ""]),
         Step::Combine {
             op,
             name,
             left,
             right,
         } => (op_word(*op), [name.as_str(), left.as_str(), right.as_str()]),
+        Step::Make { name, solid } => (solid_word(solid), [name.as_str(), "", ""]),
+        Step::Move {
+            name,
+            source,
+            motion,
+        } => (motion_word(motion), [name.as_str(), source.as_str(), ""]),
     }
+}
+
+fn solid_word(solid: &Solid) -> &'static str {
+    match solid {
+        Solid::Box { .. } => "box",
+        Solid::Tetra { .. } => "tetra",
+        Solid::Prism { .. } => "prism",
+        Solid::Lattice { .. } => "lattice",
+    }
+}
+
+fn motion_word(motion: &Motion) -> &'static str {
+    match motion {
+        Motion::Shift { .. } => "shift",
+        Motion::Scale { .. } => "scale",
+        Motion::Mirror { .. } => "mirror",
+        Motion::Turn { .. } => "turn",
+    }
+}
+
+// The numbers on a line, with 0 for those that it does not have.
+fn numbers_of(step: &Step<'_>) -> [i64; 6] {
+    match step {
+        Step::Make { solid, .. } => solid_numbers(solid),
+        Step::Move { motion, .. } => motion_numbers(motion),
+        _ => [0; 6],
+    }
+}
+
+fn solid_numbers(solid: &Solid) -> [i64; 6] {
+    match solid {
+        Solid::Box { low, high } => row_of(low.at(), high.at()),
+        Solid::Tetra { at, size } => row_of(at.at(), [*size, 0, 0]),
+        Solid::Prism { at, size, height } => row_of(at.at(), [*size, *height, 0]),
+        Solid::Lattice { n, seed } => [i64::from(*n), i64::from(*seed), 0, 0, 0, 0],
+    }
+}
+
+fn motion_numbers(motion: &Motion) -> [i64; 6] {
+    match motion {
+        Motion::Shift { by } => row_of(*by, [0, 0, 0]),
+        Motion::Scale { factor } => [i64::from(*factor), 0, 0, 0, 0, 0],
+        Motion::Mirror { axis } | Motion::Turn { axis } => [i64::from(*axis), 0, 0, 0, 0, 0],
+    }
+}
+
+fn row_of(first: [i32; 3], then: [i32; 3]) -> [i64; 6] {
+    let ([x, y, z], [u, v, w]) = (first, then);
+    [
+        i64::from(x),
+        i64::from(y),
+        i64::from(z),
+        i64::from(u),
+        i64::from(v),
+        i64::from(w),
+    ]
 }
 
 fn op_word(op: Op) -> &'static str {
@@ -28,19 +93,27 @@ fn op_word(op: Op) -> &'static str {
     }
 }
 
-// Whether a line has this number and these words.
-fn is_line(line: &Line<'_>, wanted: &(u64, &str, [&str; 3])) -> bool {
-    let (word, operands) = words_of(&line.step);
-    line.line == wanted.0 && word == wanted.1 && operands == wanted.2
+// The number of a line, the word of its command, its names and files, and its numbers.
+type Row<'a> = (u64, &'a str, [&'a str; 3], [i64; 6]);
+
+// Whether a line is this row.
+fn is_row(line: &Line<'_>, wanted: &Row<'_>) -> bool {
+    let (word, names) = words_of(&line.step);
+    line.line == wanted.0
+        && word == wanted.1
+        && names == wanted.2
+        && numbers_of(&line.step) == wanted.3
 }
 
-// Whether a script has these lines.
-fn gives(rt: &HostRuntime, bytes: &[u8], wanted: &[(u64, &str, [&str; 3])]) -> Result<bool, Fail> {
-    let Ok(script) = read_script(rt.alloc(), bytes, 0) else {
+// Whether a script has these lines under so many digits.
+fn gives(rt: &HostRuntime, bytes: &[u8], digits: u8, wanted: &[Row<'_>]) -> Result<bool, Fail>
+    requires { digits ≤ 6 }
+{
+    let Ok(script) = read_script(rt.alloc(), bytes, digits) else {
         return Err(Fail::from("refused"));
     };
     let lines = script.lines();
-    Ok(lines.len() == wanted.len() && lines.iter().zip(wanted).all(|(l, w)| is_line(l, w)))
+    Ok(lines.len() == wanted.len() && lines.iter().zip(wanted).all(|(l, w)| is_row(l, w)))
 }
 
 // How a script is refused.
@@ -52,16 +125,20 @@ fn refusal(rt: &HostRuntime, bytes: &[u8]) -> Result<(u64, u8), Fail> {
     }
 }
 
+// No numbers.
+const NONE: [i64; 6] = [0; 6];
+
 #[test]
 fn the_steps_stand_in_order_with_their_lines(rt: HostRuntime) -> Result<(), Fail> {
-    let script = b"load a cube.obj\nload b b.obj\nunion u a b\nsave u u.obj\n";
+    let script = b"load a cube.obj\nload b b.obj\nunion u a b\nmeasure u\nsave u u.obj\n";
     let wanted = [
-        (1, "load", ["a", "cube.obj", ""]),
-        (2, "load", ["b", "b.obj", ""]),
-        (3, "union", ["u", "a", "b"]),
-        (4, "save", ["u", "u.obj", ""]),
+        (1, "load", ["a", "cube.obj", ""], NONE),
+        (2, "load", ["b", "b.obj", ""], NONE),
+        (3, "union", ["u", "a", "b"], NONE),
+        (4, "measure", ["u", "", ""], NONE),
+        (5, "save", ["u", "u.obj", ""], NONE),
     ];
-    assert!(rt; gives(&rt, script, &wanted)?);
+    assert!(rt; gives(&rt, script, 0, &wanted)?);
     Ok(())
 }
 
@@ -69,11 +146,11 @@ fn the_steps_stand_in_order_with_their_lines(rt: HostRuntime) -> Result<(), Fail
 fn marks_comments_and_ends_of_lines_are_passed_over(rt: HostRuntime) -> Result<(), Fail> {
     let script = b"\xef\xbb\xbf# a\r\n\r\n \tload\ta1  A#.oBj \t#b\r\n#\nsubtract a1 a1 a1\r";
     let wanted = [
-        (3, "load", ["a1", "A#.oBj", ""]),
-        (5, "subtract", ["a1", "a1", "a1"]),
+        (3, "load", ["a1", "A#.oBj", ""], NONE),
+        (5, "subtract", ["a1", "a1", "a1"], NONE),
     ];
-    assert!(rt; gives(&rt, script, &wanted)?);
-    assert!(rt; gives(&rt, b"", &[])?);
+    assert!(rt; gives(&rt, script, 0, &wanted)?);
+    assert!(rt; gives(&rt, b"", 0, &[])?);
     Ok(())
 }
 
@@ -82,27 +159,51 @@ fn a_name_may_be_given_again_and_be_long(rt: HostRuntime) -> Result<(), Fail> {
     let script =
         b"load abcdefghijklmnopqrstuvwxyz_ABCD9 .obj\nintersect Z abcdefghijklmnopqrstuvwxyz_ABCD9 abcdefghijklmnopqrstuvwxyz_ABCD9\nunion Z Z Z\nsave Z \xc3\xa9.OBJ\n";
     let wanted = [
-        (1, "load", [LONG, ".obj", ""]),
-        (2, "intersect", ["Z", LONG, LONG]),
-        (3, "union", ["Z", "Z", "Z"]),
-        (4, "save", ["Z", "\u{e9}.OBJ", ""]),
+        (1, "load", [LONG, ".obj", ""], NONE),
+        (2, "intersect", ["Z", LONG, LONG], NONE),
+        (3, "union", ["Z", "Z", "Z"], NONE),
+        (4, "save", ["Z", "\u{e9}.OBJ", ""], NONE),
     ];
-    assert!(rt; gives(&rt, script, &wanted)?);
+    assert!(rt; gives(&rt, script, 0, &wanted)?);
+    Ok(())
+}
+
+#[test]
+fn solids_and_motions_have_their_numbers(rt: HostRuntime) -> Result<(), Fail> {
+    let script =
+        b"box a -1 2. 3.4 +4e1 05 5.5\ntetra t 0 0 0 6\nprism p 1 2 3 4 -5\nlattice l 60 0999999\nshift w p 1 -2 1073741824\nscale q p 1000000\nmirror m q x\nmirror m m y\nturn r m z\n";
+    let wanted = [
+        (1, "box", ["a", "", ""], [-1, 2, 3, 40, 5, 6]),
+        (2, "tetra", ["t", "", ""], [0, 0, 0, 6, 0, 0]),
+        (3, "prism", ["p", "", ""], [1, 2, 3, 4, -5, 0]),
+        (4, "lattice", ["l", "", ""], [60, 999_999, 0, 0, 0, 0]),
+        (5, "shift", ["w", "p", ""], [1, -2, 1_073_741_824, 0, 0, 0]),
+        (6, "scale", ["q", "p", ""], [1_000_000, 0, 0, 0, 0, 0]),
+        (7, "mirror", ["m", "q", ""], [0, 0, 0, 0, 0, 0]),
+        (8, "mirror", ["m", "m", ""], [1, 0, 0, 0, 0, 0]),
+        (9, "turn", ["r", "m", ""], [2, 0, 0, 0, 0, 0]),
+    ];
+    assert!(rt; gives(&rt, script, 0, &wanted)?);
+    let finer = b"tetra t 1 .00005 -107374.1824 6e-4";
+    let row = [10_000, 1, -1_073_741_824, 6, 0, 0];
+    assert!(rt; gives(&rt, finer, 4, &[(1, "tetra", ["t", "", ""], row)])?);
     Ok(())
 }
 
 #[test]
 fn the_first_fault_of_a_line_refuses_it(rt: HostRuntime) -> Result<(), Fail> {
-    let refused: [(&[u8], u8); 26] = [
+    let refused: [(&[u8], u8); 28] = [
         (b"cut a b", 20),
         (b"Load a c.obj", 20),
-        (b"measure a", 20),
+        (b"measures a", 20),
         (b"load\r a c.obj", 20),
         (b"\xef\xbb\xbf\xef\xbb\xbfload a c.obj", 20),
         (b"load a", 21),
         (b"load a c.obj d", 21),
         (b"load a #c.obj", 21),
         (b"save", 21),
+        (b"box a 0 0 0 1 1", 21),
+        (b"box a 0 0 0 1 1 1 1 1", 21),
         (b"union u 1 c.ply 2", 21),
         (b"load 1a c.obj", 22),
         (b"load _a c.obj", 22),
@@ -123,6 +224,38 @@ fn the_first_fault_of_a_line_refuses_it(rt: HostRuntime) -> Result<(), Fail> {
     ];
     for (bytes, kind) in refused {
         assert_eq!(rt; refusal(&rt, bytes)?, (1, kind));
+    }
+    Ok(())
+}
+
+#[test]
+fn operands_without_a_value_refuse_a_line(rt: HostRuntime) -> Result<(), Fail> {
+    let refused: [(&[u8], u64, u8); 22] = [
+        (b"box a 0 0 0 1 1 1e", 1, 24),
+        (b"tetra t nan 0 0 6", 1, 24),
+        (b"tetra t 0 0 0 \xff", 1, 24),
+        (b"prism p 1073741825 0 0 4 5", 1, 24),
+        (b"prism p 0 0 0 4 -1073741825", 1, 24),
+        (b"lattice l 0 0", 1, 24),
+        (b"lattice l 61 0", 1, 24),
+        (b"lattice l +1 0", 1, 24),
+        (b"lattice l 1. 0", 1, 24),
+        (b"lattice l 00000001 0", 1, 24),
+        (b"lattice l 1 1000000", 1, 24),
+        (b"lattice l 1 4294967296", 1, 24),
+        (b"lattice 1 0 0", 1, 22),
+        (b"tetra t 0 0 0 6\nshift s t 0 . 0", 2, 24),
+        (b"tetra t 0 0 0 6\nscale s t 0", 2, 24),
+        (b"tetra t 0 0 0 6\nscale s t 1000001", 2, 24),
+        (b"tetra t 0 0 0 6\nscale s s 0", 2, 23),
+        (b"tetra t 0 0 0 6\nmirror m t X", 2, 24),
+        (b"tetra t 0 0 0 6\nmirror m t xy", 2, 24),
+        (b"tetra t 0 0 0 6\nturn m t 0", 2, 24),
+        (b"tetra t 0 0 0 6\nturn 1 t 0", 2, 22),
+        (b"tetra t 0 0 0 6\nmeasure T", 2, 23),
+    ];
+    for (bytes, line, kind) in refused {
+        assert_eq!(rt; refusal(&rt, bytes)?, (line, kind));
     }
     Ok(())
 }

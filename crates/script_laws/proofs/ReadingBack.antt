@@ -1,7 +1,8 @@
 -- What a script writes is read again.
-use Rattle.std.proofs.Common.{◌≡◌, ◌≤◌, ℕ, Bool, true, false, List, [], Some, Ok, Err, refl, subst}
-use Rattle.std.specs.Prelude.{nat_lt, bytes_eq, if◌then◌else◌}
+use Rattle.std.proofs.Common.{◌≡◌, ◌≤◌, ℕ, Bool, true, false, List, [], Some, None, Ok, Err, refl, subst}
+use Rattle.std.specs.Prelude.{nat_lt, bytes_eq, if◌then◌else◌, Option}
 use Rattle.std.proofs.lemmas.List.Elements.{All-nil, All-cons}
+use Rattle.made_terms.specs.Refusals.{MadeFault}
 use Rattle.mesh_terms.specs.Faults.{Halfedges}
 use Rattle.mesh_terms.specs.Limits.{Limits, IsLawful}
 use Rattle.mesh_terms.specs.Meshes.{Mesh}
@@ -17,12 +18,17 @@ use Rattle.play_terms.specs.Lines.{over}
 use Rattle.play_terms.specs.ReadingBack.{IsReadable, WritesReadable}
 use Rattle.play_laws.proofs.ReadingBack.{mesh_asked, read_again}
 use Rattle.script_terms.specs.Combined.{Combined}
-use Rattle.script_terms.specs.Lines.{load_line, save_line, combine_line}
-use Rattle.script_terms.specs.Plays.{Meanings, Named, no_names, with_name, mesh_at, mesh_or_none, within, load_task, save_task, combine_task, step_task, steps_task, script_checked, script_task}
+use Rattle.script_terms.specs.Lines.{load_line, save_line, measure_line, combine_line}
+use Rattle.script_terms.specs.Making.{Solid, solid_fault, solid_mesh, Motion, motion_fault, moved_mesh}
+use Rattle.script_terms.specs.Plays.{Meanings, Named, no_names, with_name, mesh_at, mesh_or_none, within, made, load_task, save_task, measure_task, combine_task}
+use Rattle.script_terms.specs.Plays.{make_task, move_task, step_task, steps_task, script_checked, script_task}
 use Rattle.script_terms.specs.Scripts.{script}
-use Rattle.script_terms.specs.Steps.{Line, Step, Load, Save, Combine}
+use Rattle.script_terms.specs.Steps.{Line, Step, Load, Save, Measure, Combine, Make, Move}
+use Rattle.made_laws.proofs.Motions.{moved_within}
+use Rattle.made_laws.proofs.Solids.{solid_given}
 use Rattle.script_laws.specs.ReadingBack.{MeshReadable, NamesReadable, ResultsReadable, soup_of_mesh}
 use Rattle.script_laws.proofs.Keeping.{keeps_value, keeps_in_order}
+use Rattle.script_laws.proofs.Readable.{readable_within, within_of_readable}
 
 -- what was within the limit is what was asked for
 taken_within : (limits : Limits) (o a : Combined) → within limits o ≡ Ok a → (o ≡ a) × (nat_lt limits.halfedges o.halfedges ≡ false)
@@ -31,6 +37,11 @@ taken_within limits o a e = by_limit (nat_lt limits.halfedges o.halfedges) refl 
     by_limit : (b : Bool) → nat_lt limits.halfedges o.halfedges ≡ b → (if b then Err (over Halfedges o.halfedges) else Ok o) ≡ Ok a → (o ≡ a) × (nat_lt limits.halfedges o.halfedges ≡ false)
     by_limit true past e = absurd (cc)
     by_limit false is e = (cc, is)
+
+-- what was made is what was asked for, and was not refused
+taken_made : (script : Bytes) (line : ℕ) (fault : Option MadeFault) (m n : Mesh) → made script line fault m ≡ Ok n → (fault ≡ None) × (m ≡ n)
+taken_made script line None m n is = (refl, cc)
+taken_made script line (Some fault) m n is = cc
 
 module _ (means : Meanings) (k : ℕ) (limits : Limits) (few : k ≤ 6) (lawful : IsLawful limits) (results : ResultsReadable means k limits) where
   abbrev Writes : Action → Type 0
@@ -59,12 +70,14 @@ module _ (means : Meanings) (k : ℕ) (limits : Limits) (few : k ≤ 6) (lawful 
       by_name true = more
       by_name false = all n
 
+  -- a line is said, and the names are these
+  told : (line : Bytes) (named : Named) → Names named → Keeps Writes Names (then_task (say_line line) (λ _. give (Ok named)))
+  told line named all = keeps_then Writes (λ _. Unit {0}) Names (say_line line) (λ _. give (Ok named)) (said line) (λ _ _. keeps_value Writes Names named all)
+
   -- a line is said, and a name more has such a mesh
   told_and_named : (line name : Bytes) (m : Mesh) (named : Named) → Names named → MeshReadable k limits m
       → Keeps Writes Names (then_task (say_line line) (λ _. give (Ok (with_name name m named))))
-  told_and_named line name m named all more =
-      keeps_then Writes (λ _. Unit {0}) Names (say_line line) (λ _. give (Ok (with_name name m named))) (said line)
-      (λ _ _. keeps_value Writes Names (with_name name m named) (named_more name m named all more))
+  told_and_named line name m named all more = told line (with_name name m named) (named_more name m named all more)
 
   load_keeps : (name file : Bytes) (named : Named) → Names named → Keeps Writes Names (load_task k limits name file named)
   load_keeps name file named all =
@@ -76,8 +89,10 @@ module _ (means : Meanings) (k : ℕ) (limits : Limits) (few : k ≤ 6) (lawful 
   save_keeps : (name file : Bytes) (m : Mesh) (named : Named) → Names named → MeshReadable k limits m → Keeps Writes Names (save_task k name file m named)
   save_keeps name file m named all such =
       keeps_then Writes (λ _. Unit {0}) Names (write_mesh k file m.points m.triples) (λ _. then_task (say_line (save_line name file m)) (λ _. give (Ok named)))
-      (keeps_act Writes (Write file (mesh_text k file m.points m.triples)) (soup_of_mesh m, refl, such))
-      (λ _ _. keeps_then Writes (λ _. Unit {0}) Names (say_line (save_line name file m)) (λ _. give (Ok named)) (said (save_line name file m)) (λ _ _. keeps_value Writes Names named all))
+      (keeps_act Writes (Write file (mesh_text k file m.points m.triples)) (soup_of_mesh m, refl, such)) (λ _ _. told (save_line name file m) named all)
+
+  measure_keeps : (name : Bytes) (m : Mesh) (named : Named) → Names named → Keeps Writes Names (measure_task name m named)
+  measure_keeps name m named all = told (measure_line name m) named all
 
   combine_keeps : (op : Op) (name left right : Bytes) (named : Named) → Names named → Keeps Writes Names (combine_task means limits op name left right named)
   combine_keeps op name left right named all =
@@ -87,20 +102,44 @@ module _ (means : Meanings) (k : ℕ) (limits : Limits) (few : k ≤ 6) (lawful 
       (keeps_give Writes R (within limits o) (λ a is. let taken = taken_within limits o a is in subst R taken.0 (results op (mesh_at named left) (mesh_at named right) (all left) (all right) taken.1)))
       (λ a more. told_and_named (combine_line op name left right a) name a.mesh named all more)
 
-  step_keeps : (step : Step) (named : Named) → Names named → Keeps Writes Names (step_task means k limits step named)
-  step_keeps (Load name file) named all = load_keeps name file named all
-  step_keeps (Save name file) named all = save_keeps name file (mesh_at named name) named all (all name)
-  step_keeps (Combine op name left right) named all = combine_keeps op name left right named all
+  -- a name more has what is made, where that is not refused
+  made_and_named : (script : Bytes) (line : ℕ) (name : Bytes) (fault : Option MadeFault) (m : Mesh) (named : Named) → Names named → (fault ≡ None → MeshReadable k limits m)
+      → Keeps Writes Names (then_task (give (made script line fault m)) (λ n. give (Ok (with_name name n named))))
+  made_and_named script line name fault m named all such =
+      let R : Mesh → Type 0 = λ n. MeshReadable k limits n in
+      keeps_then Writes R Names (give (made script line fault m)) (λ n. give (Ok (with_name name n named)))
+      (keeps_give Writes R (made script line fault m) (λ n is. let taken = taken_made script line fault m n is in subst R taken.1 (such taken.0)))
+      (λ n more. keeps_value Writes Names (with_name name n named) (named_more name n named all more))
 
-  steps_keep : (lines : List Line) → Keeps Writes Names (steps_task means k limits lines no_names)
-  steps_keep lines = keeps_in_order Writes Names (λ l n. step_task means k limits l.1 n) lines no_names (λ l named all. step_keeps l.1 named all) (λ name. empty_readable)
+  make_keeps : (script : Bytes) (line : ℕ) (name : Bytes) (solid : Solid) (named : Named) → Names named → Keeps Writes Names (make_task limits script line name solid named)
+  make_keeps script line name solid named all =
+      made_and_named script line name (solid_fault limits solid) (solid_mesh solid) named all
+      (λ none. readable_within k limits (solid_mesh solid) few lawful (solid_given limits lawful solid none))
+
+  move_keeps : (script : Bytes) (line : ℕ) (name old : Bytes) (motion : Motion) (named : Named) → Names named → Keeps Writes Names (move_task script line name old motion named)
+  move_keeps script line name old motion named all =
+      let m = mesh_at named old in
+      made_and_named script line name (motion_fault motion m.points) (moved_mesh motion m) named all
+      (λ none. readable_within k limits (moved_mesh motion m) few lawful (moved_within limits motion m (within_of_readable k limits m lawful (all old)) none))
+
+  step_keeps : (script : Bytes) (line : ℕ) (step : Step) (named : Named) → Names named → Keeps Writes Names (step_task means k limits script line step named)
+  step_keeps script line (Load name file) named all = load_keeps name file named all
+  step_keeps script line (Save name file) named all = save_keeps name file (mesh_at named name) named all (all name)
+  step_keeps script line (Measure name) named all = measure_keeps name (mesh_at named name) named all
+  step_keeps script line (Combine op name left right) named all = combine_keeps op name left right named all
+  step_keeps script line (Make name solid) named all = make_keeps script line name solid named all
+  step_keeps script line (Move name old motion) named all = move_keeps script line name old motion named all
+
+  steps_keep : (script : Bytes) (lines : List Line) → Keeps Writes Names (steps_task means k limits script lines no_names)
+  steps_keep script lines =
+      keeps_in_order Writes Names (λ l n. step_task means k limits script l.0 l.1 n) lines no_names (λ l named all. step_keeps script l.0 l.1 named all) (λ name. empty_readable)
 
   -- whatever the files, each file that a script writes holds the text of a mesh, which is read of it again
   pub script_keeps : (name : Bytes) → Keeps Writes (λ _. Unit {0}) (script_task means k limits name)
   script_keeps name =
       keeps_then Writes (λ _. Unit {0}) (λ _. Unit {0}) (ask_file limits name)
-      (λ bytes. then_task (give (script_checked name (script k bytes))) (λ lines. then_task (steps_task means k limits lines no_names) (λ _. give (Ok tt))))
+      (λ bytes. then_task (give (script_checked name (script k bytes))) (λ lines. then_task (steps_task means k limits name lines no_names) (λ _. give (Ok tt))))
       (asked name)
-      (λ bytes _. keeps_then Writes (λ _. Unit {0}) (λ _. Unit {0}) (give (script_checked name (script k bytes))) (λ lines. then_task (steps_task means k limits lines no_names) (λ _. give (Ok tt)))
+      (λ bytes _. keeps_then Writes (λ _. Unit {0}) (λ _. Unit {0}) (give (script_checked name (script k bytes))) (λ lines. then_task (steps_task means k limits name lines no_names) (λ _. give (Ok tt)))
       (keeps_give Writes (λ _. Unit {0}) (script_checked name (script k bytes)) (λ lines is. tt))
-      (λ lines _. keeps_then Writes Names (λ _. Unit {0}) (steps_task means k limits lines no_names) (λ _. give (Ok tt)) (steps_keep lines) (λ named all. keeps_value Writes (λ _. Unit {0}) tt tt)))
+      (λ lines _. keeps_then Writes Names (λ _. Unit {0}) (steps_task means k limits name lines no_names) (λ _. give (Ok tt)) (steps_keep name lines) (λ named all. keeps_value Writes (λ _. Unit {0}) tt tt)))

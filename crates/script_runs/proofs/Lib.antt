@@ -1,4 +1,5 @@
 pub mod Known
+pub mod MadeMeshes
 pub mod Naming
 pub mod Progress
 pub mod Reading

@@ -3,13 +3,13 @@ use Rattle.std.proofs.Common.{◌≡◌, ◌+◌, ◌<◌, ◌≤◌, ◌++◌, 
 use Rattle.std.proofs.Math.ListN.{drop_of_length-le}
 use Rattle.std.proofs.lemmas.List.{drop_more, take_more}
 use Rattle.mesh_terms.specs.Limits.{Limits}
-use Rattle.run_terms.specs.Files.{Files}
+use Rattle.run_terms.specs.Files.{Bytes, Files}
 use Rattle.run_terms.specs.Meets.{Meets, Seen, Why}
 use Rattle.run_terms.specs.Runs.{World}
 use Rattle.run_terms.specs.Tasks.{Part, Task, changed_all}
 use Rattle.run_laws.proofs.Tasks.{files_done}
 use Rattle.script_terms.specs.Plays.{Meanings, Named, in_order, step_task, steps_task}
-use Rattle.script_terms.specs.Sound.{AreSound, IsSound}
+use Rattle.script_terms.specs.Sound.{AreSound, HasNumbers, IsSound}
 use Rattle.script_terms.specs.Steps.{Line}
 use Rattle.script_laws.specs.SoFar.{SoFar}
 use Rattle.script_laws.proofs.Loops.{all_done, begins, goes_on, stops_at}
@@ -17,17 +17,17 @@ use Rattle.script_runs.specs.Costs.{cost_after, cost_of_value, lines_cost, step_
 use Rattle.script_runs.specs.Names.{HasTaken, KeepsNames}
 use Rattle.script_runs.proofs.Known.{AreNamed, has_taken, named_next, none_named}
 
-module _ (means : Meanings) (k : ℕ) (limits : Limits) (lines : List Line) (named : Named) (start : Seen) (old : ℕ) where
+module _ (means : Meanings) (k : ℕ) (limits : Limits) (script : Bytes) (lines : List Line) (named : Named) (start : Seen) (old : ℕ) where
   -- the task of a line
   abbrev line_task : Line → Named → Task Named
-  line_task l n = step_task means k limits l.1 n
+  line_task l n = step_task means k limits script l.0 l.1 n
 
   abbrev whole : Task Named
-  whole = steps_task means k limits lines named
+  whole = steps_task means k limits script lines named
 
   -- what lines cost
   abbrev cost_of : List Line → Named → Files → ℕ
-  cost_of ls n files = lines_cost means k limits ls n files
+  cost_of ls n files = lines_cost means k limits script ls n files
 
   -- so many lines are done, with these names after them
   pub record HasDone (at : ℕ) (after : Named) (here : Seen) (steps : ℕ) : Type 0 where
@@ -53,6 +53,9 @@ module _ (means : Meanings) (k : ℕ) (limits : Limits) (lines : List Line) (nam
 
     pub next_taken : HasTaken after l.1
     next_taken = has_taken after (take at lines) l.1 done.known sound_next.0
+
+    pub next_numbers : HasNumbers l.1
+    next_numbers = sound_next.0.numbers
 
     -- what the lines from this one on cost
     cost_from : (files : Files) → cost_of (drop at lines) after files ≡ step_cost l.1 after + cost_after (line_task l after files) files (λ b now. cost_of (drop (at + 1) lines) b now)

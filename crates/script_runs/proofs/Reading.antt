@@ -31,7 +31,7 @@ refused r why now is = record { tells = refl; faults = refl; does = λ told. rec
 module _ (means : Meanings) (k : ℕ) (limits : Limits) (name : Bytes) where
   -- the steps of the lines, and no value
   abbrev doing : List Line → Task (Unit {0})
-  doing lines = then_task (steps_task means k limits lines no_names) (λ _. give (Ok tt))
+  doing lines = then_task (steps_task means k limits name lines no_names) (λ _. give (Ok tt))
 
   -- a faulty text, or want of memory
   pub text_refused : (text : Bytes) (fault : ScriptFault) (now : Seen) → IsFaultOf (script k text) fault → Meets (text_task means k limits name text) now now (Err (why_of_fault name fault))
@@ -41,18 +41,18 @@ module _ (means : Meanings) (k : ℕ) (limits : Limits) (name : Bytes) where
 
   -- the lines of a text were done, or one of them stopped
   pub text_done : (text : Bytes) (lines : List Line) (after : Named) (before now : Seen) (r : Result (Unit {0}) Halt) → script k text ≡ Ok lines
-      → Meets (steps_task means k limits lines no_names) before now (halted_by (λ _. after) r) → Meets (text_task means k limits name text) before now (halted r)
+      → Meets (steps_task means k limits name lines no_names) before now (halted_by (λ _. after) r) → Meets (text_task means k limits name text) before now (halted r)
   text_done text lines after before now r is met =
       meets_then (give (script_checked name (script k text))) doing lines (halted r) before before now (given (script_checked name (script k text)) lines before (ap (script_checked name) is)) (by r met)
     where
-      by : (r : Result (Unit {0}) Halt) → Meets (steps_task means k limits lines no_names) before now (halted_by (λ _. after) r) → Meets (doing lines) before now (halted r)
-      by (Ok done) met = meets_then (steps_task means k limits lines no_names) (λ _. give (Ok tt)) after (Ok tt) before now now met (meets_give tt now)
-      by (Err halt) met = meets_stop (steps_task means k limits lines no_names) (λ _. give (Ok tt)) _ before now met
+      by : (r : Result (Unit {0}) Halt) → Meets (steps_task means k limits name lines no_names) before now (halted_by (λ _. after) r) → Meets (doing lines) before now (halted r)
+      by (Ok done) met = meets_then (steps_task means k limits name lines no_names) (λ _. give (Ok tt)) after (Ok tt) before now now met (meets_give tt now)
+      by (Err halt) met = meets_stop (steps_task means k limits name lines no_names) (λ _. give (Ok tt)) _ before now met
 
   -- what the text costs is what its lines do
-  pub text_spent : (text : Bytes) (lines : List Line) (files : Files) (old new : ℕ) → script k text ≡ Ok lines → new ≤ old + lines_cost means k limits lines no_names files → new ≤ old + text_cost means k limits name text files
+  pub text_spent : (text : Bytes) (lines : List Line) (files : Files) (old new : ℕ) → script k text ≡ Ok lines → new ≤ old + lines_cost means k limits name lines no_names files → new ≤ old + text_cost means k limits name text files
   text_spent text lines files old new is most =
-      omega (arith, most, ap (λ r. cost_of_value (script_checked name r) (λ ls. lines_cost means k limits ls no_names files)) is)
+      omega (arith, most, ap (λ r. cost_of_value (script_checked name r) (λ ls. lines_cost means k limits name ls no_names files)) is)
 
   -- the file of a script was not read
   pub script_unread : (before now : OnShelf) (out : OnOutput) (why : Why) → ShelfMeets (ask_file limits name) before now (Err why)

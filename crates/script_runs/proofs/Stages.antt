@@ -10,8 +10,8 @@ use Rattle.run_terms.specs.Meets.{Meets, Seen, Starved, Why}
 use Rattle.run_terms.specs.Tasks.{Task, give, then_task}
 use Rattle.run_laws.proofs.Tasks.{meets_starved, meets_stop, meets_then}
 use Rattle.script_terms.specs.Combined.{Combined}
-use Rattle.script_terms.specs.Lines.{combine_line, load_line, save_line}
-use Rattle.script_terms.specs.Plays.{Meanings, Named, combine_task, load_task, mesh_at, save_task, with_name, within}
+use Rattle.script_terms.specs.Lines.{combine_line, load_line, measure_line, save_line}
+use Rattle.script_terms.specs.Plays.{Meanings, Named, combine_task, load_task, measure_task, mesh_at, save_task, with_name, within}
 
 -- the shelf and the output together
 abbrev pub beside : OnShelf → OnOutput → Seen
@@ -116,6 +116,21 @@ module _ (k : ℕ) (name file : Bytes) (of m : Mesh) (named : Named) (is : of �
       subst P (sym is)
       (shelf_then (write_mesh k file m.points m.triples) after_writing tt (Ok named) before now out (beside now told) write
       (output_then (say_line (save_line name file m)) (λ _. give (Ok named)) tt (Ok named) now out told (beside now told) line (meets_give named (beside now told))))
+
+-- the mesh of a name, which is this one, is measured
+module _ (name : Bytes) (of m : Mesh) (named : Named) (is : of ≡ m) (out told : OnOutput) where
+  abbrev measuring : Mesh → Task Named
+  measuring mesh = measure_task name mesh named
+
+  pub measure_unsaid : (why : Why) → OutputMeets (say_line (measure_line name m)) out told (Err why) → OutputMeets (measuring of) out told (Err why)
+  measure_unsaid why line on =
+      let P : Mesh → Type 0 = λ mesh. Meets (measuring mesh) (beside on out) (beside on told) (Err why) in
+      subst P (sym is) (output_stop (say_line (measure_line name m)) (λ _. give (Ok named)) why on out told line)
+
+  pub measure_told : OutputMeets (say_line (measure_line name m)) out told (Ok tt) → OutputMeets (measuring of) out told (Ok named)
+  measure_told line on =
+      let P : Mesh → Type 0 = λ mesh. Meets (measuring mesh) (beside on out) (beside on told) (Ok named) in
+      subst P (sym is) (output_then (say_line (measure_line name m)) (λ _. give (Ok named)) tt (Ok named) on out told (beside on told) line (meets_give named (beside on told)))
 
 -- an operation on two meshes is within the limit, or not, or ended otherwise
 abbrev pub Operates : Limits → Combined → Result Combined Why → Type 0

@@ -9,7 +9,7 @@ use Rattle.run_terms.specs.Tasks.{Part, Refusal, Task, changed_all}
 use Rattle.play_terms.specs.Commands.{ask_file}
 use Rattle.script_terms.specs.Plays.{Meanings, Named, mesh_at, no_names, script_checked, step_task}
 use Rattle.script_terms.specs.Scripts.{script}
-use Rattle.script_terms.specs.Steps.{Combine, Line, Load, Save, Step}
+use Rattle.script_terms.specs.Steps.{Combine, Line, Load, Make, Measure, Move, Save, Step}
 
 -- an operation counts at most one for each vertex of its two reduced meshes
 abbrev pub operation_cost : Op → Mesh → Mesh → ℕ
@@ -19,7 +19,10 @@ operation_cost op p q = length (first_side op p).corners + length (second_side q
 abbrev pub step_cost : Step → Named → ℕ
 step_cost (Load name file) named = 0
 step_cost (Save name file) named = 0
+step_cost (Measure name) named = 0
 step_cost (Combine op name left right) named = operation_cost op (mesh_at named left) (mesh_at named right)
+step_cost (Make name solid) named = 0
+step_cost (Move name old motion) named = 0
 
 -- where there is no value nothing comes after
 abbrev pub cost_of_value : {A : Type 0} → Result A Refusal → (A → ℕ) → ℕ
@@ -35,13 +38,13 @@ abbrev pub cost_in_order : {L A : Type 0} → (L → A → ℕ) → (L → A →
 cost_in_order cost task [] a files = 0
 cost_in_order cost task (l ∷ ls) a files = cost l a + cost_after (task l a files) files (λ b now. cost_in_order cost task ls b now)
 
--- the steps of these lines in order
-abbrev pub lines_cost : Meanings → ℕ → Limits → List Line → Named → Files → ℕ
-lines_cost means k limits lines named files = cost_in_order (λ l n. step_cost l.1 n) (λ l n. step_task means k limits l.1 n) lines named files
+-- the steps of these lines of the script in order
+abbrev pub lines_cost : Meanings → ℕ → Limits → Bytes → List Line → Named → Files → ℕ
+lines_cost means k limits script lines named files = cost_in_order (λ l n. step_cost l.1 n) (λ l n. step_task means k limits script l.0 l.1 n) lines named files
 
 -- the text of a script of this name
 abbrev pub text_cost : Meanings → ℕ → Limits → Bytes → Bytes → Files → ℕ
-text_cost means k limits name text files = cost_of_value (script_checked name (script k text)) (λ lines. lines_cost means k limits lines no_names files)
+text_cost means k limits name text files = cost_of_value (script_checked name (script k text)) (λ lines. lines_cost means k limits name lines no_names files)
 
 -- the script in the file of this name
 abbrev pub script_cost : Meanings → ℕ → Limits → Bytes → Files → ℕ

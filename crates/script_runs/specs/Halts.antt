@@ -12,7 +12,7 @@ is_step_stop Usage = false
 is_step_stop (BadScript line kind) = false
 is_step_stop _ = true
 
--- where a step may stop: at a file or a limit, as it reports, or for want of memory
+-- where a step may stop: at a file, at its line or at a limit, as it reports, or for want of memory
 abbrev pub IsHaltOfStep : Halt → Type 0
 IsHaltOfStep (At name stop) = IsTrue (is_step_stop stop)
 IsHaltOfStep Reporting = ⊤

@@ -15,7 +15,7 @@ use Rattle.script_terms.specs.Scripts.{script}
 abbrev pub text_task : Meanings → ℕ → Limits → Bytes → Bytes → Task (Unit {0})
 text_task means k limits name text =
     then_task (give (script_checked name (script k text))) (λ lines.
-    then_task (steps_task means k limits lines no_names) (λ _. give (Ok tt)))
+    then_task (steps_task means k limits name lines no_names) (λ _. give (Ok tt)))
 
 -- why a script of this name is not done that is at fault, or for which memory is wanting
 abbrev pub why_of_fault : Bytes → ScriptFault → Why

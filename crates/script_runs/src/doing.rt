@@ -8,10 +8,13 @@ ghost use Rattle.script_runs.specs.Halts.{IsHaltOfStep};
 ghost use Rattle.script_runs.specs.Names.{HasTaken, KeepsNames, named_in};
 ghost use Rattle.script_runs.specs.Operations.{meanings};
 ghost use Rattle.script_terms.specs.Plays.{step_task, steps_task};
-ghost use Rattle.script_terms.specs.Sound.{AreSound};
+ghost use Rattle.script_terms.specs.Sound.{AreSound, HasNumbers};
 
 use crate::combining::combine;
 use crate::loading::load;
+use crate::making::make;
+use crate::measuring::measure_mesh;
+use crate::moving::move_mesh;
 use crate::names::Names;
 use crate::saving::save;
 use mb_base::Limits;
@@ -22,9 +25,11 @@ use std::alloc::Global;
 use std::sync::ledger::Ledger;
 use steps::Steps;
 
-/// Does a step. Each name that it takes has a mesh.
+/// Does the step of a line of the script. Each name that it takes has a mesh.
 fn do_step<'a, S: Shelf, O: Sink, L: Ledger>(
     alloc: Global,
+    script: &'a str,
+    line: u64,
     step: &Step<'a>,
     digits: u8,
     limits: &Limits,
@@ -35,7 +40,8 @@ fn do_step<'a, S: Shelf, O: Sink, L: Ledger>(
 ) -> Result<(), Halt<'a>>
     requires digits { digits ≤ 6 }
     requires taken { HasTaken (named_in names.old) (step_of step.now) }
-    ensures meets { MeetsOn S.Shelf O.Sink (step_task meanings digits limits.now (step_of step.now) (named_in names.old)) (shelf.old, out.old) (shelf.new, out.new) (halted_by (λ _. named_in names.new) result) }
+    requires numbers { HasNumbers (step_of step.now) }
+    ensures meets { MeetsOn S.Shelf O.Sink (step_task meanings digits limits.now script.now line (step_of step.now) (named_in names.old)) (shelf.old, out.old) (shelf.new, out.new) (halted_by (λ _. named_in names.new) result) }
     ensures halts { IfErr result IsHaltOfStep }
     ensures named { OnOk result (KeepsNames (step_of step.now) (named_in names.old) (named_in names.new)) }
     ensures kept { OnErr result (names.new ≡ names.old) }
@@ -49,6 +55,7 @@ fn do_step<'a, S: Shelf, O: Sink, L: Ledger>(
         Step::Save { name, file } => {
             save(name.as_str(), file.as_str(), digits, names, shelf, out)
         }
+        Step::Measure { name } => measure_mesh(alloc, name.as_str(), names, out),
         Step::Combine {
             op,
             name,
@@ -58,12 +65,24 @@ fn do_step<'a, S: Shelf, O: Sink, L: Ledger>(
             let (name, left, right) = (name.as_str(), left.as_str(), right.as_str());
             combine(alloc, *op, name, left, right, limits, names, out, steps)
         }
+        Step::Make { name, solid } => {
+            make(alloc, script, line, name.as_str(), solid, limits, names)
+        }
+        Step::Move {
+            name,
+            source,
+            motion,
+        } => {
+            let (name, source) = (name.as_str(), source.as_str());
+            move_mesh(alloc, script, line, name, source, motion, names)
+        }
     }
 }
 
-/// Does the steps of lines in order, each over the names, the shelf and the output as they are by then, until one stops.
+/// Does the steps of lines of the script in order, each over the names, the shelf and the output as they are by then, until one stops.
 pub fn do_lines<'a, S: Shelf, O: Sink, L: Ledger>(
     alloc: Global,
+    script: &'a str,
     lines: &[Line<'a>],
     digits: u8,
     limits: &Limits,
@@ -74,12 +93,14 @@ pub fn do_lines<'a, S: Shelf, O: Sink, L: Ledger>(
 ) -> Result<(), Halt<'a>>
     requires digits { digits ≤ 6 }
     requires sound { AreSound [] (map line_of lines.now) }
-    ensures meets { MeetsOn S.Shelf O.Sink (steps_task meanings digits limits.now (map line_of lines.now) (named_in names.old)) (shelf.old, out.old) (shelf.new, out.new) (halted_by (λ _. named_in names.new) result) }
+    ensures meets { MeetsOn S.Shelf O.Sink (steps_task meanings digits limits.now script.now (map line_of lines.now) (named_in names.old)) (shelf.old, out.old) (shelf.new, out.new) (halted_by (λ _. named_in names.new) result) }
     ensures halts { IfErr result IsHaltOfStep }
-    ensures cost { IsTrue (S.tells shelf.old) → steps.new ≤ steps.old + lines_cost meanings digits limits.now (map line_of lines.now) (named_in names.old) (S.files shelf.old) }
+    ensures cost { IsTrue (S.tells shelf.old) → steps.new ≤ steps.old + lines_cost meanings digits limits.now script.now (map line_of lines.now) (named_in names.old) (S.files shelf.old) }
 {
     for line in lines {
-        do_step(alloc, &line.step, digits, limits, names, shelf, out, steps)?;
+        do_step(
+            alloc, script, line.line, &line.step, digits, limits, names, shelf, out, steps,
+        )?;
     }
     Ok(())
 }

@@ -1,4 +1,4 @@
-//! Runs the scripts of the program: the whole script is read, and then its lines load, combine and save meshes one after the other.
+//! Runs the scripts of the program: the whole script is read, and then its lines load, make, move, combine, measure and save meshes one after the other.
 //!
 //! Each call meets its task, whatever the shelf and the output. A name may be defined again: it then has the later mesh, and the earlier is freed.
 #![tactic(auto)]
@@ -6,6 +6,9 @@
 mod combining;
 mod doing;
 mod loading;
+mod making;
+mod measuring;
+mod moving;
 mod names;
 mod running;
 mod saving;

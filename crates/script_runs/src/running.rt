@@ -72,6 +72,7 @@ fn run_text<'a, S: Shelf, O: Sink, L: Ledger>(
     let mut names = Names::none(alloc);
     do_lines(
         alloc,
+        name,
         script.lines(),
         digits,
         limits,

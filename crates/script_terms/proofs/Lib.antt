@@ -1,3 +1,4 @@
 mod PlayRows
 mod ScriptRows
 pub mod Soundness
+mod Taken

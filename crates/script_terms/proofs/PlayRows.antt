@@ -1,5 +1,5 @@
 -- The plays of small scripts, computed.
-use Rattle.std.specs.Prelude.{◌≡◌, pos, List, [], ◌∷◌, ◌++◌, ◌&&◌, if◌then◌else◌, codes, bytes_eq, None, Ok, Err}
+use Rattle.std.specs.Prelude.{◌≡◌, pos, List, [], ◌∷◌, ◌++◌, ◌&&◌, if◌then◌else◌, length, map, codes, bytes_eq, None, Ok, Err}
 use Rattle.std.proofs.Common.{refl}
 use Rattle.std.specs.Fmt.{digits}
 use Rattle.std.specs.Char.{encode_utf8}
@@ -10,8 +10,9 @@ use Rattle.obj_terms.specs.Written.{obj_text}
 use Rattle.text_terms.specs.Written.{line_of}
 use Rattle.run_terms.specs.Files.{Bytes, Files, put}
 use Rattle.run_terms.specs.Runs.{Action, Ask, Write, Say}
-use Rattle.run_terms.specs.Tasks.{FaultyScript, NoFile, PastLimit, Part}
+use Rattle.run_terms.specs.Tasks.{FaultyScript, FaultyMesh, NoFile, PastLimit, Part, Refusal}
 use Rattle.script_terms.specs.Combined.{Combined}
+use Rattle.script_terms.specs.Operands.{number_of, number_fault}
 use Rattle.script_terms.specs.Plays.{Meanings, script_task}
 
 abbrev program : Limits
@@ -132,11 +133,12 @@ record FaultsAreTold : Type 0 where
   count : play program (codes "load a\n") ≡ refused (codes "s.txt:1: 21 WrongCount")
   name : play program (codes "load 1a cube.obj\n") ≡ refused (codes "s.txt:1: 22 BadName")
   old : play program (codes "save a a.obj\n") ≡ refused (codes "s.txt:1: 23 NameNotDefined")
+  number : play program (codes "lattice l 61 0\n") ≡ refused (codes "s.txt:1: 24 BadNumber")
   suffix : play program (codes "load a cube.ply\n") ≡ refused (codes "s.txt:1: 25 BadSuffix")
 
 tells_each_kind : FaultsAreTold
 unfolding digits chars is_utf8 encode_utf8
-tells_each_kind = record { word = refl; count = refl; name = refl; old = refl; suffix = refl }
+tells_each_kind = record { word = refl; count = refl; name = refl; old = refl; number = refl; suffix = refl }
 
 refuses_a_missing_script : script_task table 0 program (codes "s.txt") (λ n. None)
     ≡ record { actions = Ask (codes "s.txt") ∷ []; result = Err (record { cause = NoFile; line = line_of (codes "s.txt: missing") }) }
@@ -150,3 +152,60 @@ refuses_a_long_script = refl
 
 says_nothing_for_no_line : play program (codes "# nothing\n") ≡ record { actions = Ask (codes "s.txt") ∷ []; result = Ok tt }
 says_nothing_for_no_line = refl
+
+-- an operation that gives its first mesh
+abbrev first : Meanings
+first = record { operation = λ op p q. record { mesh = p; p_kept = length p.points; q_kept = 0; crossings = 0; forced = 0; halfedges = 36 } }
+
+-- a script that asks for no file
+abbrev alone : Limits → Bytes → Part (Unit {0})
+alone limits text = script_task first 0 limits (codes "s.txt") (beside text)
+
+-- it says these lines
+abbrev says : List Bytes → Part (Unit {0})
+says lines = record { actions = Ask (codes "s.txt") ∷ map (λ l. Say (line_of l)) lines; result = Ok tt }
+
+-- or says nothing and is refused
+abbrev refuses : Refusal → Part (Unit {0})
+refuses why = record { actions = Ask (codes "s.txt") ∷ []; result = Err why }
+
+abbrev refuses_mesh : Bytes → Part (Unit {0})
+refuses_mesh text = refuses (record { cause = FaultyMesh; line = line_of text })
+
+measures_a_union : alone program (codes "box a 0 0 0 10 10 10\nunion u a a\nmeasure u\n")
+    ≡ says (codes "u = union a a: kept 8 0, crossings 0, forced 0" ∷ codes "u: points 8, triangles 12, components 1, euler 2, volume6 6000" ∷ [])
+unfolding digits chars is_utf8 encode_utf8 number_of number_fault
+measures_a_union = refl
+
+measures_moved_solids : alone program (codes "tetra t 0 0 0 6\nmeasure t\nprism p 0 0 0 4 5\nscale q p 2\nmirror m q x\nturn r m z\nshift w r 1 2 3\nmeasure w\n")
+    ≡ says (codes "t: points 4, triangles 4, components 1, euler 2, volume6 216" ∷ codes "w: points 6, triangles 8, components 1, euler 2, volume6 1920" ∷ [])
+unfolding digits chars is_utf8 encode_utf8 number_of number_fault
+measures_moved_solids = refl
+
+measures_a_lattice : alone program (codes "lattice l 2 7\nmeasure l\n") ≡ says (codes "l: points 64, triangles 96, components 8, euler 16, volume6 1200000" ∷ [])
+unfolding digits chars is_utf8 encode_utf8 number_of number_fault
+measures_a_lattice = refl
+
+-- where the coordinates go is seen in what is saved
+saves_moved_points : (alone program (codes "tetra t 1 2 3 6\nmirror m t y\nturn a m x\nturn b a y\nsave b b.obj\n")).actions
+    ≡ Ask (codes "s.txt") ∷ Write (codes "b.obj") (codes "v -2 -3 -1\nv -2 -3 -7\nv -8 -3 -1\nv -2 -9 -1\nf 1 2 3\nf 1 4 2\nf 2 4 3\nf 3 4 1\n") ∷
+    Say (line_of (codes "save b b.obj: points 4, triangles 4")) ∷ []
+unfolding digits chars is_utf8 encode_utf8 number_of number_fault
+saves_moved_points = refl
+
+-- a mesh that can't be made is refused by its line
+record MeshesAreRefused : Type 0 where
+  flat_box : alone program (codes "box b 0 0 0 0 1 1") ≡ refuses_mesh (codes "s.txt:1: 16 FlatSolid")
+  turned_box : alone program (codes "box b 0 0 5 1 1 -5") ≡ refuses_mesh (codes "s.txt:1: 16 FlatSolid")
+  flat_tetra : alone program (codes "\ntetra t 0 0 0 0") ≡ refuses_mesh (codes "s.txt:2: 16 FlatSolid")
+  flat_prism : alone program (codes "prism p 0 0 0 4 -1") ≡ refuses_mesh (codes "s.txt:1: 16 FlatSolid")
+  outside : alone program (codes "tetra t 1073741824 0 0 1") ≡ refuses_mesh (codes "s.txt:1: 15 OutOfGrid")
+  shifted : alone program (codes "box b 0 0 0 1 1 1\nshift c b 1073741824 0 0") ≡ refuses_mesh (codes "s.txt:2: 15 OutOfGrid")
+  scaled : alone program (codes "box b 0 0 0 1 1 2000\nscale c b 1000000") ≡ refuses_mesh (codes "s.txt:2: 15 OutOfGrid")
+  points : alone small (codes "lattice l 3 0") ≡ refuses (record { cause = PastLimit; line = line_of (codes "limit points 216") })
+  triangles : alone (record { file_bytes = 400; points = 64; triangles = 95; halfedges = 83 }) (codes "lattice l 2 0")
+      ≡ refuses (record { cause = PastLimit; line = line_of (codes "limit triangles 96") })
+
+meshes_are_refused : MeshesAreRefused
+unfolding digits chars is_utf8 encode_utf8 number_of number_fault
+meshes_are_refused = record { flat_box = refl; turned_box = refl; flat_tetra = refl; flat_prism = refl; outside = refl; shifted = refl; scaled = refl; points = refl; triangles = refl }

@@ -1,13 +1,16 @@
 -- The steps of small scripts, and their first faults, computed.
-use Rattle.std.specs.Prelude.{◌≡◌, ℕ, List, [], ◌∷◌, ◌++◌, codes, replicate, Ok, Err}
+use Rattle.std.specs.Prelude.{◌≡◌, ℕ, pos, neg_ℤ, List, [], ◌∷◌, ◌++◌, codes, replicate, Ok, Err}
 use Rattle.std.proofs.Common.{refl}
 use Rattle.std.specs.Char.{encode_utf8}
 use Rattle.std.specs.Str.{chars, is_utf8}
 use Rattle.mb_base.specs.declared.op.Op.TheVariants.{Union, Intersect, Subtract}
 use Rattle.mesh_terms.specs.Faults.{Bad}
+use Rattle.made_terms.specs.Solids.{point}
 use Rattle.run_terms.specs.Files.{Bytes}
+use Rattle.script_terms.specs.Making.{Box, Tetra, Prism, Lattice, Shift, Scale, Mirror, Turn}
+use Rattle.script_terms.specs.Operands.{number_of, number_fault}
 use Rattle.script_terms.specs.Scripts.{script}
-use Rattle.script_terms.specs.Steps.{Line, Load, Save, Combine}
+use Rattle.script_terms.specs.Steps.{Line, Load, Save, Measure, Combine, Make, Move}
 
 -- the script is refused on line n with this kind
 abbrev IsBad : ℕ → ℕ → Bytes → Type 0
@@ -41,10 +44,91 @@ are_read : AreRead
 unfolding chars is_utf8 encode_utf8
 are_read = record { none = refl; blank = refl; union = refl; intersect = refl; subtract = refl; save = refl; mark = refl; cr = refl; hash = refl; long = refl; command = refl }
 
+-- a name before what else stands in a script
+abbrev one : Bytes → Bytes
+one rest = codes "tetra t 0 0 0 6\n" ++ rest
+
+-- lines after the one
+abbrev after_one : List Line → List Line
+after_one lines = (1, Make (codes "t") (Tetra (point (pos 0) (pos 0) (pos 0)) (pos 6))) ∷ lines
+
+-- solids, motions and measures under no digits, and numbers under four
+record AreMade : Type 0 where
+  measure : Gives (after_one ((2, Measure (codes "t")) ∷ [])) (one (codes "measure t"))
+  box : Gives ((1, Make (codes "a") (Box (point (neg_ℤ (pos 1)) (pos 2) (pos 3)) (point (pos 40) (pos 5) (pos 6)))) ∷ []) (codes "box a -1 2. 3.4 +4e1 05 5.5")
+  tetra : Gives (after_one []) (one [])
+  prism : Gives ((1, Make (codes "p") (Prism (point (pos 1) (pos 2) (pos 3)) (pos 4) (neg_ℤ (pos 5)))) ∷ []) (codes "prism p 1 2 3 4 -5")
+  lattice : Gives ((1, Make (codes "l") (Lattice 60 999999)) ∷ []) (codes "lattice l 60 999999")
+  least : Gives ((1, Make (codes "l") (Lattice 1 0)) ∷ []) (codes "lattice l 0000001 0000000")
+  shift : Gives (after_one ((2, Move (codes "s") (codes "t") (Shift (point (pos 1) (neg_ℤ (pos 2)) (pos 1073741824)))) ∷ [])) (one (codes "shift s t 1 -2 1073741824"))
+  scale : Gives (after_one ((2, Move (codes "t") (codes "t") (Scale 1000000)) ∷ [])) (one (codes "scale t t 1000000"))
+  mirror : Gives (after_one ((2, Move (codes "m") (codes "t") (Mirror 0)) ∷ (3, Move (codes "n") (codes "m") (Mirror 1)) ∷ [])) (one (codes "mirror m t x\nmirror n m y"))
+  turn : Gives (after_one ((2, Move (codes "m") (codes "t") (Turn 2)) ∷ [])) (one (codes "turn m t z"))
+  digits : script 4 (codes "tetra t 1 .00005 -107374.1824 6e-4")
+      ≡ Ok ((1, Make (codes "t") (Tetra (point (pos 10000) (pos 1) (neg_ℤ (pos 1073741824))) (pos 6))) ∷ [])
+
+are_made : AreMade
+unfolding chars is_utf8 encode_utf8 number_of number_fault
+are_made = record { measure = refl; box = refl; tetra = refl; prism = refl; lattice = refl; least = refl; shift = refl; scale = refl; mirror = refl; turn = refl; digits = refl }
+
+-- operands that have no value, and what is asked before them
+record HaveNoValue : Type 0 where
+  number : IsBad 1 24 (codes "box a 0 0 0 1 1 1e")
+  text : IsBad 1 24 (codes "tetra t nan 0 0 6")
+  bytes : IsBad 1 24 (codes "tetra t 0 0 0 " ++ 255 ∷ [])
+  outside : IsBad 1 24 (codes "prism p 1073741825 0 0 4 5")
+  below : IsBad 2 24 (one (codes "shift s t 0 -1073741825 0"))
+  no_boxes : IsBad 1 24 (codes "lattice l 0 0")
+  many_boxes : IsBad 1 24 (codes "lattice l 61 0")
+  sign : IsBad 1 24 (codes "lattice l +1 0")
+  fraction : IsBad 1 24 (codes "lattice l 1. 0")
+  long : IsBad 1 24 (codes "lattice l 00000001 0")
+  seed : IsBad 1 24 (codes "lattice l 1 1000000")
+  no_factor : IsBad 2 24 (one (codes "scale s t 0"))
+  factor : IsBad 2 24 (one (codes "scale s t 1000001"))
+  axis : IsBad 2 24 (one (codes "mirror m t X"))
+  other_axis : IsBad 2 24 (one (codes "turn m t w"))
+  longer_axis : IsBad 2 24 (one (codes "turn m t xy"))
+  few : IsBad 1 21 (codes "box a 0 0 0 1 1")
+  many : IsBad 1 21 (codes "tetra t 0 0 0 6 6")
+  none : IsBad 1 21 (codes "measure")
+  name_first : IsBad 1 22 (codes "lattice 1 0 0")
+  old_first : IsBad 1 23 (codes "scale s t 0")
+  old_name_first : IsBad 2 22 (one (codes "mirror m 1 w"))
+  measured : IsBad 2 23 (one (codes "measure T"))
+
+have_no_value : HaveNoValue
+unfolding chars is_utf8 encode_utf8 number_of number_fault
+have_no_value = record {
+  number = refl;
+  text = refl;
+  bytes = refl;
+  outside = refl;
+  below = refl;
+  no_boxes = refl;
+  many_boxes = refl;
+  sign = refl;
+  fraction = refl;
+  long = refl;
+  seed = refl;
+  no_factor = refl;
+  factor = refl;
+  axis = refl;
+  other_axis = refl;
+  longer_axis = refl;
+  few = refl;
+  many = refl;
+  none = refl;
+  name_first = refl;
+  old_first = refl;
+  old_name_first = refl;
+  measured = refl;
+}
+
 record AreBad : Type 0 where
   case : IsBad 1 20 (codes "Load a c.obj")
   longer : IsBad 1 20 (codes "loads a c.obj")
-  later_command : IsBad 1 20 (codes "measure a")
+  later_command : IsBad 1 20 (codes "measures a")
   second_mark : IsBad 1 20 (239 ∷ 187 ∷ 191 ∷ 239 ∷ 187 ∷ 191 ∷ codes "load a c.obj")
   cr_inside : IsBad 1 20 (codes "load\r a c.obj")
   word_first : IsBad 1 20 (codes "cut")

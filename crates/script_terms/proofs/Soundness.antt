@@ -1,25 +1,25 @@
 -- The steps of a script without a fault are sound.
 use Rattle.std.proofs.Common.{◌≡◌, ℕ, zero, suc, ◌+◌, ◌<◌, Bool, true, false, List, [], ◌∷◌, ◌++◌, length, take, get_or, Option, Some, None, Result, Ok, Err, All, IsTrue, refl, ap, sym, subst, ◌∙◌, arith, append-nil, append_assoc}
-use Rattle.std.specs.Prelude.{◌==◌, ◌&&◌, ◌||◌, if◌then◌else◌, bytes_eq}
-use Rattle.std.specs.Str.{is_utf8}
+use Rattle.std.specs.Prelude.{◌==◌, ◌||◌, if◌then◌else◌, bytes_eq}
 use Rattle.std.proofs.Math.Bool.{or-false}
 use Rattle.std.proofs.lemmas.Bool.{eqb-true}
 use Rattle.std.proofs.lemmas.List.{take_more}
 use Rattle.std.proofs.lemmas.List.Folds.{list_any-append}
-use Rattle.std.proofs.lemmas.List.Elements.{All-nil, All-cons, All-head, All-tail}
+use Rattle.std.proofs.lemmas.List.Elements.{All-nil, All-cons}
 use Rattle.mesh_terms.specs.Faults.{Fault}
 use Rattle.mb_base.specs.declared.op.Op.{Op}
 use Rattle.mb_base.specs.declared.op.Op.TheVariants.{Union, Intersect, Subtract}
 use Rattle.text_terms.specs.FirstFault.{then_read, on_line}
 use Rattle.run_terms.specs.Files.{Bytes}
-use Rattle.script_terms.specs.Commands.{Command, load, save, combine, commands, named_in, command_named}
+use Rattle.script_terms.specs.Commands.{Command, at, load, save, measure, combine, box, tetra, prism, lattice, shift, scale, mirror, turn, commands, named_in, command_named}
 use Rattle.play_terms.specs.Formats.{is_mesh_name}
-use Rattle.script_terms.specs.Operands.{is_name, new_name_fault, old_name_fault, file_name_fault, operands_fault, or_later}
+use Rattle.script_terms.specs.Making.{Solid, Motion}
+use Rattle.script_terms.specs.Operands.{NewName, is_name, new_name_fault, old_name_fault, operand_fault, operands_fault}
 use Rattle.script_terms.specs.Scripts.{unless_refused, command_step, step_by, script_line, script_lines, numbered_words, script}
-use Rattle.script_terms.specs.Sound.{IsSound, AreSound}
-use Rattle.script_terms.specs.Steps.{Line, Step, gives, is_given}
+use Rattle.script_terms.specs.Sound.{IsSolid, IsMotion, IsSound, AreSound}
+use Rattle.script_terms.specs.Steps.{Line, Step, Make, Move, gives, is_given}
+use Rattle.script_terms.proofs.Taken.{name_taken, old_taken, file_taken, number_taken, within_taken, axis_taken, point_taken, none_at}
 
--- what is known of the words of a step
 abbrev IsGiven : List Line → Bytes → Type 0
 IsGiven before w = IsTrue (is_given w before)
 
@@ -33,111 +33,133 @@ IsFile w = IsTrue (is_mesh_name w)
 one : {X : Type 0} (P : X → Type 0) (x : X) → P x → All P (x ∷ [])
 one P x such = All-cons P x [] such (All-nil P)
 
--- neither of two faults
-neither : (a b : Option ℕ) → or_later a b ≡ None → (a ≡ None) × (b ≡ None)
-neither None b e = (refl, e)
-neither (Some kind) b e = absurd (cc)
+-- of two
+two : {X : Type 0} (P : X → Type 0) (x y : X) → P x → P y → All P (x ∷ y ∷ [])
+two P x y first second = All-cons P x (y ∷ []) first (one P y second)
 
--- both of two tests
-both : (a b : Bool) → (a && b) ≡ true → (a ≡ true) × (b ≡ true)
-both true true e = (refl, refl)
-both true false e = absurd (cc)
-both false b e = absurd (cc)
-
--- a test without a fault is passed
-passed : (b : Bool) (kind : ℕ) → (if b then None else Some kind) ≡ None → b ≡ true
-passed true kind e = refl
-passed false kind e = absurd (cc)
-
-name_taken : (w : Bytes) → new_name_fault w ≡ None → IsTrue (is_name w)
-name_taken w e = passed (is_name w) 22 e
-
-old_taken : (before : List Line) (w : Bytes) → old_name_fault before w ≡ None → IsTrue (is_name w) × IsTrue (is_given w before)
-old_taken before w e = by_name (is_name w) refl e
-  where
-    known : Bool → Option ℕ
-    known b = if b then None else Some 23
-
-    by_name : (b : Bool) → is_name w ≡ b → (if b then known (is_given w before) else Some 22) ≡ None → IsTrue (is_name w) × IsTrue (is_given w before)
-    by_name true is e = (is, passed (is_given w before) 23 e)
-    by_name false is e = absurd (cc)
-
-file_taken : (w : Bytes) → file_name_fault w ≡ None → IsTrue (is_mesh_name w)
-file_taken w e = (both (is_utf8 w) (is_mesh_name w) (passed (is_utf8 w && is_mesh_name w) 25 e)).1
-
--- a step of a command: its operands are as many as stated, none is refused, and it is the command's
-record IsStepOf (k : ℕ) (before : List Line) (ws : List Bytes) (c : Command) (step : Step) : Type 0 where
-  count : length ws ≡ length c.operands
-  faults : operands_fault k before c.operands ws ≡ None
-  is : c.step ws ≡ step
-
-step_of_command : (k : ℕ) (before : List Line) (ws : List Bytes) (c : Command) (step : Step) → command_step k before ws c ≡ Ok step → IsStepOf k before ws c step
-step_of_command k before ws c step e = by_count (length ws == length c.operands) refl e
-  where
-    by_fault : length ws ≡ length c.operands → (f : Option ℕ) → operands_fault k before c.operands ws ≡ f → unless_refused (c.step ws) f ≡ Ok step → IsStepOf k before ws c step
-    by_fault count None none e = record { count = count; faults = none; is = cc }
-    by_fault count (Some kind) some e = absurd (cc)
-
-    by_count : (b : Bool) → (length ws == length c.operands) ≡ b → (if b then unless_refused (c.step ws) (operands_fault k before c.operands ws) else Err 21) ≡ Ok step → IsStepOf k before ws c step
-    by_count true same e = by_fault (eqb-true (length ws) (length c.operands) same) (operands_fault k before c.operands ws) refl e
-    by_count false other e = absurd (cc)
+-- none of the words is refused as an operand of the command
+abbrev NoneRefused : ℕ → List Line → List Bytes → Command → Type 0
+NoneRefused k before ws c = (i : ℕ) → i < length c.operands → operand_fault k before (get_or c.operands i NewName) (at ws i) ≡ None
 
 -- the steps of a command are sound
 abbrev GivesSound : Command → Type 0
-GivesSound c = (k : ℕ) (before : List Line) (ws : List Bytes) (step : Step) → IsStepOf k before ws c step → IsSound before step
+GivesSound c = (k : ℕ) (before : List Line) (ws : List Bytes) → NoneRefused k before ws c → IsSound before (c.step k ws)
 
 load_sound : GivesSound load
-load_sound k before [] step s = absurd (omega (arith, s.count))
-load_sound k before (name ∷ []) step s = absurd (omega (arith, s.count))
-load_sound k before (name ∷ file ∷ []) step s =
-    let first = neither (new_name_fault name) (or_later (file_name_fault file) None) s.faults in
-    let second = neither (file_name_fault file) None first.1 in
-    subst (IsSound before) s.is (record { given = All-nil (IsGiven before); names = one IsNamed name (name_taken name first.0); files = one IsFile file (file_taken file second.0) })
-load_sound k before (name ∷ file ∷ w ∷ ws) step s = absurd (omega (arith, s.count))
+load_sound k before ws none =
+    record {
+      given = All-nil (IsGiven before);
+      names = one IsNamed (at ws 0) (name_taken (at ws 0) (none 0 (omega arith)));
+      files = one IsFile (at ws 1) (file_taken (at ws 1) (none 1 (omega arith)));
+      numbers = tt;
+    }
 
 save_sound : GivesSound save
-save_sound k before [] step s = absurd (omega (arith, s.count))
-save_sound k before (name ∷ []) step s = absurd (omega (arith, s.count))
-save_sound k before (name ∷ file ∷ []) step s =
-    let first = neither (old_name_fault before name) (or_later (file_name_fault file) None) s.faults in
-    let second = neither (file_name_fault file) None first.1 in
-    let old = old_taken before name first.0 in
-    subst (IsSound before) s.is (record { given = one (IsGiven before) name old.1; names = one IsNamed name old.0; files = one IsFile file (file_taken file second.0) })
-save_sound k before (name ∷ file ∷ w ∷ ws) step s = absurd (omega (arith, s.count))
+save_sound k before ws none =
+    let old = old_taken before (at ws 0) (none 0 (omega arith)) in
+    record {
+      given = one (IsGiven before) (at ws 0) old.1;
+      names = one IsNamed (at ws 0) old.0;
+      files = one IsFile (at ws 1) (file_taken (at ws 1) (none 1 (omega arith)));
+      numbers = tt;
+    }
+
+measure_sound : GivesSound measure
+measure_sound k before ws none =
+    let old = old_taken before (at ws 0) (none 0 (omega arith)) in
+    record { given = one (IsGiven before) (at ws 0) old.1; names = one IsNamed (at ws 0) old.0; files = All-nil IsFile; numbers = tt }
 
 combine_sound : (op : Op) → GivesSound (combine op)
-combine_sound op k before [] step s = absurd (omega (arith, s.count))
-combine_sound op k before (name ∷ []) step s = absurd (omega (arith, s.count))
-combine_sound op k before (name ∷ left ∷ []) step s = absurd (omega (arith, s.count))
-combine_sound op k before (name ∷ left ∷ right ∷ []) step s =
-    let first = neither (new_name_fault name) (or_later (old_name_fault before left) (or_later (old_name_fault before right) None)) s.faults in
-    let second = neither (old_name_fault before left) (or_later (old_name_fault before right) None) first.1 in
-    let third = neither (old_name_fault before right) None second.1 in
-    let p = old_taken before left second.0 in
-    let q = old_taken before right third.0 in
-    subst (IsSound before) s.is (record {
-      given = All-cons (IsGiven before) left (right ∷ []) p.1 (one (IsGiven before) right q.1);
-      names = All-cons IsNamed name (left ∷ right ∷ []) (name_taken name first.0) (All-cons IsNamed left (right ∷ []) p.0 (one IsNamed right q.0));
+combine_sound op k before ws none =
+    let name = name_taken (at ws 0) (none 0 (omega arith)) in
+    let left = old_taken before (at ws 1) (none 1 (omega arith)) in
+    let right = old_taken before (at ws 2) (none 2 (omega arith)) in
+    record {
+      given = two (IsGiven before) (at ws 1) (at ws 2) left.1 right.1;
+      names = All-cons IsNamed (at ws 0) (at ws 1 ∷ at ws 2 ∷ []) name (two IsNamed (at ws 1) (at ws 2) left.0 right.0);
       files = All-nil IsFile;
-    })
-combine_sound op k before (name ∷ left ∷ right ∷ w ∷ ws) step s = absurd (omega (arith, s.count))
+      numbers = tt;
+    }
+
+-- a solid
+makes_sound : (before : List Line) (name : Bytes) (solid : Solid) → new_name_fault name ≡ None → IsSolid solid → IsSound before (Make name solid)
+makes_sound before name solid taken such =
+    record { given = All-nil (IsGiven before); names = one IsNamed name (name_taken name taken); files = All-nil IsFile; numbers = such }
+
+box_sound : GivesSound box
+box_sound k before ws none =
+    let low = point_taken k ws 1 (none 1 (omega arith)) (none 2 (omega arith)) (none 3 (omega arith)) in
+    let high = point_taken k ws 4 (none 4 (omega arith)) (none 5 (omega arith)) (none 6 (omega arith)) in
+    makes_sound before (at ws 0) _ (none 0 (omega arith)) (low, high)
+
+tetra_sound : GivesSound tetra
+tetra_sound k before ws none =
+    let corner = point_taken k ws 1 (none 1 (omega arith)) (none 2 (omega arith)) (none 3 (omega arith)) in
+    makes_sound before (at ws 0) _ (none 0 (omega arith)) (corner, number_taken k (at ws 4) (none 4 (omega arith)))
+
+prism_sound : GivesSound prism
+prism_sound k before ws none =
+    let corner = point_taken k ws 1 (none 1 (omega arith)) (none 2 (omega arith)) (none 3 (omega arith)) in
+    makes_sound before (at ws 0) _ (none 0 (omega arith)) (corner, number_taken k (at ws 4) (none 4 (omega arith)), number_taken k (at ws 5) (none 5 (omega arith)))
+
+lattice_sound : GivesSound lattice
+lattice_sound k before ws none =
+    let n = within_taken 1 60 (at ws 1) (none 1 (omega arith)) in
+    let seed = within_taken 0 999999 (at ws 2) (none 2 (omega arith)) in
+    makes_sound before (at ws 0) _ (none 0 (omega arith)) (n.0, n.1, seed.1)
+
+-- a motion
+moves_sound : (before : List Line) (name old : Bytes) (motion : Motion) → new_name_fault name ≡ None → old_name_fault before old ≡ None → IsMotion motion → IsSound before (Move name old motion)
+moves_sound before name old motion taken known such =
+    let source = old_taken before old known in
+    record { given = one (IsGiven before) old source.1; names = two IsNamed name old (name_taken name taken) source.0; files = All-nil IsFile; numbers = such }
+
+shift_sound : GivesSound shift
+shift_sound k before ws none =
+    moves_sound before (at ws 0) (at ws 1) _ (none 0 (omega arith)) (none 1 (omega arith)) (point_taken k ws 2 (none 2 (omega arith)) (none 3 (omega arith)) (none 4 (omega arith)))
+
+scale_sound : GivesSound scale
+scale_sound k before ws none = moves_sound before (at ws 0) (at ws 1) _ (none 0 (omega arith)) (none 1 (omega arith)) (within_taken 1 1000000 (at ws 2) (none 2 (omega arith)))
+
+mirror_sound : GivesSound mirror
+mirror_sound k before ws none = moves_sound before (at ws 0) (at ws 1) _ (none 0 (omega arith)) (none 1 (omega arith)) (axis_taken (at ws 2) (none 2 (omega arith)))
+
+turn_sound : GivesSound turn
+turn_sound k before ws none = moves_sound before (at ws 0) (at ws 1) _ (none 0 (omega arith)) (none 1 (omega arith)) (axis_taken (at ws 2) (none 2 (omega arith)))
+
+-- each of some commands
+abbrev Each : (Command → Type 0) → List Command → Type 0
+Each P [] = Unit {0}
+Each P (c ∷ cs) = P c × Each P cs
 
 -- what holds of each command holds of the one that a word names
-named_such : (P : Command → Type 0) (cs : List Command) (w : Bytes) (c : Command) → All P cs → named_in cs w ≡ Some c → P c
+named_such : (P : Command → Type 0) (cs : List Command) (w : Bytes) (c : Command) → Each P cs → named_in cs w ≡ Some c → P c
 named_such P [] w c such e = absurd (cc)
-named_such P (d ∷ cs) w c such e = by_word (bytes_eq w d.word) e (λ f. named_such P cs w c (All-tail P d cs such) f)
+named_such P (d ∷ cs) w c such e = by_word (bytes_eq w d.word) e (λ f. named_such P cs w c such.1 f)
   where
     by_word : (b : Bool) → (if b then Some d else named_in cs w) ≡ Some c → (named_in cs w ≡ Some c → P c) → P c
-    by_word true e later = let is : d ≡ c = cc in subst P is (All-head P d cs such)
+    by_word true e later = let is : d ≡ c = cc in subst P is such.0
     by_word false e later = later e
 
-all_sound : All GivesSound commands
+all_sound : Each GivesSound commands
 all_sound =
-    let u = one GivesSound (combine Subtract) (combine_sound Subtract) in
-    let v = All-cons GivesSound (combine Intersect) (combine Subtract ∷ []) (combine_sound Intersect) u in
-    let w = All-cons GivesSound (combine Union) (combine Intersect ∷ combine Subtract ∷ []) (combine_sound Union) v in
-    let x = All-cons GivesSound save (combine Union ∷ combine Intersect ∷ combine Subtract ∷ []) save_sound w in
-    All-cons GivesSound load (save ∷ combine Union ∷ combine Intersect ∷ combine Subtract ∷ []) load_sound x
+    let making : Each GivesSound (box ∷ tetra ∷ prism ∷ lattice ∷ shift ∷ scale ∷ mirror ∷ turn ∷ []) =
+    (box_sound, (tetra_sound, (prism_sound, (lattice_sound, (shift_sound, (scale_sound, (mirror_sound, (turn_sound, tt)))))))) in
+    (load_sound, (save_sound, (measure_sound, (combine_sound Union, (combine_sound Intersect, (combine_sound Subtract, making))))))
+
+-- the step of a command whose steps are sound
+command_sound : (k : ℕ) (before : List Line) (ws : List Bytes) (c : Command) (step : Step) → GivesSound c → command_step k before ws c ≡ Ok step → IsSound before step
+command_sound k before ws c step sound e = by_count (length ws == length c.operands) refl e
+  where
+    by_fault : length ws ≡ length c.operands → (f : Option ℕ) → operands_fault k before c.operands ws ≡ f → unless_refused (c.step k ws) f ≡ Ok step → IsSound before step
+    by_fault count None none e =
+        let is : c.step k ws ≡ step = cc in
+        subst (IsSound before) is (sound k before ws (λ i inside. none_at k before c.operands ws i count none inside))
+    by_fault count (Some kind) some e = absurd (cc)
+
+    by_count : (b : Bool) → (length ws == length c.operands) ≡ b → (if b then unless_refused (c.step k ws) (operands_fault k before c.operands ws) else Err 21) ≡ Ok step → IsSound before step
+    by_count true same e = by_fault (eqb-true (length ws) (length c.operands) same) (operands_fault k before c.operands ws) refl e
+    by_count false other e = absurd (cc)
 
 -- the step of a line is sound after the lines before it
 step_sound : (k : ℕ) (before : List Line) (w : Bytes) (ws : List Bytes) (step : Step) → step_by k before ws (command_named w) ≡ Ok step → IsSound before step
@@ -145,7 +167,7 @@ step_sound k before w ws step e = by_command (command_named w) refl e
   where
     by_command : (o : Option Command) → command_named w ≡ o → step_by k before ws o ≡ Ok step → IsSound before step
     by_command None is e = absurd (cc)
-    by_command (Some c) is e = named_such GivesSound commands w c all_sound is k before ws step (step_of_command k before ws c step e)
+    by_command (Some c) is e = command_sound k before ws c step (named_such GivesSound commands w c all_sound is) e
 
 -- sound lines and one more
 AreSound-more : (before ls : List Line) (l : Line) → AreSound before ls → IsSound (before ++ ls) l.1 → AreSound before (ls ++ l ∷ [])

@@ -1,26 +1,47 @@
 -- The commands of a script: the word of each, its operands, and its step.
-use Rattle.std.specs.Prelude.{ℕ, List, [], ◌∷◌, get_or, if◌then◌else◌, codes, bytes_eq, Option, Some, None}
+use Rattle.std.specs.Prelude.{ℕ, ◌+◌, ℤ, List, [], ◌∷◌, get_or, replicate, if◌then◌else◌, codes, bytes_eq, Option, Some, None, unwrap_or}
+use Rattle.text_terms.specs.Numbers.{digits_value}
+use Rattle.made_terms.specs.Solids.{point}
 use Rattle.run_terms.specs.Files.{Bytes}
 use Rattle.mb_base.specs.declared.op.Op.{Op}
 use Rattle.mb_base.specs.declared.op.Op.TheVariants.{Union, Intersect, Subtract}
-use Rattle.script_terms.specs.Operands.{Operand, NewName, OldName, FileName}
-use Rattle.script_terms.specs.Steps.{Step, Load, Save, Combine}
+use Rattle.script_terms.specs.Making.{Solid, Box, Tetra, Prism, Lattice, Motion, Shift, Scale, Mirror, Turn}
+use Rattle.script_terms.specs.Operands.{Operand, NewName, OldName, FileName, Number, Within, Axis, axis, number_of}
+use Rattle.script_terms.specs.Steps.{Step, Load, Save, Measure, Combine, Make, Move}
 
--- a command: its word, what words stand after it, and the step of such words
+-- a command: its word, what words stand after it, and the step of such words under so many digits
 pub record Command : Type 0 where
   pub word : Bytes
   pub operands : List Operand
-  pub step : List Bytes → Step
+  pub step : ℕ → List Bytes → Step
 
 -- the word at a place
 abbrev pub at : List Bytes → ℕ → Bytes
 at ws i = get_or ws i []
 
+-- the number at a place under k digits
+abbrev pub number_at : ℕ → List Bytes → ℕ → ℤ
+number_at k ws i = number_of k (at ws i)
+
+-- the point of three numbers
+abbrev pub point_at : ℕ → List Bytes → ℕ → List ℤ
+point_at k ws i = point (number_at k ws i) (number_at k ws (i + 1)) (number_at k ws (i + 2))
+
+-- the whole number at a place
+abbrev pub whole_at : List Bytes → ℕ → ℕ
+whole_at ws i = digits_value (at ws i)
+
+abbrev pub axis_at : List Bytes → ℕ → ℕ
+axis_at ws i = unwrap_or (axis (at ws i)) 0
+
 abbrev pub load : Command
-load = record { word = codes "load"; operands = NewName ∷ FileName ∷ []; step = λ ws. Load (at ws 0) (at ws 1) }
+load = record { word = codes "load"; operands = NewName ∷ FileName ∷ []; step = λ k ws. Load (at ws 0) (at ws 1) }
 
 abbrev pub save : Command
-save = record { word = codes "save"; operands = OldName ∷ FileName ∷ []; step = λ ws. Save (at ws 0) (at ws 1) }
+save = record { word = codes "save"; operands = OldName ∷ FileName ∷ []; step = λ k ws. Save (at ws 0) (at ws 1) }
+
+abbrev pub measure : Command
+measure = record { word = codes "measure"; operands = OldName ∷ []; step = λ k ws. Measure (at ws 0) }
 
 -- the word of an operation
 abbrev pub op_word : Op → Bytes
@@ -29,10 +50,47 @@ op_word Intersect = codes "intersect"
 op_word Subtract = codes "subtract"
 
 abbrev pub combine : Op → Command
-combine op = record { word = op_word op; operands = NewName ∷ OldName ∷ OldName ∷ []; step = λ ws. Combine op (at ws 0) (at ws 1) (at ws 2) }
+combine op = record { word = op_word op; operands = NewName ∷ OldName ∷ OldName ∷ []; step = λ k ws. Combine op (at ws 0) (at ws 1) (at ws 2) }
+
+-- a command that makes a solid
+abbrev pub making : Bytes → List Operand → (ℕ → List Bytes → Solid) → Command
+making word operands solid = record { word = word; operands = NewName ∷ operands; step = λ k ws. Make (at ws 0) (solid k ws) }
+
+-- the two corners of a box
+abbrev pub box : Command
+box = making (codes "box") (replicate 6 Number) (λ k ws. Box (point_at k ws 1) (point_at k ws 4))
+
+-- a corner, and a size
+abbrev pub tetra : Command
+tetra = making (codes "tetra") (replicate 4 Number) (λ k ws. Tetra (point_at k ws 1) (number_at k ws 4))
+
+-- a corner, a size and a height
+abbrev pub prism : Command
+prism = making (codes "prism") (replicate 5 Number) (λ k ws. Prism (point_at k ws 1) (number_at k ws 4) (number_at k ws 5))
+
+-- the boxes along each axis, and a seed
+abbrev pub lattice : Command
+lattice = making (codes "lattice") (Within 1 60 ∷ Within 0 999999 ∷ []) (λ k ws. Lattice (whole_at ws 1) (whole_at ws 2))
+
+-- a command that moves a mesh
+abbrev pub moving : Bytes → List Operand → (ℕ → List Bytes → Motion) → Command
+moving word operands motion = record { word = word; operands = NewName ∷ OldName ∷ operands; step = λ k ws. Move (at ws 0) (at ws 1) (motion k ws) }
+
+abbrev pub shift : Command
+shift = moving (codes "shift") (replicate 3 Number) (λ k ws. Shift (point_at k ws 2))
+
+abbrev pub scale : Command
+scale = moving (codes "scale") (Within 1 1000000 ∷ []) (λ k ws. Scale (whole_at ws 2))
+
+abbrev pub mirror : Command
+mirror = moving (codes "mirror") (Axis ∷ []) (λ k ws. Mirror (axis_at ws 2))
+
+abbrev pub turn : Command
+turn = moving (codes "turn") (Axis ∷ []) (λ k ws. Turn (axis_at ws 2))
 
 abbrev pub commands : List Command
-commands = load ∷ save ∷ combine Union ∷ combine Intersect ∷ combine Subtract ∷ []
+commands =
+    load ∷ save ∷ measure ∷ combine Union ∷ combine Intersect ∷ combine Subtract ∷ box ∷ tetra ∷ prism ∷ lattice ∷ shift ∷ scale ∷ mirror ∷ turn ∷ []
 
 -- the first of some commands whose word is this
 abbrev pub named_in : List Command → Bytes → Option Command

@@ -1,6 +1,7 @@
 pub mod Combined
 pub mod Commands
 pub mod Lines
+pub mod Making
 pub mod Operands
 pub mod Plays
 pub mod Scripts

@@ -3,17 +3,19 @@ use Rattle.std.specs.Prelude.{ℕ, List, [], ◌∷◌, if◌then◌else◌, nat
 use Rattle.mesh_terms.specs.Faults.{Halfedges, Fault}
 use Rattle.mesh_terms.specs.Limits.{Limits}
 use Rattle.mesh_terms.specs.Meshes.{Mesh}
+use Rattle.made_terms.specs.Refusals.{MadeFault}
 use Rattle.run_terms.specs.Files.{Bytes}
 use Rattle.run_terms.specs.Tasks.{Refusal, Task, give, then_task}
 use Rattle.play_terms.specs.Commands.{ask_file, ask_mesh, write_mesh, say_line}
 use Rattle.play_terms.specs.Lines.{over}
 use Rattle.mb_base.specs.declared.op.Op.{Op}
 use Rattle.script_terms.specs.Combined.{Combined}
-use Rattle.script_terms.specs.Lines.{load_line, save_line, combine_line, script_refusal}
+use Rattle.script_terms.specs.Lines.{load_line, save_line, measure_line, combine_line, script_refusal, made_refusal}
+use Rattle.script_terms.specs.Making.{Solid, solid_fault, solid_mesh, Motion, motion_fault, moved_mesh}
 use Rattle.script_terms.specs.Scripts.{script}
-use Rattle.script_terms.specs.Steps.{Line, Step, Load, Save, Combine}
+use Rattle.script_terms.specs.Steps.{Line, Step, Load, Save, Measure, Combine, Make, Move}
 
--- what the steps need of geometry: what an operation gives of two meshes
+-- what the steps need of geometry: what an operation gives of two meshes. Solids, motions and measures are definitions
 pub record Meanings : Type 0 where
   pub operation : Op → Mesh → Mesh → Combined
 
@@ -50,6 +52,12 @@ save_task k name file m named =
     then_task (say_line (save_line name file m)) (λ _.
     give (Ok named)))
 
+-- the mesh of a name is measured, and that is told; the names stay
+abbrev pub measure_task : Bytes → Mesh → Named → Task Named
+measure_task name m named =
+    then_task (say_line (measure_line name m)) (λ _.
+    give (Ok named))
+
 -- refused where more half-edges are prescribed than the limit
 abbrev pub within : Limits → Combined → Result Combined Refusal
 within limits o = if nat_lt limits.halfedges o.halfedges then Err (over Halfedges o.halfedges) else Ok o
@@ -61,20 +69,40 @@ combine_task means limits op name left right named =
     then_task (say_line (combine_line op name left right o)) (λ _.
     give (Ok (with_name name o.mesh named))))
 
--- one row for each kind of step
-abbrev pub step_task : Meanings → ℕ → Limits → Step → Named → Task Named
-step_task means k limits (Load name file) named = load_task k limits name file named
-step_task means k limits (Save name file) named = save_task k name file (mesh_at named name) named
-step_task means k limits (Combine op name left right) named = combine_task means limits op name left right named
+-- refused on this line of the script where there is a fault
+abbrev pub made : Bytes → ℕ → Option MadeFault → Mesh → Result Mesh Refusal
+made script line None m = Ok m
+made script line (Some fault) m = Err (made_refusal script line fault)
+
+-- a name gets a solid, and nothing is told
+abbrev pub make_task : Limits → Bytes → ℕ → Bytes → Solid → Named → Task Named
+make_task limits script line name solid named =
+    then_task (give (made script line (solid_fault limits solid) (solid_mesh solid))) (λ m.
+    give (Ok (with_name name m named)))
+
+-- a name gets the moved mesh of a name, and nothing is told
+abbrev pub move_task : Bytes → ℕ → Bytes → Bytes → Motion → Named → Task Named
+move_task script line name old motion named =
+    then_task (give (made script line (motion_fault motion (mesh_at named old).points) (moved_mesh motion (mesh_at named old)))) (λ m.
+    give (Ok (with_name name m named)))
+
+-- one row for each kind of step, on this line of the script
+abbrev pub step_task : Meanings → ℕ → Limits → Bytes → ℕ → Step → Named → Task Named
+step_task means k limits script line (Load name file) named = load_task k limits name file named
+step_task means k limits script line (Save name file) named = save_task k name file (mesh_at named name) named
+step_task means k limits script line (Measure name) named = measure_task name (mesh_at named name) named
+step_task means k limits script line (Combine op name left right) named = combine_task means limits op name left right named
+step_task means k limits script line (Make name solid) named = make_task limits script line name solid named
+step_task means k limits script line (Move name old motion) named = move_task script line name old motion named
 
 -- tasks in order, each with the value that the one before handed on
 abbrev pub in_order : {L A : Type 0} → (L → A → Task A) → List L → A → Task A
 in_order task [] a = give (Ok a)
 in_order task (l ∷ ls) a = then_task (task l a) (λ b. in_order task ls b)
 
--- the steps of these lines in order
-abbrev pub steps_task : Meanings → ℕ → Limits → List Line → Named → Task Named
-steps_task means k limits lines named = in_order (λ l n. step_task means k limits l.1 n) lines named
+-- the steps of these lines of the script in order
+abbrev pub steps_task : Meanings → ℕ → Limits → Bytes → List Line → Named → Task Named
+steps_task means k limits script lines named = in_order (λ l n. step_task means k limits script l.0 l.1 n) lines named
 
 -- the lines of a script of this name, or its first fault as a refusal
 abbrev pub script_checked : Bytes → Result (List Line) Fault → Result (List Line) Refusal
@@ -86,4 +114,4 @@ abbrev pub script_task : Meanings → ℕ → Limits → Bytes → Task (Unit {0
 script_task means k limits name =
     then_task (ask_file limits name) (λ bytes.
     then_task (give (script_checked name (script k bytes))) (λ lines.
-    then_task (steps_task means k limits lines no_names) (λ _. give (Ok tt))))
+    then_task (steps_task means k limits name lines no_names) (λ _. give (Ok tt))))

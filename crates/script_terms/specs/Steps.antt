@@ -3,12 +3,17 @@ use Rattle.std.specs.Prelude.{ℕ, List, [], ◌∷◌, false, Bool, bytes_eq, O
 use Rattle.std.specs.List.{list_any}
 use Rattle.run_terms.specs.Files.{Bytes}
 use Rattle.mb_base.specs.declared.op.Op.{Op}
+use Rattle.script_terms.specs.Making.{Solid, Motion}
 
--- a mesh of a file gets a name, the mesh of a name is written to a file, or the result of an operation gets a name
+-- a mesh of a file gets a name, the mesh of a name is written to a file or measured, or a name gets the result of an operation, a solid, or the moved
+-- mesh of a name
 pub data Step : Type 0 where
   Load : (name file : Bytes) → Step
   Save : (name file : Bytes) → Step
+  Measure : (name : Bytes) → Step
   Combine : (op : Op) → (name left right : Bytes) → Step
+  Make : (name : Bytes) → (solid : Solid) → Step
+  Move : (name old : Bytes) → (motion : Motion) → Step
 
 -- a step with the number of its line, from 1
 abbrev pub Line : Type 0
@@ -18,7 +23,10 @@ Line = ℕ × Step
 abbrev pub new_name : Step → Option Bytes
 new_name (Load name file) = Some name
 new_name (Save name file) = None
+new_name (Measure name) = None
 new_name (Combine op name left right) = Some name
+new_name (Make name solid) = Some name
+new_name (Move name old motion) = Some name
 
 abbrev pub is_that : Bytes → Option Bytes → Bool
 is_that w None = false
@@ -36,16 +44,25 @@ is_given w lines = list_any (λ l. gives w l.1) lines
 abbrev pub taken : Step → List Bytes
 taken (Load name file) = []
 taken (Save name file) = name ∷ []
+taken (Measure name) = name ∷ []
 taken (Combine op name left right) = left ∷ right ∷ []
+taken (Make name solid) = []
+taken (Move name old motion) = old ∷ []
 
 -- the names in a step
 abbrev pub names_in : Step → List Bytes
 names_in (Load name file) = name ∷ []
 names_in (Save name file) = name ∷ []
+names_in (Measure name) = name ∷ []
 names_in (Combine op name left right) = name ∷ left ∷ right ∷ []
+names_in (Make name solid) = name ∷ []
+names_in (Move name old motion) = name ∷ old ∷ []
 
 -- the files that a step reads or writes
 abbrev pub files_in : Step → List Bytes
 files_in (Load name file) = file ∷ []
 files_in (Save name file) = file ∷ []
+files_in (Measure name) = []
 files_in (Combine op name left right) = []
+files_in (Make name solid) = []
+files_in (Move name old motion) = []

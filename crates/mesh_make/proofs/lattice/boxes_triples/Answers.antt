@@ -2,7 +2,7 @@ use Rattle.std.proofs.Common.{[], map, ◌*◌}
 use Rattle.made_terms.specs.Lattice.{further}
 use Rattle.made_terms.specs.Solids.{box_triples}
 use Rattle.mesh_terms.specs.Meshes.{triples_of}
-use Rattle.mesh_make.proofs.Lattices.{pushed_more}
+use Rattle.made_laws.proofs.Lattices.{pushed_more}
 use Rattle.mesh_make.proofs.lattice.boxes_triples.Goals as goal
 
 pub loop-b-preserved : goal.loop-b-preserved

@@ -1,7 +1,7 @@
 use Rattle.std.proofs.Common.{◌≡◌, ◌*◌, sym, ◌∙◌, ap}
 use Rattle.made_terms.specs.Refusals.{excess, lattice_fault}
 use Rattle.mesh_make.specs.Refused.{refusal}
-use Rattle.mesh_make.proofs.Lattices.{lattice_refused}
+use Rattle.made_laws.proofs.Lattices.{lattice_refused}
 use Rattle.mesh_make.proofs.lattice.lattice_fault.Goals as goal
 
 pub returns : goal.returns

@@ -1,7 +1,7 @@
 use Rattle.std.proofs.Common.{◌≡◌, length, subst, sym, ◌∙◌, ap, ◌*◌}
 use Rattle.made_terms.specs.Lattice.{boxes_triples, lattice_points}
 use Rattle.mesh_terms.specs.Meshes.{IsAccepted, triples_of}
-use Rattle.mesh_make.proofs.Lattices.{boxes_accepted, points_of_boxes}
+use Rattle.made_laws.proofs.Lattices.{boxes_accepted, points_of_boxes}
 use Rattle.mesh_make.proofs.lattice.lattice_of.Goals as goal
 
 pub mesh_of-requires : goal.mesh_of-requires

@@ -1,6 +1,6 @@
 use Rattle.std.proofs.Common.{[]}
 use Rattle.made_terms.specs.Lattice.{lattice_layer}
-use Rattle.mesh_make.proofs.Lattices.{pushed_more}
+use Rattle.made_laws.proofs.Lattices.{pushed_more}
 use Rattle.mesh_make.proofs.lattice.lattice_points.Goals as goal
 
 pub loop-i-preserved : goal.loop-i-preserved

@@ -1,5 +1,5 @@
 use Rattle.made_terms.specs.Lattice.{lattice_row}
-use Rattle.mesh_make.proofs.Lattices.{pushed_more}
+use Rattle.made_laws.proofs.Lattices.{pushed_more}
 use Rattle.mesh_make.proofs.lattice.push_layer.Goals as goal
 
 pub loop-j-preserved : goal.loop-j-preserved

@@ -2,7 +2,7 @@ use Rattle.std.proofs.Common.{◌++◌, append_assoc, sym, ◌∙◌, ap}
 use Rattle.std.specs.List.{flat_map}
 use Rattle.chain_terms.specs.Sums.{upto}
 use Rattle.made_terms.specs.Lattice.{lattice_box}
-use Rattle.mesh_make.proofs.Lattices.{pushed_more}
+use Rattle.made_laws.proofs.Lattices.{pushed_more}
 use Rattle.mesh_make.proofs.lattice.push_row.Goals as goal
 
 pub loop-k-preserved : goal.loop-k-preserved

@@ -2,7 +2,7 @@ use Rattle.std.proofs.Common.{◌≡◌, length, map, subst, sym, ◌∙◌, ap}
 use Rattle.std.proofs.lemmas.List.{length-map}
 use Rattle.made_terms.specs.Motions.{mirrored, turned_over}
 use Rattle.mesh_terms.specs.Meshes.{IsAccepted, triples_of}
-use Rattle.mesh_make.proofs.Mirrors.{turned_accepted}
+use Rattle.made_laws.proofs.Mirrors.{turned_accepted}
 use Rattle.mesh_make.proofs.motions.mirror.Goals as goal
 
 pub mesh_of-requires : goal.mesh_of-requires

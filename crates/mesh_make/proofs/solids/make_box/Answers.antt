@@ -1,9 +1,9 @@
 use Rattle.std.proofs.Common.{◌≡◌, IfOk, length, subst, sym, ◌∙◌, ap}
 use Rattle.made_terms.specs.Refusals.{is_flat_box}
 use Rattle.made_terms.specs.Solids.{box_points, box_triples}
-use Rattle.mesh_make.specs.Solids.{IsSolid}
+use Rattle.made_laws.specs.Solids.{IsSolid}
 use Rattle.mesh_make.proofs.Refusing.{same_refused}
-use Rattle.mesh_make.proofs.SolidTests.{box_solid}
+use Rattle.made_laws.proofs.SolidTests.{box_solid}
 use Rattle.mesh_make.proofs.solids.make_box.Goals as goal
 
 pub solid-requires : goal.solid-requires

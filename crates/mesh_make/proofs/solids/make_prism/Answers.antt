@@ -3,9 +3,9 @@ use Rattle.std.specs.Prelude.{int_le, ◌||◌}
 use Rattle.std.specs.Int.{w32, w64}
 use Rattle.std.proofs.lemmas.Int.{ints}
 use Rattle.made_terms.specs.Solids.{prism_points, prism_triples}
-use Rattle.mesh_make.specs.Solids.{IsSolid}
+use Rattle.made_laws.specs.Solids.{IsSolid}
 use Rattle.mesh_make.proofs.Refusing.{same_refused}
-use Rattle.mesh_make.proofs.SolidTests.{prism_solid}
+use Rattle.made_laws.proofs.SolidTests.{prism_solid}
 use Rattle.mesh_make.proofs.solids.make_prism.Goals as goal
 
 pub solid-requires : goal.solid-requires

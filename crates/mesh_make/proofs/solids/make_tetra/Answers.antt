@@ -3,9 +3,9 @@ use Rattle.std.specs.Prelude.{int_le}
 use Rattle.std.specs.Int.{w32, w64}
 use Rattle.std.proofs.lemmas.Int.{ints}
 use Rattle.made_terms.specs.Solids.{tetra_points, tetra_triples}
-use Rattle.mesh_make.specs.Solids.{IsSolid}
+use Rattle.made_laws.specs.Solids.{IsSolid}
 use Rattle.mesh_make.proofs.Refusing.{same_refused}
-use Rattle.mesh_make.proofs.SolidTests.{tetra_solid}
+use Rattle.made_laws.proofs.SolidTests.{tetra_solid}
 use Rattle.mesh_make.proofs.solids.make_tetra.Goals as goal
 
 pub solid-requires : goal.solid-requires

@@ -1,12 +1,11 @@
 use Rattle.std.proofs.Common.{◌≡◌, ◌++◌, ◌∙◌, ap, codes, length, sym}
-use Rattle.std.specs.Fmt.{decimal}
 use Rattle.std.proofs.lemmas.List.{length-map}
 use Rattle.mesh_terms.specs.Meshes.{triple_of}
 use Rattle.text_terms.specs.Written.{line_of}
 use Rattle.run_terms.specs.Files.{Bytes}
-use Rattle.script_terms.specs.Lines.{save_line}
+use Rattle.script_terms.specs.Lines.{save_line, size_text}
 use Rattle.report_lines.proofs.Said.{met_as}
-use Rattle.report_lines.proofs.ScriptLines.{four_after, four_before}
+use Rattle.report_lines.proofs.ScriptLines.{four_before}
 use Rattle.report_lines.proofs.script_report.say_saved.Goals as goal
 
 pub returns : goal.returns
@@ -16,9 +15,8 @@ returns g c =
     let m = c.args.mesh.now in
     let points : length c.points.result.now ≡ length m.points = ap length c.points.ensures.value in
     let triples : length c.triples.result.now ≡ length m.triples = sym (length-map c.triples.result.now triple_of) ∙ ap length c.triples.ensures.value in
-    let text = codes ": points " ++ decimal (length m.points) ++ codes ", triangles " ++ decimal (length m.triples) in
+    let text = size_text m in
     let is : c.as_slice.result.now ≡ line_of text = c.as_slice.ensures.value ∙ (rw (points, triples) at c.saved_tail-tail.ensures) in
     let parts : Bytes → Bytes → Bytes = λ a b. codes "save " ++ (a ++ (codes " " ++ (b ++ c.as_slice.result.now))) in
-    let line = (λ i. parts (c.as_bytes-name.ensures.value i) (c.as_bytes-file.ensures.value i)) ∙ four_before (codes "save ") name (codes " ") file text c.as_slice.result.now is
-    ∙ ap line_of (four_after (codes "save " ++ name ++ codes " " ++ file) (codes ": points ") (decimal (length m.points)) (codes ", triangles ") (decimal (length m.triples))) in
+    let line = (λ i. parts (c.as_bytes-name.ensures.value i) (c.as_bytes-file.ensures.value i)) ∙ four_before (codes "save ") name (codes " ") file text c.as_slice.result.now is in
     record { meets = met_as (save_line name file m) _ _ _ c.say_five.result line c.say_five.ensures.added c.say_five.ensures.part c.say_five.ensures.count }

@@ -6,7 +6,7 @@ use Rattle.script_lang.specs.declared.steps.Line.{Line}
 use Rattle.script_lang.specs.Steps.{line_of, step_of}
 use Rattle.script_runs.specs.Names.{named_in}
 use Rattle.script_runs.specs.Operations.{meanings}
-use Rattle.script_runs.proofs.Progress.{ends, line_done, next_taken, stop_spent, stops}
+use Rattle.script_runs.proofs.Progress.{ends, line_done, next_numbers, next_taken, stop_spent, stops}
 use Rattle.script_runs.proofs.doing.do_lines.Goals as goal
 
 -- the line of a turn
@@ -19,7 +19,17 @@ do_step-requires-clause-taken g c =
     let lines = c.args.lines.now in
     let i = c.loop-line.line-index in
     let below : i < length lines = omega (arith, c.loop-line-test.true) in
-    next_taken meanings c.args.digits c.args.limits.now (map line_of lines) (named_in c.args.names.now) (seen_of g.S.Shelf g.O.Sink c.args.shelf.now c.args.out.now) c.args.steps.now
+    next_taken meanings c.args.digits c.args.limits.now c.args.script.now (map line_of lines) (named_in c.args.names.now) (seen_of g.S.Shelf g.O.Sink c.args.shelf.now c.args.out.now) c.args.steps.now
+    i (line_of x) (named_in c.loop-line.names) (seen_of g.S.Shelf g.O.Sink c.loop-line.shelf c.loop-line.out) c.loop-line.steps
+    (omega (arith, below, length-map lines line_of)) (line_at lines i x below c.line-item.is) c.loop-line.invariant
+
+pub do_step-requires-clause-numbers : goal.do_step-requires-clause-numbers
+do_step-requires-clause-numbers g c =
+    let x = c.line-item.result in
+    let lines = c.args.lines.now in
+    let i = c.loop-line.line-index in
+    let below : i < length lines = omega (arith, c.loop-line-test.true) in
+    next_numbers meanings c.args.digits c.args.limits.now c.args.script.now (map line_of lines) (named_in c.args.names.now) (seen_of g.S.Shelf g.O.Sink c.args.shelf.now c.args.out.now) c.args.steps.now
     i (line_of x) (named_in c.loop-line.names) (seen_of g.S.Shelf g.O.Sink c.loop-line.shelf c.loop-line.out) c.loop-line.steps
     (omega (arith, below, length-map lines line_of)) (line_at lines i x below c.line-item.is) c.loop-line.invariant
 
@@ -31,7 +41,7 @@ returns-in_err-do_step-clause-meets g c =
     let i = c.loop-line.line-index in
     let below : i < length lines = omega (arith, c.loop-line-test.true) in
     rw (e.1, e.2)
-    (stops meanings c.args.digits c.args.limits.now (map line_of lines) (named_in c.args.names.now) (seen_of g.S.Shelf g.O.Sink c.args.shelf.now c.args.out.now) c.args.steps.now
+    (stops meanings c.args.digits c.args.limits.now c.args.script.now (map line_of lines) (named_in c.args.names.now) (seen_of g.S.Shelf g.O.Sink c.args.shelf.now c.args.out.now) c.args.steps.now
     i (line_of x) (named_in c.loop-line.names) (seen_of g.S.Shelf g.O.Sink c.loop-line.shelf c.loop-line.out) c.loop-line.steps
     (omega (arith, below, length-map lines line_of)) (line_at lines i x below c.line-item.is) c.loop-line.invariant
     (seen_of g.S.Shelf g.O.Sink c.do_step.new.shelf c.do_step.new.out) c.do_step.new.steps c.in_err-do_step.ensures.cost _ c.in_err-do_step.ensures.meets)
@@ -42,7 +52,7 @@ returns-in_err-do_step-clause-cost g c =
     let lines = c.args.lines.now in
     let i = c.loop-line.line-index in
     let below : i < length lines = omega (arith, c.loop-line-test.true) in
-    stop_spent meanings c.args.digits c.args.limits.now (map line_of lines) (named_in c.args.names.now) (seen_of g.S.Shelf g.O.Sink c.args.shelf.now c.args.out.now) c.args.steps.now
+    stop_spent meanings c.args.digits c.args.limits.now c.args.script.now (map line_of lines) (named_in c.args.names.now) (seen_of g.S.Shelf g.O.Sink c.args.shelf.now c.args.out.now) c.args.steps.now
     i (line_of x) (named_in c.loop-line.names) (seen_of g.S.Shelf g.O.Sink c.loop-line.shelf c.loop-line.out) c.loop-line.steps
     (omega (arith, below, length-map lines line_of)) (line_at lines i x below c.line-item.is) c.loop-line.invariant
     (seen_of g.S.Shelf g.O.Sink c.do_step.new.shelf c.do_step.new.out) c.do_step.new.steps c.in_err-do_step.ensures.cost
@@ -53,7 +63,7 @@ loop-line-preserved g c =
     let lines = c.args.lines.now in
     let i = c.loop-line.line-index in
     let below : i < length lines = omega (arith, c.loop-line-test.true) in
-    line_done meanings c.args.digits c.args.limits.now (map line_of lines) (named_in c.args.names.now) (seen_of g.S.Shelf g.O.Sink c.args.shelf.now c.args.out.now) c.args.steps.now
+    line_done meanings c.args.digits c.args.limits.now c.args.script.now (map line_of lines) (named_in c.args.names.now) (seen_of g.S.Shelf g.O.Sink c.args.shelf.now c.args.out.now) c.args.steps.now
     i (line_of x) (named_in c.loop-line.names) (seen_of g.S.Shelf g.O.Sink c.loop-line.shelf c.loop-line.out) c.loop-line.steps
     (omega (arith, below, length-map lines line_of)) (line_at lines i x below c.line-item.is) c.loop-line.invariant
     (seen_of g.S.Shelf g.O.Sink c.do_step.new.shelf c.do_step.new.out) c.do_step.new.steps c.in_ok-do_step.ensures.cost (named_in c.do_step.new.names) c.in_ok-do_step.ensures.meets c.in_ok-do_step.ensures.named
@@ -61,6 +71,6 @@ loop-line-preserved g c =
 pub returns-clause-meets : goal.returns-clause-meets
 returns-clause-meets g c =
     let lines = c.args.lines.now in
-    ends meanings c.args.digits c.args.limits.now (map line_of lines) (named_in c.args.names.now) (seen_of g.S.Shelf g.O.Sink c.args.shelf.now c.args.out.now) c.args.steps.now
+    ends meanings c.args.digits c.args.limits.now c.args.script.now (map line_of lines) (named_in c.args.names.now) (seen_of g.S.Shelf g.O.Sink c.args.shelf.now c.args.out.now) c.args.steps.now
     c.loop-line.line-index (named_in c.loop-line.names) (seen_of g.S.Shelf g.O.Sink c.loop-line.shelf c.loop-line.out) c.loop-line.steps
     (omega (arith, c.loop-line-test.false, length-map lines line_of)) c.loop-line.invariant

@@ -8,5 +8,5 @@ use Rattle.script_runs.proofs.doing.do_lines.Given as goal
 
 abbrev pub invariant-loop-line : goal.invariant-loop-line
 invariant-loop-line g l =
-    HasDone meanings l.digits l.limits (map line_of l.lines) (named_in l.initial.names) (seen_of g.S.Shelf g.O.Sink l.initial.shelf l.initial.out) l.initial.steps
+    HasDone meanings l.digits l.limits l.script (map line_of l.lines) (named_in l.initial.names) (seen_of g.S.Shelf g.O.Sink l.initial.shelf l.initial.out) l.initial.steps
     l.line-index (named_in l.names) (seen_of g.S.Shelf g.O.Sink l.shelf l.out) l.steps

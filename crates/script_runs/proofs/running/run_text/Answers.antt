@@ -22,6 +22,6 @@ returns-clause-meets g c =
     let before = seen_of g.S.Shelf g.O.Sink c.args.shelf.now c.args.out.now in
     let now = seen_of g.S.Shelf g.O.Sink c.do_lines.new.shelf c.do_lines.new.out in
     let after = named_in c.do_lines.new.names in
-    let P : List (Bytes × Mesh) → Type 0 = λ es. Meets (steps_task meanings c.args.digits c.args.limits.now lines (named_in es)) before now (halted_by (λ _. after) c.do_lines.result) in
+    let P : List (Bytes × Mesh) → Type 0 = λ es. Meets (steps_task meanings c.args.digits c.args.limits.now c.args.name.now lines (named_in es)) before now (halted_by (λ _. after) c.do_lines.result) in
     text_done meanings c.args.digits c.args.limits.now c.args.name.now c.args.text.now lines after before now c.do_lines.result (c.in-Ok.ensures.script ∙ ap Ok (sym c.lines.ensures.lines))
     (subst P c.none-names.ensures c.do_lines.ensures.meets)

@@ -1,9 +1,10 @@
 -- Solids that are given as lists, by tests that compute.
-use Rattle.std.proofs.Common.{◌≡◌, ◌≢◌, ◌<◌, ◌≤◌, ◌+◌, ℕ, zero, suc, Bool, true, false, not, List, [], ◌∷◌, length, get_or, refl, sym, ◌∙◌, ap, subst, inl, inr, arith}
+use Rattle.std.proofs.Common.{◌≡◌, ◌≢◌, ◌<◌, ◌≤◌, ℕ, Bool, true, not, List, length, refl, sym, ◌∙◌, ap, subst, inl, inr, arith}
 use Rattle.std.specs.Prelude.{◌&&◌, ◌==◌, nat_lt}
 use Rattle.std.specs.List.{All, Contains, list_all}
 use Rattle.std.proofs.lemmas.Bool.{and_parts, eqb-true, eq-eqb, cases_lt}
 use Rattle.std.proofs.lemmas.Bool.Decides.{nat_tests}
+use Rattle.std.proofs.lemmas.List.Sums.{AllPass-from_list_all}
 use Rattle.chain_terms.specs.Chains.{dir, all_edges, IsClosed}
 use Rattle.chain_terms.specs.Sums.{upto}
 use Rattle.chain_laws.specs.Chains.{dir_contains}
@@ -11,19 +12,15 @@ use Rattle.chain_laws.proofs.Places.{get_or-up_from, length-up_from}
 use Rattle.made_terms.specs.Solids.{box_triples, tetra_triples, prism_triples}
 use Rattle.mesh_terms.specs.Limits.{most_points, most_triangles}
 use Rattle.mesh_terms.specs.Meshes.{Triple, HasThree, IsBelow, IsAccepted, is_used}
-use Rattle.mesh_make.specs.Solids.{IsSolid}
+use Rattle.made_laws.specs.Solids.{IsSolid}
 
 -- where all members of a list pass, each does
 passes_inside : {X : Type 0} (p : X → Bool) (xs : List X) (x : X) → list_all p xs ≡ true → Contains xs x → p x ≡ true
-passes_inside p [] x h (k, low, at) = absurd (omega (arith, low))
-passes_inside p (y ∷ ys) x h (zero, low, at) = subst (λ z. p z ≡ true) at (and_parts (p y) (list_all p ys) h).0
-passes_inside p (y ∷ ys) x h (suc k, low, at) = passes_inside p ys x (and_parts (p y) (list_all p ys) h).1 (k, omega (arith, low), at)
+passes_inside p xs x h (k, low, at) = subst (λ z. p z ≡ true) at (AllPass-from_list_all p xs h k x low)
 
 -- so what passing means holds of each
 all_by_test : {X : Type 0} (p : X → Bool) (P : X → Type 0) → ((x : X) → p x ≡ true → P x) → (xs : List X) → list_all p xs ≡ true → All P xs
-all_by_test p P means [] h k d low = absurd (omega (arith, low))
-all_by_test p P means (y ∷ ys) h zero d low = means y (and_parts (p y) (list_all p ys) h).0
-all_by_test p P means (y ∷ ys) h (suc k) d low = all_by_test p P means ys (and_parts (p y) (list_all p ys) h).1 k d (omega (arith, low))
+all_by_test p P means xs h k d low = means _ (AllPass-from_list_all p xs h k d low)
 
 -- numbers that a test tells apart differ
 differ : (a b : ℕ) → not (a == b) ≡ true → a ≢ b

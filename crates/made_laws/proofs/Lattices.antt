@@ -1,13 +1,14 @@
 -- Lattices: the triangles are a solid, the points are on the grid, and how many there are.
-use Rattle.std.proofs.Common.{◌≡◌, ◌<◌, ◌≤◌, ◌+◌, ◌*◌, ◌%◌, ℕ, zero, suc, ℤ, pos, true, List, [], ◌∷◌, ◌++◌, length, map, refl, sym, ◌∙◌, ap, subst, arith, length-append}
+use Rattle.std.proofs.Common.{◌≡◌, ◌<◌, ◌≤◌, ◌+◌, ◌*◌, ℕ, zero, suc, ℤ, pos, true, List, [], ◌∷◌, ◌++◌, length, map, refl, sym, ◌∙◌, ap, subst, arith, length-append}
 use Rattle.std.specs.Prelude.{◌&&◌, Bool, if◌then◌else◌, Some}
-use Rattle.std.specs.List.{flat_map}
+use Rattle.std.specs.List.{flat_map, list_all}
 use Rattle.std.proofs.lemmas.Bool.Decides.{nat_tests}
-use Rattle.std.proofs.lemmas.Bool.{and_parts, and_from}
+use Rattle.std.proofs.lemmas.Bool.{and_from}
 use Rattle.std.proofs.Math.Nat.{mul_assoc}
 use Rattle.std.proofs.lemmas.Grind.{flat_map-append}
 use Rattle.std.proofs.lemmas.List.{append-nil, append_assoc, length-map}
 use Rattle.std.proofs.lemmas.List.Elements.{All-nil}
+use Rattle.std.proofs.lemmas.List.Folds.{list_all-append}
 use Rattle.chain_terms.specs.Sums.{upto}
 use Rattle.chain_laws.proofs.Places.{upto_more}
 use Rattle.made_terms.specs.Lattice.{further, boxes_triples, lattice_box, lattice_row, lattice_layer, lattice_points, lattice_triples, lattice_side}
@@ -16,9 +17,10 @@ use Rattle.made_terms.specs.Solids.{point, box_points, box_triples}
 use Rattle.text_terms.specs.Numbers.{is_on_grid}
 use Rattle.mesh_terms.specs.Limits.{Limits}
 use Rattle.mesh_terms.specs.Meshes.{IsAccepted}
-use Rattle.mesh_make.specs.Solids.{IsSolid}
-use Rattle.mesh_make.proofs.SolidTests.{box_solid, solid_accepted}
-use Rattle.mesh_make.proofs.Unions.{solid_union}
+use Rattle.made_laws.specs.Solids.{IsSolid}
+use Rattle.made_laws.proofs.Points.{is_three}
+use Rattle.made_laws.proofs.SolidTests.{box_solid, solid_accepted}
+use Rattle.made_laws.proofs.Unions.{solid_union}
 
 -- one more number in front of which all stand
 pub flat_map_more : {X : Type 0} (f : ℕ → List X) (n : ℕ) → flat_map f (upto (n + 1)) ≡ flat_map f (upto n) ++ f n
@@ -57,20 +59,31 @@ pub length-lattice : (n seed : ℕ) → length (lattice_points n seed) ≡ 8 * n
 length-lattice n seed =
     length-flat_map (lattice_layer n seed) (8 * n * n) (λ i. length-flat_map (lattice_row n seed i) (8 * n) (λ j. length-flat_map (lattice_box seed i j) 8 (λ k. refl) n) n) n
 
--- rows on the grid behind others
-on_grid-append : (xs ys : List (List ℤ)) → all_on_grid xs ≡ true → all_on_grid ys ≡ true → all_on_grid (xs ++ ys) ≡ true
-on_grid-append [] ys h k = k
-on_grid-append (x ∷ xs) ys h k =
-    let p = and_parts (is_grid_point x) (all_on_grid xs) h in
-    and_from (is_grid_point x) (all_on_grid (xs ++ ys)) p.0 (on_grid-append xs ys p.1 k)
+-- what all of each list pass, all of them one after another pass
+passed-flat_map : {X : Type 0} (p : X → Bool) (f : ℕ → List X) (n : ℕ) → ((k : ℕ) → k < n → list_all p (f k) ≡ true) → list_all p (flat_map f (upto n)) ≡ true
+passed-flat_map p f zero each = refl
+passed-flat_map p f (suc n) each =
+    let one : n + 1 ≡ suc n = omega arith in
+    let before = flat_map f (upto n) in
+    let both = and_from (list_all p before) (list_all p (f n)) (passed-flat_map p f n (λ k low. each k (omega (arith, low)))) (each n (omega arith)) in
+    subst (λ k. list_all p (flat_map f (upto k)) ≡ true) one (ap (list_all p) (flat_map_more f n) ∙ list_all-append p before (f n) ∙ both)
 
--- lists on the grid, one after another
-on_grid-flat_map : (f : ℕ → List (List ℤ)) (n m : ℕ) → m ≤ n → ((k : ℕ) → k < n → all_on_grid (f k) ≡ true) → all_on_grid (flat_map f (upto m)) ≡ true
-on_grid-flat_map f n zero low each = refl
-on_grid-flat_map f n (suc m) low each =
-    let one : m + 1 ≡ suc m = omega arith in
-    subst (λ k. all_on_grid (flat_map f (upto k)) ≡ true) one
-    (subst (λ l. all_on_grid l ≡ true) (sym (flat_map_more f m)) (on_grid-append (flat_map f (upto m)) (f m) (on_grid-flat_map f n m (omega (arith, low)) each) (each m (omega (arith, low)))))
+-- what all points of each box pass, all points of a lattice pass
+passed-lattice : (p : List ℤ → Bool) (n seed : ℕ) → ((i j k : ℕ) → i < n → j < n → k < n → list_all p (lattice_box seed i j k) ≡ true)
+    → list_all p (lattice_points n seed) ≡ true
+passed-lattice p n seed each =
+    passed-flat_map p (lattice_layer n seed) n (λ i a.
+    passed-flat_map p (lattice_row n seed i) n (λ j b.
+    passed-flat_map p (lattice_box seed i j) n (λ k c. each i j k a b c)))
+
+-- they are rows of three
+pub lattice_threes : (n seed : ℕ) → list_all is_three (lattice_points n seed) ≡ true
+lattice_threes n seed = passed-lattice is_three n seed (λ i j k a b c. refl)
+
+-- all are on the grid where each is
+all_on_grid_is : (ps : List (List ℤ)) → all_on_grid ps ≡ list_all is_grid_point ps
+all_on_grid_is [] = refl
+all_on_grid_is (p ∷ ps) = ap (λ b. is_grid_point p && b) (all_on_grid_is ps)
 
 -- a small number is on the grid
 on_small : (m : ℕ) → m ≤ 10000 → is_on_grid (pos m) ≡ true
@@ -90,9 +103,9 @@ lattice_box_on_grid seed i j k a b c =
 -- and so are all
 pub lattice_on_grid : (n seed : ℕ) → n ≤ 60 → all_on_grid (lattice_points n seed) ≡ true
 lattice_on_grid n seed few =
-    on_grid-flat_map (lattice_layer n seed) n n (omega arith) (λ i a.
-    on_grid-flat_map (lattice_row n seed i) n n (omega arith) (λ j b.
-    on_grid-flat_map (lattice_box seed i j) n n (omega arith) (λ k c. lattice_box_on_grid seed i j k (omega (arith, a, few)) (omega (arith, b, few)) (omega (arith, c, few)))))
+    all_on_grid_is (lattice_points n seed)
+    ∙ passed-lattice is_grid_point n seed (λ i j k a b c.
+    sym (all_on_grid_is (lattice_box seed i j k)) ∙ lattice_box_on_grid seed i j k (omega (arith, a, few)) (omega (arith, b, few)) (omega (arith, c, few)))
 
 -- any number of boxes that is asked for is accepted
 pub boxes_accepted : (n : ℕ) → n ≤ 216000 → IsAccepted (8 * n) (boxes_triples n)

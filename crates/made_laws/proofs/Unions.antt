@@ -1,14 +1,13 @@
 -- A solid and another behind it, over the points that follow.
-use Rattle.std.proofs.Common.{◌≡◌, ◌≢◌, ◌<◌, ◌+◌, ◌-◌, ℕ, Bool, true, false, List, [], ◌∷◌, ◌++◌, map, refl, sym, ◌∙◌, ap, subst, inl, inr, arith}
+use Rattle.std.proofs.Common.{◌≡◌, ◌<◌, ◌+◌, ◌-◌, ℕ, Bool, true, false, List, [], ◌∷◌, ◌++◌, map, refl, sym, ◌∙◌, ap, subst, inl, inr, arith}
 use Rattle.std.specs.Prelude.{◌||◌, ◌==◌}
-use Rattle.std.specs.List.{All}
 use Rattle.std.proofs.lemmas.Bool.{eqb-true, eq-eqb, cases_lt, cases_Bool, false_from_ne_true}
 use Rattle.std.proofs.lemmas.List.Elements.{All-append, All-map}
 use Rattle.std.proofs.lemmas.List.Folds.{list_any-append}
 use Rattle.chain_laws.specs.Triples.{closed-renamed_triples, closed-append_triples}
 use Rattle.made_terms.specs.Lattice.{further}
 use Rattle.mesh_terms.specs.Meshes.{Triple, HasThree, IsBelow, has, is_used}
-use Rattle.mesh_make.specs.Solids.{IsSolid}
+use Rattle.made_laws.specs.Solids.{IsSolid}
 
 -- further points differ where the points do
 three_further : (p : ℕ) (t : Triple) → HasThree t → HasThree (further p t)

@@ -1,0 +1,73 @@
+// The step that makes a solid.
+ghost use Rattle.std.specs.Prelude.{◌≡◌, IfErr, IfOk, OnErr, OnOk};
+ghost use Rattle.mesh_make.specs.Refused.{IsRefusedFor};
+ghost use Rattle.report_lines.specs.Halts.{halted_by, why_in};
+ghost use Rattle.run_terms.specs.Meets.{Meets, Seen};
+ghost use Rattle.script_lang.specs.Steps.{solid_of};
+ghost use Rattle.script_runs.specs.Halts.{IsHaltOfStep};
+ghost use Rattle.script_runs.specs.Made.{why_unmade};
+ghost use Rattle.script_runs.specs.Names.{IsNamed, named_in};
+ghost use Rattle.script_terms.specs.Making.{solid_fault, solid_mesh};
+ghost use Rattle.script_terms.specs.Plays.{make_task};
+ghost use Rattle.script_terms.specs.Sound.{IsSolid};
+
+use crate::names::Names;
+use mb_base::Limits;
+use mesh_check::Mesh;
+use mesh_files::Stop;
+use mesh_make::{MakeFault, make_box, make_lattice, make_prism, make_tetra};
+use report_lines::Halt;
+use script_lang::Solid;
+use std::alloc::Global;
+
+/// Where a script stops that makes no solid, or moves no mesh, on this line.
+pub fn halt_at<'a>(script: &'a str, line: u64, fault: MakeFault) -> Halt<'a>
+    ensures why { why_in result ≡ why_unmade script.now line fault }
+    ensures halts { IsHaltOfStep result }
+{
+    let (name, stop) = match fault {
+        MakeFault::FlatSolid => (script, Stop::FlatSolid { line }),
+        MakeFault::OutOfGrid => (script, Stop::OutOfGrid { line }),
+        MakeFault::Over { what, seen } => ("", Stop::Over { what, seen }),
+        MakeFault::NoMemory => return Halt::NoMemory,
+    };
+    Halt::At { name, stop }
+}
+
+// The mesh of a solid.
+fn mesh_of(alloc: Global, solid: &Solid, limits: &Limits) -> Result<Mesh, MakeFault>
+    requires { IsSolid (solid_of solid.now) }
+    ensures refused { IsRefusedFor (solid_fault limits.now (solid_of solid.now)) result }
+    ensures mesh { IfOk result (λ mesh. mesh ≡ solid_mesh (solid_of solid.now)) }
+{
+    match *solid {
+        Solid::Box { low, high } => make_box(alloc, low, high, limits),
+        Solid::Tetra { at, size } => make_tetra(alloc, at, size, limits),
+        Solid::Prism { at, size, height } => make_prism(alloc, at, size, height, limits),
+        Solid::Lattice { n, seed } => make_lattice(alloc, n, seed, limits),
+    }
+}
+
+/// Gives a name the solid of a line of the script.
+pub fn make<'a>(
+    alloc: Global,
+    script: &'a str,
+    line: u64,
+    name: &'a str,
+    solid: &Solid,
+    limits: &Limits,
+    names: &mut Names<'a>,
+) -> Result<(), Halt<'a>>
+    requires { IsSolid (solid_of solid.now) }
+    ensures meets { (now : Seen) → Meets (make_task limits.now script.now line name.now (solid_of solid.now) (named_in names.old)) now now (halted_by (λ _. named_in names.new) result) }
+    ensures halts { IfErr result IsHaltOfStep }
+    ensures named { OnOk result (IsNamed name.now (named_in names.old) (named_in names.new)) }
+    ensures kept { OnErr result (names.new ≡ names.old) }
+{
+    let mesh = match mesh_of(alloc, solid, limits) {
+        Ok(mesh) => mesh,
+        Err(fault) => return Err(halt_at(script, line, fault)),
+    };
+    names.define(name, mesh)?;
+    Ok(())
+}
