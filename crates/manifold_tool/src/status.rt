@@ -52,10 +52,7 @@ pub fn status_at(stop: &Stop) -> Status
         Stop::Usage => Status::Usage,
         Stop::BadScript { .. } => Status::BadScript,
         Stop::Missing => Status::MissingFile,
-        Stop::BadText { .. }
-        | Stop::BadEdge { .. }
-        | Stop::FlatSolid { .. }
-        | Stop::OutOfGrid { .. } => Status::BadMesh,
+        Stop::BadText { .. } | Stop::BadEdge { .. } | Stop::BadStep { .. } => Status::BadMesh,
         Stop::Over { .. } => Status::Limit,
         Stop::ReadFault => Status::ReadFault,
         Stop::WriteFault => Status::WriteFault,

@@ -1,23 +1,21 @@
 -- Why a file was not read or saved, and what a call that ended so owes.
 use Rattle.std.specs.Prelude.{ℕ, Bool, true, false, Result, Ok, Err}
-use Rattle.made_terms.specs.Refusals.{Flat, Outside}
 use Rattle.mb_base.specs.Faults.{counted_of, kind_number}
 use Rattle.mesh_terms.specs.Faults as faults
 use Rattle.mesh_terms.specs.Meshes.{Mesh, Soup}
 use Rattle.play_terms.specs.Lines.{usage, missing, fault_refusal, open_refusal, over}
 use Rattle.run_terms.specs.Files.{Bytes}
 use Rattle.run_terms.specs.Meets.{Why, Refused, Unread, Unwritten, Starved}
-use Rattle.script_terms.specs.Lines.{script_refusal, made_refusal}
+use Rattle.script_terms.specs.Lines.{script_refusal, step_refusal}
 use Rattle.mesh_files.specs.declared.reading.Read.{Read}
 use Rattle.mesh_files.specs.declared.stop.Stop.{Stop}
-use Rattle.mesh_files.specs.declared.stop.Stop.TheVariants.{Usage, BadScript, FlatSolid, OutOfGrid, Missing, BadText, BadEdge, Over, ReadFault, WriteFault, NoMemory}
+use Rattle.mesh_files.specs.declared.stop.Stop.TheVariants.{Usage, BadScript, BadStep, Missing, BadText, BadEdge, Over, ReadFault, WriteFault, NoMemory}
 
 -- a stop at the file of this name, or at a line of the script of this name
 abbrev pub why_of : Bytes → Stop → Why
 why_of name Usage = Refused usage
 why_of name (BadScript line kind) = Refused (script_refusal name (faults.Bad line kind))
-why_of name (FlatSolid line) = Refused (made_refusal name line Flat)
-why_of name (OutOfGrid line) = Refused (made_refusal name line Outside)
+why_of name (BadStep line kind) = Refused (step_refusal name line kind)
 why_of name Missing = Refused (missing name)
 why_of name (BadText line kind) = Refused (fault_refusal name (faults.Bad line (kind_number kind)))
 why_of name (BadEdge from to) = Refused (open_refusal name (from, to))
@@ -30,8 +28,7 @@ why_of name NoMemory = Starved
 abbrev pub is_reading_stop : Stop → Bool
 is_reading_stop Usage = false
 is_reading_stop (BadScript line kind) = false
-is_reading_stop (FlatSolid line) = false
-is_reading_stop (OutOfGrid line) = false
+is_reading_stop (BadStep line kind) = false
 is_reading_stop WriteFault = false
 is_reading_stop _ = true
 

@@ -5,15 +5,14 @@ use mb_base::{Counted, TextFault, TextKind};
 use mesh_check::MeshFault;
 use std::alloc::AllocError;
 
-/// Why the words or a script were not taken, a solid was not made, a mesh not moved, or a file not read or saved: a line of the script is wrong;
-/// the solid of a line would have no volume; the mesh of a line would leave the grid; the file is not there; a line of its text is wrong; an edge
-/// has no reverse; a count exceeds its limit; the shelf failed; or memory ran out.
+/// Why the words or a script were not taken, a solid was not made, a mesh not moved, or a file not read or saved: a line of the script is wrong, by
+/// the number of its kind; the mesh that a line makes would leave the grid, 15, or have no volume, 16; the file is not there; a line of its text is
+/// wrong; an edge has no reverse; a count exceeds its limit; the shelf failed; or memory ran out.
 #[derive(Clone, Copy, Debug, PartialEq, Eq, Drop)]
 pub enum Stop {
     Usage,
     BadScript { line: u64, kind: u8 },
-    FlatSolid { line: u64 },
-    OutOfGrid { line: u64 },
+    BadStep { line: u64, kind: u8 },
     Missing,
     BadText { line: u64, kind: TextKind },
     BadEdge { from: u32, to: u32 },

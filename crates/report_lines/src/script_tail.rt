@@ -3,7 +3,7 @@ ghost use Rattle.std.specs.Prelude.{◌≡◌, ◌≤◌, ◌++◌, codes, decim
 ghost use Rattle.std.specs.Fmt.{signed_decimal};
 ghost use Rattle.arrayvec.specs.ArrayVec.{array_vec_len};
 ghost use Rattle.text_terms.specs.Written.{line_of};
-ghost use Rattle.script_terms.specs.Lines.{script_kind_name};
+ghost use Rattle.script_terms.specs.Lines.{script_kind_name, step_kind_name};
 
 use crate::tail::{Tail, put, put_pair};
 
@@ -19,6 +19,17 @@ pub fn script_kind_text(kind: u8) -> &'static [u8]
         23 => b"NameNotDefined",
         24 => b"BadNumber",
         _ => b"BadSuffix",
+    }
+}
+
+/// The name of a kind of fault of a mesh that a line of a script makes.
+pub fn step_kind_text(kind: u8) -> &'static [u8]
+    ensures text { result.now ≡ step_kind_name kind }
+    ensures short { length result.now ≤ 9 }
+{
+    match kind {
+        15 => b"OutOfGrid",
+        _ => b"FlatSolid",
     }
 }
 

@@ -7,7 +7,7 @@ ghost use Rattle.play_terms.specs.Ends.{why_line};
 ghost use Rattle.play_terms.specs.Lines.{counts_text, kind_name, limit_name};
 ghost use Rattle.mesh_files.specs.Stops.{why_of};
 
-use crate::script_tail::script_kind_text;
+use crate::script_tail::{script_kind_text, step_kind_text};
 use arrayvec::ArrayVec;
 use itoa::{Buffer, Integer};
 use mb_base::{Counted, TextKind};
@@ -157,8 +157,10 @@ pub fn stop_line<'a>(name: &'a str, stop: &Stop) -> (&'a [u8], Tail)
             let tail = line_tail(*line, u64::from(*kind), script_kind_text(*kind));
             (name, tail)
         }
-        Stop::OutOfGrid { line } => (name, line_tail(*line, 15, b"OutOfGrid")),
-        Stop::FlatSolid { line } => (name, line_tail(*line, 16, b"FlatSolid")),
+        Stop::BadStep { line, kind } => {
+            let tail = line_tail(*line, u64::from(*kind), step_kind_text(*kind));
+            (name, tail)
+        }
         Stop::Missing => (name, plain_tail(b": missing\n")),
         Stop::BadText { line, kind } => {
             let tail = line_tail(*line, kind_code(*kind), kind_text(*kind));

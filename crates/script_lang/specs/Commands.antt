@@ -3,22 +3,22 @@ use Rattle.std.specs.Prelude.{ℕ}
 use Rattle.script_terms.specs.Commands as terms
 use Rattle.script_lang.specs.declared.commands.Command.{Command}
 use Rattle.script_lang.specs.declared.commands.Command.TheVariants.{Load, Save, Measure, Combine, Make, Move}
-use Rattle.script_lang.specs.declared.commands.MotionKind.{MotionKind}
-use Rattle.script_lang.specs.declared.commands.MotionKind.TheVariants.{Shift, Scale, Mirror, Turn}
-use Rattle.script_lang.specs.declared.commands.SolidKind.{SolidKind}
-use Rattle.script_lang.specs.declared.commands.SolidKind.TheVariants.{Box, Tetra, Prism, Lattice}
+use Rattle.script_lang.specs.declared.commands.Motion.{Motion}
+use Rattle.script_lang.specs.declared.commands.Motion.TheVariants.{Shift, Scale, Mirror, Turn}
+use Rattle.script_lang.specs.declared.commands.Solid.{Solid}
+use Rattle.script_lang.specs.declared.commands.Solid.TheVariants.{Box, Tetra, Prism, Lattice}
 
 -- no command has more operands
 abbrev pub most_operands : ℕ
 most_operands = 7
 
-abbrev pub making : SolidKind → terms.Command
+abbrev pub making : Solid → terms.Command
 making Box = terms.box
 making Tetra = terms.tetra
 making Prism = terms.prism
 making Lattice = terms.lattice
 
-abbrev pub moving : MotionKind → terms.Command
+abbrev pub moving : Motion → terms.Command
 moving Shift = terms.shift
 moving Scale = terms.scale
 moving Mirror = terms.mirror

@@ -2,32 +2,22 @@
 use Rattle.script_terms.specs.Making as making
 use Rattle.script_terms.specs.Steps as terms
 use Rattle.script_lang.specs.declared.steps.Line.{Line}
-use Rattle.script_lang.specs.declared.steps.Motion.{Motion}
-use Rattle.script_lang.specs.declared.steps.Motion.TheVariants.{Shift, Scale, Mirror, Turn}
-use Rattle.script_lang.specs.declared.steps.Solid.{Solid}
-use Rattle.script_lang.specs.declared.steps.Solid.TheVariants.{Box, Tetra, Prism, Lattice}
 use Rattle.script_lang.specs.declared.steps.Step.{Step}
-use Rattle.script_lang.specs.declared.steps.Step.TheVariants.{Load, Save, Measure, Combine, Make, Move}
-
-abbrev pub solid_of : Solid → making.Solid
-solid_of (Box low high) = making.Box low high
-solid_of (Tetra at size) = making.Tetra at size
-solid_of (Prism at size height) = making.Prism at size height
-solid_of (Lattice n seed) = making.Lattice n seed
-
-abbrev pub motion_of : Motion → making.Motion
-motion_of (Shift by) = making.Shift by
-motion_of (Scale factor) = making.Scale factor
-motion_of (Mirror axis) = making.Mirror axis
-motion_of (Turn axis) = making.Turn axis
+use Rattle.script_lang.specs.declared.steps.Step.TheVariants.{Load, Save, Measure, Combine, MakeBox, MakeTetra, MakePrism, MakeLattice, Shift, Scale, Mirror, Turn}
 
 abbrev pub step_of : Step → terms.Step
 step_of (Load name file) = terms.Load name file
 step_of (Save name file) = terms.Save name file
 step_of (Measure name) = terms.Measure name
 step_of (Combine op name left right) = terms.Combine op name left right
-step_of (Make name solid) = terms.Make name (solid_of solid)
-step_of (Move name source motion) = terms.Move name source (motion_of motion)
+step_of (MakeBox name low high) = terms.Make name (making.Box low high)
+step_of (MakeTetra name at size) = terms.Make name (making.Tetra at size)
+step_of (MakePrism name at size height) = terms.Make name (making.Prism at size height)
+step_of (MakeLattice name n seed) = terms.Make name (making.Lattice n seed)
+step_of (Shift name source by) = terms.Move name source (making.Shift by)
+step_of (Scale name source factor) = terms.Move name source (making.Scale factor)
+step_of (Mirror name source axis) = terms.Move name source (making.Mirror axis)
+step_of (Turn name source axis) = terms.Move name source (making.Turn axis)
 
 abbrev pub line_of : Line → terms.Line
 line_of l = (l.line, step_of l.step)

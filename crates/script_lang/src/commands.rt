@@ -8,7 +8,7 @@ use mb_base::Op;
 
 /// A solid that a command makes.
 #[derive(Clone, Copy, Drop)]
-pub enum SolidKind {
+pub enum Solid {
     Box,
     Tetra,
     Prism,
@@ -17,7 +17,7 @@ pub enum SolidKind {
 
 /// A motion of a mesh.
 #[derive(Clone, Copy, Drop)]
-pub enum MotionKind {
+pub enum Motion {
     Shift,
     Scale,
     Mirror,
@@ -31,8 +31,8 @@ pub enum Command {
     Save,
     Measure,
     Combine(Op),
-    Make(SolidKind),
-    Move(MotionKind),
+    Make(Solid),
+    Move(Motion),
 }
 
 impl Command {
@@ -53,21 +53,21 @@ impl Command {
         } else if word == b"subtract".as_slice() {
             Some(Command::Combine(Op::Subtract))
         } else if word == b"box".as_slice() {
-            Some(Command::Make(SolidKind::Box))
+            Some(Command::Make(Solid::Box))
         } else if word == b"tetra".as_slice() {
-            Some(Command::Make(SolidKind::Tetra))
+            Some(Command::Make(Solid::Tetra))
         } else if word == b"prism".as_slice() {
-            Some(Command::Make(SolidKind::Prism))
+            Some(Command::Make(Solid::Prism))
         } else if word == b"lattice".as_slice() {
-            Some(Command::Make(SolidKind::Lattice))
+            Some(Command::Make(Solid::Lattice))
         } else if word == b"shift".as_slice() {
-            Some(Command::Move(MotionKind::Shift))
+            Some(Command::Move(Motion::Shift))
         } else if word == b"scale".as_slice() {
-            Some(Command::Move(MotionKind::Scale))
+            Some(Command::Move(Motion::Scale))
         } else if word == b"mirror".as_slice() {
-            Some(Command::Move(MotionKind::Mirror))
+            Some(Command::Move(Motion::Mirror))
         } else if word == b"turn".as_slice() {
-            Some(Command::Move(MotionKind::Turn))
+            Some(Command::Move(Motion::Turn))
         } else {
             None
         }

@@ -43,7 +43,7 @@ mod words;
 pub use fault::ScriptFault;
 use reading::Reading;
 use std::alloc::Global;
-pub use steps::{Line, Motion, Script, Solid, Step, Word};
+pub use steps::{Line, Script, Step, Word};
 
 /// The steps of a script in their order, each with the number of its line, from 1. Their words are those of the
 /// script's bytes. Numbers on the grid are read under so many digits, in grid steps; axes are 0 to 2 for x to z.

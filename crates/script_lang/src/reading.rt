@@ -8,13 +8,13 @@ ghost use Rattle.script_lang.specs.Commands.{command_of, moving};
 ghost use Rattle.script_lang.specs.Faults.{IsFaultOf};
 ghost use Rattle.script_lang.specs.Steps.{line_of, step_of};
 
-use crate::commands::{Command, MotionKind};
+use crate::commands::{Command, Motion};
 use crate::fault::{BAD_WORD, NAME_NOT_DEFINED, ScriptFault, WRONG_COUNT};
 use crate::lines::Lines;
 use crate::names::Names;
 use crate::operands::{axis, file_text, name_text, taken, three, within};
 use crate::solids::solid_step;
-use crate::steps::{Line, Motion, Script, Step, Word};
+use crate::steps::{Line, Script, Step, Word};
 use crate::words::Words;
 use std::alloc::Global;
 use std::marker::Model;
@@ -131,40 +131,31 @@ impl<'a> Reading<'a> {
     }
 
     // The step that moves a mesh by these operands; else the kind of the first fault.
-    fn motion_step(
-        &self,
-        motion: MotionKind,
-        operands: &[&'a [u8]],
-        digits: u8,
-    ) -> Result<Step<'a>, u8>
+    fn motion_step(&self, motion: Motion, operands: &[&'a [u8]], digits: u8) -> Result<Step<'a>, u8>
         requires { digits ≤ 6 }
         ensures step { IfOk result (λ step. command_step digits self.now (map (λ w. w.now) operands.now) (moving motion) ≡ Ok (step_of step)) }
         ensures fault { IfErr result (λ kind. command_step digits self.now (map (λ w. w.now) operands.now) (moving motion) ≡ Err kind) }
     {
         match (motion, operands) {
-            (MotionKind::Shift, &[name, source, x, y, z]) => Ok(Step::Move {
+            (Motion::Shift, &[name, source, x, y, z]) => Ok(Step::Shift {
                 name: Word::of(name_text(name)?),
                 source: Word::of(self.old_text(source)?),
-                motion: Motion::Shift {
-                    by: three(x, y, z, digits)?,
-                },
+                by: three(x, y, z, digits)?,
             }),
-            (MotionKind::Scale, &[name, source, factor]) => Ok(Step::Move {
+            (Motion::Scale, &[name, source, factor]) => Ok(Step::Scale {
                 name: Word::of(name_text(name)?),
                 source: Word::of(self.old_text(source)?),
-                motion: Motion::Scale {
-                    factor: within(factor, 1, 1_000_000)?,
-                },
+                factor: within(factor, 1, 1_000_000)?,
             }),
-            (MotionKind::Mirror, &[name, source, of]) => Ok(Step::Move {
+            (Motion::Mirror, &[name, source, of]) => Ok(Step::Mirror {
                 name: Word::of(name_text(name)?),
                 source: Word::of(self.old_text(source)?),
-                motion: Motion::Mirror { axis: axis(of)? },
+                axis: axis(of)?,
             }),
-            (MotionKind::Turn, &[name, source, about]) => Ok(Step::Move {
+            (Motion::Turn, &[name, source, about]) => Ok(Step::Turn {
                 name: Word::of(name_text(name)?),
                 source: Word::of(self.old_text(source)?),
-                motion: Motion::Turn { axis: axis(about)? },
+                axis: axis(about)?,
             }),
             _ => Err(WRONG_COUNT),
         }

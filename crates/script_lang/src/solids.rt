@@ -5,46 +5,38 @@ ghost use Rattle.script_terms.specs.Steps.{Line};
 ghost use Rattle.script_lang.specs.Commands.{making};
 ghost use Rattle.script_lang.specs.Steps.{step_of};
 
-use crate::commands::SolidKind;
+use crate::commands::Solid;
 use crate::fault::WRONG_COUNT;
 use crate::operands::{name_text, number, point, within};
-use crate::steps::{Solid, Step, Word};
+use crate::steps::{Step, Word};
 
 /// The step that makes a solid of these operands; else the kind of the first fault.
-pub fn solid_step<'a>(solid: SolidKind, operands: &[&'a [u8]], digits: u8) -> Result<Step<'a>, u8>
+pub fn solid_step<'a>(solid: Solid, operands: &[&'a [u8]], digits: u8) -> Result<Step<'a>, u8>
     requires { digits ≤ 6 }
     ensures step { (before : List Line) → IfOk result (λ step. command_step digits before (map (λ w. w.now) operands.now) (making solid) ≡ Ok (step_of step)) }
     ensures fault { (before : List Line) → IfErr result (λ kind. command_step digits before (map (λ w. w.now) operands.now) (making solid) ≡ Err kind) }
 {
     match (solid, operands) {
-        (SolidKind::Box, &[name, x, y, z, u, v, w]) => Ok(Step::Make {
+        (Solid::Box, &[name, x, y, z, u, v, w]) => Ok(Step::MakeBox {
             name: Word::of(name_text(name)?),
-            solid: Solid::Box {
-                low: point(x, y, z, digits)?,
-                high: point(u, v, w, digits)?,
-            },
+            low: point(x, y, z, digits)?,
+            high: point(u, v, w, digits)?,
         }),
-        (SolidKind::Tetra, &[name, x, y, z, size]) => Ok(Step::Make {
+        (Solid::Tetra, &[name, x, y, z, size]) => Ok(Step::MakeTetra {
             name: Word::of(name_text(name)?),
-            solid: Solid::Tetra {
-                at: point(x, y, z, digits)?,
-                size: number(size, digits)?,
-            },
+            at: point(x, y, z, digits)?,
+            size: number(size, digits)?,
         }),
-        (SolidKind::Prism, &[name, x, y, z, size, height]) => Ok(Step::Make {
+        (Solid::Prism, &[name, x, y, z, size, height]) => Ok(Step::MakePrism {
             name: Word::of(name_text(name)?),
-            solid: Solid::Prism {
-                at: point(x, y, z, digits)?,
-                size: number(size, digits)?,
-                height: number(height, digits)?,
-            },
+            at: point(x, y, z, digits)?,
+            size: number(size, digits)?,
+            height: number(height, digits)?,
         }),
-        (SolidKind::Lattice, &[name, n, seed]) => Ok(Step::Make {
+        (Solid::Lattice, &[name, n, seed]) => Ok(Step::MakeLattice {
             name: Word::of(name_text(name)?),
-            solid: Solid::Lattice {
-                n: within(n, 1, 60)?,
-                seed: within(seed, 0, 999_999)?,
-            },
+            n: within(n, 1, 60)?,
+            seed: within(seed, 0, 999_999)?,
         }),
         _ => Err(WRONG_COUNT),
     }

@@ -37,32 +37,6 @@ impl<'a> Word<'a> {
     }
 }
 
-/// A solid.
-#[derive(Clone, Copy, Drop)]
-pub enum Solid {
-    /// The box between two corners.
-    Box { low: Point, high: Point },
-    /// A tetrahedron with a right angle at a corner.
-    Tetra { at: Point, size: i32 },
-    /// A prism with a right angle at a corner.
-    Prism { at: Point, size: i32, height: i32 },
-    /// `n` boxes along each axis.
-    Lattice { n: u32, seed: u32 },
-}
-
-/// A motion of a mesh. Axes are 0 to 2 for x to z.
-#[derive(Clone, Copy, Drop)]
-pub enum Motion {
-    /// `by` is added to each point.
-    Shift { by: [i32; 3] },
-    /// Each coordinate is multiplied.
-    Scale { factor: u32 },
-    /// The coordinate on the axis gets the other sign.
-    Mirror { axis: u8 },
-    /// A quarter turn about the axis.
-    Turn { axis: u8 },
-}
-
 /// A step of a script.
 #[derive(Drop)]
 pub enum Step<'a> {
@@ -87,16 +61,54 @@ pub enum Step<'a> {
         left: Word<'a>,
         right: Word<'a>,
     },
-    /// Gives a name a solid.
-    Make {
+    /// Gives a name the box between two corners.
+    MakeBox {
         name: Word<'a>,
-        solid: Solid,
+        low: Point,
+        high: Point,
     },
-    /// Gives a name the mesh of another after a motion.
-    Move {
+    /// Gives a name a tetrahedron with a right angle at a corner.
+    MakeTetra {
+        name: Word<'a>,
+        at: Point,
+        size: i32,
+    },
+    /// Gives a name a prism with a right angle at a corner.
+    MakePrism {
+        name: Word<'a>,
+        at: Point,
+        size: i32,
+        height: i32,
+    },
+    /// Gives a name `n` boxes along each axis.
+    MakeLattice {
+        name: Word<'a>,
+        n: u32,
+        seed: u32,
+    },
+    /// Gives a name the mesh of another with `by` added to each point.
+    Shift {
         name: Word<'a>,
         source: Word<'a>,
-        motion: Motion,
+        by: [i32; 3],
+    },
+    /// Gives a name the mesh of another with each coordinate multiplied.
+    Scale {
+        name: Word<'a>,
+        source: Word<'a>,
+        factor: u32,
+    },
+    /// Gives a name the mirror image of another's mesh on an axis, 0 to 2 for x to z.
+    Mirror {
+        name: Word<'a>,
+        source: Word<'a>,
+        axis: u8,
+    },
+    /// Gives a name the mesh of another after a quarter turn about an axis, 0 to 2 for x to z.
+    Turn {
+        name: Word<'a>,
+        source: Word<'a>,
+        axis: u8,
     },
 }
 
@@ -109,8 +121,14 @@ impl<'a> Step<'a> {
             Step::Save { .. } | Step::Measure { .. } => None,
             Step::Load { name, .. }
             | Step::Combine { name, .. }
-            | Step::Make { name, .. }
-            | Step::Move { name, .. } => Some(name.as_str()),
+            | Step::MakeBox { name, .. }
+            | Step::MakeTetra { name, .. }
+            | Step::MakePrism { name, .. }
+            | Step::MakeLattice { name, .. }
+            | Step::Shift { name, .. }
+            | Step::Scale { name, .. }
+            | Step::Mirror { name, .. }
+            | Step::Turn { name, .. } => Some(name.as_str()),
         }
     }
 }

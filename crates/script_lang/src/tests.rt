@@ -8,7 +8,7 @@ use std::test::Fail;
 // A name of 32 bytes.
 const LONG: &str = "abcdefghijklmnopqrstuvwxyz_ABCD9";
 
-// The word of a line's command, and its names and files.
+// The word of the command on a line, and its names and files.
 fn words_of<'a>(step: &Step<'a>) -> (&'static str, [&'a str; 3]) {
     match step {
         Step::Load { name, file } => ("load", [name.as_str(), file.as_str(), ""]),
@@ -20,56 +20,33 @@ fn words_of<'a>(step: &Step<'a>) -> (&'static str, [&'a str; 3]) {
             left,
             right,
         } => (op_word(*op), [name.as_str(), left.as_str(), right.as_str()]),
-        Step::Make { name, solid } => (solid_word(solid), [name.as_str(), "", ""]),
-        Step::Move {
-            name,
-            source,
-            motion,
-        } => (motion_word(motion), [name.as_str(), source.as_str(), ""]),
-    }
-}
-
-fn solid_word(solid: &Solid) -> &'static str {
-    match solid {
-        Solid::Box { .. } => "box",
-        Solid::Tetra { .. } => "tetra",
-        Solid::Prism { .. } => "prism",
-        Solid::Lattice { .. } => "lattice",
-    }
-}
-
-fn motion_word(motion: &Motion) -> &'static str {
-    match motion {
-        Motion::Shift { .. } => "shift",
-        Motion::Scale { .. } => "scale",
-        Motion::Mirror { .. } => "mirror",
-        Motion::Turn { .. } => "turn",
+        Step::MakeBox { name, .. } => ("box", [name.as_str(), "", ""]),
+        Step::MakeTetra { name, .. } => ("tetra", [name.as_str(), "", ""]),
+        Step::MakePrism { name, .. } => ("prism", [name.as_str(), "", ""]),
+        Step::MakeLattice { name, .. } => ("lattice", [name.as_str(), "", ""]),
+        Step::Shift { name, source, .. } => ("shift", [name.as_str(), source.as_str(), ""]),
+        Step::Scale { name, source, .. } => ("scale", [name.as_str(), source.as_str(), ""]),
+        Step::Mirror { name, source, .. } => ("mirror", [name.as_str(), source.as_str(), ""]),
+        Step::Turn { name, source, .. } => ("turn", [name.as_str(), source.as_str(), ""]),
     }
 }
 
 // The numbers on a line, with 0 for those that it does not have.
 fn numbers_of(step: &Step<'_>) -> [i64; 6] {
     match step {
-        Step::Make { solid, .. } => solid_numbers(solid),
-        Step::Move { motion, .. } => motion_numbers(motion),
+        Step::MakeBox { low, high, .. } => row_of(low.at(), high.at()),
+        Step::MakeTetra { at, size, .. } => row_of(at.at(), [*size, 0, 0]),
+        Step::MakePrism {
+            at,
+            size,
+            height,
+            ..
+        } => row_of(at.at(), [*size, *height, 0]),
+        Step::MakeLattice { n, seed, .. } => [i64::from(*n), i64::from(*seed), 0, 0, 0, 0],
+        Step::Shift { by, .. } => row_of(*by, [0, 0, 0]),
+        Step::Scale { factor, .. } => [i64::from(*factor), 0, 0, 0, 0, 0],
+        Step::Mirror { axis, .. } | Step::Turn { axis, .. } => { [i64::from(*axis), 0, 0, 0, 0, 0] }
         _ => [0; 6],
-    }
-}
-
-fn solid_numbers(solid: &Solid) -> [i64; 6] {
-    match solid {
-        Solid::Box { low, high } => row_of(low.at(), high.at()),
-        Solid::Tetra { at, size } => row_of(at.at(), [*size, 0, 0]),
-        Solid::Prism { at, size, height } => row_of(at.at(), [*size, *height, 0]),
-        Solid::Lattice { n, seed } => [i64::from(*n), i64::from(*seed), 0, 0, 0, 0],
-    }
-}
-
-fn motion_numbers(motion: &Motion) -> [i64; 6] {
-    match motion {
-        Motion::Shift { by } => row_of(*by, [0, 0, 0]),
-        Motion::Scale { factor } => [i64::from(*factor), 0, 0, 0, 0, 0],
-        Motion::Mirror { axis } | Motion::Turn { axis } => [i64::from(*axis), 0, 0, 0, 0, 0],
     }
 }
 
@@ -93,7 +70,7 @@ fn op_word(op: Op) -> &'static str {
     }
 }
 
-// The number of a line, the word of its command, its names and files, and its numbers.
+// The number of a line, the word of its command, its other words, and its numbers.
 type Row<'a> = (u64, &'a str, [&'a str; 3], [i64; 6]);
 
 // Whether a line is this row.

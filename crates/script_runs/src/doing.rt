@@ -11,6 +11,7 @@ ghost use Rattle.script_terms.specs.Plays.{step_task, steps_task};
 ghost use Rattle.script_terms.specs.Sound.{AreSound, HasNumbers};
 
 use crate::combining::combine;
+use crate::jobs::{Job, job_of};
 use crate::loading::load;
 use crate::making::make;
 use crate::measuring::measure_mesh;
@@ -47,35 +48,22 @@ fn do_step<'a, S: Shelf, O: Sink, L: Ledger>(
     ensures kept { OnErr result (names.new ≡ names.old) }
     ensures cost { steps.new ≤ steps.old + step_cost (step_of step.now) (named_in names.old) }
 {
-    match step {
-        Step::Load { name, file } => {
-            let (name, file) = (name.as_str(), file.as_str());
-            load(alloc, name, file, digits, limits, names, shelf, out)
-        }
-        Step::Save { name, file } => {
-            save(name.as_str(), file.as_str(), digits, names, shelf, out)
-        }
-        Step::Measure { name } => measure_mesh(alloc, name.as_str(), names, out),
-        Step::Combine {
+    match job_of(step) {
+        Job::Load { name, file } => load(alloc, name, file, digits, limits, names, shelf, out),
+        Job::Save { name, file } => save(name, file, digits, names, shelf, out),
+        Job::Measure { name } => measure_mesh(alloc, name, names, out),
+        Job::Combine {
             op,
             name,
             left,
             right,
-        } => {
-            let (name, left, right) = (name.as_str(), left.as_str(), right.as_str());
-            combine(alloc, *op, name, left, right, limits, names, out, steps)
-        }
-        Step::Make { name, solid } => {
-            make(alloc, script, line, name.as_str(), solid, limits, names)
-        }
-        Step::Move {
+        } => combine(alloc, op, name, left, right, limits, names, out, steps),
+        Job::Make { name, solid } => make(alloc, script, line, name, solid, limits, names),
+        Job::Move {
             name,
             source,
             motion,
-        } => {
-            let (name, source) = (name.as_str(), source.as_str());
-            move_mesh(alloc, script, line, name, source, motion, names)
-        }
+        } => move_mesh(alloc, script, line, name, source, motion, names),
     }
 }
 

@@ -5,6 +5,7 @@
 
 mod combining;
 mod doing;
+mod jobs;
 mod loading;
 mod making;
 mod measuring;

@@ -3,7 +3,7 @@ ghost use Rattle.std.specs.Prelude.{◌≡◌, IfErr, IfOk, OnErr, OnOk};
 ghost use Rattle.mesh_make.specs.Refused.{IsRefusedFor};
 ghost use Rattle.report_lines.specs.Halts.{halted_by, why_in};
 ghost use Rattle.run_terms.specs.Meets.{Meets, Seen};
-ghost use Rattle.script_lang.specs.Steps.{solid_of};
+ghost use Rattle.script_runs.specs.Jobs.{solid_of};
 ghost use Rattle.script_runs.specs.Halts.{IsHaltOfStep};
 ghost use Rattle.script_runs.specs.Made.{why_unmade};
 ghost use Rattle.script_runs.specs.Names.{IsNamed, named_in};
@@ -11,13 +11,13 @@ ghost use Rattle.script_terms.specs.Making.{solid_fault, solid_mesh};
 ghost use Rattle.script_terms.specs.Plays.{make_task};
 ghost use Rattle.script_terms.specs.Sound.{IsSolid};
 
+use crate::jobs::Solid;
 use crate::names::Names;
 use mb_base::Limits;
 use mesh_check::Mesh;
 use mesh_files::Stop;
 use mesh_make::{MakeFault, make_box, make_lattice, make_prism, make_tetra};
 use report_lines::Halt;
-use script_lang::Solid;
 use std::alloc::Global;
 
 /// Where a script stops that makes no solid, or moves no mesh, on this line.
@@ -26,8 +26,8 @@ pub fn halt_at<'a>(script: &'a str, line: u64, fault: MakeFault) -> Halt<'a>
     ensures halts { IsHaltOfStep result }
 {
     let (name, stop) = match fault {
-        MakeFault::FlatSolid => (script, Stop::FlatSolid { line }),
-        MakeFault::OutOfGrid => (script, Stop::OutOfGrid { line }),
+        MakeFault::OutOfGrid => (script, Stop::BadStep { line, kind: 15 }),
+        MakeFault::FlatSolid => (script, Stop::BadStep { line, kind: 16 }),
         MakeFault::Over { what, seen } => ("", Stop::Over { what, seen }),
         MakeFault::NoMemory => return Halt::NoMemory,
     };
@@ -35,16 +35,16 @@ pub fn halt_at<'a>(script: &'a str, line: u64, fault: MakeFault) -> Halt<'a>
 }
 
 // The mesh of a solid.
-fn mesh_of(alloc: Global, solid: &Solid, limits: &Limits) -> Result<Mesh, MakeFault>
-    requires { IsSolid (solid_of solid.now) }
-    ensures refused { IsRefusedFor (solid_fault limits.now (solid_of solid.now)) result }
-    ensures mesh { IfOk result (λ mesh. mesh ≡ solid_mesh (solid_of solid.now)) }
+fn mesh_of(alloc: Global, solid: Solid, limits: &Limits) -> Result<Mesh, MakeFault>
+    requires { IsSolid (solid_of solid) }
+    ensures refused { IsRefusedFor (solid_fault limits.now (solid_of solid)) result }
+    ensures mesh { IfOk result (λ mesh. mesh ≡ solid_mesh (solid_of solid)) }
 {
-    match *solid {
-        Solid::Box { low, high } => make_box(alloc, low, high, limits),
-        Solid::Tetra { at, size } => make_tetra(alloc, at, size, limits),
-        Solid::Prism { at, size, height } => make_prism(alloc, at, size, height, limits),
-        Solid::Lattice { n, seed } => make_lattice(alloc, n, seed, limits),
+    match solid {
+        Solid::Box(low, high) => make_box(alloc, low, high, limits),
+        Solid::Tetra(at, size) => make_tetra(alloc, at, size, limits),
+        Solid::Prism(at, size, height) => make_prism(alloc, at, size, height, limits),
+        Solid::Lattice(n, seed) => make_lattice(alloc, n, seed, limits),
     }
 }
 
@@ -54,12 +54,12 @@ pub fn make<'a>(
     script: &'a str,
     line: u64,
     name: &'a str,
-    solid: &Solid,
+    solid: Solid,
     limits: &Limits,
     names: &mut Names<'a>,
 ) -> Result<(), Halt<'a>>
-    requires { IsSolid (solid_of solid.now) }
-    ensures meets { (now : Seen) → Meets (make_task limits.now script.now line name.now (solid_of solid.now) (named_in names.old)) now now (halted_by (λ _. named_in names.new) result) }
+    requires { IsSolid (solid_of solid) }
+    ensures meets { (now : Seen) → Meets (make_task limits.now script.now line name.now (solid_of solid) (named_in names.old)) now now (halted_by (λ _. named_in names.new) result) }
     ensures halts { IfErr result IsHaltOfStep }
     ensures named { OnOk result (IsNamed name.now (named_in names.old) (named_in names.new)) }
     ensures kept { OnErr result (names.new ≡ names.old) }

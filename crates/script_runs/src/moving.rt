@@ -3,32 +3,32 @@ ghost use Rattle.std.specs.Prelude.{◌≡◌, IfErr, IfOk, IsSome, OnErr, OnOk}
 ghost use Rattle.mesh_make.specs.Refused.{IsRefusedFor};
 ghost use Rattle.report_lines.specs.Halts.{halted_by};
 ghost use Rattle.run_terms.specs.Meets.{Meets, Seen};
-ghost use Rattle.script_lang.specs.Steps.{motion_of};
+ghost use Rattle.script_runs.specs.Jobs.{motion_of};
 ghost use Rattle.script_runs.specs.Halts.{IsHaltOfStep};
 ghost use Rattle.script_runs.specs.Names.{IsNamed, named_in};
 ghost use Rattle.script_terms.specs.Making.{motion_fault, moved_mesh};
 ghost use Rattle.script_terms.specs.Plays.{move_task};
 ghost use Rattle.script_terms.specs.Sound.{IsMotion};
 
+use crate::jobs::Motion;
 use crate::making::halt_at;
 use crate::names::Names;
 use mesh_check::Mesh;
 use mesh_make::{MakeFault, mirror, quarter_turn, scale, shift};
 use report_lines::Halt;
-use script_lang::Motion;
 use std::alloc::Global;
 
 // A mesh after a motion.
-fn moved(alloc: Global, mesh: &Mesh, motion: &Motion) -> Result<Mesh, MakeFault>
-    requires { IsMotion (motion_of motion.now) }
-    ensures refused { IsRefusedFor (motion_fault (motion_of motion.now) mesh.now.points) result }
-    ensures mesh { IfOk result (λ moved. moved ≡ moved_mesh (motion_of motion.now) mesh.now) }
+fn moved(alloc: Global, mesh: &Mesh, motion: Motion) -> Result<Mesh, MakeFault>
+    requires { IsMotion (motion_of motion) }
+    ensures refused { IsRefusedFor (motion_fault (motion_of motion) mesh.now.points) result }
+    ensures mesh { IfOk result (λ moved. moved ≡ moved_mesh (motion_of motion) mesh.now) }
 {
-    match *motion {
-        Motion::Shift { by } => shift(alloc, mesh, by),
-        Motion::Scale { factor } => scale(alloc, mesh, factor),
-        Motion::Mirror { axis } => Ok(mirror(alloc, mesh, axis)?),
-        Motion::Turn { axis } => Ok(quarter_turn(alloc, mesh, axis)?),
+    match motion {
+        Motion::Shift(by) => shift(alloc, mesh, by),
+        Motion::Scale(factor) => scale(alloc, mesh, factor),
+        Motion::Mirror(axis) => Ok(mirror(alloc, mesh, axis)?),
+        Motion::Turn(axis) => Ok(quarter_turn(alloc, mesh, axis)?),
     }
 }
 
@@ -39,12 +39,12 @@ pub fn move_mesh<'a>(
     line: u64,
     name: &'a str,
     source: &'a str,
-    motion: &Motion,
+    motion: Motion,
     names: &mut Names<'a>,
 ) -> Result<(), Halt<'a>>
     requires source { IsSome (named_in names.old source.now) }
-    requires motion { IsMotion (motion_of motion.now) }
-    ensures meets { (now : Seen) → Meets (move_task script.now line name.now source.now (motion_of motion.now) (named_in names.old)) now now (halted_by (λ _. named_in names.new) result) }
+    requires motion { IsMotion (motion_of motion) }
+    ensures meets { (now : Seen) → Meets (move_task script.now line name.now source.now (motion_of motion) (named_in names.old)) now now (halted_by (λ _. named_in names.new) result) }
     ensures halts { IfErr result IsHaltOfStep }
     ensures named { OnOk result (IsNamed name.now (named_in names.old) (named_in names.new)) }
     ensures kept { OnErr result (names.new ≡ names.old) }

@@ -69,8 +69,15 @@ abbrev pub script_refusal : Bytes → Fault → Refusal
 script_refusal name (Bad line kind) = at_line FaultyScript name line kind (script_kind_name kind)
 script_refusal name (Over what seen) = over what seen
 
+-- the name of a kind of fault of a mesh that a line makes by its number
+abbrev pub step_kind_name : ℕ → Bytes
+step_kind_name kind = if kind == 15 then codes "OutOfGrid" else codes "FlatSolid"
+
+abbrev pub step_refusal : Bytes → ℕ → ℕ → Refusal
+step_refusal script line kind = at_line FaultyMesh script line kind (step_kind_name kind)
+
 -- why a solid is not made or a mesh not moved on this line of the script: the mesh would be faulty, or exceed a limit
 abbrev pub made_refusal : Bytes → ℕ → MadeFault → Refusal
-made_refusal script line Outside = at_line FaultyMesh script line 15 (codes "OutOfGrid")
-made_refusal script line Flat = at_line FaultyMesh script line 16 (codes "FlatSolid")
+made_refusal script line Outside = step_refusal script line 15
+made_refusal script line Flat = step_refusal script line 16
 made_refusal script line (Exceeds what seen) = over what seen
