@@ -1,10 +1,10 @@
 -- The components of the vertices that were looked at, and the forest once all were.
-use Rattle.std.proofs.Common.{◌≡◌, ◌⊎◌, ◌<◌, ◌≤◌, ◌+◌, ◌-◌, ◌==◌, ℕ, zero, suc, Bool, true, false, Option, Some, None, List, [], ◌∷◌, ◌++◌, length, get_or, take, replicate, refl, sym, ◌∙◌, ap, subst, inl, inr, arith, length-append}
-use Rattle.std.specs.List.{All, Contains, count_by, filter_map}
+use Rattle.std.proofs.Common.{◌≡◌, ◌<◌, ◌≤◌, ◌+◌, ◌-◌, ℕ, zero, suc, Bool, false, List, [], ◌∷◌, ◌++◌, length, get_or, take, replicate, refl, sym, ◌∙◌, ap, subst, inl, inr, arith, length-append}
+use Rattle.std.specs.List.{All, Contains}
 use Rattle.std.proofs.lemmas.List.{get_or_append_left, get_or_default, get_or-append_right, get_or-replicate, get_or-take, length-take-le, length-replicate}
-use Rattle.std.proofs.lemmas.List.Elements.{All-from_get_or, All-nil, All-push, All-same, All-weaker, Contains-get_or}
+use Rattle.std.proofs.lemmas.List.Elements.{All-nil, All-push, All-same, Contains-get_or}
 use Rattle.std.proofs.lemmas.Bool.{cases_lt}
-use Rattle.chain_terms.specs.Chains.{dir, one_if, IsClosed, all_edges}
+use Rattle.chain_terms.specs.Chains.{IsClosed}
 use Rattle.chain_terms.specs.Ranks.{start, finish}
 use Rattle.chain_laws.specs.Ascending.{Ascends}
 use Rattle.chain_laws.proofs.Ascending.{contains_later}
@@ -15,7 +15,7 @@ use Rattle.component_laws.proofs.Counted.{only}
 use Rattle.component_terms.specs.Components.{IsJoined, Here, Along as Joins, IsLeast, HasComponents}
 use Rattle.spanning_forest.specs.declared.entrance.Entrance.{Entrance}
 use Rattle.spanning_forest.specs.declared.entrance.Entrance.TheVariants.{Root, Along}
-use Rattle.spanning_forest.specs.Forests.{entered, vertices_of, root_of, roots_of, Follows, IsSpanningForest}
+use Rattle.spanning_forest.specs.Forests.{entered, vertices_of, roots_of, Follows, IsSpanningForest}
 use Rattle.spanning_forest.specs.Walks.{IsMarked, IsUnmarked, AreWhole, AreEntered, IsComponentEntered}
 use Rattle.spanning_forest.proofs.Entering.{entered_marked, entered_none, marked_entered, place_of}
 use Rattle.spanning_forest.proofs.Growing.{vertex_at}
@@ -101,7 +101,7 @@ walked_component es n v seen entrances new later closed w free m = record {
   done = done_more (IsMarked new) v (λ a low. m.kept a (w.done a low)) m.here;
   ascending = subst Ascends (sym m.roots) (ascends_push (roots_of entrances) v w.ascending w.before);
   before = All-same (λ r. r < v + 1) (roots_of later) (roots_of entrances ++ v ∷ []) m.roots
-  (All-push (λ r. r < v + 1) (roots_of entrances) v (λ k d low. let l = w.before k d low in omega (arith, l)) (omega arith));
+      (All-push (λ r. r < v + 1) (roots_of entrances) v (λ k d low. let l = w.before k d low in omega (arith, l)) (omega arith));
   least = All-same (IsLeast es) (roots_of later) (roots_of entrances ++ v ∷ []) m.roots (All-push (IsLeast es) (roots_of entrances) v w.least (is_least es n v seen entrances closed w free));
 }
 

@@ -1,11 +1,12 @@
 -- The walk from a root: what was entered while it goes on.
-use Rattle.std.proofs.Common.{◌≡◌, ◌⊎◌, ◌<◌, ◌≤◌, ◌+◌, ℕ, Bool, true, List, [], ◌∷◌, ◌++◌, length, get_or, set, refl, sym, ◌∙◌, ap, subst, inl, inr, arith, length-append}
+use Rattle.std.proofs.Common.{◌≡◌, ◌<◌, ◌≤◌, ◌+◌, ℕ, Bool, true, List, [], ◌∷◌, ◌++◌, length, get_or, map, set, refl, sym, ◌∙◌, ap, subst, inl, inr, arith, length-append}
 use Rattle.std.specs.List.{All, Contains}
 use Rattle.std.proofs.lemmas.Bool.{cases_lt}
-use Rattle.std.proofs.lemmas.List.{get_or_append_left, get_or_push, length-set}
+use Rattle.std.proofs.lemmas.List.{get_or_append_left, get_or_default, length-set}
 use Rattle.std.proofs.lemmas.List.Elements.{All-contains, All-weaker}
 use Rattle.chain_terms.specs.Chains.{dir}
 use Rattle.chain_terms.specs.Ranks.{start, finish}
+use Rattle.chain_terms.specs.Sums.{upto}
 use Rattle.counting_sort.specs.Buckets.{places_of}
 use Rattle.spanning_forest.specs.declared.entrance.Entrance.{Entrance}
 use Rattle.spanning_forest.specs.declared.entrance.Entrance.TheVariants.{Root}
@@ -13,7 +14,7 @@ use Rattle.spanning_forest.specs.Forests.{entered, vertices_of, roots_of}
 use Rattle.spanning_forest.specs.Walks.{starts_of, IsMarked, IsUnmarked, AreWhole, AreEntered, AreReached, IsComponentEntered, Lies}
 use Rattle.spanning_forest.proofs.Entering.{entered_at, entered_marked, entered_push, follows_lies, marked_entered, place_of, roots_push}
 use Rattle.spanning_forest.proofs.Marks.{marked_here, marked_kept, marked_within}
-use Rattle.spanning_forest.proofs.Spokes.{IsSpoke, all_spokes, spoke_to}
+use Rattle.spanning_forest.proofs.Spokes.{IsSpoke, all_spokes, read_spokes, spoke_to}
 
 -- the vertex entered at a place
 abbrev pub vertex_at : List (ℕ × ℕ) → List Entrance → ℕ → ℕ
@@ -105,3 +106,13 @@ pub next_starts : (es : List (ℕ × ℕ)) (entrances : List Entrance) (next x :
 next_starts es entrances next x low is =
     let there = subst (Contains (vertices_of es entrances)) (sym is) (entered_at es entrances next low) in
     All-weaker (IsSpoke es x) (λ h. Contains (vertices_of es entrances) (start es h)) (λ h s. subst (Contains (vertices_of es entrances)) (sym s.from) there) (places_of (starts_of es) x) (all_spokes es x)
+
+-- what is read as the next entrance enters the next vertex
+pub next_read : (es : List (ℕ × ℕ)) (entrances : List Entrance) (next x : ℕ) (read : Entrance) → next < length entrances → read ≡ get_or entrances next read → x ≡ entered es read → x ≡ vertex_at es entrances next
+next_read es entrances next x read low there is = is ∙ ap (entered es) (there ∙ get_or_default entrances next read (Root 0) low)
+
+-- what is read as its bucket are its spokes
+pub next_spokes : (es : List (ℕ × ℕ)) (v x : ℕ) (old : List Bool) (before : List Entrance) (seen : List Bool) (entrances : List Entrance) (next : ℕ) (spokes : List (List ℕ)) (bucket : List ℕ) → IsGrowing es v old before seen entrances next →
+    next < length entrances → x ≡ vertex_at es entrances next → spokes ≡ map (places_of (starts_of es)) (upto (length old)) → bucket ≡ get_or spokes x [] → bucket ≡ places_of (starts_of es) x
+next_spokes es v x old before seen entrances next spokes bucket g low is gathered read =
+    read_spokes es (length old) x spokes bucket (omega (arith, is, next_below es v old before seen entrances next g low)) gathered read

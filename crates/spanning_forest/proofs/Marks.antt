@@ -1,5 +1,5 @@
 -- One more mark: what is marked, and how many have none.
-use Rattle.std.proofs.Common.{◌≡◌, ◌⊎◌, ◌<◌, ◌+◌, ℕ, zero, suc, Bool, true, false, not, List, [], ◌∷◌, length, get_or, set, refl, sym, ◌∙◌, ap, inl, inr, arith}
+use Rattle.std.proofs.Common.{◌≡◌, ◌⊎◌, ◌<◌, ◌+◌, ℕ, zero, suc, Bool, true, false, not, List, [], ◌∷◌, length, set, refl, ap, inl, inr, arith}
 use Rattle.chain_laws.specs.Counts.{count_by-cons}
 use Rattle.spanning_forest.specs.Walks.{IsMarked, IsUnmarked, unmarked}
 

@@ -1,12 +1,12 @@
 -- The ends of more and more edges are reached.
-use Rattle.std.proofs.Common.{◌≡◌, ◌<◌, ◌+◌, ℕ, Bool, true, List, [], ◌∷◌, ◌++◌, length, get_or, set, refl, sym, ◌∙◌, ap, subst, arith}
-use Rattle.std.specs.List.{All, Contains}
+use Rattle.std.proofs.Common.{◌≡◌, ◌<◌, ℕ, Bool, true, List, [], ◌∷◌, ◌++◌, length, set, refl, sym, ◌∙◌, ap, subst}
+use Rattle.std.specs.List.{Contains}
 use Rattle.std.proofs.lemmas.List.{append_assoc, append-nil, length-set}
 use Rattle.std.proofs.lemmas.List.Elements.{All-nil, All-push, All-weaker}
 use Rattle.chain_terms.specs.Ranks.{start, finish}
 use Rattle.spanning_forest.specs.declared.entrance.Entrance.{Entrance}
 use Rattle.spanning_forest.specs.declared.entrance.Entrance.TheVariants.{Along}
-use Rattle.spanning_forest.specs.Forests.{vertices_of, roots_of}
+use Rattle.spanning_forest.specs.Forests.{vertices_of}
 use Rattle.spanning_forest.specs.Walks.{IsMarked, IsUnmarked, AreEntered, AreReached}
 use Rattle.spanning_forest.proofs.Marks.{marked_here, marked_kept}
 use Rattle.spanning_forest.proofs.Entering.{entered_push, roots_along, still_entered}
@@ -46,8 +46,8 @@ reached_new es hs h end old before seen entrances r at free low inside from =
       full = length-set seen end true ∙ r.full;
       kept = λ w m. marked_kept seen end w (r.kept w m);
       ends = All-push (λ g. IsMarked (set seen end true) (finish es g)) hs h
-      (All-weaker (λ g. IsMarked seen (finish es g)) (λ g. IsMarked (set seen end true) (finish es g)) (λ g m. marked_kept seen end (finish es g) m) hs r.ends)
-      (subst (IsMarked (set seen end true)) at (marked_here seen end low));
+          (All-weaker (λ g. IsMarked seen (finish es g)) (λ g. IsMarked (set seen end true) (finish es g)) (λ g m. marked_kept seen end (finish es g) m) hs r.ends)
+          (subst (IsMarked (set seen end true)) at (marked_here seen end low));
       more = r.more ++ Along h ∷ [];
       grown = ap (λ l. l ++ Along h ∷ []) r.grown ∙ append_assoc before r.more (Along h ∷ []);
       roots = roots_along entrances h ∙ r.roots;

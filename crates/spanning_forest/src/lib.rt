@@ -13,9 +13,8 @@ mod entrance;
 mod tests;
 mod walk;
 
-pub use entrance::Entrance;
-
 use counting_sort::Buckets;
+pub use entrance::Entrance;
 use mb_base::NoMemory;
 use std::alloc::Global;
 use walk::enter_component;
@@ -23,11 +22,7 @@ use walk::enter_component;
 /// A spanning forest of the vertices of a closed mesh, which has so many points: component after component, by the least
 /// vertex of each, and breadth first from there. It takes time and memory in proportion to the points and triangles.
 /// `NoMemory` may come for any mesh.
-pub fn forest(
-    alloc: Global,
-    triples: &[[u32; 3]],
-    points: usize,
-) -> Result<Vec<Entrance>, NoMemory>
+pub fn forest(alloc: Global, triples: &[[u32; 3]], points: usize) -> Result<Vec<Entrance>, NoMemory>
     requires { IsAccepted points (triples_of triples.now) }
     ensures { IfOk result (λ entrances. IsSpanningForest points (all_edges (triples_of triples.now)) entrances.items) }
 {

@@ -1,7 +1,6 @@
-use Rattle.std.proofs.Common.{◌+◌, ◌-◌, length}
+use Rattle.std.proofs.Common.{◌-◌, length}
 use Rattle.chain_terms.specs.Chains.{all_edges}
 use Rattle.mesh_terms.specs.Meshes.{triples_of}
-use Rattle.spanning_forest.specs.Walks.{unmarked}
 use Rattle.spanning_forest.proofs.Growing.{IsGrowing}
 use Rattle.spanning_forest.proofs.walk.enter_component.Given as goal
 

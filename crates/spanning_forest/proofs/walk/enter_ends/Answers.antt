@@ -1,9 +1,8 @@
-use Rattle.std.proofs.Common.{arith, rules, ◌≡◌, ◌<◌, ◌+◌, ◌∷◌, ◌++◌, [], ℕ, List, length, get_or, take, true, false, set, sym, ◌∙◌, ap, subst}
+use Rattle.std.proofs.Common.{arith, ◌≡◌, ◌<◌, ◌+◌, ◌∷◌, ◌++◌, [], length, get_or, take, true, set, ◌∙◌, ap}
 use Rattle.std.proofs.lemmas.List.{take_more}
 use Rattle.chain_terms.specs.Chains.{all_edges}
 use Rattle.mesh_terms.specs.Meshes.{triples_of}
 use Rattle.spanning_forest.specs.declared.entrance.Entrance.TheVariants.{Along}
-use Rattle.spanning_forest.specs.Walks.{AreReached}
 use Rattle.spanning_forest.proofs.Reaching.{reached_marked, reached_new, reached_none, reached_same}
 use Rattle.spanning_forest.proofs.Spokes.{finish_below, length-halves}
 use Rattle.spanning_forest.proofs.walk.enter_ends.Goals as goal

@@ -1,4 +1,4 @@
-use Rattle.std.proofs.Common.{◌<◌, ◌*◌, length, arith, subst}
+use Rattle.std.proofs.Common.{arith, subst}
 use Rattle.chain_terms.specs.Chains.{all_edges}
 use Rattle.mesh_terms.specs.Meshes.{triples_of}
 use Rattle.spanning_forest.specs.Walks.{Lies}
