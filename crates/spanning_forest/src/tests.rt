@@ -15,12 +15,17 @@ fn mesh_of(alloc: Global, count: i32, triples: &[[u32; 3]]) -> Result<Mesh, Fail
 }
 
 // Two boxes, the second over later points: its first is the point with this number.
-fn two_boxes(alloc: Global, first: u32) -> Result<Mesh, Fail> {
+fn two_boxes(alloc: Global, first: u8) -> Result<Mesh, Fail> {
     let mut triples = BOX.to_vec(alloc)?;
+    let shift = u32::from(first);
     for [a, b, c] in &BOX {
-        triples.push([*a + first, *b + first, *c + first])?;
+        triples.push([
+            a.wrapping_add(shift),
+            b.wrapping_add(shift),
+            c.wrapping_add(shift),
+        ])?;
     }
-    mesh_of(alloc, first as i32 + 8, &triples)
+    mesh_of(alloc, i32::from(first) + 8, &triples)
 }
 
 // The roots of a mesh's forest.
@@ -38,7 +43,7 @@ fn roots_of(alloc: Global, mesh: &Mesh) -> Result<Vec<u32>, Fail> {
 #[test]
 fn a_tetrahedron_is_entered_from_its_first_vertex(rt: HostRuntime) -> Result<(), Fail> {
     let mesh = mesh_of(rt.alloc(), 4, &TETRAHEDRON)?;
-    let entrances = forest(rt.alloc(), mesh.triples(), 4)?;
+    let entrances = forest(rt.alloc(), mesh.triples(), mesh.points().len())?;
     assert_eq!(rt;
         entrances.as_slice(),
         [
