@@ -62,7 +62,8 @@ done_more P v before here w low = elim (cases_lt w v) as (λ _. P w) [
 ]
 
 -- a vertex that has a mark is passed over
-pub walked_past : (es : List (ℕ × ℕ)) (n v : ℕ) (seen : List Bool) (entrances : List Entrance) → AreWalked es n v seen entrances → IsMarked seen v → AreWalked es n (v + 1) seen entrances
+pub walked_past : (es : List (ℕ × ℕ)) (n v : ℕ) (seen : List Bool) (entrances : List Entrance) → AreWalked es n v seen entrances → IsMarked seen v →
+    AreWalked es n (v + 1) seen entrances
 walked_past es n v seen entrances w m = record {
   entered = w.entered;
   full = w.full;
@@ -85,15 +86,16 @@ ascends_push xs v up before i j less low = elim (cases_lt j (length xs)) as (λ 
 ]
 
 -- a vertex without a mark is the least of its component
-is_least : (es : List (ℕ × ℕ)) (n v : ℕ) (seen : List Bool) (entrances : List Entrance) → IsClosed es → AreWalked es n v seen entrances → IsUnmarked seen v → IsLeast es v
+is_least : (es : List (ℕ × ℕ)) (n v : ℕ) (seen : List Bool) (entrances : List Entrance) → IsClosed es → AreWalked es n v seen entrances → IsUnmarked seen v →
+    IsLeast es v
 is_least es n v seen entrances closed walked free w joined = elim (cases_lt w v) as (λ _. v ≤ w) [
   | inl l ↦ let m = joined_marked es seen v w closed walked.whole joined (walked.done w l) in cc
   | inr g ↦ g
 ]
 
 -- a vertex without a mark is a root, and its component is entered
-pub walked_component : (es : List (ℕ × ℕ)) (n v : ℕ) (seen : List Bool) (entrances : List Entrance) (new : List Bool) (later : List Entrance) → IsClosed es → AreWalked es n v seen entrances → IsUnmarked seen v →
-    IsComponentEntered es v seen entrances new later → AreWalked es n (v + 1) new later
+pub walked_component : (es : List (ℕ × ℕ)) (n v : ℕ) (seen : List Bool) (entrances : List Entrance) (new : List Bool) (later : List Entrance) → IsClosed es →
+    AreWalked es n v seen entrances → IsUnmarked seen v → IsComponentEntered es v seen entrances new later → AreWalked es n (v + 1) new later
 walked_component es n v seen entrances new later closed w free m = record {
   entered = m.entered;
   full = m.full ∙ w.full;
@@ -102,11 +104,13 @@ walked_component es n v seen entrances new later closed w free m = record {
   ascending = subst Ascends (sym m.roots) (ascends_push (roots_of entrances) v w.ascending w.before);
   before = All-same (λ r. r < v + 1) (roots_of later) (roots_of entrances ++ v ∷ []) m.roots
       (All-push (λ r. r < v + 1) (roots_of entrances) v (λ k d low. let l = w.before k d low in omega (arith, l)) (omega arith));
-  least = All-same (IsLeast es) (roots_of later) (roots_of entrances ++ v ∷ []) m.roots (All-push (IsLeast es) (roots_of entrances) v w.least (is_least es n v seen entrances closed w free));
+  least = All-same (IsLeast es) (roots_of later) (roots_of entrances ++ v ∷ []) m.roots
+      (All-push (IsLeast es) (roots_of entrances) v w.least (is_least es n v seen entrances closed w free));
 }
 
 -- the same where the lists are known otherwise
-pub walked_same : (es : List (ℕ × ℕ)) (n v : ℕ) (seen marks : List Bool) (entrances others : List Entrance) → seen ≡ marks → entrances ≡ others → AreWalked es n v marks others → AreWalked es n v seen entrances
+pub walked_same : (es : List (ℕ × ℕ)) (n v : ℕ) (seen marks : List Bool) (entrances others : List Entrance) → seen ≡ marks → entrances ≡ others →
+    AreWalked es n v marks others → AreWalked es n v seen entrances
 walked_same es n v seen marks entrances others e f w = subst (λ l. AreWalked es n v l entrances) (sym e) (subst (AreWalked es n v marks) (sym f) w)
 
 -- a root of the list is one of its roots
@@ -125,7 +129,8 @@ abbrev HasRoot : List (ℕ × ℕ) → List Entrance → ℕ → Type 0
 HasRoot es entrances v = (r : ℕ) × Contains (roots_of entrances) r × IsJoined es r v
 
 -- the vertex of one entrance has a root where those of all earlier ones have
-rooted : (es : List (ℕ × ℕ)) (entrances : List Entrance) (i : ℕ) → i < length entrances → ((j : ℕ) → j < i → HasRoot es entrances (vertex_at es entrances j)) → (e : Entrance) → get_or entrances i (Root 0) ≡ e → Follows es (take i entrances) e →
+rooted : (es : List (ℕ × ℕ)) (entrances : List Entrance) (i : ℕ) → i < length entrances →
+    ((j : ℕ) → j < i → HasRoot es entrances (vertex_at es entrances j)) → (e : Entrance) → get_or entrances i (Root 0) ≡ e → Follows es (take i entrances) e →
     HasRoot es entrances (vertex_at es entrances i)
 rooted es entrances i inside earlier (Root v) is f = (v, root_listed entrances i v inside is, subst (IsJoined es v) (sym (ap (entered es) is)) Here)
 rooted es entrances i inside earlier (Along h) is f =
@@ -137,13 +142,17 @@ rooted es entrances i inside earlier (Along h) is f =
     (r, listed, subst (IsJoined es r) (sym (ap (entered es) is)) (Joins (start es h) (finish es h) (subst (IsJoined es r) same joined) (omega (arith, some))))
 
 -- so all of them have
-joined_root : (es : List (ℕ × ℕ)) (entrances : List Entrance) → AllFollow es entrances → (n i : ℕ) → i < n → i < length entrances → HasRoot es entrances (vertex_at es entrances i)
+joined_root : (es : List (ℕ × ℕ)) (entrances : List Entrance) → AllFollow es entrances → (n i : ℕ) → i < n → i < length entrances →
+    HasRoot es entrances (vertex_at es entrances i)
 joined_root es entrances follow zero i low inside = absurd (omega (arith, low))
 joined_root es entrances follow (suc n) i low inside =
-    rooted es entrances i inside (λ j before. joined_root es entrances follow n j (omega (arith, before, low)) (omega (arith, before, inside))) (get_or entrances i (Root 0)) refl (follow i inside)
+    rooted es entrances i inside
+    (λ j before. joined_root es entrances follow n j (omega (arith, before, low)) (omega (arith, before, inside)))
+    (get_or entrances i (Root 0)) refl (follow i inside)
 
 -- once all vertices were looked at, the roots are the least vertices of the components
-pub walked_components : (es : List (ℕ × ℕ)) (n : ℕ) (seen : List Bool) (entrances : List Entrance) → AreWalked es n n seen entrances → HasComponents n es (length (roots_of entrances))
+pub walked_components : (es : List (ℕ × ℕ)) (n : ℕ) (seen : List Bool) (entrances : List Entrance) → AreWalked es n n seen entrances →
+    HasComponents n es (length (roots_of entrances))
 walked_components es n seen entrances w = record {
   least = roots_of entrances;
   as_many = refl;
@@ -157,7 +166,8 @@ walked_components es n seen entrances w = record {
 }
 
 -- so they are a spanning forest
-pub spanning : (es : List (ℕ × ℕ)) (n : ℕ) (seen : List Bool) (entrances : List Entrance) → AreBelow n es → AreWalked es n n seen entrances → IsSpanningForest n es entrances
+pub spanning : (es : List (ℕ × ℕ)) (n : ℕ) (seen : List Bool) (entrances : List Entrance) → AreBelow n es → AreWalked es n n seen entrances →
+    IsSpanningForest n es entrances
 spanning es n seen entrances below w = record {
   below = λ k d low.
       let v = get_or (vertices_of es entrances) k d in

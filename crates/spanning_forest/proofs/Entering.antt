@@ -22,7 +22,8 @@ times_push es entrances e v =
     omega (arith, pushed, sum_by_push (λ w. cond (w == v) 1 0) (vertices_of es entrances) (entered es e), one_if-cond (entered es e == v))
 
 -- the marks count it too
-mark_counts : (seen : List Bool) (w v : ℕ) → w < length seen → IsUnmarked seen w → one_if (get_or seen v false) + one_if (w == v) ≡ one_if (get_or (set seen w true) v false)
+mark_counts : (seen : List Bool) (w v : ℕ) → w < length seen → IsUnmarked seen w →
+    one_if (get_or seen v false) + one_if (w == v) ≡ one_if (get_or (set seen w true) v false)
 mark_counts seen w v low free = elim (cases_eq w v) as (λ _. one_if (get_or seen v false) + one_if (w == v) ≡ one_if (get_or (set seen w true) v false)) [
   | inl e ↦
       let old : one_if (get_or seen v false) ≡ 0 = ap (λ u. one_if (get_or seen u false)) (sym e) ∙ ap one_if free in
@@ -32,8 +33,9 @@ mark_counts seen w v low free = elim (cases_eq w v) as (λ _. one_if (get_or see
 ]
 
 -- what follows still does with one entrance more at the end, and the last one follows the others
-follow_push : (es : List (ℕ × ℕ)) (entrances : List Entrance) (e : Entrance) → ((i : ℕ) → i < length entrances → Follows es (take i entrances) (get_or entrances i (Root 0))) → Follows es entrances e →
-    (i : ℕ) → i < length (entrances ++ e ∷ []) → Follows es (take i (entrances ++ e ∷ [])) (get_or (entrances ++ e ∷ []) i (Root 0))
+follow_push : (es : List (ℕ × ℕ)) (entrances : List Entrance) (e : Entrance) →
+    ((i : ℕ) → i < length entrances → Follows es (take i entrances) (get_or entrances i (Root 0))) → Follows es entrances e → (i : ℕ) →
+    i < length (entrances ++ e ∷ []) → Follows es (take i (entrances ++ e ∷ [])) (get_or (entrances ++ e ∷ []) i (Root 0))
 follow_push es entrances e before last i low = elim (cases_lt i (length entrances)) as (λ _. Follows es (take i (entrances ++ e ∷ [])) (get_or (entrances ++ e ∷ []) i (Root 0))) [
   | inl l ↦
       let front : take i (entrances ++ e ∷ []) ≡ take i entrances = take-append-le i entrances (e ∷ []) (omega (arith, l)) in
@@ -47,8 +49,8 @@ follow_push es entrances e before last i low = elim (cases_lt i (length entrance
 ]
 
 -- a vertex without a mark is entered
-pub entered_push : (es : List (ℕ × ℕ)) (seen : List Bool) (entrances : List Entrance) (e : Entrance) (w : ℕ) → AreEntered es seen entrances → IsUnmarked seen w → w < length seen → entered es e ≡ w → Follows es entrances e →
-    AreEntered es (set seen w true) (entrances ++ e ∷ [])
+pub entered_push : (es : List (ℕ × ℕ)) (seen : List Bool) (entrances : List Entrance) (e : Entrance) (w : ℕ) → AreEntered es seen entrances →
+    IsUnmarked seen w → w < length seen → entered es e ≡ w → Follows es entrances e → AreEntered es (set seen w true) (entrances ++ e ∷ [])
 entered_push es seen entrances e w are free low is follows = record {
   once = λ v. let same = ap (λ u. one_if (u == v)) is in omega (arith, times_push es entrances e v, are.once v, same, mark_counts seen w v low free);
   as_many = omega (arith, are.as_many, fewer seen w low free, length-append entrances (e ∷ []), length-set seen w true);
@@ -56,7 +58,8 @@ entered_push es seen entrances e w are free low is follows = record {
 }
 
 -- a vertex that was entered has a mark
-pub entered_marked : (es : List (ℕ × ℕ)) (seen : List Bool) (entrances : List Entrance) (v : ℕ) → AreEntered es seen entrances → Contains (vertices_of es entrances) v → IsMarked seen v
+pub entered_marked : (es : List (ℕ × ℕ)) (seen : List Bool) (entrances : List Entrance) (v : ℕ) → AreEntered es seen entrances →
+    Contains (vertices_of es entrances) v → IsMarked seen v
 entered_marked es seen entrances v are inside =
     let some = counted (λ w. w == v) v (vertices_of es entrances) inside (eq-eqb v v refl) in
     elim (cases_Bool (get_or seen v false)) as (λ _. IsMarked seen v) [
@@ -65,24 +68,29 @@ entered_marked es seen entrances v are inside =
     ]
 
 -- and a marked one was entered
-pub marked_entered : (es : List (ℕ × ℕ)) (seen : List Bool) (entrances : List Entrance) (v : ℕ) → AreEntered es seen entrances → IsMarked seen v → Contains (vertices_of es entrances) v
+pub marked_entered : (es : List (ℕ × ℕ)) (seen : List Bool) (entrances : List Entrance) (v : ℕ) → AreEntered es seen entrances → IsMarked seen v →
+    Contains (vertices_of es entrances) v
 marked_entered es seen entrances v are m =
     let found = passing (λ w. w == v) (vertices_of es entrances) (omega (arith, are.once v, one_if-true (get_or seen v false) m)) in
     subst (Contains (vertices_of es entrances)) (eqb-true found.member v found.passes) found.inside
 
 -- the vertex entered at a place
-pub entered_at : (es : List (ℕ × ℕ)) (entrances : List Entrance) (i : ℕ) → i < length entrances → Contains (vertices_of es entrances) (entered es (get_or entrances i (Root 0)))
+pub entered_at : (es : List (ℕ × ℕ)) (entrances : List Entrance) (i : ℕ) → i < length entrances →
+    Contains (vertices_of es entrances) (entered es (get_or entrances i (Root 0)))
 entered_at es entrances i low =
-    subst (Contains (vertices_of es entrances)) (get_or-map (entered es) entrances i (Root 0) 0 low) (Contains-get_or (vertices_of es entrances) i 0 (omega (arith, low, length-map entrances (entered es))))
+    subst (Contains (vertices_of es entrances)) (get_or-map (entered es) entrances i (Root 0) 0 low)
+    (Contains-get_or (vertices_of es entrances) i 0 (omega (arith, low, length-map entrances (entered es))))
 
 -- the place at which a vertex was entered
-pub place_of : (es : List (ℕ × ℕ)) (entrances : List Entrance) (v : ℕ) → Contains (vertices_of es entrances) v → (i : ℕ) × (i < length entrances) × (entered es (get_or entrances i (Root 0)) ≡ v)
+pub place_of : (es : List (ℕ × ℕ)) (entrances : List Entrance) (v : ℕ) → Contains (vertices_of es entrances) v →
+    (i : ℕ) × (i < length entrances) × (entered es (get_or entrances i (Root 0)) ≡ v)
 place_of es entrances v (i, low, at) =
     let inside : i < length entrances = omega (arith, low, length-map entrances (entered es)) in
     (i, inside, sym (get_or-map (entered es) entrances i (Root 0) v inside) ∙ at)
 
 -- earlier entrances stay entrances
-pub still_entered : (es : List (ℕ × ℕ)) (before more : List Entrance) (v : ℕ) → Contains (vertices_of es before) v → Contains (vertices_of es (before ++ more)) v
+pub still_entered : (es : List (ℕ × ℕ)) (before more : List Entrance) (v : ℕ) → Contains (vertices_of es before) v →
+    Contains (vertices_of es (before ++ more)) v
 still_entered es before more v inside =
     let (i, low, at) = place_of es before v inside in
     let here = entered_at es (before ++ more) i (omega (arith, low, length-append before more)) in

@@ -35,8 +35,8 @@ vertex_kept : (es : List (ℕ × ℕ)) (before more : List Entrance) (i : ℕ) �
 vertex_kept es before more i low = ap (entered es) (get_or_append_left before more (Root 0) i low)
 
 -- the walk begins at v
-pub growing_begins : (es : List (ℕ × ℕ)) (v : ℕ) (old : List Bool) (before : List Entrance) → AreEntered es old before → v < length old → IsUnmarked old v → AreWhole es old →
-    IsGrowing es v old before (set old v true) (before ++ Root v ∷ []) (length before)
+pub growing_begins : (es : List (ℕ × ℕ)) (v : ℕ) (old : List Bool) (before : List Entrance) → AreEntered es old before → v < length old → IsUnmarked old v →
+    AreWhole es old → IsGrowing es v old before (set old v true) (before ++ Root v ∷ []) (length before)
 growing_begins es v old before are low free whole = record {
   entered = entered_push es old before (Root v) v are free low refl tt;
   full = length-set old v true;
@@ -51,8 +51,9 @@ growing_begins es v old before are low free whole = record {
 }
 
 -- the vertex that comes next is left by all its edges
-pub growing_goes_on : (es : List (ℕ × ℕ)) (v x : ℕ) (old : List Bool) (before : List Entrance) (seen : List Bool) (entrances : List Entrance) (next : ℕ) (new : List Bool) (later : List Entrance) → IsGrowing es v old before seen entrances next →
-    next < length entrances → x ≡ vertex_at es entrances next → AreReached es (places_of (starts_of es) x) seen entrances new later → IsGrowing es v old before new later (next + 1)
+pub growing_goes_on : (es : List (ℕ × ℕ)) (v x : ℕ) (old : List Bool) (before : List Entrance) (seen : List Bool) (entrances : List Entrance) (next : ℕ)
+    (new : List Bool) (later : List Entrance) → IsGrowing es v old before seen entrances next → next < length entrances → x ≡ vertex_at es entrances next →
+    AreReached es (places_of (starts_of es) x) seen entrances new later → IsGrowing es v old before new later (next + 1)
 growing_goes_on es v x old before seen entrances next new later g low is r = record {
   entered = r.entered;
   full = r.full ∙ g.full;
@@ -78,8 +79,8 @@ growing_goes_on es v x old before seen entrances next new later g low is r = rec
         subst (IsMarked new) at (All-contains (λ k. IsMarked new (finish es k)) (places_of (starts_of es) x) h r.ends inside)
 
 -- with all of them left the component is entered
-pub growing_ends : (es : List (ℕ × ℕ)) (v : ℕ) (old : List Bool) (before : List Entrance) (seen : List Bool) (entrances : List Entrance) (next : ℕ) → IsGrowing es v old before seen entrances next → length entrances ≤ next →
-    IsComponentEntered es v old before seen entrances
+pub growing_ends : (es : List (ℕ × ℕ)) (v : ℕ) (old : List Bool) (before : List Entrance) (seen : List Bool) (entrances : List Entrance) (next : ℕ) →
+    IsGrowing es v old before seen entrances next → length entrances ≤ next → IsComponentEntered es v old before seen entrances
 growing_ends es v old before seen entrances next g all = record {
   entered = g.entered;
   full = g.full;
@@ -92,27 +93,33 @@ growing_ends es v old before seen entrances next g all = record {
 }
 
 -- the next entrance is along one of the edges
-pub next_lies : (es : List (ℕ × ℕ)) (v : ℕ) (old : List Bool) (before : List Entrance) (seen : List Bool) (entrances : List Entrance) (next : ℕ) → IsGrowing es v old before seen entrances next → next < length entrances → Lies es (get_or entrances next (Root 0))
+pub next_lies : (es : List (ℕ × ℕ)) (v : ℕ) (old : List Bool) (before : List Entrance) (seen : List Bool) (entrances : List Entrance) (next : ℕ) →
+    IsGrowing es v old before seen entrances next → next < length entrances → Lies es (get_or entrances next (Root 0))
 next_lies es v old before seen entrances next g low = follows_lies es _ (get_or entrances next (Root 0)) (g.entered.follow next low)
 
 -- and its vertex has a place
-pub next_below : (es : List (ℕ × ℕ)) (v : ℕ) (old : List Bool) (before : List Entrance) (seen : List Bool) (entrances : List Entrance) (next : ℕ) → IsGrowing es v old before seen entrances next → next < length entrances → vertex_at es entrances next < length old
+pub next_below : (es : List (ℕ × ℕ)) (v : ℕ) (old : List Bool) (before : List Entrance) (seen : List Bool) (entrances : List Entrance) (next : ℕ) →
+    IsGrowing es v old before seen entrances next → next < length entrances → vertex_at es entrances next < length old
 next_below es v old before seen entrances next g low =
     let a = vertex_at es entrances next in
     omega (arith, marked_within seen a (entered_marked es seen entrances a g.entered (entered_at es entrances next low)), g.full)
 
 -- its spokes start at a vertex that was entered
-pub next_starts : (es : List (ℕ × ℕ)) (entrances : List Entrance) (next x : ℕ) → next < length entrances → x ≡ vertex_at es entrances next → All (λ h. Contains (vertices_of es entrances) (start es h)) (places_of (starts_of es) x)
+pub next_starts : (es : List (ℕ × ℕ)) (entrances : List Entrance) (next x : ℕ) → next < length entrances → x ≡ vertex_at es entrances next →
+    All (λ h. Contains (vertices_of es entrances) (start es h)) (places_of (starts_of es) x)
 next_starts es entrances next x low is =
-    let there = subst (Contains (vertices_of es entrances)) (sym is) (entered_at es entrances next low) in
-    All-weaker (IsSpoke es x) (λ h. Contains (vertices_of es entrances) (start es h)) (λ h s. subst (Contains (vertices_of es entrances)) (sym s.from) there) (places_of (starts_of es) x) (all_spokes es x)
+    let WasEntered = Contains (vertices_of es entrances) in
+    let there = subst WasEntered (sym is) (entered_at es entrances next low) in
+    All-weaker (IsSpoke es x) (λ h. WasEntered (start es h)) (λ h s. subst WasEntered (sym s.from) there) (places_of (starts_of es) x) (all_spokes es x)
 
 -- what is read as the next entrance enters the next vertex
-pub next_read : (es : List (ℕ × ℕ)) (entrances : List Entrance) (next x : ℕ) (read : Entrance) → next < length entrances → read ≡ get_or entrances next read → x ≡ entered es read → x ≡ vertex_at es entrances next
+pub next_read : (es : List (ℕ × ℕ)) (entrances : List Entrance) (next x : ℕ) (read : Entrance) → next < length entrances → read ≡ get_or entrances next read →
+    x ≡ entered es read → x ≡ vertex_at es entrances next
 next_read es entrances next x read low there is = is ∙ ap (entered es) (there ∙ get_or_default entrances next read (Root 0) low)
 
 -- what is read as its bucket are its spokes
-pub next_spokes : (es : List (ℕ × ℕ)) (v x : ℕ) (old : List Bool) (before : List Entrance) (seen : List Bool) (entrances : List Entrance) (next : ℕ) (spokes : List (List ℕ)) (bucket : List ℕ) → IsGrowing es v old before seen entrances next →
-    next < length entrances → x ≡ vertex_at es entrances next → spokes ≡ map (places_of (starts_of es)) (upto (length old)) → bucket ≡ get_or spokes x [] → bucket ≡ places_of (starts_of es) x
+pub next_spokes : (es : List (ℕ × ℕ)) (v x : ℕ) (old : List Bool) (before : List Entrance) (seen : List Bool) (entrances : List Entrance) (next : ℕ)
+    (spokes : List (List ℕ)) (bucket : List ℕ) → IsGrowing es v old before seen entrances next → next < length entrances → x ≡ vertex_at es entrances next →
+    spokes ≡ map (places_of (starts_of es)) (upto (length old)) → bucket ≡ get_or spokes x [] → bucket ≡ places_of (starts_of es) x
 next_spokes es v x old before seen entrances next spokes bucket g low is gathered read =
     read_spokes es (length old) x spokes bucket (omega (arith, is, next_below es v old before seen entrances next g low)) gathered read

@@ -24,8 +24,8 @@ reached_none es old before are = record {
 }
 
 -- one more edge ends at a marked vertex
-pub reached_marked : (es : List (ℕ × ℕ)) (hs : List ℕ) (h end : ℕ) (old : List Bool) (before : List Entrance) (seen : List Bool) (entrances : List Entrance) → AreReached es hs old before seen entrances → end ≡ finish es h → IsMarked seen end →
-    AreReached es (hs ++ h ∷ []) old before seen entrances
+pub reached_marked : (es : List (ℕ × ℕ)) (hs : List ℕ) (h end : ℕ) (old : List Bool) (before : List Entrance) (seen : List Bool) (entrances : List Entrance) →
+    AreReached es hs old before seen entrances → end ≡ finish es h → IsMarked seen end → AreReached es (hs ++ h ∷ []) old before seen entrances
 reached_marked es hs h end old before seen entrances r at m = record {
   entered = r.entered;
   full = r.full;
@@ -37,8 +37,9 @@ reached_marked es hs h end old before seen entrances r at m = record {
 }
 
 -- one more edge ends at a vertex without a mark, which is entered
-pub reached_new : (es : List (ℕ × ℕ)) (hs : List ℕ) (h end : ℕ) (old : List Bool) (before : List Entrance) (seen : List Bool) (entrances : List Entrance) → AreReached es hs old before seen entrances → end ≡ finish es h → IsUnmarked seen end →
-    end < length seen → h < length es → Contains (vertices_of es before) (start es h) → AreReached es (hs ++ h ∷ []) old before (set seen end true) (entrances ++ Along h ∷ [])
+pub reached_new : (es : List (ℕ × ℕ)) (hs : List ℕ) (h end : ℕ) (old : List Bool) (before : List Entrance) (seen : List Bool) (entrances : List Entrance) →
+    AreReached es hs old before seen entrances → end ≡ finish es h → IsUnmarked seen end → end < length seen → h < length es →
+    Contains (vertices_of es before) (start es h) → AreReached es (hs ++ h ∷ []) old before (set seen end true) (entrances ++ Along h ∷ [])
 reached_new es hs h end old before seen entrances r at free low inside from =
     let known = subst (λ l. Contains (vertices_of es l) (start es h)) (sym r.grown) (still_entered es before r.more (start es h) from) in
     record {
@@ -54,7 +55,9 @@ reached_new es hs h end old before seen entrances r at free low inside from =
     }
 
 -- the same of lists that are the same
-pub reached_same : (es : List (ℕ × ℕ)) (hs gs : List ℕ) (old : List Bool) (before : List Entrance) (seen marks : List Bool) (entrances others : List Entrance) → hs ≡ gs → seen ≡ marks → entrances ≡ others → AreReached es gs old before marks others →
+pub reached_same : (es : List (ℕ × ℕ)) (hs gs : List ℕ) (old : List Bool) (before : List Entrance) (seen marks : List Bool)
+    (entrances others : List Entrance) → hs ≡ gs → seen ≡ marks → entrances ≡ others → AreReached es gs old before marks others →
     AreReached es hs old before seen entrances
 reached_same es hs gs old before seen marks entrances others e f g r =
-    subst (λ l. AreReached es l old before seen entrances) (sym e) (subst (λ l. AreReached es gs old before l entrances) (sym f) (subst (λ l. AreReached es gs old before marks l) (sym g) r))
+    subst (λ l. AreReached es l old before seen entrances) (sym e)
+    (subst (λ l. AreReached es gs old before l entrances) (sym f) (subst (λ l. AreReached es gs old before marks l) (sym g) r))

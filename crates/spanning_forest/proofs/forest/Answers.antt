@@ -33,7 +33,8 @@ pub loop-vertex-init : goal.loop-vertex-init
 loop-vertex-init c =
     let es = all_edges (triples_of c.args.triples.now) in
     let marks : c.in_ok-seen.seen.items ≡ replicate c.args.points false = c.in_ok-seen.ensures.items_if_clones_equal (λ y same. same) in
-    walked_same es c.args.points 0 c.in_ok-seen.seen.items (replicate c.args.points false) c.in_ok-entrances.entrances.items [] marks c.in_ok-entrances.ensures.items (walked_none es c.args.points)
+    walked_same es c.args.points 0 c.in_ok-seen.seen.items (replicate c.args.points false) c.in_ok-entrances.entrances.items [] marks c.in_ok-entrances.ensures.items
+    (walked_none es c.args.points)
 
 pub loop-vertex-preserved : goal.loop-vertex-preserved
 loop-vertex-preserved c =
@@ -50,10 +51,12 @@ loop-vertex-preserved c =
           let later = w.enter_component.new.entrances.items in
           let made = subst (λ l. IsComponentEntered es v l entrances new later) w.deref_mut.ensures.value w.in_ok-enter_component.ensures in
           let full : length new ≡ c.loop-vertex.seen.len = omega (arith, made.full, c.loop-vertex.seen.ok.0) in
-          walked_same es n (v + 1) c.if-not-index.seen.items new c.if-not-index.entrances.items later (ap (λ l. l.items) w.seen-is ∙ with_items_is c.loop-vertex.seen new full) (ap (λ l. l.items) w.entrances-is)
+          let marks : c.if-not-index.seen.items ≡ new = ap (λ l. l.items) w.seen-is ∙ with_items_is c.loop-vertex.seen new full in
+          walked_same es n (v + 1) c.if-not-index.seen.items new c.if-not-index.entrances.items later marks (ap (λ l. l.items) w.entrances-is)
           (walked_component es n v seen entrances new later c.requires.closed c.loop-vertex.invariant (read ∙ w.if-not-index.true) made)
       | else-not-index w ↦
-          walked_same es n (v + 1) c.if-not-index.seen.items seen c.if-not-index.entrances.items entrances (ap (λ l. l.items) w.seen-is) (ap (λ l. l.items) w.entrances-is)
+          let marks : c.if-not-index.seen.items ≡ seen = ap (λ l. l.items) w.seen-is in
+          walked_same es n (v + 1) c.if-not-index.seen.items seen c.if-not-index.entrances.items entrances marks (ap (λ l. l.items) w.entrances-is)
           (walked_past es n v seen entrances c.loop-vertex.invariant (read ∙ w.if-not-index.false))
     ]
 

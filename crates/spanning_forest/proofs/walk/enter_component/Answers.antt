@@ -19,7 +19,8 @@ loop-next-init c =
     let before = c.args.entrances.now.items in
     let at : length before ≡ c.len-next.result = omega (arith, c.len-next.ensures, c.args.entrances.now.ok.0) in
     subst (IsGrowing es root seen before (set seen root true) c.push.new.self.items) at
-    (subst (λ l. IsGrowing es root seen before (set seen root true) l (length before)) (sym c.in_ok-push.ensures.items) (growing_begins es root seen before c.requires.entered c.requires.root c.requires.unmarked c.requires.whole))
+    (subst (λ l. IsGrowing es root seen before (set seen root true) l (length before)) (sym c.in_ok-push.ensures.items)
+    (growing_begins es root seen before c.requires.entered c.requires.root c.requires.unmarked c.requires.whole))
 
 pub bucket-requires : goal.bucket-requires
 bucket-requires c =
@@ -35,23 +36,29 @@ bucket-requires c =
 pub enter_ends-requires-clause-within : goal.enter_ends-requires-clause-within
 enter_ends-requires-clause-within c =
     let es = all_edges (triples_of c.args.triples.now) in
+    let old = c.args.seen.now in
+    let before = c.args.entrances.now.items in
     let x = c.entered-vertex.result in
     let entrances = c.loop-next.entrances.items in
     let next = c.loop-next.next in
     let inside : next < length entrances = omega (arith, c.loop-next-test.true, c.len.ensures, c.loop-next.entrances.ok.0) in
     let at = next_read es entrances next x c.index.result.now inside c.index.ensures c.entered-vertex.ensures in
-    let is = next_spokes es c.args.root x c.args.seen.now c.args.entrances.now.items c.loop-next.seen entrances next c.args.spokes.now c.bucket.result.now c.loop-next.invariant inside at c.requires.spokes c.bucket.ensures in
+    let growing = c.loop-next.invariant in
+    let is = next_spokes es c.args.root x old before c.loop-next.seen entrances next c.args.spokes.now c.bucket.result.now growing inside at c.requires.spokes c.bucket.ensures in
     spokes_within c.args.triples.now x c.bucket.result.now is
 
 pub enter_ends-requires-clause-starts : goal.enter_ends-requires-clause-starts
 enter_ends-requires-clause-starts c =
     let es = all_edges (triples_of c.args.triples.now) in
+    let old = c.args.seen.now in
+    let before = c.args.entrances.now.items in
     let x = c.entered-vertex.result in
     let entrances = c.loop-next.entrances.items in
     let next = c.loop-next.next in
     let inside : next < length entrances = omega (arith, c.loop-next-test.true, c.len.ensures, c.loop-next.entrances.ok.0) in
     let at = next_read es entrances next x c.index.result.now inside c.index.ensures c.entered-vertex.ensures in
-    let is = next_spokes es c.args.root x c.args.seen.now c.args.entrances.now.items c.loop-next.seen entrances next c.args.spokes.now c.bucket.result.now c.loop-next.invariant inside at c.requires.spokes c.bucket.ensures in
+    let growing = c.loop-next.invariant in
+    let is = next_spokes es c.args.root x old before c.loop-next.seen entrances next c.args.spokes.now c.bucket.result.now growing inside at c.requires.spokes c.bucket.ensures in
     subst (All (λ h. Contains (vertices_of es entrances) (start es h))) (sym is) (next_starts es entrances next x inside at)
 
 pub loop-next-preserved : goal.loop-next-preserved
@@ -67,8 +74,10 @@ loop-next-preserved c =
     let later = c.enter_ends.new.entrances.items in
     let inside : next < length entrances = omega (arith, c.loop-next-test.true, c.len.ensures, c.loop-next.entrances.ok.0) in
     let at = next_read es entrances next x c.index.result.now inside c.index.ensures c.entered-vertex.ensures in
-    let is = next_spokes es c.args.root x old before seen entrances next c.args.spokes.now c.bucket.result.now c.loop-next.invariant inside at c.requires.spokes c.bucket.ensures in
-    growing_goes_on es c.args.root x old before seen entrances next new later c.loop-next.invariant inside at (subst (λ l. AreReached es l seen entrances new later) is c.in_ok-enter_ends.ensures)
+    let growing = c.loop-next.invariant in
+    let is = next_spokes es c.args.root x old before seen entrances next c.args.spokes.now c.bucket.result.now growing inside at c.requires.spokes c.bucket.ensures in
+    growing_goes_on es c.args.root x old before seen entrances next new later growing inside at
+    (subst (λ l. AreReached es l seen entrances new later) is c.in_ok-enter_ends.ensures)
 
 pub returns : goal.returns
 returns c =

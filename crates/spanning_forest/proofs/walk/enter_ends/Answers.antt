@@ -13,12 +13,14 @@ loop-half-init c = reached_none (all_edges (triples_of c.args.triples.now)) c.ar
 
 pub bounds-seen-end : goal.bounds-seen-end
 bounds-seen-end c =
-    let low = finish_below (length c.args.seen.now) c.args.triples.now (get_or c.args.halves.now c.loop-half.half-index 0) c.requires.below (c.requires.within c.loop-half.half-index 0 c.loop-half-test.true) in
+    let i = c.loop-half.half-index in
+    let low = finish_below (length c.args.seen.now) c.args.triples.now (get_or c.args.halves.now i 0) c.requires.below (c.requires.within i 0 c.loop-half-test.true) in
     omega (arith, low, c.end_of-end.ensures, c.loop-half.invariant.full)
 
 pub bounds-seen-end-then-not-seen-end : goal.bounds-seen-end-then-not-seen-end
 bounds-seen-end-then-not-seen-end c =
-    let low = finish_below (length c.args.seen.now) c.args.triples.now (get_or c.args.halves.now c.loop-half.half-index 0) c.requires.below (c.requires.within c.loop-half.half-index 0 c.loop-half-test.true) in
+    let i = c.loop-half.half-index in
+    let low = finish_below (length c.args.seen.now) c.args.triples.now (get_or c.args.halves.now i 0) c.requires.below (c.requires.within i 0 c.loop-half-test.true) in
     omega (arith, low, c.end_of-end.ensures, c.loop-half.invariant.full)
 
 pub loop-half-preserved : goal.loop-half-preserved
@@ -33,15 +35,20 @@ loop-half-preserved c =
     let before = c.args.entrances.now.items in
     let seen = c.loop-half.seen in
     let entrances = c.loop-half.entrances.items in
+    let marks = c.if-not-seen-end.seen in
+    let later = c.if-not-seen-end.entrances.items in
+    let reached = c.loop-half.invariant in
+    let is = c.end_of-end.ensures in
     let more = take_more halves i 0 c.loop-half-test.true in
     elim c.if-not-seen-end.branch [
       | then-not-seen-end+in_ok-push w ↦
-          let pushed : c.if-not-seen-end.entrances.items ≡ entrances ++ Along h ∷ [] = ap (λ v. v.items) w.entrances-is ∙ w.in_ok-push.ensures.items in
+          let pushed : later ≡ entrances ++ Along h ∷ [] = ap (λ v. v.items) w.entrances-is ∙ w.in_ok-push.ensures.items in
           let low = finish_below (length old) triples h c.requires.below (c.requires.within i 0 c.loop-half-test.true) in
           let inside : h < length es = omega (arith, c.requires.within i 0 c.loop-half-test.true, length-halves triples) in
-          reached_same es (take (i + 1) halves) (take i halves ++ h ∷ []) old before c.if-not-seen-end.seen (set seen end true) c.if-not-seen-end.entrances.items (entrances ++ Along h ∷ []) more w.seen-is pushed
-          (reached_new es (take i halves) h end old before seen entrances c.loop-half.invariant c.end_of-end.ensures w.if-not-seen-end.true (omega (arith, low, c.end_of-end.ensures, c.loop-half.invariant.full)) inside (c.requires.starts i 0 c.loop-half-test.true))
+          let room : end < length seen = omega (arith, low, is, reached.full) in
+          reached_same es (take (i + 1) halves) (take i halves ++ h ∷ []) old before marks (set seen end true) later (entrances ++ Along h ∷ []) more w.seen-is pushed
+          (reached_new es (take i halves) h end old before seen entrances reached is w.if-not-seen-end.true room inside (c.requires.starts i 0 c.loop-half-test.true))
       | else-not-seen-end w ↦
-          reached_same es (take (i + 1) halves) (take i halves ++ h ∷ []) old before c.if-not-seen-end.seen seen c.if-not-seen-end.entrances.items entrances more w.seen-is (ap (λ v. v.items) w.entrances-is)
-          (reached_marked es (take i halves) h end old before seen entrances c.loop-half.invariant c.end_of-end.ensures w.if-not-seen-end.false)
+          reached_same es (take (i + 1) halves) (take i halves ++ h ∷ []) old before marks seen later entrances more w.seen-is (ap (λ v. v.items) w.entrances-is)
+          (reached_marked es (take i halves) h end old before seen entrances reached is w.if-not-seen-end.false)
     ]
