@@ -11,7 +11,7 @@ use Rattle.chain_laws.specs.Firsts.{counted, passing}
 use Rattle.spanning_forest.specs.declared.entrance.Entrance.{Entrance}
 use Rattle.spanning_forest.specs.declared.entrance.Entrance.TheVariants.{Root, Along}
 use Rattle.spanning_forest.specs.Forests.{entered, vertices_of, root_of, roots_of, Follows}
-use Rattle.spanning_forest.specs.Walks.{IsMarked, IsUnmarked, AreEntered, Lies, unmarked}
+use Rattle.spanning_forest.specs.Walks.{IsMarked, IsUnmarked, AreEntered, unmarked}
 use Rattle.spanning_forest.proofs.Marks.{fewer}
 
 -- how often a vertex was entered, with one entrance more
@@ -103,11 +103,6 @@ roots_along entrances h = filter_map-append root_of entrances (Along h ∷ []) �
 -- and a root one
 pub roots_push : (entrances : List Entrance) (v : ℕ) → roots_of (entrances ++ Root v ∷ []) ≡ roots_of entrances ++ v ∷ []
 roots_push entrances v = filter_map-append root_of entrances (Root v ∷ [])
-
--- what follows others is along one of the edges
-pub follows_lies : (es : List (ℕ × ℕ)) (before : List Entrance) (e : Entrance) → Follows es before e → Lies es e
-follows_lies es before (Root v) f = f
-follows_lies es before (Along h) f = f.0
 
 -- before any vertex
 pub entered_none : (es : List (ℕ × ℕ)) (n : ℕ) → AreEntered es (replicate n false) []

@@ -11,8 +11,8 @@ use Rattle.counting_sort.specs.Buckets.{places_of}
 use Rattle.spanning_forest.specs.declared.entrance.Entrance.{Entrance}
 use Rattle.spanning_forest.specs.declared.entrance.Entrance.TheVariants.{Root}
 use Rattle.spanning_forest.specs.Forests.{entered, vertices_of, roots_of}
-use Rattle.spanning_forest.specs.Walks.{starts_of, IsMarked, IsUnmarked, AreWhole, AreEntered, AreReached, IsComponentEntered, Lies}
-use Rattle.spanning_forest.proofs.Entering.{entered_at, entered_marked, entered_push, follows_lies, marked_entered, place_of, roots_push}
+use Rattle.spanning_forest.specs.Walks.{starts_of, IsMarked, IsUnmarked, AreWhole, AreEntered, AreReached, IsComponentEntered}
+use Rattle.spanning_forest.proofs.Entering.{entered_at, entered_marked, entered_push, marked_entered, place_of, roots_push}
 use Rattle.spanning_forest.proofs.Marks.{marked_here, marked_kept, marked_within}
 use Rattle.spanning_forest.proofs.Spokes.{IsSpoke, all_spokes, read_spokes, spoke_to}
 
@@ -92,12 +92,7 @@ growing_ends es v old before seen entrances next g all = record {
   roots = g.roots;
 }
 
--- the next entrance is along one of the edges
-pub next_lies : (es : List (ℕ × ℕ)) (v : ℕ) (old : List Bool) (before : List Entrance) (seen : List Bool) (entrances : List Entrance) (next : ℕ) →
-    IsGrowing es v old before seen entrances next → next < length entrances → Lies es (get_or entrances next (Root 0))
-next_lies es v old before seen entrances next g low = follows_lies es _ (get_or entrances next (Root 0)) (g.entered.follow next low)
-
--- and its vertex has a place
+-- the vertex of the next entrance has a place
 pub next_below : (es : List (ℕ × ℕ)) (v : ℕ) (old : List Bool) (before : List Entrance) (seen : List Bool) (entrances : List Entrance) (next : ℕ) →
     IsGrowing es v old before seen entrances next → next < length entrances → vertex_at es entrances next < length old
 next_below es v old before seen entrances next g low =

@@ -1,5 +1,5 @@
 -- One more mark: what is marked, and how many have none.
-use Rattle.std.proofs.Common.{◌≡◌, ◌⊎◌, ◌<◌, ◌+◌, ℕ, zero, suc, Bool, true, false, not, List, [], ◌∷◌, length, set, refl, ap, inl, inr, arith}
+use Rattle.std.proofs.Common.{◌≡◌, ◌<◌, ◌+◌, ℕ, zero, suc, Bool, true, false, not, List, [], ◌∷◌, length, set, refl, arith}
 use Rattle.chain_laws.specs.Counts.{count_by-cons}
 use Rattle.spanning_forest.specs.Walks.{IsMarked, IsUnmarked, unmarked}
 
@@ -16,17 +16,6 @@ marked_kept (b ∷ seen) zero zero m = refl
 marked_kept (b ∷ seen) zero (suc w) m = m
 marked_kept (b ∷ seen) (suc v) zero m = m
 marked_kept (b ∷ seen) (suc v) (suc w) m = marked_kept seen v w m
-
--- and no other has got one
-pub marked_cases : (seen : List Bool) (v w : ℕ) → IsMarked (set seen v true) w → IsMarked seen w ⊎ (v ≡ w)
-marked_cases [] v w m = inl m
-marked_cases (b ∷ seen) zero zero m = inr refl
-marked_cases (b ∷ seen) zero (suc w) m = inl m
-marked_cases (b ∷ seen) (suc v) zero m = inl m
-marked_cases (b ∷ seen) (suc v) (suc w) m = elim (marked_cases seen v w m) as (λ _. IsMarked (b ∷ seen) (suc w) ⊎ (suc v ≡ suc w)) [
-  | inl y ↦ inl y
-  | inr e ↦ inr (ap suc e)
-]
 
 -- a marked vertex is one of those that have a place
 pub marked_within : (seen : List Bool) (w : ℕ) → IsMarked seen w → w < length seen
