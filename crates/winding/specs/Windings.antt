@@ -1,7 +1,8 @@
 -- How often a mesh winds round a point.
-use Rattle.std.specs.Prelude.{ℤ, pos, neg_ℤ, false, List, [], ◌∷◌, get_or, length}
+use Rattle.std.specs.Prelude.{ℕ, ℤ, pos, neg_ℤ, false, List, [], ◌∷◌, get_or, length}
 use Rattle.chain_terms.specs.Chains.{all_edges}
 use Rattle.chain_terms.specs.Sums.{total}
+use Rattle.component_terms.specs.Counts.{component_count}
 use Rattle.mesh_terms.specs.Meshes.{Mesh}
 use Rattle.mb_base.specs.declared.point.Corner.{Corner}
 use Rattle.rounding.specs.Nearest.{nearest}
@@ -49,3 +50,7 @@ winding_at point mesh =
 abbrev pub EdgesConserve : Side → Side → List ℤ → List Hit → Type 0
 EdgesConserve edges faces windings hits =
     EdgeIdentity (all_edges edges.triples) (length faces.triples) (λ v. get_or windings v (pos 0)) (half_number (all_edges edges.triples) hits)
+
+-- how many connected components the mesh of a side has
+abbrev pub components_of : Side → ℕ
+components_of side = component_count (length side.corners) (all_edges side.triples)

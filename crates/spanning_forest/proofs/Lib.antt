@@ -1,0 +1,6 @@
+pub mod Components
+pub mod Entering
+pub mod Growing
+pub mod Marks
+pub mod Reaching
+pub mod Spokes

@@ -1,0 +1,68 @@
+// Forests of small meshes, worked out by hand.
+use crate::{Entrance, forest};
+use mesh_check::Mesh;
+use samples::{BOX, TETRAHEDRON, soup_of};
+use std::alloc::Global;
+use std::test::Fail;
+
+// The mesh of these triangles over so many points on a line.
+fn mesh_of(alloc: Global, count: i32, triples: &[[u32; 3]]) -> Result<Mesh, Fail> {
+    let mut rows = Vec::new(alloc);
+    for x in 0..count {
+        rows.push([x, 0, 0])?;
+    }
+    Ok(Mesh::check(alloc, soup_of(alloc, &rows, triples)?)?)
+}
+
+// Two boxes, the second over later points: its first is the point with this number.
+fn two_boxes(alloc: Global, first: u32) -> Result<Mesh, Fail> {
+    let mut triples = BOX.to_vec(alloc)?;
+    for [a, b, c] in &BOX {
+        triples.push([*a + first, *b + first, *c + first])?;
+    }
+    mesh_of(alloc, first as i32 + 8, &triples)
+}
+
+// The roots of a mesh's forest.
+fn roots_of(alloc: Global, mesh: &Mesh) -> Result<Vec<u32>, Fail> {
+    let mut roots = Vec::new(alloc);
+    for entrance in &forest(alloc, mesh.triples(), mesh.points().len())? {
+        if let Entrance::Root(vertex) = *entrance {
+            roots.push(vertex)?;
+        }
+    }
+    Ok(roots)
+}
+
+// Half-edges 0, 3 and 10 lead from the first vertex to the others.
+#[test]
+fn a_tetrahedron_is_entered_from_its_first_vertex(rt: HostRuntime) -> Result<(), Fail> {
+    let mesh = mesh_of(rt.alloc(), 4, &TETRAHEDRON)?;
+    let entrances = forest(rt.alloc(), mesh.triples(), 4)?;
+    assert_eq!(rt;
+        entrances.as_slice(),
+        [
+            Entrance::Root(0),
+            Entrance::Along(0),
+            Entrance::Along(3),
+            Entrance::Along(10),
+        ]
+        .as_slice()
+    );
+    Ok(())
+}
+
+#[test]
+fn each_box_has_a_root(rt: HostRuntime) -> Result<(), Fail> {
+    let mesh = two_boxes(rt.alloc(), 8)?;
+    assert_eq!(rt; roots_of(rt.alloc(), &mesh)?.as_slice(), [0, 8].as_slice());
+    Ok(())
+}
+
+// The last vertex of the first box is the first of the second.
+#[test]
+fn boxes_that_share_a_vertex_have_one_root(rt: HostRuntime) -> Result<(), Fail> {
+    let mesh = two_boxes(rt.alloc(), 7)?;
+    assert_eq!(rt; roots_of(rt.alloc(), &mesh)?.as_slice(), [0].as_slice());
+    Ok(())
+}
