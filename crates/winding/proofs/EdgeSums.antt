@@ -182,8 +182,9 @@ few_hits test edges faces few_edges few_faces =
     let es = all_edges edges.triples in
     let n = length faces.triples in
     let along : (h : ℕ) → length (hits_along test edges faces h) ≤ n = λ h. omega (arith, length-filter_map_le (λ f. hit_of h f (test (edge_at edges h) (face_at faces f))) (upto n), length-up_from 0 n) in
-    let lower : length (lower_halves es) ≤ 3 * length edges.triples = omega (arith, length-filter_le (λ h. nat_lt h (twin es h)) (upto (length es)), length-up_from 0 (length es), length-all_edges edges.triples) in
-    let most : n * length (lower_halves es) ≤ most_triangles * (3 * most_triangles) = mul-le-mul few_faces (omega (arith, lower, few_edges)) in
+    let lower : length (lower_halves es) ≤ 3 * most_triangles =
+    omega (arith, length-filter_le (λ h. nat_lt h (twin es h)) (upto (length es)), length-up_from 0 (length es), length-all_edges edges.triples, few_edges) in
+    let most : n * length (lower_halves es) ≤ most_triangles * (3 * most_triangles) = mul-le-mul few_faces lower in
     omega (arith, most, length-flat_map_le (hits_along test edges faces) n along (lower_halves es))
 
 -- hits in order ascend by edge

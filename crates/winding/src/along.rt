@@ -32,10 +32,11 @@ pub fn crossings_along(edges: &Side, hits: &[Hit], crossed: &[bool], half: u32) 
     ensures value { result ≡ half_total (all_edges edges.now.triples) hits.now half }
     ensures size { nat_abs result ≤ 2 ^ 62 }
 {
+    let twins = edges.twins();
     if !crossed[half as usize / 3] {
         return 0;
     }
-    let twin = edges.twins().twin(half);
+    let twin = twins.twin(half);
     if half < twin {
         edge_total(hits, half)
     } else {

@@ -38,6 +38,8 @@ pub fn corner_windings<S: VertexFace, L: Ledger>(
     ensures size { IfOk result (λ w. All (λ n. nat_abs n ≤ length faces.now.triples) w.items) }
     ensures cost { steps.new ≤ steps.old + components_of vertices.now }
 {
+    // Read so that what sides keep is known here.
+    let _ = faces.twins();
     let corners = vertices.corners();
     let crossed = crossed_triangles(alloc, vertices, hits)?;
     let mut numbers = vec![in alloc; 0; corners.len()]?;
