@@ -3,8 +3,7 @@ use Rattle.std.proofs.Common.{◌≡◌, ◌≢◌, ◌<◌, ◌≤◌, ◌+◌,
 use Rattle.std.specs.List.{All, cons_option, filter_map, flat_map}
 use Rattle.std.specs.List.Sorted.{IsNonDecreasingBy, IsPartitionPoint}
 use Rattle.std.proofs.Math.Nat.{mul-le-mul}
-use Rattle.std.proofs.lemmas.Bool.{cases_Bool, cases_eq, cases_lt, eq-eqb, eqb-true, leb-true, leb-false, ltb-true, ltb-false, ne_eqb}
-use Rattle.std.proofs.lemmas.Int.{ints}
+use Rattle.std.proofs.lemmas.Bool.{cases_Bool, cases_eq, cases_lt, eq-eqb, leb-true, leb-false, ltb-true, ltb-false, ne_eqb}
 use Rattle.std.proofs.lemmas.List.{append-nil, get_or-drop, get_or-set_same, get_or-take, length-drop, length-set, length-take-le, take-append-drop}
 use Rattle.std.proofs.lemmas.List.Elements.{All-head, All-nil, All-push, All-tail, All-weaker, filter-append}
 use Rattle.std.proofs.lemmas.List.Sums.{count_by-le-length, length-filter}
@@ -57,9 +56,9 @@ start_first hits e from to inside starts ends = elim (cases_lt to from) as (λ _
 -- between them stand the hits of the edge
 pub run_is : (hits : List Hit) (e from to : ℕ) → from ≤ length hits → to ≤ length hits → IsStart hits e from → IsEnd hits e to → take (to - from) (drop from hits) ≡ hits_on hits e
 run_is hits e from to inside within starts ends = sym (
-  ap on_e (sym (take-append-drop from hits)) ∙ filter-append is_e front later ∙ ap (λ l. l ++ on_e later) (filter_none is_e front front_fails)
-  ∙ ap on_e (sym (take-append-drop (to - from) later)) ∙ filter-append is_e run back ∙ ap (λ l. on_e run ++ l) (filter_none is_e back back_fails) ∙ append-nil (on_e run) ∙ filter_all is_e run run_passes
-)
+    ap on_e (sym (take-append-drop from hits)) ∙ filter-append is_e front later ∙ ap (λ l. l ++ on_e later) (filter_none is_e front front_fails)
+    ∙ ap on_e (sym (take-append-drop (to - from) later)) ∙ filter-append is_e run back ∙ ap (λ l. on_e run ++ l) (filter_none is_e back back_fails) ∙ append-nil (on_e run) ∙ filter_all is_e run run_passes
+    )
   where
     is_e : Hit → Bool
     is_e h = h.edge == e
@@ -219,9 +218,9 @@ crossed_more es hits h crossed are low high =
     record {
       full = omega (arith, are.full, length-set crossed (h.edge / 3) true, length-set once (twin es h.edge / 3) true);
       here = All-push (λ k. get_or twice (k.edge / 3) false ≡ true) hits h (All-weaker (λ k. get_or crossed (k.edge / 3) false ≡ true) (λ k. get_or twice (k.edge / 3) false ≡ true) (λ k m. kept (k.edge / 3) m) hits are.here)
-      (marked_kept once (twin es h.edge / 3) (h.edge / 3) (marked_here crossed (h.edge / 3) low));
+          (marked_kept once (twin es h.edge / 3) (h.edge / 3) (marked_here crossed (h.edge / 3) low));
       beyond = All-push (λ k. get_or twice (twin es k.edge / 3) false ≡ true) hits h (All-weaker (λ k. get_or crossed (twin es k.edge / 3) false ≡ true) (λ k. get_or twice (twin es k.edge / 3) false ≡ true) (λ k m. kept (twin es k.edge / 3) m) hits are.beyond)
-      (marked_here once (twin es h.edge / 3) (omega (arith, high, length-set crossed (h.edge / 3) true)));
+          (marked_here once (twin es h.edge / 3) (omega (arith, high, length-set crossed (h.edge / 3) true)));
     }
 
 -- no hit has marks yet

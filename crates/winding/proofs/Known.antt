@@ -1,5 +1,5 @@
 -- The numbers of the vertices that were entered, and of all once all were.
-use Rattle.std.proofs.Common.{◌≡◌, ◌≢◌, ◌<◌, ◌≤◌, ◌+◌, ◌-ℤ◌, ◌==◌, ◌++◌, [], ◌∷◌, ℕ, ℤ, pos, nat_abs, List, length, length-append, get_or, map, set, take, refl, sym, ◌∙◌, ap, subst, inl, inr, arith}
+use Rattle.std.proofs.Common.{◌≡◌, ◌<◌, ◌≤◌, ◌+◌, ◌-ℤ◌, ◌==◌, ◌++◌, [], ◌∷◌, ℕ, ℤ, pos, nat_abs, List, length, length-append, get_or, map, set, take, sym, ◌∙◌, ap, subst, inl, inr, arith}
 use Rattle.std.specs.List.{All, Contains}
 use Rattle.std.proofs.lemmas.Bool.{cases_eq, eqb-true}
 use Rattle.std.proofs.lemmas.Int.{ints}
@@ -47,8 +47,8 @@ pub numbers_are : (f : Corner → ℤ) (corners : List Corner) (numbers : List �
 numbers_are f corners numbers full each =
     same_lists numbers (map f corners) (full ∙ sym (length-map corners f))
     (λ k d low.
-        let below : k < length corners = omega (arith, low, full) in
-        get_or_default numbers k d (pos 0) low ∙ each k below ∙ sym (get_or-map f corners k blank_corner d below))
+    let below : k < length corners = omega (arith, low, full) in
+    get_or_default numbers k d (pos 0) low ∙ each k below ∙ sym (get_or-map f corners k blank_corner d below))
 
 -- each of such a size
 pub numbers_within : (number : ℕ → ℤ) (m : ℕ) (numbers : List ℤ) → ((v : ℕ) → v < length numbers → get_or numbers v (pos 0) ≡ number v) → ((v : ℕ) → v < length numbers → nat_abs (number v) ≤ m) → All (λ n. nat_abs n ≤ m) numbers

@@ -60,7 +60,11 @@ fn joined_boxes(alloc: Global) -> Result<Side, Fail>
 {
     let [a, b, c, d, e, f, g, h] = box_points([0; 3], [10; 3]);
     let [_, i, j, k, l, m, n, o] = box_points([10; 3], [20; 3]);
-    side_over(alloc, &[a, b, c, d, e, f, g, h, i, j, k, l, m, n, o], &JOINED)
+    side_over(
+        alloc,
+        &[a, b, c, d, e, f, g, h, i, j, k, l, m, n, o],
+        &JOINED,
+    )
 }
 
 fn post(alloc: Global) -> Result<Side, Fail>

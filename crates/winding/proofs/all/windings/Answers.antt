@@ -1,4 +1,4 @@
-use Rattle.std.proofs.Common.{◌≡◌, ◌<◌, ◌≤◌, ℕ, ℤ, pos, negsuc, nat_abs, ◌≤ℤ◌, ◌∷◌, [], List, length, get_or, refl, arith, ap, sym, ◌∙◌, subst}
+use Rattle.std.proofs.Common.{◌≡◌, ◌<◌, ◌≤◌, ℕ, ℤ, pos, nat_abs, ◌∷◌, [], List, length, get_or, refl, arith, ap, sym, ◌∙◌, subst}
 use Rattle.std.proofs.lemmas.Int.{ints}
 use Rattle.chain_terms.specs.Chains.{all_edges}
 use Rattle.chain_terms.specs.Odd.{IsOdd}
@@ -98,3 +98,54 @@ returns-clause-q_edge_identity g c =
     let q = c.args.q.now in
     q_identity g k p q c.twins.ensures.side c.twins-2.ensures.side c.args.hits.now.x21.items c.requires.x21 (λ v. get_or c.in_ok-w30.w30.items v (pos 0))
     (winding_listed (λ v. winding_back (g.K.Meets-6.meet_of k) p v) q.corners c.in_ok-w30.w30.items c.in_ok-w30.ensures.value)
+
+pub corner_windings-requires-clause-listed : goal.corner_windings-requires-clause-listed
+corner_windings-requires-clause-listed g c =
+    let k = c.args.kernels.now in
+    let p = c.args.p.now in
+    let q = c.args.q.now in
+    let laws = g.met.K.Crosses-1.laws k in
+    let test : CrossTest = g.K.Crosses-1.cross_of k in
+    subst (AreHits (all_edges p.triples) (length q.triples)) (sym (c.deref.ensures.value ∙ c.requires.x12))
+    (hits_in_order test p q (all_listed test p q c.twins.ensures.side.fine c.twins-2.ensures.side.fine (λ e f l m a b. (laws.present e f l m a b, laws.size e f l m a b)))).0
+
+pub corner_windings-requires-clause-few : goal.corner_windings-requires-clause-few
+corner_windings-requires-clause-few g c =
+    let few = few_hits (g.K.Crosses-1.cross_of c.args.kernels.now) c.args.p.now c.args.q.now c.twins.ensures.side.accepted.mesh.few_triples c.twins-2.ensures.side.accepted.mesh.few_triples in
+    omega (arith, few, ap length c.requires.x12)
+
+pub corner_windings-requires-clause-size : goal.corner_windings-requires-clause-size
+corner_windings-requires-clause-size g c = p_small g c.args.kernels.now c.args.p.now c.args.q.now c.twins.ensures.side c.twins-2.ensures.side
+
+pub corner_windings-requires-clause-identity : goal.corner_windings-requires-clause-identity
+corner_windings-requires-clause-identity g c =
+    let k = c.args.kernels.now in
+    let p = c.args.p.now in
+    let q = c.args.q.now in
+    p_identity g k p q c.twins.ensures.side c.twins-2.ensures.side c.deref.result.now (c.deref.ensures.value ∙ c.requires.x12) (λ v. winding (g.K.Meets-5.meet_of k) (corner_at p.corners v) q) (λ v low. refl)
+
+pub corner_windings-requires-2-clause-listed : goal.corner_windings-requires-2-clause-listed
+corner_windings-requires-2-clause-listed g c =
+    let k = c.args.kernels.now in
+    let p = c.args.p.now in
+    let q = c.args.q.now in
+    let laws = g.met.K.Crosses-2.laws k in
+    let test : CrossTest = λ edge face. g.K.Crosses-2.cross_of k face edge in
+    subst (AreHits (all_edges q.triples) (length p.triples)) (sym (c.deref-2.ensures.value ∙ c.requires.x21))
+    (hits_in_order test q p (all_listed test q p c.twins-2.ensures.side.fine c.twins.ensures.side.fine (λ e f l m a b. (laws.present f e m l b a, laws.size f e m l b a)))).0
+
+pub corner_windings-requires-2-clause-few : goal.corner_windings-requires-2-clause-few
+corner_windings-requires-2-clause-few g c =
+    let test : CrossTest = λ edge face. g.K.Crosses-2.cross_of c.args.kernels.now face edge in
+    let few = few_hits test c.args.q.now c.args.p.now c.twins-2.ensures.side.accepted.mesh.few_triples c.twins.ensures.side.accepted.mesh.few_triples in
+    omega (arith, few, ap length c.requires.x21)
+
+pub corner_windings-requires-2-clause-size : goal.corner_windings-requires-2-clause-size
+corner_windings-requires-2-clause-size g c = q_small g c.args.kernels.now c.args.p.now c.args.q.now c.twins.ensures.side c.twins-2.ensures.side
+
+pub corner_windings-requires-2-clause-identity : goal.corner_windings-requires-2-clause-identity
+corner_windings-requires-2-clause-identity g c =
+    let k = c.args.kernels.now in
+    let p = c.args.p.now in
+    let q = c.args.q.now in
+    q_identity g k p q c.twins.ensures.side c.twins-2.ensures.side c.deref-2.result.now (c.deref-2.ensures.value ∙ c.requires.x21) (λ v. winding_back (g.K.Meets-6.meet_of k) p (corner_at q.corners v)) (λ v low. refl)

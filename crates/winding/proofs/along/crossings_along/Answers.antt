@@ -1,4 +1,4 @@
-use Rattle.std.proofs.Common.{◌≡◌, arith, ap, length, sym}
+use Rattle.std.proofs.Common.{arith, ap, length, sym}
 use Rattle.chain_terms.specs.Chains.{all_edges}
 use Rattle.halfedge.proofs.Around.{pair_up}
 use Rattle.halfedge.proofs.Edges.{length-all_edges}
