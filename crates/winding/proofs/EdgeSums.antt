@@ -1,7 +1,8 @@
 -- The hits of an edge as a run of the list, and sums along half-edges.
-use Rattle.std.proofs.Common.{◌≡◌, ◌≢◌, ◌<◌, ◌≤◌, ◌+◌, ◌-◌, ◌*◌, ◌/◌, ◌^◌, ◌==◌, ◌&&◌, ◌++◌, [], ◌∷◌, ℕ, zero, suc, ℤ, pos, neg_ℤ, Bool, true, false, cond, if◌then◌else◌, nat_lt, nat_le, Option, Some, None, List, length, get_or, take, drop, filter, set, refl, sym, ◌∙◌, ap, inl, inr, arith, length-append}
+use Rattle.std.proofs.Common.{◌≡◌, ◌≢◌, ◌<◌, ◌≤◌, ◌+◌, ◌-◌, ◌*◌, ◌/◌, ◌^◌, ◌==◌, ◌&&◌, ◌++◌, [], ◌∷◌, ℕ, zero, suc, ℤ, pos, neg_ℤ, nat_lt, nat_le, refl, sym, ◌∙◌, ap, inl, inr, arith}
+use Rattle.std.proofs.Common.{Bool, true, false, cond, if◌then◌else◌, Option, Some, None, List, length, get_or, take, drop, filter, set, length-append}
 use Rattle.std.specs.List.{All, cons_option, filter_map, flat_map}
-use Rattle.std.specs.List.Sorted.{IsNonDecreasingBy, IsPartitionPoint}
+use Rattle.std.specs.List.Sorted.{IsPartitionPoint}
 use Rattle.std.proofs.Math.Nat.{mul-le-mul}
 use Rattle.std.proofs.lemmas.Bool.{cases_Bool, cases_eq, cases_lt, eq-eqb, leb-true, leb-false, ltb-true, ltb-false, ne_eqb}
 use Rattle.std.proofs.lemmas.List.{append-nil, get_or-drop, get_or-set_same, get_or-take, length-drop, length-set, length-take-le, take-append-drop}
@@ -17,7 +18,7 @@ use Rattle.halfedge.proofs.Edges.{length-all_edges}
 use Rattle.mesh_terms.specs.Limits.{most_triangles}
 use Rattle.mb_base.specs.declared.results.Hit.{Hit}
 use Rattle.side_terms.specs.Conservation.{half_number, hit_number}
-use Rattle.side_terms.specs.Hits.{AreHits, lower_halves}
+use Rattle.side_terms.specs.Hits.{lower_halves}
 use Rattle.side_terms.specs.Sides.{Side, edge_at, face_at}
 use Rattle.crossings.specs.Hits.{CrossTest, hit_of, hits_along, hits_of}
 use Rattle.winding.specs.Along.{AreCrossed, edge_total, half_total, hits_on}
@@ -25,13 +26,15 @@ use Rattle.winding.specs.Along.{AreCrossed, edge_total, half_total, hits_on}
 -- what no member passes keeps none
 filter_none : {X : Type 0} (p : X → Bool) (xs : List X) → All (λ x. p x ≡ false) xs → filter p xs ≡ []
 filter_none p [] fails = refl
-filter_none p (x ∷ xs) fails = ap (λ b. cond b (x ∷ filter p xs) (filter p xs)) (All-head (λ y. p y ≡ false) x xs fails) ∙ filter_none p xs (All-tail (λ y. p y ≡ false) x xs fails)
+filter_none p (x ∷ xs) fails =
+    ap (λ b. cond b (x ∷ filter p xs) (filter p xs)) (All-head (λ y. p y ≡ false) x xs fails) ∙ filter_none p xs (All-tail (λ y. p y ≡ false) x xs fails)
 
 -- what each member passes keeps all
 filter_all : {X : Type 0} (p : X → Bool) (xs : List X) → All (λ x. p x ≡ true) xs → filter p xs ≡ xs
 filter_all p [] passes = refl
 filter_all p (x ∷ xs) passes =
-    ap (λ b. cond b (x ∷ filter p xs) (filter p xs)) (All-head (λ y. p y ≡ true) x xs passes) ∙ ap (λ l. x ∷ l) (filter_all p xs (All-tail (λ y. p y ≡ true) x xs passes))
+    ap (λ b. cond b (x ∷ filter p xs) (filter p xs)) (All-head (λ y. p y ≡ true) x xs passes)
+    ∙ ap (λ l. x ∷ l) (filter_all p xs (All-tail (λ y. p y ≡ true) x xs passes))
 
 -- the place before which all edges are below e
 abbrev pub IsStart : List Hit → ℕ → ℕ → Type 0
@@ -47,17 +50,21 @@ start_first hits e from to inside starts ends = elim (cases_lt to from) as (λ _
   | inr g ↦ g
   | inl l ↦
       let hit : Hit = get_or hits to no_hit in
-      absurd (omega (arith, ltb-true hit.edge e (starts.0 to no_hit (omega arith) l), leb-false hit.edge e (ends.1 to no_hit (omega arith) (omega (arith, l, inside)))))
+      let low = ltb-true hit.edge e (starts.0 to no_hit (omega arith) l) in
+      let high = leb-false hit.edge e (ends.1 to no_hit (omega arith) (omega (arith, l, inside))) in
+      absurd (omega (arith, low, high))
 ]
   where
     no_hit : Hit
     no_hit = record { edge = 0; face = 0; number = pos 0; at = [] }
 
 -- between them stand the hits of the edge
-pub run_is : (hits : List Hit) (e from to : ℕ) → from ≤ length hits → to ≤ length hits → IsStart hits e from → IsEnd hits e to → take (to - from) (drop from hits) ≡ hits_on hits e
+pub run_is : (hits : List Hit) (e from to : ℕ) → from ≤ length hits → to ≤ length hits → IsStart hits e from → IsEnd hits e to →
+    take (to - from) (drop from hits) ≡ hits_on hits e
 run_is hits e from to inside within starts ends = sym (
     ap on_e (sym (take-append-drop from hits)) ∙ filter-append is_e front later ∙ ap (λ l. l ++ on_e later) (filter_none is_e front front_fails)
-    ∙ ap on_e (sym (take-append-drop (to - from) later)) ∙ filter-append is_e run back ∙ ap (λ l. on_e run ++ l) (filter_none is_e back back_fails) ∙ append-nil (on_e run) ∙ filter_all is_e run run_passes
+    ∙ ap on_e (sym (take-append-drop (to - from) later)) ∙ filter-append is_e run back ∙ ap (λ l. on_e run ++ l) (filter_none is_e back back_fails)
+    ∙ append-nil (on_e run) ∙ filter_all is_e run run_passes
     )
   where
     is_e : Hit → Bool
@@ -100,11 +107,14 @@ run_is hits e from to inside within starts ends = sym (
         let place = from + (to - from + k) in
         let edge = (get_or hits place d).edge in
         let inside_back : place < length hits = omega (arith, low, ordered, within, length-drop (to - from) later, length-drop from hits) in
-        ap is_e (get_or-drop (to - from) later k d ∙ get_or-drop from hits (to - from + k) d) ∙ ne_eqb edge e (λ q. omega (arith, q, leb-false edge e (ends.1 place d (omega (arith, ordered)) inside_back)))
+        let above = leb-false edge e (ends.1 place d (omega (arith, ordered)) inside_back) in
+        ap is_e (get_or-drop (to - from) later k d ∙ get_or-drop from hits (to - from + k) d) ∙ ne_eqb edge e (λ q. omega (arith, q, above))
 
 -- a sum over faces of what a hit adds to the number of its edge with its face
 over_faces : (b : Bool) (face faces : ℕ) (n : ℤ) → face < faces → total (λ f. cond (b && (face == f)) n (pos 0)) (upto faces) ≡ cond b n (pos 0)
-over_faces true face faces n below = total-same (λ f. cond (face == f) n (pos 0)) (λ f. where_same f face n) (λ f. ap (λ b. cond b n (pos 0)) (turned face f)) (upto faces) ∙ one_hit n face faces below
+over_faces true face faces n below =
+    total-same (λ f. cond (face == f) n (pos 0)) (λ f. where_same f face n) (λ f. ap (λ b. cond b n (pos 0)) (turned face f)) (upto faces)
+    ∙ one_hit n face faces below
   where
     turned : (a b : ℕ) → (a == b) ≡ (b == a)
     turned a b = elim (cases_eq a b) as (λ _. (a == b) ≡ (b == a)) [
@@ -116,31 +126,52 @@ over_faces false face faces n below = total-zero (upto faces)
 -- the numbers of an edge with all faces add up to the numbers of its hits
 edge_sum : (faces : ℕ) (hits : List Hit) (e : ℕ) → All (λ k. k.face < faces) hits → total (hit_number hits e) (upto faces) ≡ edge_total hits e
 edge_sum faces hits e below =
-    total-swap (λ f k. cond ((k.edge == e) && (k.face == f)) k.number (pos 0)) (upto faces) hits
-    ∙ total-same_all (λ k. total (λ f. cond ((k.edge == e) && (k.face == f)) k.number (pos 0)) (upto faces)) (λ k. cond (k.edge == e) k.number (pos 0)) hits
-    (All-weaker (λ k. k.face < faces) (λ k. total (λ f. cond ((k.edge == e) && (k.face == f)) k.number (pos 0)) (upto faces) ≡ cond (k.edge == e) k.number (pos 0)) (λ k low. over_faces (k.edge == e) k.face faces k.number low) hits below)
+    total-swap (λ f k. adds k f) (upto faces) hits ∙ total-same_all over here hits (All-weaker (λ k. k.face < faces) (λ k. over k ≡ here k) same hits below)
     ∙ sym (total-filter (λ k. k.number) (λ k. k.edge == e) hits)
+  where
+    adds : Hit → ℕ → ℤ
+    adds k f = cond ((k.edge == e) && (k.face == f)) k.number (pos 0)
+
+    over : Hit → ℤ
+    over k = total (adds k) (upto faces)
+
+    here : Hit → ℤ
+    here k = cond (k.edge == e) k.number (pos 0)
+
+    same : (k : Hit) → k.face < faces → over k ≡ here k
+    same k low = over_faces (k.edge == e) k.face faces k.number low
 
 -- so do those of a half-edge
-pub half_sum : (es : List (ℕ × ℕ)) (faces : ℕ) (hits : List Hit) (h : ℕ) → All (λ k. k.face < faces) hits → total (half_number es hits h) (upto faces) ≡ half_total es hits h
-half_sum es faces hits h below = elim (cases_Bool (nat_lt h t)) as (λ _. total (half_number es hits h) (upto faces) ≡ half_total es hits h) [
-  | inl y ↦
-      total-same (half_number es hits h) (hit_number hits h) (λ f. ap (λ b. if b then hit_number hits h f else neg_ℤ (hit_number hits t f)) y) (upto faces) ∙ edge_sum faces hits h below
-      ∙ sym (ap (λ b. if b then edge_total hits h else neg_ℤ (edge_total hits t)) y)
+pub half_sum : (es : List (ℕ × ℕ)) (faces : ℕ) (hits : List Hit) (h : ℕ) → All (λ k. k.face < faces) hits →
+    total (half_number es hits h) (upto faces) ≡ half_total es hits h
+half_sum es faces hits h below = elim (cases_Bool (nat_lt h t)) as (λ _. total number (upto faces) ≡ half_total es hits h) [
+  | inl y ↦ total-same number (hit_number hits h) (λ f. ap (either f) y) (upto faces) ∙ edge_sum faces hits h below ∙ sym (ap sum y)
   | inr n ↦
-      total-same (half_number es hits h) (λ f. neg_ℤ (hit_number hits t f)) (λ f. ap (λ b. if b then hit_number hits h f else neg_ℤ (hit_number hits t f)) n) (upto faces) ∙ total-neg (hit_number hits t) (upto faces) ∙ ap neg_ℤ (edge_sum faces hits t below)
-      ∙ sym (ap (λ b. if b then edge_total hits h else neg_ℤ (edge_total hits t)) n)
+      total-same number (λ f. neg_ℤ (hit_number hits t f)) (λ f. ap (either f) n) (upto faces) ∙ total-neg (hit_number hits t) (upto faces)
+      ∙ ap neg_ℤ (edge_sum faces hits t below) ∙ sym (ap sum n)
 ]
   where
     t : ℕ
     t = twin es h
 
+    number : ℕ → ℤ
+    number = half_number es hits h
+
+    either : ℕ → Bool → ℤ
+    either f b = if b then hit_number hits h f else neg_ℤ (hit_number hits t f)
+
+    sum : Bool → ℤ
+    sum b = if b then edge_total hits h else neg_ℤ (edge_total hits t)
+
 -- an edge without hits
 edge_none : (hits : List Hit) (e : ℕ) → All (λ k. k.edge ≢ e) hits → edge_total hits e ≡ pos 0
-edge_none hits e none = ap (total (λ k. k.number)) (filter_none (λ k. k.edge == e) hits (All-weaker (λ k. k.edge ≢ e) (λ k. (k.edge == e) ≡ false) (λ k d. ne_eqb k.edge e d) hits none))
+edge_none hits e none =
+    let fails = All-weaker (λ k. k.edge ≢ e) (λ k. (k.edge == e) ≡ false) (λ k d. ne_eqb k.edge e d) hits none in
+    ap (total (λ k. k.number)) (filter_none (λ k. k.edge == e) hits fails)
 
 -- a half-edge of a triangle without a mark has no hit
-pub not_crossed : (es : List (ℕ × ℕ)) (hits : List Hit) (crossed : List Bool) (h : ℕ) → twin es (twin es h) ≡ h → AreCrossed es hits crossed → get_or crossed (h / 3) false ≡ false → half_total es hits h ≡ pos 0
+pub not_crossed : (es : List (ℕ × ℕ)) (hits : List Hit) (crossed : List Bool) (h : ℕ) → twin es (twin es h) ≡ h → AreCrossed es hits crossed →
+    get_or crossed (h / 3) false ≡ false → half_total es hits h ≡ pos 0
 not_crossed es hits crossed h back are free = elim (cases_Bool (nat_lt h t)) as (λ _. half_total es hits h ≡ pos 0) [
   | inl y ↦ ap (λ b. if b then edge_total hits h else neg_ℤ (edge_total hits t)) y ∙ edge_none hits h here
   | inr n ↦ ap (λ b. if b then edge_total hits h else neg_ℤ (edge_total hits t)) n ∙ ap neg_ℤ (edge_none hits t there)
@@ -176,25 +207,17 @@ pub few_on : (hits : List Hit) (e : ℕ) → length (hits_on hits e) ≤ length 
 few_on hits e = length-filter_le (λ h. h.edge == e) hits
 
 -- all hits of two meshes are few enough to count
-pub few_hits : (test : CrossTest) (edges faces : Side) → length edges.triples ≤ most_triangles → length faces.triples ≤ most_triangles → length (hits_of test edges faces) ≤ 2 ^ 55
+pub few_hits : (test : CrossTest) (edges faces : Side) → length edges.triples ≤ most_triangles → length faces.triples ≤ most_triangles →
+    length (hits_of test edges faces) ≤ 2 ^ 55
 few_hits test edges faces few_edges few_faces =
     let es = all_edges edges.triples in
     let n = length faces.triples in
-    let along : (h : ℕ) → length (hits_along test edges faces h) ≤ n = λ h. omega (arith, length-filter_map_le (λ f. hit_of h f (test (edge_at edges h) (face_at faces f))) (upto n), length-up_from 0 n) in
+    let along : (h : ℕ) → length (hits_along test edges faces h) ≤ n =
+    λ h. omega (arith, length-filter_map_le (λ f. hit_of h f (test (edge_at edges h) (face_at faces f))) (upto n), length-up_from 0 n) in
     let lower : length (lower_halves es) ≤ 3 * most_triangles =
     omega (arith, length-filter_le (λ h. nat_lt h (twin es h)) (upto (length es)), length-up_from 0 (length es), length-all_edges edges.triples, few_edges) in
     let most : n * length (lower_halves es) ≤ most_triangles * (3 * most_triangles) = mul-le-mul few_faces lower in
     omega (arith, most, length-flat_map_le (hits_along test edges faces) n along (lower_halves es))
-
--- hits in order ascend by edge
-pub rise : (es : List (ℕ × ℕ)) (faces : ℕ) (hits : List Hit) → AreHits es faces hits → IsNonDecreasingBy (λ h. h.edge) hits
-rise es faces hits listed i j d le below = elim (cases_lt i j) as (λ _. (get_or hits i d).edge ≤ (get_or hits j d).edge) [
-  | inl l ↦ elim (listed.ascending i j d l below) as (λ _. (get_or hits i d).edge ≤ (get_or hits j d).edge) [
-    | inl less ↦ omega (arith, less)
-    | inr same ↦ omega (arith, same.0)
-  ]
-  | inr g ↦ let e : i ≡ j = omega (arith, le, g) in let same = ap (λ k. (get_or hits k d).edge) e in omega (arith, same)
-]
 
 -- a mark that is set stands
 marked_here : (marks : List Bool) (i : ℕ) → i < length marks → get_or (set marks i true) i false ≡ true
@@ -209,20 +232,41 @@ marked_kept (b ∷ marks) (suc i) zero m = m
 marked_kept (b ∷ marks) (suc i) (suc k) m = marked_kept marks i k m
 
 -- the triangles on both sides of one more hit's edge get their marks
-pub crossed_more : (es : List (ℕ × ℕ)) (hits : List Hit) (h : Hit) (crossed : List Bool) → AreCrossed es hits crossed → h.edge / 3 < length crossed → twin es h.edge / 3 < length crossed →
-    AreCrossed es (hits ++ h ∷ []) (set (set crossed (h.edge / 3) true) (twin es h.edge / 3) true)
-crossed_more es hits h crossed are low high =
-    let once = set crossed (h.edge / 3) true in
-    let twice = set once (twin es h.edge / 3) true in
-    let kept : (i : ℕ) → get_or crossed i false ≡ true → get_or twice i false ≡ true = λ i m. marked_kept once (twin es h.edge / 3) i (marked_kept crossed (h.edge / 3) i m) in
-    record {
-      full = omega (arith, are.full, length-set crossed (h.edge / 3) true, length-set once (twin es h.edge / 3) true);
-      here = All-push (λ k. get_or twice (k.edge / 3) false ≡ true) hits h (All-weaker (λ k. get_or crossed (k.edge / 3) false ≡ true) (λ k. get_or twice (k.edge / 3) false ≡ true) (λ k m. kept (k.edge / 3) m) hits are.here)
-          (marked_kept once (twin es h.edge / 3) (h.edge / 3) (marked_here crossed (h.edge / 3) low));
-      beyond = All-push (λ k. get_or twice (twin es k.edge / 3) false ≡ true) hits h (All-weaker (λ k. get_or crossed (twin es k.edge / 3) false ≡ true) (λ k. get_or twice (twin es k.edge / 3) false ≡ true) (λ k m. kept (twin es k.edge / 3) m) hits are.beyond)
-          (marked_here once (twin es h.edge / 3) (omega (arith, high, length-set crossed (h.edge / 3) true)));
-    }
+pub crossed_more : (es : List (ℕ × ℕ)) (hits : List Hit) (h : Hit) (crossed : List Bool) → AreCrossed es hits crossed →
+    h.edge / 3 < length crossed → twin es h.edge / 3 < length crossed → AreCrossed es (hits ++ h ∷ []) (set (set crossed (h.edge / 3) true) (twin es h.edge / 3) true)
+crossed_more es hits h crossed are low high = record {
+  full = omega (arith, are.full, length-set crossed near true, length-set once far true);
+  here = All-push (λ k. IsMarked (k.edge / 3)) hits h (All-weaker (λ k. WasMarked (k.edge / 3)) (λ k. IsMarked (k.edge / 3)) (λ k m. kept (k.edge / 3) m) hits are.here)
+      (marked_kept once far near (marked_here crossed near low));
+  beyond = All-push (λ k. IsMarked (other k)) hits h (All-weaker (λ k. WasMarked (other k)) (λ k. IsMarked (other k)) (λ k m. kept (other k) m) hits are.beyond)
+      (marked_here once far (omega (arith, high, length-set crossed near true)));
+}
+  where
+    near : ℕ
+    near = h.edge / 3
+
+    other : Hit → ℕ
+    other k = twin es k.edge / 3
+
+    far : ℕ
+    far = other h
+
+    once : List Bool
+    once = set crossed near true
+
+    WasMarked : ℕ → Type 0
+    WasMarked i = get_or crossed i false ≡ true
+
+    IsMarked : ℕ → Type 0
+    IsMarked i = get_or (set once far true) i false ≡ true
+
+    kept : (i : ℕ) → WasMarked i → IsMarked i
+    kept i m = marked_kept once far i (marked_kept crossed near i m)
 
 -- no hit has marks yet
 pub crossed_none : (es : List (ℕ × ℕ)) (crossed : List Bool) → 3 * length crossed ≡ length es → AreCrossed es [] crossed
-crossed_none es crossed full = record { full = full; here = All-nil (λ k. get_or crossed (k.edge / 3) false ≡ true); beyond = All-nil (λ k. get_or crossed (twin es k.edge / 3) false ≡ true) }
+crossed_none es crossed full = record {
+  full = full;
+  here = All-nil (λ k. get_or crossed (k.edge / 3) false ≡ true);
+  beyond = All-nil (λ k. get_or crossed (twin es k.edge / 3) false ≡ true);
+}

@@ -11,6 +11,7 @@ use Rattle.shadow_kernels.specs.Shadows.{meet02}
 use Rattle.shadow_kernels.specs.ShadowLaws.{ShadowTest}
 use Rattle.mb_base.specs.declared.results.Hit.{Hit}
 use Rattle.side_terms.specs.Conservation.{half_number, EdgeIdentity}
+use Rattle.side_terms.specs.Corners.{corner_at}
 use Rattle.side_terms.specs.Sides.{Side, corner_of, face_of}
 
 -- the shadow of a corner of P on a face of Q
@@ -24,6 +25,10 @@ face_shadow_back test face q = shadow_of (test face (q ∷ []))
 -- minus the sum of a corner's shadows on all faces of a side
 abbrev pub minus_shadows : (List Corner → ℤ) → Side → ℤ
 minus_shadows shadow faces = neg_ℤ (total (λ t. shadow (face_of faces.corners t)) faces.triples)
+
+-- that of the corner of a vertex, by the shadows of corners on faces
+abbrev pub number_at : (Corner → List Corner → ℤ) → Side → Side → ℕ → ℤ
+number_at shadow vertices faces v = minus_shadows (shadow (corner_at vertices.corners v)) faces
 
 -- the winding number of a corner of P in Q: minus the sum of its shadows on all faces
 abbrev pub winding : ShadowTest → Corner → Side → ℤ

@@ -4,9 +4,8 @@ ghost use Rattle.std.specs.List.{All};
 ghost use Rattle.chain_terms.specs.Chains.{all_edges};
 ghost use Rattle.chain_terms.specs.Ranks.{finish};
 ghost use Rattle.side_terms.specs.Conservation.{half_number, EdgeIdentity};
-ghost use Rattle.side_terms.specs.Corners.{corner_at};
 ghost use Rattle.side_terms.specs.Hits.{AreHits};
-ghost use Rattle.winding.specs.Windings.{components_of, minus_shadows};
+ghost use Rattle.winding.specs.Windings.{components_of, minus_shadows, number_at};
 
 use crate::along::{crossed_triangles, crossings_along};
 use crate::shadows::VertexFace;
@@ -31,9 +30,10 @@ pub fn corner_windings<S: VertexFace, L: Ledger>(
 ) -> Result<Vec<i64>, NoMemory>
     requires listed { AreHits (all_edges vertices.now.triples) (length faces.now.triples) hits.now }
     requires few { length hits.now ≤ 2 ^ 55 }
-    requires size { (v : ℕ) → v < length vertices.now.corners → nat_abs (minus_shadows (S.vertex_shadow shadows.now (corner_at vertices.now.corners v)) faces.now) ≤ length faces.now.triples }
+    requires size { (v : ℕ) → v < length vertices.now.corners →
+        nat_abs (number_at (S.vertex_shadow shadows.now) vertices.now faces.now v) ≤ length faces.now.triples }
     requires identity { EdgeIdentity (all_edges vertices.now.triples) (length faces.now.triples)
-        (λ v. minus_shadows (S.vertex_shadow shadows.now (corner_at vertices.now.corners v)) faces.now) (half_number (all_edges vertices.now.triples) hits.now) }
+        (number_at (S.vertex_shadow shadows.now) vertices.now faces.now) (half_number (all_edges vertices.now.triples) hits.now) }
     ensures value { IfOk result (λ w. w.items ≡ map (λ c. minus_shadows (S.vertex_shadow shadows.now c) faces.now) vertices.now.corners) }
     ensures size { IfOk result (λ w. All (λ n. nat_abs n ≤ length faces.now.triples) w.items) }
     ensures cost { steps.new ≤ steps.old + components_of vertices.now }

@@ -9,7 +9,8 @@ pub returns-then-not-crossed-half-clause-value : goal.returns-then-not-crossed-h
 returns-then-not-crossed-half-clause-value c =
     let ts = c.args.edges.now.triples in
     let twinned = c.twins-twins.ensures.side.twinned in
-    sym (not_crossed (all_edges ts) c.args.hits.now c.args.crossed.now c.args.half ((pair_up ts twinned.three twinned.closed).pairs c.args.half c.requires.half) c.requires.crossed c.if-not-crossed-half.true)
+    let back = (pair_up ts twinned.three twinned.closed).pairs c.args.half c.requires.half in
+    sym (not_crossed (all_edges ts) c.args.hits.now c.args.crossed.now c.args.half back c.requires.crossed c.if-not-crossed-half.true)
 
 pub twin-twin-requires : goal.twin-twin-requires
 twin-twin-requires c = omega (arith, c.requires.half, length-all_edges c.args.edges.now.triples, ap length c.twins-twins.ensures.triples)

@@ -22,7 +22,8 @@ loop-hit-preserved c =
     let here = ap (λ (h : Hit). h.number) c.hit-item.is in
     let low = c.loop-hit.invariant.low in
     let high = c.loop-hit.invariant.high in
-    let whole : to_z w64 (of_z w64 (to_z w64 c.loop-hit.sum-bits +ℤ to_z w64 (of_z w64 (to_z w8 (of_z w8 number))))) ≡ to_z w64 c.loop-hit.sum-bits +ℤ number = omega (arith, ints, long, small, low, high) in
+    let sum = to_z w64 c.loop-hit.sum-bits in
+    let whole : to_z w64 (of_z w64 (sum +ℤ to_z w64 (of_z w64 (to_z w8 (of_z w8 number))))) ≡ sum +ℤ number = omega (arith, ints, long, small, low, high) in
     record {
       value = omega (arith, ints, whole, more, here, c.loop-hit.invariant.value);
       low = omega (arith, ints, whole, fits, low);
