@@ -51,8 +51,8 @@ fn concluded<E: Sink>(ended: Result<(), Halt<'_>>, err: &mut E) -> Status
 /// or make solids and give them names, shift, scale, mirror and turn them, unite, intersect and subtract them, measure and save them; a faulty line is
 /// `BadScript`, and then no line is done. It then does its lines in order, and reports each that loads, combines, measures or saves on `out` in one line.
 /// A solid without a volume, and a solid or a moved mesh that would leave the grid, is `BadMesh`. What was saved before a stop stays. Of a script only
-/// operations count steps; where the shelf tells its files these are at most one for each vertex of their meshes, reduced. Whatever goes wrong first ends
-/// the run with its status and one line on `err`, and a fault of `err` changes no status. A run that ends well leaves `err` as it was.
+/// operations count steps; where the shelf tells its files these are at most one for each connected component of their meshes, reduced. Whatever goes
+/// wrong first ends the run with its status and one line on `err`, and a fault of `err` changes no status. A run that ends well leaves `err` as it was.
 ///
 /// The run meets its play, which is the task of its words under the limits; where the shelf tells its files, that says what was done, and of `out`
 /// it says the bytes where `out` tells them. With status 0 to 5 every action of the play was done whole, and the status and the

@@ -1,8 +1,9 @@
 // The numbers of two sides.
-ghost use Rattle.std.specs.Prelude.{◌≡◌, ◌≤◌, ◌+◌, IfOk, length};
+ghost use Rattle.std.specs.Prelude.{◌≡◌, ◌≤◌, ◌+◌, IfOk};
 ghost use Rattle.mesh_boolean.specs.Assembly.{AreNumbers};
 ghost use Rattle.mesh_boolean.specs.Operation.{numbers_of};
 ghost use Rattle.retained_verts.specs.Handed.{numbers};
+ghost use Rattle.winding.specs.Windings.{components_of};
 
 use crate::tested::Tested;
 use crossings::crossings;
@@ -25,7 +26,7 @@ pub fn all_numbers<K: Kernels, L: Ledger>(
 ) -> Result<(Windings, Hits), NoMemory>
     ensures value { IfOk result (λ r. numbers r.0 r.1 ≡ numbers_of (⟦<K as Tested>⟧.tests kernels.now) p.now q.now) }
     ensures known { IfOk result (λ r. AreNumbers p.now q.now r.0 r.1) }
-    ensures cost { steps.new ≤ steps.old + length p.now.corners + length q.now.corners }
+    ensures cost { steps.new ≤ steps.old + components_of p.now + components_of q.now }
 {
     // Read so that what sides keep is known here.
     let _ = p.twins();

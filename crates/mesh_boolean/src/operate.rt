@@ -14,6 +14,7 @@ ghost use Rattle.mesh_boolean.specs.Results.{
 ghost use Rattle.mesh_terms.specs.Meshes.{IsAccepted, triples_of};
 ghost use Rattle.pinch_split.specs.Back.{ComeFrom, named_by};
 ghost use Rattle.pinch_split.specs.Split.{split_from, split_points, split_triples};
+ghost use Rattle.winding.specs.Windings.{components_of};
 
 use crate::assembly::assemble;
 use crate::numbers::all_numbers;
@@ -42,7 +43,7 @@ use steps::Steps;
 /// The answer is `TooLarge` only where the prescribed half-edges are more than `limits.halfedges()`, with their number, and
 /// there no mesh is given. `NoMemory` may come for any meshes. The mesh is within the limits on points and triangles:
 /// for 3 prescribed half-edges it has at most 5 triangles, and for 2 at most 5 points. `steps` counts at most one for each
-/// vertex of the two reduced meshes. Besides crossings, winding numbers and fillings it takes time in proportion to the faces
+/// connected component of the two reduced meshes. Besides crossings, winding numbers and fillings it takes time in proportion to the faces
 /// and to what is prescribed, a sort of the crossings, and, where a vertex has several fans, one of the half-edges.
 ///
 /// After J. M. Smith's thesis "Towards robust inexact geometric computation" and the Manifold library.
@@ -70,7 +71,7 @@ pub fn boolean<K: Kernels, L: Ledger>(
     ensures few_points { IfOk result (λ r. 2 * length r.mesh.points ≤ 5 * r.prescribed.halfedges) }
     ensures triangles { IfOk result (λ r. length r.mesh.triples ≤ limits.now.triangles) }
     ensures points { IfOk result (λ r. length r.mesh.points ≤ limits.now.points) }
-    ensures cost { steps.new ≤ steps.old + length (first_side op p.now).corners + length (second_side q.now).corners }
+    ensures cost { steps.new ≤ steps.old + components_of (first_side op p.now) + components_of (second_side q.now) }
 {
     // Read so that what limits keep is known here.
     let _ = limits.halfedges();

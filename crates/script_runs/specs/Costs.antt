@@ -1,5 +1,5 @@
 -- The most steps that a script counts.
-use Rattle.std.specs.Prelude.{ℕ, ◌+◌, List, [], ◌∷◌, length, Result, Ok, Err}
+use Rattle.std.specs.Prelude.{ℕ, ◌+◌, List, [], ◌∷◌, Result, Ok, Err}
 use Rattle.mb_base.specs.declared.op.Op.{Op}
 use Rattle.mesh_boolean.specs.Operation.{first_side, second_side}
 use Rattle.mesh_terms.specs.Limits.{Limits}
@@ -10,10 +10,11 @@ use Rattle.play_terms.specs.Commands.{ask_file}
 use Rattle.script_terms.specs.Plays.{Meanings, Named, mesh_at, no_names, script_checked, step_task}
 use Rattle.script_terms.specs.Scripts.{script}
 use Rattle.script_terms.specs.Steps.{Combine, Line, Load, Make, Measure, Move, Save, Step}
+use Rattle.winding.specs.Windings.{components_of}
 
--- an operation counts at most one for each vertex of its two reduced meshes
+-- an operation counts at most one for each connected component of its two reduced meshes
 abbrev pub operation_cost : Op → Mesh → Mesh → ℕ
-operation_cost op p q = length (first_side op p).corners + length (second_side q).corners
+operation_cost op p q = components_of (first_side op p) + components_of (second_side q)
 
 -- only operations count
 abbrev pub step_cost : Step → Named → ℕ

@@ -1,4 +1,6 @@
+pub mod EdgeSums
 pub mod Identity
+pub mod Known
 pub mod Lines
 pub mod Nearby
 pub mod Plain

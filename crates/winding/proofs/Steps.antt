@@ -1,9 +1,9 @@
 -- The size of shadows, and the sum of shadows face by face.
-use Rattle.std.proofs.Common.{arith, ◌≡◌, ◌<◌, ◌≤◌, ◌+◌, ◌++◌, ℕ, ℤ, pos, negsuc, neg_ℤ, ◌+ℤ◌, ◌-ℤ◌, ◌≤ℤ◌, Bool, true, false, if◌then◌else◌, Option, None, Some, List, [], ◌∷◌, map, take, length, get_or, sym, ap, ◌∙◌}
+use Rattle.std.proofs.Common.{arith, ◌≡◌, ◌<◌, ◌≤◌, ◌+◌, ◌*◌, ℕ, ℤ, pos, negsuc, nat_abs, neg_ℤ, ◌+ℤ◌, ◌-ℤ◌, ◌≤ℤ◌, Bool, true, false, if◌then◌else◌, Option, None, Some, List, take, length, get_or}
 use Rattle.std.proofs.lemmas.Int.{ints}
-use Rattle.std.proofs.lemmas.List.{map_push, take_all, take_more}
 use Rattle.chain_terms.specs.Sums.{total}
-use Rattle.chain_laws.specs.Sums.{total_more}
+use Rattle.chain_laws.specs.Signs.{nat_abs-neg}
+use Rattle.chain_laws.specs.Sums.{size_within, total_more, total_within}
 use Rattle.mesh_terms.specs.Meshes.{Triple}
 use Rattle.shadow_kernels.specs.declared.Meet.{Meet}
 use Rattle.shadow_kernels.specs.Counts.{count_of, shadow_of}
@@ -34,12 +34,8 @@ one_less winding shadow rest all whole e h = omega (arith, ints, e, h)
 pub none_left : (winding all whole : ℤ) → all ≡ pos 0 → (winding -ℤ all) ≡ whole → winding ≡ whole
 none_left winding all whole e h = omega (arith, ints, e, h)
 
--- one value more
-pub map_more : {X : Type 0} (f : X → ℤ) (xs : List X) (i : ℕ) (d : X) (new old : List ℤ) (z : ℤ) →
-    i < length xs → new ≡ old ++ z ∷ [] → old ≡ map f (take i xs) → z ≡ f (get_or xs i d) → new ≡ map f (take (i + 1) xs)
-map_more f xs i d new old z h pushed before here =
-    pushed ∙ ap (λ l. l ++ z ∷ []) before ∙ ap (λ y. map f (take i xs) ++ y ∷ []) here ∙ sym (map_push f (take i xs) (get_or xs i d)) ∙ sym (ap (map f) (take_more xs i d h))
-
--- all values
-pub map_all : {X : Type 0} (f : X → ℤ) (xs ys : List X) (i : ℕ) (zs : List ℤ) → length xs ≤ i → zs ≡ map f (take i xs) → xs ≡ ys → zs ≡ map f ys
-map_all f xs ys i zs h e same = e ∙ ap (map f) (take_all i xs h ∙ same)
+-- minus a sum of shadows is no greater in size than there are faces
+pub sum_within : (f : Triple → ℤ) (ts : List Triple) → ((t : Triple) → (negsuc 0 ≤ℤ f t) × (f t ≤ℤ pos 1)) → nat_abs (neg_ℤ (total f ts)) ≤ length ts
+sum_within f ts small =
+    let w = total_within f 1 ts (λ k d low. let s = small (get_or ts k d) in record { low = omega (arith, ints, s.0); high = omega (arith, ints, s.1) }) in
+    omega (arith, size_within (total f ts) (1 * length ts) w, nat_abs-neg (total f ts))

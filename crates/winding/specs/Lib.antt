@@ -1,2 +1,3 @@
+pub mod Along
 pub mod Lines
 pub mod Windings

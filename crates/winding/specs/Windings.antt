@@ -1,7 +1,8 @@
 -- How often a mesh winds round a point.
-use Rattle.std.specs.Prelude.{ℤ, pos, neg_ℤ, false, List, [], ◌∷◌, get_or, length}
+use Rattle.std.specs.Prelude.{ℕ, ℤ, pos, neg_ℤ, false, List, [], ◌∷◌, get_or, length}
 use Rattle.chain_terms.specs.Chains.{all_edges}
 use Rattle.chain_terms.specs.Sums.{total}
+use Rattle.component_terms.specs.Counts.{component_count}
 use Rattle.mesh_terms.specs.Meshes.{Mesh}
 use Rattle.mb_base.specs.declared.point.Corner.{Corner}
 use Rattle.rounding.specs.Nearest.{nearest}
@@ -10,6 +11,7 @@ use Rattle.shadow_kernels.specs.Shadows.{meet02}
 use Rattle.shadow_kernels.specs.ShadowLaws.{ShadowTest}
 use Rattle.mb_base.specs.declared.results.Hit.{Hit}
 use Rattle.side_terms.specs.Conservation.{half_number, EdgeIdentity}
+use Rattle.side_terms.specs.Corners.{corner_at}
 use Rattle.side_terms.specs.Sides.{Side, corner_of, face_of}
 
 -- the shadow of a corner of P on a face of Q
@@ -23,6 +25,10 @@ face_shadow_back test face q = shadow_of (test face (q ∷ []))
 -- minus the sum of a corner's shadows on all faces of a side
 abbrev pub minus_shadows : (List Corner → ℤ) → Side → ℤ
 minus_shadows shadow faces = neg_ℤ (total (λ t. shadow (face_of faces.corners t)) faces.triples)
+
+-- that of the corner of a vertex, by the shadows of corners on faces
+abbrev pub number_at : (Corner → List Corner → ℤ) → Side → Side → ℕ → ℤ
+number_at shadow vertices faces v = minus_shadows (shadow (corner_at vertices.corners v)) faces
 
 -- the winding number of a corner of P in Q: minus the sum of its shadows on all faces
 abbrev pub winding : ShadowTest → Corner → Side → ℤ
@@ -49,3 +55,7 @@ winding_at point mesh =
 abbrev pub EdgesConserve : Side → Side → List ℤ → List Hit → Type 0
 EdgesConserve edges faces windings hits =
     EdgeIdentity (all_edges edges.triples) (length faces.triples) (λ v. get_or windings v (pos 0)) (half_number (all_edges edges.triples) hits)
+
+-- how many connected components the mesh of a side has
+abbrev pub components_of : Side → ℕ
+components_of side = component_count (length side.corners) (all_edges side.triples)

@@ -2,10 +2,10 @@
 ghost use Rattle.std.specs.Prelude.{◌≡◌, ◌≤◌, ◌+◌, nat_abs, IfOk, OnOk, length, map};
 ghost use Rattle.std.specs.List.{All};
 ghost use Rattle.crossings.specs.Hits.{hits_of};
-ghost use Rattle.winding.specs.Windings.{minus_shadows, winding, winding_back, EdgesConserve};
+ghost use Rattle.winding.specs.Windings.{components_of, winding, winding_back, EdgesConserve};
 
-use crate::shadows::{PVertices, QVertices, VertexFace};
-use crate::sum::minus_shadows;
+use crate::shadows::{PVertices, QVertices};
+use crate::walk::corner_windings;
 use edge_face::{Crosses, Kernels};
 use lean::Side;
 use mb_base::{Hits, NoMemory, Windings};
@@ -16,7 +16,7 @@ use steps::Steps;
 
 /// The winding numbers of all corners of P in Q, and of Q in P. The hits are those of `crossings` for the same sides and
 /// kernels: along every edge the winding number changes by minus the edge's numbers with all faces. It counts at most as
-/// many steps as there are corners. `NoMemory` may come for any sides.
+/// many steps as the two meshes have connected components. `NoMemory` may come for any sides.
 pub fn windings<K: Kernels, L: Ledger>(
     alloc: Global,
     p: &Side,
@@ -36,33 +36,12 @@ pub fn windings<K: Kernels, L: Ledger>(
 
     ensures p_size { IfOk result (λ w. All (λ n. nat_abs n ≤ length q.now.triples) w.w03.items) }
     ensures q_size { IfOk result (λ w. All (λ n. nat_abs n ≤ length p.now.triples) w.w30.items) }
-    ensures cost { steps.new ≤ steps.old + length p.now.corners + length q.now.corners }
+    ensures cost { steps.new ≤ steps.old + components_of p.now + components_of q.now }
 {
     // Read so that what sides keep is known here.
     let _ = p.twins();
     let _ = q.twins();
-    // The sums need no hits; the identities are about them.
-    let _ = hits;
-    let w03 = corner_windings(alloc, p, q, &PVertices(kernels), steps)?;
-    let w30 = corner_windings(alloc, q, p, &QVertices(kernels), steps)?;
+    let w03 = corner_windings(alloc, p, q, &hits.x12, &PVertices(kernels), steps)?;
+    let w30 = corner_windings(alloc, q, p, &hits.x21, &QVertices(kernels), steps)?;
     Ok(Windings { w03, w30 })
-}
-
-// The winding numbers of the corners of one side in the other.
-fn corner_windings<S: VertexFace, L: Ledger>(
-    alloc: Global,
-    vertices: &Side,
-    faces: &Side,
-    shadows: &S,
-    steps: &mut Steps<L>,
-) -> Result<Vec<i64>, NoMemory>
-    ensures value { IfOk result (λ w. w.items ≡ map (λ c. minus_shadows (S.vertex_shadow shadows.now c) faces.now) vertices.now.corners) }
-    ensures size { IfOk result (λ w. All (λ n. nat_abs n ≤ length faces.now.triples) w.items) }
-    ensures cost { steps.new ≤ steps.old + length vertices.now.corners }
-{
-    let mut windings = Vec::with_capacity(alloc, vertices.corners().len())?;
-    for corner in vertices.corners() {
-        windings.push(minus_shadows(corner, faces, shadows, steps))?;
-    }
-    Ok(windings)
 }

@@ -8,11 +8,13 @@
 #![tactic(auto)]
 
 mod all;
+mod along;
 mod point;
 mod shadows;
 mod sum;
 #[cfg(test)]
 mod tests;
+mod walk;
 
 pub use all::windings;
 pub use point::winding_at;

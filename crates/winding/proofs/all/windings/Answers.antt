@@ -1,24 +1,31 @@
-use Rattle.std.proofs.Common.{ℕ, ℤ, pos, ◌∷◌, [], get_or, refl, arith, ap}
+use Rattle.std.proofs.Common.{◌≡◌, ◌<◌, ◌≤◌, ℕ, ℤ, pos, nat_abs, ◌∷◌, [], List, length, get_or, refl, arith, ap, sym, ◌∙◌, subst}
 use Rattle.std.proofs.lemmas.Int.{ints}
+use Rattle.chain_terms.specs.Chains.{all_edges}
 use Rattle.chain_terms.specs.Odd.{IsOdd}
 use Rattle.mesh_terms.specs.Meshes.{Triple}
-use Rattle.side_terms.specs.Corners.{corner_at}
+use Rattle.mb_base.specs.declared.results.Hit.{Hit}
+use Rattle.side_terms.specs.Conservation.{half_number, EdgeIdentity}
+use Rattle.side_terms.specs.Corners.{blank_corner, corner_at}
+use Rattle.side_terms.specs.Hits.{AreHits}
+use Rattle.side_terms.specs.Sides.{Side, IsSide, edge_of, face_of}
 use Rattle.shadow_kernels.specs.Counts.{shadow_of}
+use Rattle.shadow_kernels.specs.FinePairs.{fine_one}
 use Rattle.shadow_kernels.specs.Sizes.{turned_shadow}
-use Rattle.side_terms.specs.Sides.{IsSide, edge_of, face_of}
 use Rattle.lean.proofs.Corners.{edge_fine, face_fine}
-use Rattle.crossings.specs.Hits.{CrossTest}
+use Rattle.crossings.specs.Hits.{CrossTest, hits_of}
+use Rattle.crossings.proofs.Order.{all_listed, hits_in_order}
 use Rattle.winding.specs.Windings.{winding, winding_back}
+use Rattle.winding.proofs.EdgeSums.{few_hits}
 use Rattle.winding.proofs.Identity.{edges_conserve, winding_listed}
+use Rattle.winding.proofs.Steps.{shadow_within, sum_within}
+use Rattle.winding.proofs.all.windings.Given.{Over}
 use Rattle.winding.proofs.all.windings.Goals as goal
 
-pub returns-clause-p_edge_identity : goal.returns-clause-p_edge_identity
-returns-clause-p_edge_identity g c =
-    let k = c.args.kernels.now in
-    let p = c.args.p.now in
-    let q = c.args.q.now in
-    let p_side : IsSide p = c.twins.ensures.side in
-    let q_side : IsSide q = c.twins-2.ensures.side in
+-- the winding numbers of a list, or the sums themselves, change along each half-edge of P by its crossings
+p_identity : (g : Over) → (k : g.row.K.Denot) → (p q : Side) → IsSide p → IsSide q → (hits : List Hit) → hits ≡ hits_of (g.K.Crosses-1.cross_of k) p q →
+    (w : ℕ → ℤ) → ((v : ℕ) → v < length p.corners → w v ≡ winding (g.K.Meets-5.meet_of k) (corner_at p.corners v) q) →
+    EdgeIdentity (all_edges p.triples) (length q.triples) w (half_number (all_edges p.triples) hits)
+p_identity g k p q p_side q_side hits found w each =
     let pc = corner_at p.corners in
     let qc = corner_at q.corners in
     let test : CrossTest = g.K.Crosses-1.cross_of k in
@@ -29,23 +36,23 @@ returns-clause-p_edge_identity g c =
     record {
       turns = λ x y.
           let edge = edge_of q.corners x y in
-          let reverse = ap shadow_of ((g.met.K.Meets-4.laws k).reverse_q (edge_of p.corners a b) edge 0 1 (omega arith) (omega arith) refl refl (edge_fine p.corners p_side.fine a b) (edge_fine q.corners q_side.fine x y)) in
-          let turn = turned_shadow (g.K.Meets-4.meet_of k (edge_of p.corners a b) edge) in
+          let fixed = edge_of p.corners a b in
+          let fine = edge_fine p.corners p_side.fine a b in
+          let turned = (g.met.K.Meets-4.laws k).reverse_q fixed edge 0 1 (omega arith) (omega arith) refl refl fine (edge_fine q.corners q_side.fine x y) in
+          let reverse = ap shadow_of turned in
+          let turn = turned_shadow (g.K.Meets-4.meet_of k fixed edge) in
           omega (arith, ints, reverse, turn);
     } in
-    edges_conserve p q test ends sides c.args.hits.now.x12.items (λ v. get_or c.in_ok-w03.w03.items v (pos 0)) p_side q_side
+    edges_conserve p q test ends sides hits w p_side q_side
     (λ t a b. (g.met.K.Crosses-1.laws k).turn_p (edge_of p.corners a b) (face_of q.corners t) refl refl refl (edge_fine p.corners p_side.fine a b) (face_fine q.corners q_side.fine t))
     (λ t a b. g.met.K.Kernels.lift_12 k (pc a) (pc b) (qc t.0) (qc t.1) (qc t.2) (edge_fine p.corners p_side.fine a b) (face_fine q.corners q_side.fine t))
-    odd c.requires.x12
-    (winding_listed (λ v. winding (g.K.Meets-5.meet_of k) v q) p.corners c.in_ok-w03.w03.items c.in_ok-w03.ensures.value)
+    odd found each
 
-pub returns-clause-q_edge_identity : goal.returns-clause-q_edge_identity
-returns-clause-q_edge_identity g c =
-    let k = c.args.kernels.now in
-    let p = c.args.p.now in
-    let q = c.args.q.now in
-    let p_side : IsSide p = c.twins.ensures.side in
-    let q_side : IsSide q = c.twins-2.ensures.side in
+-- and along each half-edge of Q
+q_identity : (g : Over) → (k : g.row.K.Denot) → (p q : Side) → IsSide p → IsSide q → (hits : List Hit) → hits ≡ hits_of (λ edge face. g.K.Crosses-2.cross_of k face edge) q p →
+    (w : ℕ → ℤ) → ((v : ℕ) → v < length q.corners → w v ≡ winding_back (g.K.Meets-6.meet_of k) p (corner_at q.corners v)) →
+    EdgeIdentity (all_edges q.triples) (length p.triples) w (half_number (all_edges q.triples) hits)
+q_identity g k p q p_side q_side hits found w each =
     let pc = corner_at p.corners in
     let qc = corner_at q.corners in
     let test : CrossTest = λ edge face. g.K.Crosses-2.cross_of k face edge in
@@ -56,12 +63,109 @@ returns-clause-q_edge_identity g c =
     record {
       turns = λ x y.
           let edge = edge_of p.corners x y in
-          let reverse = ap shadow_of ((g.met.K.Meets-4.laws k).reverse_p edge (edge_of q.corners a b) 0 1 (omega arith) (omega arith) refl refl (edge_fine p.corners p_side.fine x y) (edge_fine q.corners q_side.fine a b)) in
-          let turn = turned_shadow (g.K.Meets-4.meet_of k edge (edge_of q.corners a b)) in
+          let fixed = edge_of q.corners a b in
+          let fine = edge_fine q.corners q_side.fine a b in
+          let turned = (g.met.K.Meets-4.laws k).reverse_p edge fixed 0 1 (omega arith) (omega arith) refl refl (edge_fine p.corners p_side.fine x y) fine in
+          let reverse = ap shadow_of turned in
+          let turn = turned_shadow (g.K.Meets-4.meet_of k edge fixed) in
           omega (arith, ints, reverse, turn);
     } in
-    edges_conserve q p test ends sides c.args.hits.now.x21.items (λ v. get_or c.in_ok-w30.w30.items v (pos 0)) q_side p_side
+    edges_conserve q p test ends sides hits w q_side p_side
     (λ t a b. (g.met.K.Crosses-2.laws k).turn_q (face_of p.corners t) (edge_of q.corners a b) refl refl refl (face_fine p.corners p_side.fine t) (edge_fine q.corners q_side.fine a b))
     (λ t a b. g.met.K.Kernels.lift_21 k (pc t.0) (pc t.1) (pc t.2) (qc a) (qc b) (face_fine p.corners p_side.fine t) (edge_fine q.corners q_side.fine a b))
-    odd c.requires.x21
-    (winding_listed (λ v. winding_back (g.K.Meets-6.meet_of k) p v) q.corners c.in_ok-w30.w30.items c.in_ok-w30.ensures.value)
+    odd found each
+
+-- a shadow of a vertex of P on a face of Q is -1, 0 or 1
+p_small : (g : Over) → (k : g.row.K.Denot) → (p q : Side) → IsSide p → IsSide q → (v : ℕ) → v < length p.corners →
+    nat_abs (winding (g.K.Meets-5.meet_of k) (corner_at p.corners v) q) ≤ length q.triples
+p_small g k p q p_side q_side v low =
+    let vertex = corner_at p.corners v ∷ [] in
+    let fine = fine_one (corner_at p.corners v) (p_side.fine v blank_corner low) in
+    let test = g.K.Meets-5.meet_of k in
+    let size = (g.met.K.Meets-5.laws k).size in
+    sum_within (λ t. shadow_of (test vertex (face_of q.corners t))) q.triples
+    (λ t. let face = face_of q.corners t in shadow_within (test vertex face) (size vertex face refl refl fine (face_fine q.corners q_side.fine t)))
+
+-- and one of a face of P on a vertex of Q
+q_small : (g : Over) → (k : g.row.K.Denot) → (p q : Side) → IsSide p → IsSide q → (v : ℕ) → v < length q.corners →
+    nat_abs (winding_back (g.K.Meets-6.meet_of k) p (corner_at q.corners v)) ≤ length p.triples
+q_small g k p q p_side q_side v low =
+    let vertex = corner_at q.corners v ∷ [] in
+    let fine = fine_one (corner_at q.corners v) (q_side.fine v blank_corner low) in
+    let test = g.K.Meets-6.meet_of k in
+    let size = (g.met.K.Meets-6.laws k).size in
+    sum_within (λ t. shadow_of (test (face_of p.corners t) vertex)) p.triples
+    (λ t. let face = face_of p.corners t in shadow_within (test face vertex) (size face vertex refl refl (face_fine p.corners p_side.fine t) fine))
+
+pub returns-clause-p_edge_identity : goal.returns-clause-p_edge_identity
+returns-clause-p_edge_identity g c =
+    let k = c.args.kernels.now in
+    let p = c.args.p.now in
+    let q = c.args.q.now in
+    let ws = c.in_ok-w03.w03.items in
+    let listed = winding_listed (λ v. winding (g.K.Meets-5.meet_of k) v q) p.corners ws c.in_ok-w03.ensures.value in
+    p_identity g k p q c.twins.ensures.side c.twins-2.ensures.side c.args.hits.now.x12.items c.requires.x12 (λ v. get_or ws v (pos 0)) listed
+
+pub returns-clause-q_edge_identity : goal.returns-clause-q_edge_identity
+returns-clause-q_edge_identity g c =
+    let k = c.args.kernels.now in
+    let p = c.args.p.now in
+    let q = c.args.q.now in
+    let ws = c.in_ok-w30.w30.items in
+    let listed = winding_listed (λ v. winding_back (g.K.Meets-6.meet_of k) p v) q.corners ws c.in_ok-w30.ensures.value in
+    q_identity g k p q c.twins.ensures.side c.twins-2.ensures.side c.args.hits.now.x21.items c.requires.x21 (λ v. get_or ws v (pos 0)) listed
+
+pub corner_windings-requires-clause-listed : goal.corner_windings-requires-clause-listed
+corner_windings-requires-clause-listed g c =
+    let p = c.args.p.now in
+    let q = c.args.q.now in
+    let laws = g.met.K.Crosses-1.laws c.args.kernels.now in
+    let test : CrossTest = g.K.Crosses-1.cross_of c.args.kernels.now in
+    let listed = all_listed test p q c.twins.ensures.side.fine c.twins-2.ensures.side.fine (λ e f l m a b. (laws.present e f l m a b, laws.size e f l m a b)) in
+    subst (AreHits (all_edges p.triples) (length q.triples)) (sym (c.deref.ensures.value ∙ c.requires.x12)) (hits_in_order test p q listed).0
+
+pub corner_windings-requires-clause-few : goal.corner_windings-requires-clause-few
+corner_windings-requires-clause-few g c =
+    let few_p = c.twins.ensures.side.accepted.mesh.few_triples in
+    let few_q = c.twins-2.ensures.side.accepted.mesh.few_triples in
+    omega (arith, few_hits (g.K.Crosses-1.cross_of c.args.kernels.now) c.args.p.now c.args.q.now few_p few_q, ap length c.requires.x12)
+
+pub corner_windings-requires-clause-size : goal.corner_windings-requires-clause-size
+corner_windings-requires-clause-size g c = p_small g c.args.kernels.now c.args.p.now c.args.q.now c.twins.ensures.side c.twins-2.ensures.side
+
+pub corner_windings-requires-clause-identity : goal.corner_windings-requires-clause-identity
+corner_windings-requires-clause-identity g c =
+    let k = c.args.kernels.now in
+    let p = c.args.p.now in
+    let q = c.args.q.now in
+    let found = c.deref.ensures.value ∙ c.requires.x12 in
+    let number : ℕ → ℤ = λ v. winding (g.K.Meets-5.meet_of k) (corner_at p.corners v) q in
+    p_identity g k p q c.twins.ensures.side c.twins-2.ensures.side c.deref.result.now found number (λ v low. refl)
+
+pub corner_windings-requires-2-clause-listed : goal.corner_windings-requires-2-clause-listed
+corner_windings-requires-2-clause-listed g c =
+    let p = c.args.p.now in
+    let q = c.args.q.now in
+    let laws = g.met.K.Crosses-2.laws c.args.kernels.now in
+    let test : CrossTest = λ edge face. g.K.Crosses-2.cross_of c.args.kernels.now face edge in
+    let listed = all_listed test q p c.twins-2.ensures.side.fine c.twins.ensures.side.fine (λ e f l m a b. (laws.present f e m l b a, laws.size f e m l b a)) in
+    subst (AreHits (all_edges q.triples) (length p.triples)) (sym (c.deref-2.ensures.value ∙ c.requires.x21)) (hits_in_order test q p listed).0
+
+pub corner_windings-requires-2-clause-few : goal.corner_windings-requires-2-clause-few
+corner_windings-requires-2-clause-few g c =
+    let test : CrossTest = λ edge face. g.K.Crosses-2.cross_of c.args.kernels.now face edge in
+    let few_p = c.twins.ensures.side.accepted.mesh.few_triples in
+    let few_q = c.twins-2.ensures.side.accepted.mesh.few_triples in
+    omega (arith, few_hits test c.args.q.now c.args.p.now few_q few_p, ap length c.requires.x21)
+
+pub corner_windings-requires-2-clause-size : goal.corner_windings-requires-2-clause-size
+corner_windings-requires-2-clause-size g c = q_small g c.args.kernels.now c.args.p.now c.args.q.now c.twins.ensures.side c.twins-2.ensures.side
+
+pub corner_windings-requires-2-clause-identity : goal.corner_windings-requires-2-clause-identity
+corner_windings-requires-2-clause-identity g c =
+    let k = c.args.kernels.now in
+    let p = c.args.p.now in
+    let q = c.args.q.now in
+    let found = c.deref-2.ensures.value ∙ c.requires.x21 in
+    let number : ℕ → ℤ = λ v. winding_back (g.K.Meets-6.meet_of k) p (corner_at q.corners v) in
+    q_identity g k p q c.twins.ensures.side c.twins-2.ensures.side c.deref-2.result.now found number (λ v low. refl)
