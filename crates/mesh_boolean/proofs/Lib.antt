@@ -1,4 +1,5 @@
 pub mod Assembling
+pub mod Costs
 pub mod Faces
 pub mod Finished
 pub mod Pairs

@@ -1,5 +1,6 @@
 use Rattle.retained_verts.specs.Handed.{numbers}
-use Rattle.mesh_boolean.specs.Operation.{Tests}
+use Rattle.mesh_boolean.specs.Operation.{Tests, first_side, second_side}
+use Rattle.mesh_boolean.proofs.Costs.{few_steps}
 use Rattle.mesh_boolean.proofs.Finished.{IsOfMeshes, IsOutcome, is_bounded, is_filled, is_prescribed, of_meshes, too_large}
 use Rattle.mesh_boolean.proofs.operate.boolean.Given.{Over}
 use Rattle.mesh_boolean.proofs.operate.boolean.Goals as goal
@@ -31,3 +32,15 @@ returns-clause-faces g c = is_bounded (tests g c.args.kernels.now) c.args.op c.a
 
 pub returns-clause-filled : goal.returns-clause-filled
 returns-clause-filled g c = is_filled (tests g c.args.kernels.now) c.args.op c.args.p.now c.args.q.now c.in_ok-prescribed.prescribed c.in_ok-prescribed.all c.in_ok-outcome.field-0 (assembled g c) (outcome g c)
+
+pub returns-in_err-prescribed-clause-cost : goal.returns-in_err-prescribed-clause-cost
+returns-in_err-prescribed-clause-cost g c =
+    few_steps c.args.steps.now c.all_numbers.new.steps c.in_ok-p.p c.in_ok-q.q (first_side c.args.op c.args.p.now) (second_side c.args.q.now) c.in_ok-p.ensures.value c.in_ok-q.ensures.value c.in_ok-windings.ensures.cost
+
+pub returns-in_err-outcome-clause-cost : goal.returns-in_err-outcome-clause-cost
+returns-in_err-outcome-clause-cost g c =
+    few_steps c.args.steps.now c.all_numbers.new.steps c.in_ok-p.p c.in_ok-q.q (first_side c.args.op c.args.p.now) (second_side c.args.q.now) c.in_ok-p.ensures.value c.in_ok-q.ensures.value c.in_ok-windings.ensures.cost
+
+pub returns-clause-cost : goal.returns-clause-cost
+returns-clause-cost g c =
+    few_steps c.args.steps.now c.all_numbers.new.steps c.in_ok-p.p c.in_ok-q.q (first_side c.args.op c.args.p.now) (second_side c.args.q.now) c.in_ok-p.ensures.value c.in_ok-q.ensures.value c.in_ok-windings.ensures.cost
