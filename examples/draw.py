@@ -1,10 +1,11 @@
 """Draws OBJ files as one SVG picture, seen from afar: hidden surfaces by depth order, edges where faces meet at an angle, one light.
 
-Usage: draw.py OUT.svg [--turn DEGREES] [--tilt DEGREES] [--width PIXELS] [--all] FILE.obj[=COLOUR]..
+Usage: draw.py OUT.svg [--turn DEGREES] [--tilt DEGREES] [--width PIXELS] [--unit PIXELS] [--all] FILE.obj[=COLOUR]..
 
-The picture turns about the upright axis z by --turn and is seen from --tilt above the level. --all draws the edges of all triangles. COLOUR is
-six hexadecimal digits. Where a mesh is open, its insides are drawn too, in red, and its open edges thick. The triangles are put in order from
-far to near by a tree of planes, which cuts those that lie on both sides of another's plane: so triangles may cut one another."""
+The picture turns about the upright axis z by --turn and is seen from --tilt above the level. It is --width wide, or has --unit pixels for a unit
+of the file. --all draws the edges of all triangles. COLOUR is six hexadecimal digits. Where a mesh is open, its insides are drawn too, in red, and its
+open edges thick. The triangles are put in order from far to near by a tree of planes, which cuts those that lie on both sides of another's plane: so
+triangles may cut one another."""
 import math, random, sys
 
 COLOURS = ["8fb3d9", "e3b565", "9cc38a", "c79fcf", "d98f8f"]
@@ -66,6 +67,14 @@ def lines_of(points, triangles, normals, every):
     for t, n in zip(triangles, normals):
         for a, b in zip(t, t[1:] + t[:1]):
             beside.setdefault((min(a, b), max(a, b)), []).append(n)
+    # A flat triangle has no normal: its longest edge lies on the other two, so what is beside the one is beside the others.
+    for t, n in zip(triangles, normals):
+        if not n:
+            three = [(min(a, b), max(a, b)) for a, b in zip(t, t[1:] + t[:1])]
+            three.sort(key=lambda e: dot(sub(points[e[0]], points[e[1]]), sub(points[e[0]], points[e[1]])))
+            before = [[m for m in beside[e] if m] for e in three]
+            for e, others in zip(three, (before[2], before[2], before[0] + before[1])):
+                beside[e] = beside[e] + others
     drawn = {}
     for edge, around in beside.items():
         around = [n for n in around if n]
@@ -149,11 +158,11 @@ def in_order(pieces, least, chance):
     return done
 
 
-def picture(pieces, width):
+def picture(pieces, width, factor):
     low = [min(p[i] for piece in pieces for p in piece[0]) for i in (0, 1)]
     high = [max(p[i] for piece in pieces for p in piece[0]) for i in (0, 1)]
     size = max(high[0] - low[0], high[1] - low[1]) or 1.0
-    factor, rim = (width - 20) / size, 10.0
+    factor, rim = factor or (width - 20) / size, 10.0
     height = (high[1] - low[1]) * factor + 2 * rim
     width = (high[0] - low[0]) * factor + 2 * rim
 
@@ -173,7 +182,7 @@ def picture(pieces, width):
 
 
 def main(words):
-    options = {"--turn": "-30", "--tilt": "28", "--width": "480"}
+    options = {"--turn": "-30", "--tilt": "28", "--width": "480", "--unit": "0"}
     every, files = False, []
     words = iter(words)
     for word in words:
@@ -193,9 +202,8 @@ def main(words):
     if not pieces:
         sys.exit("draw.py: there is nothing to draw")
     reach = max(abs(c) for piece in pieces for p in piece[0] for c in p)
-    sys.setrecursionlimit(10000)
     with open(files[0], "w") as out:
-        out.write(picture(in_order(pieces, reach * 1e-7, random.Random(1)), int(options["--width"])))
+        out.write(picture(in_order(pieces, reach * 1e-7, random.Random(1)), int(options["--width"]), float(options["--unit"])))
 
 
 if __name__ == "__main__":
