@@ -1,7 +1,7 @@
-"""Prints the table of docs/TRUST.md: the files of definitions that the clauses of `run` cite, directly or through others.
+"""Prints the tables of docs/TRUST.md: the files of definitions that the clauses of `run` cite, directly or through others.
 
-It starts at the names that stand in the clauses of `pub fn run` in crates/manifold_tool/src/run.rt, and follows the `use` lines of crates/*/specs. A file comes after
-all that it cites. Usage: docs/trust.py"""
+It starts at the names that stand in the clauses of `pub fn run` in crates/manifold_tool/src/run.rt, and follows the `use` lines of crates/*/specs. A file
+comes after all that it cites. A second table has the types of the code that they name. Usage: docs/trust.py"""
 import os, re, sys
 
 TOP = os.path.dirname(os.path.dirname(os.path.abspath(__file__)))
@@ -45,13 +45,26 @@ def cited(text, wanted=None):
 
 
 def comment_of(text):
-    """The first comment of a file, up to its first full stop or its end, as one line."""
+    """The first sentence of a file's first comment."""
     lines = []
     for line in text.split("\n"):
         if not line.startswith("-- "):
             break
         lines.append(line[3:].strip())
-    return " ".join(lines).replace("|", "\\|")
+    text = " ".join(lines).replace("|", "\\|")
+    return text.split(". ")[0].rstrip(".") + "."
+
+
+def types_in(names):
+    """The types of the code that these files name, by the file that declares them."""
+    found = {}
+    for name in names:
+        for crate, path, _ in USE.findall(text_of(name)):
+            file, parts = file_of(crate, path), path.split(".")
+            if file and parts[0] == "declared":
+                parts = [it for it in parts if it[0].isupper() and it != "TheVariants"]
+                found.setdefault(file, set()).add("its constants" if parts[0] == "TheConstants" else "`%s`" % parts[0])
+    return found
 
 
 def in_order(name, done, open_):
@@ -77,6 +90,11 @@ def main():
         total += lines
         print("| `%s` | %d | %s |" % (name[len("crates/") :], lines, comment_of(text)))
     print("| %d files | %d | |" % (len(done), total))
+    print()
+    print("| Code | What of it the definitions name |")
+    print("|---|---|")
+    for name, types in sorted(types_in(done).items()):
+        print("| `%s` | %s |" % (name[len("crates/") :], ", ".join(sorted(types))))
 
 
 if __name__ == "__main__":
