@@ -111,7 +111,7 @@ def shadow_of_edge(folder):
             f.text((spot[0] + 10, spot[1] + (20 if not below else -8)), "spot", colour, 12, "start")
         f.dot(at, P)
         f.text((at[0] - 12, at[1] - 4), "p", P, 16)
-        f.text((at[0], at[1] + 22) if below else (at[0], at[1] - 18), words, colour, 13)
+        f.text((at[0], at[1] + 22) if below else (at[0] + 20, at[1] - 26), words, colour, 13)
     f.text((400, 290), "A vertex p of P and an edge from c to d of Q, as seen along z.", SOFT, 13)
     f.save(folder, "shadow_edge.svg")
 
