@@ -52,6 +52,13 @@ def seen(point, turn, tilt):
     return (x, z * math.cos(tilt) + y * math.sin(tilt), z * math.sin(tilt) - y * math.cos(tilt))
 
 
+def normal_of(a, b, c, least):
+    """None for a triangle whose corners lie on a line, or nearly so."""
+    whole = cross(sub(b, a), sub(c, a))
+    longest = max(dot(d, d) for d in (sub(b, a), sub(c, b), sub(a, c)))
+    return unit(whole) if dot(whole, whole) > longest * least * least else None
+
+
 def open_edges(triangles):
     count = {}
     for t in triangles:
@@ -78,7 +85,9 @@ def lines_of(points, triangles, normals, every):
     drawn = {}
     for edge, around in beside.items():
         around = [n for n in around if n]
-        if every or any(dot(around[0], n) < 0.985 for n in around[1:]):
+        is_sharp = any(dot(around[0], n) < 0.92 for n in around[1:])
+        is_rim = any(n[2] > 1e-9 for n in around) and any(n[2] <= 1e-9 for n in around)
+        if every or is_sharp or is_rim:
             drawn[edge] = 1
     for a, b in open_edges(triangles):
         drawn[min(a, b), max(a, b)] = 2
@@ -89,7 +98,8 @@ def pieces_of(file, colour, turn, tilt, every):
     """What there is to draw of one mesh: corners, a number for each side that is drawn, the plane, and a colour."""
     points, triangles = read(file)
     points = [seen(p, turn, tilt) for p in points]
-    normals = [unit(cross(sub(points[b], points[a]), sub(points[c], points[a]))) for a, b, c in triangles]
+    least = 2e-5 * max(abs(c) for p in points for c in p) if points else 0
+    normals = [normal_of(points[a], points[b], points[c], least) for a, b, c in triangles]
     drawn = lines_of(points, triangles, normals, every)
     is_open = any(n == 2 for n in drawn.values())
     pieces = []
@@ -158,6 +168,10 @@ def in_order(pieces, least, chance):
     return done
 
 
+def filled(path, shade):
+    return '<path d="%s" fill="#%s" stroke="#%s" stroke-width="0.9"/>' % (path, shade, shade)
+
+
 def picture(pieces, width, factor):
     low = [min(p[i] for piece in pieces for p in piece[0]) for i in (0, 1)]
     high = [max(p[i] for piece in pieces for p in piece[0]) for i in (0, 1)]
@@ -171,14 +185,20 @@ def picture(pieces, width, factor):
 
     out = ['<svg xmlns="http://www.w3.org/2000/svg" viewBox="0 0 %.0f %.0f" width="%.0f" height="%.0f">' % (width, height, width, height)]
     out.append('<g stroke-linejoin="round" stroke-linecap="round">')
+    path, before = "", None
     for corners, sides, _, _, shade in pieces:
-        path = "M" + "L".join(at(p) for p in corners) + "Z"
-        out.append('<path d="%s" fill="#%s" stroke="#%s" stroke-width="0.9"/>' % (path, shade, shade))
+        if shade != before and path:
+            out.append(filled(path, before))
+            path = ""
+        path, before = path + "M" + "L".join(at(p) for p in corners) + "Z", shade
+        if any(sides):
+            out.append(filled(path, shade))
+            path = ""
         for kind, how in ((1, 'stroke="#1d2733" stroke-width="1"'), (2, 'stroke="#d00000" stroke-width="3"')):
             ends = ["M%sL%s" % (at(p), at(q)) for p, q, s in zip(corners, corners[1:] + corners[:1], sides) if s == kind]
             if ends:
                 out.append('<path d="%s" fill="none" %s/>' % ("".join(ends), how))
-    return "\n".join(out + ["</g>", "</svg>", ""])
+    return "\n".join(out + ([filled(path, before)] if path else []) + ["</g>", "</svg>", ""])
 
 
 def main(words):
