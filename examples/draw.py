@@ -33,7 +33,7 @@ def unit(a):
 def read(name):
     """The points and triangles of an OBJ file; a face of n items is n - 2 triangles."""
     points, triangles = [], []
-    text = open(name).read().replace("\\\n", " ")
+    text = open(name, encoding="utf-8", errors="replace").read().replace("\\\n", " ")
     for line in text.split("\n"):
         words = line.split("#")[0].split()
         if words and words[0] == "v":

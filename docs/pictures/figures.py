@@ -6,12 +6,14 @@ INK, SOFT, P, Q, GOOD = "#1d2733", "#8a94a0", "#2f6db3", "#c07a1e", "#3d8b40"
 
 class Figure:
     def __init__(self, width, height):
-        self.out = ['<svg xmlns="http://www.w3.org/2000/svg" viewBox="0 0 %d %d" width="%d" height="%d" font-family="sans-serif" font-size="14">' % (width, height, width, height)]
+        head = '<svg xmlns="http://www.w3.org/2000/svg" viewBox="0 0 %d %d" width="%d" height="%d" font-family="sans-serif" font-size="14">'
+        self.out = [head % (width, height, width, height)]
         self.out.append('<rect width="%d" height="%d" fill="#ffffff"/>' % (width, height))
 
     def line(self, points, colour=INK, width=1.5, dash="", fill="none", closed=False):
         path = "M" + "L".join("%.1f %.1f" % p for p in points) + ("Z" if closed else "")
-        self.out.append('<path d="%s" stroke="%s" stroke-width="%s" fill="%s"%s stroke-linejoin="round"/>' % (path, colour, width, fill, ' stroke-dasharray="%s"' % dash if dash else ""))
+        dashes = ' stroke-dasharray="%s"' % dash if dash else ""
+        self.out.append('<path d="%s" stroke="%s" stroke-width="%s" fill="%s"%s stroke-linejoin="round"/>' % (path, colour, width, fill, dashes))
 
     def arrow(self, a, b, colour=INK, width=1.5, at=1.0):
         """A line from a to b with a head at that part of it."""
@@ -159,7 +161,10 @@ def shadow_of_face(folder):
 
 def tie(folder):
     f = Figure(760, 240)
-    for left, name, out, words in ((40, "union", 1, "P counts as beyond: they overlap, no wall is left"), (420, "subtract, intersect", -1, "P counts as not beyond: they are apart")):
+    for left, name, out, words in (
+        (40, "union", 1, "P counts as beyond: they overlap, no wall is left"),
+        (420, "subtract, intersect", -1, "P counts as not beyond: they are apart"),
+    ):
         p = [(left, 170), (left + 130, 170), (left + 130, 60), (left, 60)]
         q = [(left + 130, 190), (left + 260, 190), (left + 260, 80), (left + 130, 80)]
         f.line(p, P, 2.5, "", "#dbe8f6", True)
