@@ -6,7 +6,7 @@ The picture turns about the upright axis z by --turn and is seen from --tilt abo
 of the file. --all draws the edges of all triangles. COLOUR is six hexadecimal digits. Where a mesh is open, its insides are drawn too, in red, and its
 open edges thick. The triangles are put in order from far to near by a tree of planes, which cuts those that lie on both sides of another's plane: so
 triangles may cut one another."""
-import math, random, sys
+import math, sys
 
 COLOURS = ["8fb3d9", "e3b565", "9cc38a", "c79fcf", "d98f8f"]
 LIGHT = (-0.35, 0.55, 0.76)  # right, up, to the eye
@@ -140,7 +140,7 @@ def cut(piece, normal, level, least):
     return tuple((corners, sides, facing, own, shade) for corners, sides in parts)
 
 
-def in_order(pieces, least, chance):
+def in_order(pieces, least):
     """The pieces from far to near."""
     waiting, done = [("sort", pieces)], []
     while waiting:
@@ -149,7 +149,8 @@ def in_order(pieces, least, chance):
             done += these
             continue
         best = None
-        for root in chance.sample(these, min(6, len(these))):
+        for k in range(min(6, len(these))):
+            root = these[k * len(these) // 6 if len(these) > 6 else k]
             below, on, above, cuts = [], [], [], 0
             for piece in these:
                 heights = [dot(root[2], p) - root[3] for p in piece[0]]
@@ -223,7 +224,7 @@ def main(words):
         sys.exit("draw.py: there is nothing to draw")
     reach = max(abs(c) for piece in pieces for p in piece[0] for c in p)
     with open(files[0], "w") as out:
-        out.write(picture(in_order(pieces, reach * 1e-7, random.Random(1)), int(options["--width"]), float(options["--unit"])))
+        out.write(picture(in_order(pieces, reach * 1e-7), int(options["--width"]), float(options["--unit"])))
 
 
 if __name__ == "__main__":
