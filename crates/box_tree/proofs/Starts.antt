@@ -1,6 +1,5 @@
 -- A tree when it is made, and a walk when it begins.
-use Rattle.std.proofs.Common.{◌≡◌, ◌∙◌, ℕ, true, false, ◌+◌, ◌*◌, ◌<◌, ◌≤◌, ◌^◌, List, [], ◌∷◌, ◌++◌, length, get_or, take, drop, refl, sym, ap, arith, subst, inl, inr, append-nil}
-use Rattle.std.specs.Prelude.{slice_range}
+use Rattle.std.proofs.Common.{◌≡◌, ◌∙◌, ℕ, true, false, ◌*◌, ◌<◌, ◌^◌, List, [], ◌∷◌, length, get_or, refl, sym, ap, arith, subst, inl, inr, append-nil}
 use Rattle.std.specs.List.{All, filter}
 use Rattle.std.specs.List.Sorted.{IsPermutation}
 use Rattle.std.proofs.lemmas.Bool.{cases_lt, cases_Bool}
@@ -9,18 +8,16 @@ use Rattle.std.proofs.lemmas.List.Elements.{All-head, All-tail}
 use Rattle.arrayvec.specs.ArrayVec.{ArrayVec}
 use Rattle.chain_terms.specs.Sums.{upto}
 use Rattle.mb_base.specs.declared.point.Box3.{Box3}
-use Rattle.box_tree.specs.declared.TheConstants.{BLOCK, MOST_BOXES}
+use Rattle.box_tree.specs.declared.TheConstants.{BLOCK}
 use Rattle.box_tree.specs.declared.bounds.Bounds.{Bounds}
 use Rattle.box_tree.specs.declared.nodes.Entry.{Entry}
 use Rattle.box_tree.specs.declared.nodes.Node.{Node}
 use Rattle.box_tree.specs.declared.walk.Question.{Question}
-use Rattle.box_tree.specs.declared.walk.Walk.{Walk}
 use Rattle.box_tree.specs.Coarse.{coarse_box}
 use Rattle.box_tree.specs.Touching.{touches, box_at, touching_among, touching_numbers}
 use Rattle.box_tree.specs.Nodes.{node_at, run_of, numbers_of, stored_box, AreNodes, AreEntries, AreStored, IsRoot, IsTree}
-use Rattle.box_tree.specs.Walks.{IsFair, hits, hits_below, hits_waiting, hits_left, IsQuestion, IsStack, IsWalk}
+use Rattle.box_tree.specs.Walks.{IsFair, hits, hits_below, hits_waiting, hits_left, IsStack, IsWalk}
 use Rattle.box_tree.proofs.Orders.{filter_moved}
-use Rattle.box_tree.proofs.Runs.{range_none}
 use Rattle.box_tree.proofs.Stacks.{IsSmall}
 use Rattle.box_tree.proofs.Trees.{as_many, all_fair, all_boxes, HasBox}
 

@@ -1,5 +1,5 @@
 -- Walks through a tree: what is asked, the nodes that wait on the stack, and the numbers that are still to come.
-use Rattle.std.specs.Prelude.{◌≡◌, ℕ, ◌+◌, ◌-◌, ◌*◌, ◌^◌, ◌<◌, ◌≤◌, true, List, [], ◌++◌, length, get_or, slice_range, reverse}
+use Rattle.std.specs.Prelude.{◌≡◌, ℕ, ◌-◌, ◌*◌, ◌^◌, ◌<◌, ◌≤◌, true, List, ◌++◌, length, get_or, slice_range, reverse}
 use Rattle.std.specs.List.{All, filter, flat_map, sum_by}
 use Rattle.mb_base.specs.declared.point.Box3.{Box3}
 use Rattle.box_tree.specs.declared.bounds.Bounds.{Bounds}

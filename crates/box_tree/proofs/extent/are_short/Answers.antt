@@ -1,4 +1,4 @@
-use Rattle.std.specs.Prelude.{get_or, slice_range}
+use Rattle.std.specs.Prelude.{get_or}
 use Rattle.std.specs.Cmp.Rules.{signed_items}
 use Rattle.std.proofs.Common.{arith, ap, sym, ◌≡◌, ◌∙◌, List, ℤ}
 use Rattle.std.proofs.lemmas.Bool.{and_parts, not-false}

@@ -1,11 +1,11 @@
-use Rattle.std.specs.Prelude.{◌≡◌, ℕ, List, length}
+use Rattle.std.specs.Prelude.{ℕ, List, length}
 use Rattle.std.specs.List.Sorted.{IsPermutation}
 use Rattle.std.proofs.Common.{arith, ap, sym, subst, ◌∙◌}
 use Rattle.mb_base.specs.declared.point.Box3.{Box3}
 use Rattle.box_tree.specs.declared.walk.Question.{Question}
 use Rattle.box_tree.specs.Touching.{touching_numbers}
 use Rattle.box_tree.specs.Nodes.{boxes_stored}
-use Rattle.box_tree.proofs.Starts.{IsFirst, tree_seen, walk_begins, walk_gives}
+use Rattle.box_tree.proofs.Starts.{tree_seen, walk_begins, walk_gives}
 use Rattle.box_tree.proofs.tree.Tree.touching.Goals as goal
 
 pub along-requires : goal.along-requires
