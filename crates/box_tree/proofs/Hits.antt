@@ -1,30 +1,28 @@
 -- The numbers that entries, nodes and a stack of nodes give.
-use Rattle.std.proofs.Common.{◌≡◌, ◌∙◌, ℕ, ◌+◌, ◌-◌, ◌*◌, ◌/◌, ◌<◌, ◌≤◌, Bool, true, false, cond, List, [], ◌∷◌, ◌++◌, length, get_or, refl, sym, ap, arith}
-use Rattle.std.specs.Prelude.{slice_range, reverse, map}
+use Rattle.std.proofs.Common.{◌≡◌, ◌∙◌, ℕ, ◌+◌, ◌-◌, ◌*◌, ◌<◌, ◌≤◌, Bool, true, false, List, [], ◌∷◌, ◌++◌, length, get_or, refl, sym, ap, arith}
+use Rattle.std.specs.Prelude.{slice_range}
 use Rattle.std.specs.List.{All, filter, flat_map}
-use Rattle.std.proofs.lemmas.Bool.{cases_Bool, false_from_ne_true, both_ways}
+use Rattle.std.proofs.lemmas.Bool.{false_from_ne_true, both_ways}
 use Rattle.std.proofs.lemmas.List.{map-append, reverse-append, append_assoc}
 use Rattle.std.proofs.lemmas.List.Elements.{All-head, All-tail, filter-append}
-use Rattle.mb_base.specs.declared.point.Box3.{Box3}
 use Rattle.box_tree.specs.declared.bounds.Bounds.{Bounds}
 use Rattle.box_tree.specs.declared.nodes.Entry.{Entry}
 use Rattle.box_tree.specs.declared.walk.Question.{Question}
 use Rattle.box_tree.specs.Coarse.{IsBoundsIn, bounds_meet}
-use Rattle.box_tree.specs.Touching.{touches, box_at, touching_among}
-use Rattle.box_tree.specs.Nodes.{IsRound, HasRun, IsNode, run_of, node_at, numbers_of, half}
+use Rattle.box_tree.specs.Touching.{touches}
+use Rattle.box_tree.specs.Nodes.{IsRound, HasRun, IsNode, run_of, node_at, numbers_of, stored_box, half}
 use Rattle.box_tree.specs.Walks.{IsFair, hits, hits_below, hits_waiting}
 use Rattle.box_tree.proofs.Rounds.{bounds_meets}
 use Rattle.box_tree.proofs.Runs.{range_front, run_split}
 
 -- whether the box of the entry touches the area
 abbrev pub is_hit : Question → Entry → Bool
-is_hit q e = touches (box_at q.boxes.now e.number) q.area
+is_hit q e = touches (stored_box q.boxes.now e) q.area
 
 -- what two lists give, one after the other
 pub hits_append : (q : Question) (xs ys : List Entry) → hits q (xs ++ ys) ≡ hits q xs ++ hits q ys
 hits_append q xs ys =
-    ap (λ ns. touching_among q.boxes.now q.area ns) (map-append (λ e. e.number) xs ys)
-    ∙ filter-append (λ k. touches (box_at q.boxes.now k) q.area) (numbers_of xs) (numbers_of ys)
+    ap numbers_of (filter-append (is_hit q) xs ys) ∙ map-append (λ e. e.number) (filter (is_hit q) xs) (filter (is_hit q) ys)
 
 -- the first entry gives nothing
 pub hits_missed : (q : Question) (i j : ℕ) (d : Entry) → i < j → j ≤ length q.entries.now → is_hit q (get_or q.entries.now i d) ≡ false →

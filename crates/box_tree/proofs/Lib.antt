@@ -7,3 +7,4 @@ pub mod Stacks
 pub mod Orders
 pub mod Starts
 pub mod Trees
+pub mod Stored

@@ -1,12 +1,12 @@
 -- Boxes that overlap on each axis have a common point, and back.
-use Rattle.std.proofs.Common.{◌≡◌, ℤ, ◌&&◌, true, Bool, arith, refl, IsTrue}
+use Rattle.std.proofs.Common.{◌≡◌, ℤ, ◌&&◌, true, arith}
 use Rattle.std.specs.Prelude.{◌≤ℤ◌}
 use Rattle.std.specs.Int.{int_max, int_min}
 use Rattle.std.specs.Int.Signed.{le_z}
 use Rattle.std.proofs.lemmas.Int.{ints, clamps}
 use Rattle.std.proofs.lemmas.Bool.{and_parts, and_from}
 use Rattle.mb_base.specs.declared.point.Box3.{Box3}
-use Rattle.box_tree.specs.Touching.{end_on, overlap, overlap_on, touches, IsIn, CommonPoint}
+use Rattle.box_tree.specs.Touching.{end_on, overlap, overlap_on, touches, CommonPoint}
 
 -- z lies in two intervals
 pub record IsBetween (low high from to z : ℤ) : Type 0 where

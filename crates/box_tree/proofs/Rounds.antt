@@ -1,8 +1,6 @@
 -- Bounds round entries.
-use Rattle.std.proofs.Common.{◌≡◌, ◌&&◌, true, Bool, arith, List, []}
-use Rattle.std.specs.Prelude.{ℤ, ◌≤ℤ◌}
+use Rattle.std.proofs.Common.{◌≡◌, ◌&&◌, true, arith, List}
 use Rattle.std.specs.Int.Signed.{le_z}
-use Rattle.std.specs.List.{All}
 use Rattle.std.proofs.lemmas.Int.{ints}
 use Rattle.std.proofs.lemmas.Bool.{and_parts, and_from}
 use Rattle.std.proofs.lemmas.List.Elements.{All-weaker}

@@ -1,5 +1,5 @@
 -- Runs of blocks, and entries from one place to another.
-use Rattle.std.proofs.Common.{◌≡◌, ◌∙◌, ℕ, suc, ◌+◌, ◌-◌, ◌*◌, ◌<◌, ◌≤◌, List, [], ◌∷◌, ◌++◌, length, get_or, take, drop, refl, sym, ap, arith}
+use Rattle.std.proofs.Common.{◌≡◌, ◌∙◌, ℕ, suc, ◌+◌, ◌-◌, ◌*◌, ◌<◌, ◌≤◌, List, [], ◌∷◌, ◌++◌, length, get_or, take, drop, ap, arith}
 use Rattle.std.specs.Prelude.{slice_range, min}
 use Rattle.std.proofs.lemmas.List.{drop_more, take_min, length-drop, drop-drop}
 use Rattle.std.proofs.Math.Seq.{take-add}

@@ -7,7 +7,7 @@ use Rattle.std.proofs.Math.Pow.{pow_mono}
 use Rattle.std.proofs.Math.Nat.{mul-le-mul_right}
 use Rattle.std.proofs.lemmas.List.{get_or_append_left, get_or_push, length_push}
 use Rattle.box_tree.specs.declared.nodes.Node.{Node}
-use Rattle.box_tree.specs.Nodes.{node_at, half}
+use Rattle.box_tree.specs.Nodes.{node_at}
 use Rattle.box_tree.specs.Walks.{IsStack}
 
 -- the count of a node on the stack is small

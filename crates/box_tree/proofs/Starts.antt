@@ -1,49 +1,48 @@
 -- A tree when it is made, and a walk when it begins.
-use Rattle.std.proofs.Common.{◌≡◌, ◌∙◌, ℕ, ◌+◌, ◌*◌, ◌<◌, ◌≤◌, ◌^◌, List, [], ◌∷◌, ◌++◌, length, get_or, take, drop, refl, sym, ap, arith, subst, inl, inr, append-nil}
-use Rattle.std.specs.Prelude.{slice_range}
-use Rattle.std.specs.List.{All}
+use Rattle.std.proofs.Common.{◌≡◌, ◌∙◌, ℕ, true, false, ◌*◌, ◌<◌, ◌^◌, List, [], ◌∷◌, length, get_or, refl, sym, ap, arith, subst, inl, inr, append-nil}
+use Rattle.std.specs.List.{All, filter}
 use Rattle.std.specs.List.Sorted.{IsPermutation}
-use Rattle.std.proofs.lemmas.Bool.{cases_lt}
+use Rattle.std.proofs.lemmas.Bool.{cases_lt, cases_Bool}
 use Rattle.std.proofs.lemmas.List.{take_all, nil_from_length}
+use Rattle.std.proofs.lemmas.List.Elements.{All-head, All-tail}
 use Rattle.arrayvec.specs.ArrayVec.{ArrayVec}
 use Rattle.chain_terms.specs.Sums.{upto}
 use Rattle.mb_base.specs.declared.point.Box3.{Box3}
-use Rattle.box_tree.specs.declared.TheConstants.{BLOCK, MOST_BOXES}
+use Rattle.box_tree.specs.declared.TheConstants.{BLOCK}
 use Rattle.box_tree.specs.declared.bounds.Bounds.{Bounds}
 use Rattle.box_tree.specs.declared.nodes.Entry.{Entry}
 use Rattle.box_tree.specs.declared.nodes.Node.{Node}
 use Rattle.box_tree.specs.declared.walk.Question.{Question}
-use Rattle.box_tree.specs.declared.walk.Walk.{Walk}
 use Rattle.box_tree.specs.Coarse.{coarse_box}
 use Rattle.box_tree.specs.Touching.{touches, box_at, touching_among, touching_numbers}
-use Rattle.box_tree.specs.Nodes.{node_at, run_of, numbers_of, AreNodes, AreEntries, IsRoot, IsTree}
-use Rattle.box_tree.specs.Walks.{IsFair, hits, hits_below, hits_waiting, hits_left, IsQuestion, IsStack, IsWalk}
+use Rattle.box_tree.specs.Nodes.{node_at, run_of, numbers_of, stored_box, AreNodes, AreEntries, AreStored, IsRoot, IsTree}
+use Rattle.box_tree.specs.Walks.{IsFair, hits, hits_below, hits_waiting, hits_left, IsStack, IsWalk}
 use Rattle.box_tree.proofs.Orders.{filter_moved}
-use Rattle.box_tree.proofs.Runs.{range_none}
 use Rattle.box_tree.proofs.Stacks.{IsSmall}
-use Rattle.box_tree.proofs.Trees.{as_many, all_fair}
+use Rattle.box_tree.proofs.Trees.{as_many, all_fair, all_boxes, HasBox}
 
 -- a tree of its parts; the nodes are made over entries that are the same
-pub tree_made : (shift : ℕ) (boxes : List Box3) (entries same : List Entry) (nodes : List Node) → shift < 64 → AreEntries shift boxes entries → same ≡ entries →
-    AreNodes nodes same → length nodes < 2 ^ 32 → (0 < length same → IsRoot nodes same) → IsTree shift boxes entries nodes
-tree_made shift boxes entries same nodes small listed e right short root =
+pub tree_made : (shift : ℕ) (stored boxes : List Box3) (entries same : List Entry) (nodes : List Node) → shift < 64 → AreEntries shift boxes entries → AreStored shift stored boxes → same ≡ entries →
+    AreNodes nodes same → length nodes < 2 ^ 32 → (0 < length same → IsRoot nodes same) → IsTree shift stored boxes entries nodes
+tree_made shift stored boxes entries same nodes small listed kept e right short root =
     let N : List Entry → Type 0 = λ es. AreNodes nodes es in
     let R : List Entry → Type 0 = λ es. 0 < length es → IsRoot nodes es in
     record {
       small = small;
       short = short;
       listed = listed;
+      kept = kept;
       right = subst N e right;
       root = λ some. subst R e root (omega (arith, some, as_many shift boxes entries listed));
     }
 
 -- a tree seen through references to its parts
-pub tree_seen : (shift : ℕ) (boxes boxes_seen : List Box3) (entries entries_seen : List Entry) (nodes nodes_seen : List Node) → boxes_seen ≡ boxes → entries_seen ≡ entries → nodes_seen ≡ nodes →
-    IsTree shift boxes entries nodes → IsTree shift boxes_seen entries_seen nodes_seen
-tree_seen shift boxes boxes_seen entries entries_seen nodes nodes_seen b e n tree =
-    let B : List Box3 → Type 0 = λ x. IsTree shift x entries nodes in
-    let E : List Entry → Type 0 = λ x. IsTree shift boxes_seen x nodes in
-    let N : List Node → Type 0 = λ x. IsTree shift boxes_seen entries_seen x in
+pub tree_seen : (shift : ℕ) (stored stored_seen boxes : List Box3) (entries entries_seen : List Entry) (nodes nodes_seen : List Node) → stored_seen ≡ stored → entries_seen ≡ entries →
+    nodes_seen ≡ nodes → IsTree shift stored boxes entries nodes → IsTree shift stored_seen boxes entries_seen nodes_seen
+tree_seen shift stored stored_seen boxes entries entries_seen nodes nodes_seen b e n tree =
+    let B : List Box3 → Type 0 = λ x. IsTree shift x boxes entries nodes in
+    let E : List Entry → Type 0 = λ x. IsTree shift stored_seen boxes x nodes in
+    let N : List Node → Type 0 = λ x. IsTree shift stored_seen boxes entries_seen x in
     subst N (sym n) (subst E (sym e) (subst B (sym b) tree))
 
 -- a stack before a walk
@@ -67,8 +66,8 @@ root_stack nodes entries root =
     }
 
 -- the stack before a walk waits in order
-first_stack : (shift : ℕ) (boxes : List Box3) (entries : List Entry) (nodes : List Node) (stack : List ℕ) → IsTree shift boxes entries nodes → IsFirst entries stack → IsStack nodes stack
-first_stack shift boxes entries nodes stack tree first =
+first_stack : (shift : ℕ) (stored boxes : List Box3) (entries : List Entry) (nodes : List Node) (stack : List ℕ) → IsTree shift stored boxes entries nodes → IsFirst entries stack → IsStack nodes stack
+first_stack shift stored boxes entries nodes stack tree first =
     let S : List ℕ → Type 0 = λ l. IsStack nodes l in
     elim (cases_lt 0 (length entries)) as (λ _. IsStack nodes stack) [
       | inl some ↦ subst S (sym (first.some some)) (root_stack nodes entries (tree.root (omega (arith, some, as_many shift boxes entries tree.listed))))
@@ -76,20 +75,20 @@ first_stack shift boxes entries nodes stack tree first =
     ]
 
 -- a walk that begins is on its way
-pub walk_begins : (shift : ℕ) (q : Question) (stack : ArrayVec ℕ) → IsTree shift q.boxes.now q.entries.now q.nodes.now → q.bounds ≡ coarse_box shift q.area → IsFirst q.entries.now stack.items →
+pub walk_begins : (shift : ℕ) (boxes : List Box3) (q : Question) (stack : ArrayVec ℕ) → IsTree shift q.boxes.now boxes q.entries.now q.nodes.now → q.bounds ≡ coarse_box shift q.area → IsFirst q.entries.now stack.items →
     IsWalk (record { question = q; stack = stack; at = 0; end = 0 })
-walk_begins shift q stack tree bounds first =
+walk_begins shift boxes q stack tree bounds first =
     let F : Bounds → Type 0 = λ b. All (IsFair q.boxes.now q.area b) q.entries.now in
     record {
       question = record {
-        few = omega (arith, as_many shift q.boxes.now q.entries.now tree.listed, tree.listed.few);
+        few = omega (arith, as_many shift boxes q.entries.now tree.listed, tree.listed.few);
         short = tree.short;
-        fair = subst F (sym bounds) (all_fair shift q.boxes.now q.entries.now q.area tree.listed);
+        fair = subst F (sym bounds) (all_fair shift q.boxes.now boxes q.entries.now q.area tree.listed tree.kept);
         nodes = tree.right;
       };
       begins = omega arith;
       ends = omega arith;
-      stack = first_stack shift q.boxes.now q.entries.now q.nodes.now stack.items tree first;
+      stack = first_stack shift q.boxes.now boxes q.entries.now q.nodes.now stack.items tree first;
     }
 
 -- the first node gives the numbers of all entries
@@ -99,18 +98,31 @@ root_gives q root =
     ap (λ f. hits q (run_of q.entries.now f count)) root.first ∙ ap (hits q) (take_all (BLOCK * count) q.entries.now root.all)
 
 -- the stack before a walk gives the numbers of all entries
-first_gives : (shift : ℕ) (q : Question) (stack : List ℕ) → IsTree shift q.boxes.now q.entries.now q.nodes.now → IsFirst q.entries.now stack → hits q q.entries.now ≡ hits_waiting q stack
-first_gives shift q stack tree first = elim (cases_lt 0 (length q.entries.now)) as (λ _. hits q q.entries.now ≡ hits_waiting q stack) [
+first_gives : (shift : ℕ) (boxes : List Box3) (q : Question) (stack : List ℕ) → IsTree shift q.boxes.now boxes q.entries.now q.nodes.now → IsFirst q.entries.now stack → hits q q.entries.now ≡ hits_waiting q stack
+first_gives shift boxes q stack tree first = elim (cases_lt 0 (length q.entries.now)) as (λ _. hits q q.entries.now ≡ hits_waiting q stack) [
   | inl some ↦
-      let root = tree.root (omega (arith, some, as_many shift q.boxes.now q.entries.now tree.listed)) in
+      let root = tree.root (omega (arith, some, as_many shift boxes q.entries.now tree.listed)) in
       sym (ap (hits_waiting q) (first.some some) ∙ append-nil (hits_below q 0) ∙ root_gives q root)
   | inr none ↦ ap (hits q) (nil_from_length q.entries.now (omega (arith, none))) ∙ sym (ap (hits_waiting q) (first.none (omega (arith, none))))
 ]
 
+-- the numbers of the entries whose boxes touch an area, by the boxes of their numbers
+hits_by_number : (stored boxes : List Box3) (area : Box3) (entries : List Entry) → All (HasBox stored boxes) entries →
+    numbers_of (filter (λ e. touches (stored_box stored e) area) entries) ≡ touching_among boxes area (numbers_of entries)
+hits_by_number stored boxes area [] all = refl
+hits_by_number stored boxes area (e ∷ es) all =
+    let here = ap (λ b. touches b area) (All-head (HasBox stored boxes) e es all) in
+    let rest = hits_by_number stored boxes area es (All-tail (HasBox stored boxes) e es all) in
+    elim (cases_Bool (touches (box_at boxes e.number) area)) as (λ _. numbers_of (filter (λ x. touches (stored_box stored x) area) (e ∷ es)) ≡ touching_among boxes area (numbers_of (e ∷ es))) [
+      | inl y ↦ let s : touches (stored_box stored e) area ≡ true = here ∙ y in rw (s, y) (ap (λ l. e.number ∷ l) rest)
+      | inr n ↦ let s : touches (stored_box stored e) area ≡ false = here ∙ n in rw (s, n) rest
+    ]
+
 -- a walk that begins gives the numbers of all boxes that touch the area
-pub walk_gives : (shift : ℕ) (q : Question) (stack : ArrayVec ℕ) → IsTree shift q.boxes.now q.entries.now q.nodes.now → IsFirst q.entries.now stack.items →
-    IsPermutation (touching_numbers q.boxes.now q.area) (hits_left (record { question = q; stack = stack; at = 0; end = 0 }))
-walk_gives shift q stack tree first =
-    let G : List ℕ → Type 0 = λ l. IsPermutation (touching_numbers q.boxes.now q.area) l in
-    subst G (first_gives shift q stack.items tree first)
-    (filter_moved (λ k. touches (box_at q.boxes.now k) q.area) (upto (length q.boxes.now)) (numbers_of q.entries.now) tree.listed.order)
+pub walk_gives : (shift : ℕ) (boxes : List Box3) (q : Question) (stack : ArrayVec ℕ) → IsTree shift q.boxes.now boxes q.entries.now q.nodes.now → IsFirst q.entries.now stack.items →
+    IsPermutation (touching_numbers boxes q.area) (hits_left (record { question = q; stack = stack; at = 0; end = 0 }))
+walk_gives shift boxes q stack tree first =
+    let G : List ℕ → Type 0 = λ l. IsPermutation (touching_numbers boxes q.area) l in
+    let found = hits_by_number q.boxes.now boxes q.area q.entries.now (all_boxes shift q.boxes.now boxes q.entries.now tree.listed tree.kept) in
+    subst G (sym found ∙ first_gives shift boxes q stack.items tree first)
+    (filter_moved (λ k. touches (box_at boxes k) q.area) (upto (length boxes)) (numbers_of q.entries.now) tree.listed.order)

@@ -1,5 +1,5 @@
 -- What the entries of a tree owe to a question.
-use Rattle.std.proofs.Common.{◌≡◌, ◌∙◌, ℕ, ◌+◌, ◌<◌, ◌≤◌, ◌^◌, ◌&&◌, true, List, [], ◌∷◌, ◌++◌, length, get_or, map, zero-add, refl, sym, ap, arith, subst}
+use Rattle.std.proofs.Common.{◌≡◌, ◌∙◌, ℕ, ◌+◌, ◌<◌, ◌≤◌, ◌&&◌, true, List, [], ◌∷◌, ◌++◌, length, map, zero-add, refl, sym, ap, arith, subst}
 use Rattle.std.specs.Prelude.{ℤ, pos, negsuc, ◌≤ℤ◌}
 use Rattle.std.specs.Int.{int_shr}
 use Rattle.std.specs.Int.Signed.{le_z}
@@ -19,7 +19,7 @@ use Rattle.box_tree.specs.declared.nodes.Entry.{Entry}
 use Rattle.box_tree.specs.declared.order.Key.{Key}
 use Rattle.box_tree.specs.Coarse.{coarse_step, coarse_range, coarse_box, ranges_meet, bounds_meet}
 use Rattle.box_tree.specs.Touching.{end_on, overlap_on, touches, box_at}
-use Rattle.box_tree.specs.Nodes.{AreEntries, entry_of, numbers_of}
+use Rattle.box_tree.specs.Nodes.{AreEntries, AreStored, entry_of, numbers_of, stored_box}
 use Rattle.box_tree.specs.Walks.{IsFair}
 use Rattle.box_tree.proofs.Points.{overlap_meets, test_from_le}
 
@@ -62,15 +62,28 @@ pub as_many : (shift : ℕ) (boxes : List Box3) (entries : List Entry) → AreEn
 as_many shift boxes entries h =
     sym (length-map entries (λ e. e.number)) ∙ length_permutation (upto (length boxes)) (numbers_of entries) h.order ∙ length-up_from 0 (length boxes)
 
--- each entry is fair
-pub all_fair : (shift : ℕ) (boxes : List Box3) (entries : List Entry) (area : Box3) → AreEntries shift boxes entries → All (IsFair boxes area (coarse_box shift area)) entries
-all_fair shift boxes entries area h =
+-- what the entry of each box meets, all entries meet
+each_entry : (shift : ℕ) (boxes : List Box3) (entries : List Entry) (P : Entry → Type 0) → AreEntries shift boxes entries → ((k : ℕ) → k < length boxes → P (entry_of shift boxes k)) → All P entries
+each_entry shift boxes entries P h each =
     let numbers = All-permutation (λ k. k < length boxes) (upto (length boxes)) (numbers_of entries) h.order (below_upto (length boxes)) in
-    let fair : (k : ℕ) → k < length boxes → IsFair boxes area (coarse_box shift area) (entry_of shift boxes k) =
-    λ k low. record { number = low; meets = λ t. bounds_of_touching shift (box_at boxes k) area t } in
-    All-same (IsFair boxes area (coarse_box shift area)) entries (map (entry_of shift boxes) (numbers_of entries)) h.made
-    (All-map (IsFair boxes area (coarse_box shift area)) (entry_of shift boxes) (numbers_of entries)
-    (All-weaker (λ k. k < length boxes) (λ k. IsFair boxes area (coarse_box shift area) (entry_of shift boxes k)) fair (numbers_of entries) numbers))
+    All-same P entries (map (entry_of shift boxes) (numbers_of entries)) h.made
+    (All-map P (entry_of shift boxes) (numbers_of entries) (All-weaker (λ k. k < length boxes) (λ k. P (entry_of shift boxes k)) each (numbers_of entries) numbers))
+
+-- each entry is fair
+pub all_fair : (shift : ℕ) (stored boxes : List Box3) (entries : List Entry) (area : Box3) → AreEntries shift boxes entries → AreStored shift stored boxes →
+    All (IsFair stored area (coarse_box shift area)) entries
+all_fair shift stored boxes entries area h kept =
+    let T : Box3 → Type 0 = λ b. touches b area ≡ true in
+    each_entry shift boxes entries (IsFair stored area (coarse_box shift area)) h
+    (λ k low. record { meets = λ t. bounds_of_touching shift (box_at boxes k) area (subst T (kept k low) t) })
+
+-- the box of each entry is the box of its number
+abbrev pub HasBox : List Box3 → List Box3 → Entry → Type 0
+HasBox stored boxes e = stored_box stored e ≡ box_at boxes e.number
+
+-- and so for all of them
+pub all_boxes : (shift : ℕ) (stored boxes : List Box3) (entries : List Entry) → AreEntries shift boxes entries → AreStored shift stored boxes → All (HasBox stored boxes) entries
+all_boxes shift stored boxes entries h kept = each_entry shift boxes entries (HasBox stored boxes) h kept
 
 -- the numbers of keys
 abbrev pub numbers_in : List Key → List ℕ

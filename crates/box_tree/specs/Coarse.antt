@@ -1,5 +1,5 @@
 -- Boxes in coarse steps: fine coordinates, rounded down to a power of two and cut off at the ends of an i32.
-use Rattle.std.specs.Prelude.{ℕ, ℤ, pos, negsuc, ◌^◌, ◌-◌, ◌≤ℤ◌, Bool, ◌&&◌}
+use Rattle.std.specs.Prelude.{◌≡◌, ℕ, ℤ, pos, negsuc, ◌^◌, ◌-◌, ◌≤ℤ◌, Bool, ◌&&◌, [], ◌∷◌}
 use Rattle.std.specs.Int.{int_shr, int_max, int_min}
 use Rattle.std.specs.Int.Signed.{le_z}
 use Rattle.mb_base.specs.declared.point.Box3.{Box3}
@@ -18,6 +18,14 @@ coarse_range shift i b = record { low = coarse_step shift (end_on i b.low); high
 -- a box in coarse steps
 abbrev pub coarse_box : ℕ → Box3 → Bounds
 coarse_box shift b = record { x = coarse_range shift 0 b; y = coarse_range shift 1 b; z = coarse_range shift 2 b }
+
+-- the box of bounds whose steps are fine
+abbrev pub fine_box : Bounds → Box3
+fine_box b = record { low = b.x.low ∷ b.y.low ∷ b.z.low ∷ []; high = b.x.high ∷ b.y.high ∷ b.z.high ∷ [] }
+
+-- the bounds of a box in steps that are fine are the box: no coordinate is cut off
+abbrev pub IsShort : Box3 → Type 0
+IsShort b = fine_box (coarse_box 0 b) ≡ b
 
 -- no range begins after the other ends
 abbrev pub ranges_meet : Range → Range → Bool

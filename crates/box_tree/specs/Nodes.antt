@@ -1,6 +1,6 @@
 -- Trees over boxes. The entries lie in blocks; a node stands for a run of blocks and has bounds round their entries. Nodes lie in the
 -- order of the walk: after a node of n blocks come the 2 h - 1 nodes of its first h blocks, then those of the others, with h half of n.
-use Rattle.std.specs.Prelude.{◌≡◌, ℕ, ◌+◌, ◌-◌, ◌*◌, ◌/◌, ◌^◌, ◌<◌, ◌≤◌, List, [], pos, length, get_or, map, take, drop}
+use Rattle.std.specs.Prelude.{◌≡◌, ℕ, ◌+◌, ◌-◌, ◌*◌, ◌/◌, ◌^◌, ◌<◌, ◌≤◌, ◌==◌, cond, List, [], ◌∷◌, pos, length, get_or, map, take, drop}
 use Rattle.std.specs.List.{All}
 use Rattle.std.specs.List.Sorted.{IsPermutation}
 use Rattle.mb_base.specs.declared.point.Box3.{Box3}
@@ -9,7 +9,7 @@ use Rattle.box_tree.specs.declared.TheConstants.{BLOCK, MOST_BOXES}
 use Rattle.box_tree.specs.declared.bounds.Bounds.{Bounds}
 use Rattle.box_tree.specs.declared.nodes.Entry.{Entry}
 use Rattle.box_tree.specs.declared.nodes.Node.{Node}
-use Rattle.box_tree.specs.Coarse.{IsBoundsIn, coarse_box}
+use Rattle.box_tree.specs.Coarse.{IsBoundsIn, coarse_box, fine_box}
 use Rattle.box_tree.specs.Touching.{box_at}
 
 -- the bounds of a node that is not there
@@ -83,10 +83,28 @@ pub record AreEntries (shift : ℕ) (boxes : List Box3) (entries : List Entry) :
   pub order : IsPermutation (upto (length boxes)) (numbers_of entries)
   pub made : entries ≡ map (entry_of shift boxes) (numbers_of entries)
 
+-- the box of an entry: the one that is stored under its number, or else that of its bounds
+abbrev pub stored_box : List Box3 → Entry → Box3
+stored_box stored e = get_or stored e.number (fine_box e.bounds)
+
+-- the first entry with a number
+abbrev pub entry_numbered : List Entry → ℕ → Entry
+entry_numbered [] k = no_entry
+entry_numbered (e ∷ es) k = cond (e.number == k) e (entry_numbered es k)
+
+-- the boxes of all entries, by their numbers
+abbrev pub boxes_stored : List Box3 → List Entry → List Box3
+boxes_stored stored entries = map (λ k. stored_box stored (entry_numbered entries k)) (upto (length entries))
+
+-- each box is that of its entry
+abbrev pub AreStored : ℕ → List Box3 → List Box3 → Type 0
+AreStored shift stored boxes = (k : ℕ) → k < length boxes → stored_box stored (entry_of shift boxes k) ≡ box_at boxes k
+
 -- a tree over the boxes
-pub record IsTree (shift : ℕ) (boxes : List Box3) (entries : List Entry) (nodes : List Node) : Type 0 where
+pub record IsTree (shift : ℕ) (stored boxes : List Box3) (entries : List Entry) (nodes : List Node) : Type 0 where
   pub small : shift < 64
   pub short : length nodes < 2 ^ 32
   pub listed : AreEntries shift boxes entries
+  pub kept : AreStored shift stored boxes
   pub right : AreNodes nodes entries
   pub root : 0 < length boxes → IsRoot nodes entries

@@ -1,5 +1,5 @@
 -- Which boxes have a point in common with an area. A box is closed: its rim belongs to it.
-use Rattle.std.specs.Prelude.{◌≡◌, ℕ, ℤ, pos, ◌≤ℤ◌, Bool, ◌&&◌, List, [], ◌∷◌, length, get_or}
+use Rattle.std.specs.Prelude.{ℕ, ℤ, pos, ◌≤ℤ◌, Bool, ◌&&◌, List, [], length, get_or}
 use Rattle.std.specs.Int.{int_max, int_min}
 use Rattle.std.specs.Int.Signed.{le_z}
 use Rattle.std.specs.List.{filter}

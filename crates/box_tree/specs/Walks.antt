@@ -1,6 +1,6 @@
 -- Walks through a tree: what is asked, the nodes that wait on the stack, and the numbers that are still to come.
-use Rattle.std.specs.Prelude.{◌≡◌, ℕ, ◌+◌, ◌-◌, ◌*◌, ◌^◌, ◌<◌, ◌≤◌, true, List, [], ◌++◌, length, get_or, slice_range, reverse}
-use Rattle.std.specs.List.{All, flat_map, sum_by}
+use Rattle.std.specs.Prelude.{◌≡◌, ℕ, ◌-◌, ◌*◌, ◌^◌, ◌<◌, ◌≤◌, true, List, ◌++◌, length, get_or, slice_range, reverse}
+use Rattle.std.specs.List.{All, filter, flat_map, sum_by}
 use Rattle.mb_base.specs.declared.point.Box3.{Box3}
 use Rattle.box_tree.specs.declared.bounds.Bounds.{Bounds}
 use Rattle.box_tree.specs.declared.nodes.Entry.{Entry}
@@ -8,13 +8,12 @@ use Rattle.box_tree.specs.declared.nodes.Node.{Node}
 use Rattle.box_tree.specs.declared.walk.Question.{Question}
 use Rattle.box_tree.specs.declared.walk.Walk.{Walk}
 use Rattle.box_tree.specs.Coarse.{bounds_meet}
-use Rattle.box_tree.specs.Touching.{touches, box_at, touching_among}
-use Rattle.box_tree.specs.Nodes.{AreNodes, node_at, run_of, numbers_of}
+use Rattle.box_tree.specs.Touching.{touches}
+use Rattle.box_tree.specs.Nodes.{AreNodes, node_at, run_of, numbers_of, stored_box}
 
--- the entry has the number of a box, and its bounds meet those of the area where its box touches the area
+-- the entry's bounds meet those of the area where its box touches the area
 pub record IsFair (boxes : List Box3) (area : Box3) (bounds : Bounds) (e : Entry) : Type 0 where
-  pub number : e.number < length boxes
-  pub meets : touches (box_at boxes e.number) area ≡ true → bounds_meet e.bounds bounds ≡ true
+  pub meets : touches (stored_box boxes e) area ≡ true → bounds_meet e.bounds bounds ≡ true
 
 -- a question to a tree
 pub record IsQuestion (q : Question) : Type 0 where
@@ -25,7 +24,7 @@ pub record IsQuestion (q : Question) : Type 0 where
 
 -- of the entries, the numbers of those whose boxes touch the area
 abbrev pub hits : Question → List Entry → List ℕ
-hits q entries = touching_among q.boxes.now q.area (numbers_of entries)
+hits q entries = numbers_of (filter (λ e. touches (stored_box q.boxes.now e) q.area) entries)
 
 -- the numbers that a node gives
 abbrev pub hits_below : Question → ℕ → List ℕ

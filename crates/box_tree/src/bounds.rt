@@ -1,6 +1,6 @@
 // Boxes in coarse steps, which take half the room of boxes in fine steps.
 ghost use Rattle.std.specs.Prelude.{◌≡◌, ◌<◌, ◌≤ℤ◌, ℤ};
-ghost use Rattle.box_tree.specs.Coarse.{coarse_step, coarse_range, coarse_box, ranges_meet, bounds_meet, IsRangeIn, IsBoundsIn};
+ghost use Rattle.box_tree.specs.Coarse.{coarse_step, coarse_range, coarse_box, fine_box, ranges_meet, bounds_meet, IsRangeIn, IsBoundsIn};
 
 use mb_base::Box3;
 
@@ -74,6 +74,17 @@ impl Bounds {
             x: Range::of(one, 0, shift),
             y: Range::of(one, 1, shift),
             z: Range::of(one, 2, shift),
+        }
+    }
+
+    /// The box, where the coarse steps are fine steps.
+    #[inline]
+    pub fn fine(self) -> Box3
+        ensures { result ≡ fine_box self }
+    {
+        Box3 {
+            low: [self.x.low as i64, self.y.low as i64, self.z.low as i64],
+            high: [self.x.high as i64, self.y.high as i64, self.z.high as i64],
         }
     }
 

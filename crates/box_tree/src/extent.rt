@@ -1,6 +1,9 @@
 // How far some boxes reach, and the size of a coarse step over them. Any size serves: no clause says which.
-ghost use Rattle.std.specs.Prelude.{◌<◌};
+ghost use Rattle.std.specs.Prelude.{◌≡◌, ◌<◌, IsTrue};
+ghost use Rattle.std.specs.List.{All};
+ghost use Rattle.box_tree.specs.Coarse.{IsShort};
 
+use crate::bounds::Bounds;
 use mb_base::Box3;
 
 // How many binary digits a number has.
@@ -10,8 +13,20 @@ fn digits(number: u64) -> u32
     64 - number.leading_zeros()
 }
 
-/// The least power of two such that the boxes' coordinates, in coarse steps of it, are no greater than an i32.
-pub fn coarse_shift(boxes: &[Box3]) -> u32
+/// Whether each coordinate of the boxes is an i32.
+pub fn are_short(boxes: &[Box3]) -> bool
+    ensures { IsTrue result → All IsShort boxes.now }
+{
+    for one in boxes {
+        if Bounds::of(one, 0).fine() != *one {
+            return false;
+        }
+    }
+    true
+}
+
+// The least power of two such that the boxes' coordinates, in coarse steps of it, are no greater than an i32.
+fn shift_over(boxes: &[Box3]) -> u32
     ensures { result < 64 }
 {
     let mut most = 0;
@@ -21,4 +36,12 @@ pub fn coarse_shift(boxes: &[Box3]) -> u32
         }
     }
     digits(most).saturating_sub(31)
+}
+
+/// The power of two of a coarse step over boxes: 0 where each coordinate is an i32.
+pub fn coarse_shift(boxes: &[Box3], short: bool) -> u32
+    ensures small { result < 64 }
+    ensures fine { IsTrue short → result ≡ 0 }
+{
+    if short { 0 } else { shift_over(boxes) }
 }

@@ -1,12 +1,14 @@
 // The tree over some boxes.
-ghost use Rattle.std.specs.Prelude.{◌≡◌, ◌≤◌, IfOk, length};
+ghost use Rattle.std.specs.Prelude.{◌≡◌, ◌≤◌, IfOk, IsTrue, length};
 ghost use Rattle.std.specs.List.{All};
 ghost use Rattle.std.specs.List.Sorted.{IsPermutation};
+ghost use Rattle.box_tree.specs.Coarse.{IsShort};
+ghost use Rattle.box_tree.specs.Nodes.{AreStored};
 ghost use Rattle.box_tree.specs.Touching.{IsBox, touching_numbers};
 
 use crate::MOST_BOXES;
 use crate::bounds::Bounds;
-use crate::extent::coarse_shift;
+use crate::extent::{are_short, coarse_shift};
 use crate::nodes::{Entry, Node, nodes_over};
 use crate::order::entries_of;
 use crate::touching::Touching;
@@ -18,6 +20,7 @@ use std::marker::Model;
 /// Boxes, numbered from 0, of which those that touch an area are found without looking at all of them.
 #[derive(Drop)]
 pub struct Tree {
+    // None where the bounds of the entries are the boxes.
     boxes: Vec<Box3>,
     // The power of two of a coarse step.
     shift: u32,
@@ -28,19 +31,23 @@ pub struct Tree {
 impl Model for Tree {
     ghost use Rattle.std.specs.Prelude.{List};
     ghost use Rattle.mb_base.specs.declared.point.Box3.{Box3};
-    ghost use Rattle.box_tree.specs.Nodes.{IsTree};
+    ghost use Rattle.box_tree.specs.Nodes.{IsTree, boxes_stored};
 
     ghost Value = { List Box3 };
 
-    ghost view = { λ t. t.boxes.items };
+    ghost view = { λ t. boxes_stored t.boxes.items t.entries.items };
 
-    ghost invariant = { λ t. IsTree t.shift t.boxes.items t.entries.items t.nodes.items };
+    ghost invariant = { λ t. IsTree t.shift t.boxes.items (boxes_stored t.boxes.items t.entries.items) t.entries.items t.nodes.items };
 }
 
-// A list with the same boxes.
-fn copied(alloc: Global, boxes: &[Box3]) -> Result<Vec<Box3>, NoMemory>
-    ensures { IfOk result (λ copy. copy.items ≡ boxes.now) }
+// The boxes that are stored beside the entries: none where the bounds of the entries are the boxes.
+fn stored(alloc: Global, boxes: &[Box3], short: bool, shift: u32) -> Result<Vec<Box3>, NoMemory>
+    requires { IsTrue short → (shift ≡ 0) × All IsShort boxes.now }
+    ensures { IfOk result (λ stored. AreStored shift stored.items boxes.now) }
 {
+    if short {
+        return Ok(Vec::new(alloc));
+    }
     let mut copy = Vec::with_capacity(alloc, boxes.len())?;
     copy.extend_from_slice(boxes)?;
     Ok(copy)
@@ -53,10 +60,11 @@ impl Tree {
         requires boxes { All IsBox boxes.now }
         ensures { IfOk result (λ tree. tree ≡ boxes.now) }
     {
-        let shift = coarse_shift(boxes);
+        let short = are_short(boxes);
+        let shift = coarse_shift(boxes, short);
         let entries = entries_of(alloc, boxes, shift)?;
         let nodes = nodes_over(alloc, &entries)?;
-        let boxes = copied(alloc, boxes)?;
+        let boxes = stored(alloc, boxes, short, shift)?;
         Ok(Tree {
             boxes,
             shift,

@@ -1,8 +1,8 @@
 // A walk through a tree.
 ghost use Rattle.std.specs.Prelude.{◌≡◌, ◌+◌, ◌-◌, ◌*◌, ◌^◌, ◌<◌, ◌≤◌, ◌++◌, ◌∷◌, [], ℕ, true, IsNone, MatchOption, length, get_or, slice_range};
 ghost use Rattle.box_tree.specs.declared.nodes.Entry.{Entry};
-ghost use Rattle.box_tree.specs.Touching.{touches, box_at};
-ghost use Rattle.box_tree.specs.Nodes.{node_at};
+ghost use Rattle.box_tree.specs.Touching.{touches};
+ghost use Rattle.box_tree.specs.Nodes.{node_at, stored_box};
 ghost use Rattle.box_tree.specs.Walks.{IsFair, IsQuestion, IsWalk, hits, hits_below, hits_waiting, hits_left, nodes_below};
 
 use crate::bounds::Bounds;
@@ -12,7 +12,8 @@ use crate::{BLOCK, STACK};
 use arrayvec::ArrayVec;
 use mb_base::Box3;
 
-/// What is asked of a tree: which of its boxes touch an area. The bounds are those of the area.
+/// What is asked of a tree: which of its boxes touch an area. The bounds are those of the area. A box that is not among the boxes is
+/// that of its entry's bounds.
 #[derive(Clone, Copy, Drop)]
 pub struct Question<'t> {
     pub boxes: &'t [Box3],
@@ -44,13 +45,26 @@ pub fn first_stack(entries: &[Entry]) -> ArrayVec<u32, STACK>
 }
 
 impl<'t> Question<'t> {
+    // The box of an entry.
+    #[inline]
+    fn box_of(&self, entry: &Entry) -> Box3
+        ensures { result ≡ stored_box self.now.boxes.now entry.now }
+    {
+        let number = entry.number as usize;
+        if number < self.boxes.len() {
+            self.boxes[number]
+        } else {
+            entry.bounds.fine()
+        }
+    }
+
     // Whether the box of an entry touches the area.
     #[inline]
     fn is_hit(&self, entry: &Entry) -> bool
         requires { IsFair self.now.boxes.now self.now.area self.now.bounds entry.now }
-        ensures { result ≡ touches (box_at self.now.boxes.now entry.now.number) self.now.area }
+        ensures { result ≡ touches (stored_box self.now.boxes.now entry.now) self.now.area }
     {
-        entry.bounds.meets(self.bounds) && touch(&self.boxes[entry.number as usize], &self.area)
+        entry.bounds.meets(self.bounds) && touch(&self.box_of(entry), &self.area)
     }
 
     // The first place of an entry whose box touches the area, from a place on, or else the end.
@@ -61,7 +75,7 @@ impl<'t> Question<'t> {
         ensures from { at ≤ result }
         ensures to { result ≤ end }
         ensures hits { hits self.now (slice_range self.now.entries.now at end) ≡ hits self.now (slice_range self.now.entries.now result end) }
-        ensures found { (e : Entry) → result < end → touches (box_at self.now.boxes.now (get_or self.now.entries.now result e).number) self.now.area ≡ true }
+        ensures found { (e : Entry) → result < end → touches (stored_box self.now.boxes.now (get_or self.now.entries.now result e)) self.now.area ≡ true }
     {
         for place in at..end {
             if self.is_hit(&self.entries[place]) {

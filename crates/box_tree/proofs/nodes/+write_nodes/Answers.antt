@@ -1,7 +1,7 @@
 use Rattle.std.proofs.Common.{ℕ, ◌+◌, ◌-◌, ◌*◌, ◌<◌, ◌≤◌, set, sym, subst, arith}
 use Rattle.box_tree.specs.declared.nodes.Node.{Node}
 use Rattle.box_tree.specs.Nodes.{IsNode}
-use Rattle.box_tree.proofs.Halves.{leaf_written, halves_written, AreHalves}
+use Rattle.box_tree.proofs.Halves.{leaf_written, halves_written}
 use Rattle.box_tree.proofs.nodes.+write_nodes.Goals as goal
 
 pub returns-then-count-eq1-clause-nodes : goal.returns-then-count-eq1-clause-nodes

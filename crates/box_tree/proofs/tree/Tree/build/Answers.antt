@@ -4,6 +4,7 @@ use Rattle.mb_base.specs.declared.point.Box3.{Box3}
 use Rattle.box_tree.specs.Nodes.{IsTree}
 use Rattle.box_tree.proofs.Trees.{as_many}
 use Rattle.box_tree.proofs.Starts.{tree_made}
+use Rattle.box_tree.proofs.Stored.{boxes_there}
 use Rattle.box_tree.proofs.tree.Tree.build.Goals as goal
 
 pub nodes_over-requires : goal.nodes_over-requires
@@ -13,8 +14,14 @@ nodes_over-requires c =
 
 pub invariant_of-result : goal.invariant_of-result
 invariant_of-result c =
-    let T : List Box3 → Type 0 = λ boxes. IsTree c.coarse_shift-shift.result boxes c.in_ok-entries.entries.items c.in_ok-nodes.nodes.items in
-    let same = as_many c.coarse_shift-shift.result c.args.boxes.now c.in_ok-entries.entries.items c.in_ok-entries.ensures in
-    subst T (sym c.in_ok-boxes.ensures)
-    (tree_made c.coarse_shift-shift.result c.args.boxes.now c.in_ok-entries.entries.items c.deref.result.now c.in_ok-nodes.nodes.items c.coarse_shift-shift.ensures c.in_ok-entries.ensures
+    let shift = c.coarse_shift-shift.result in
+    let stored = c.in_ok-boxes.boxes.items in
+    let entries = c.in_ok-entries.entries.items in
+    let nodes = c.in_ok-nodes.nodes.items in
+    let T : List Box3 → Type 0 = λ boxes. IsTree shift stored boxes entries nodes in
+    subst T (sym (boxes_there shift stored c.args.boxes.now entries c.in_ok-entries.ensures c.in_ok-boxes.ensures))
+    (tree_made shift stored c.args.boxes.now entries c.deref.result.now nodes c.coarse_shift-shift.ensures.small c.in_ok-entries.ensures c.in_ok-boxes.ensures
     c.deref.ensures.value c.in_ok-nodes.ensures.nodes c.in_ok-nodes.ensures.short c.in_ok-nodes.ensures.root)
+
+pub returns : goal.returns
+returns c = boxes_there c.coarse_shift-shift.result c.in_ok-boxes.boxes.items c.args.boxes.now c.in_ok-entries.entries.items c.in_ok-entries.ensures c.in_ok-boxes.ensures

@@ -1,5 +1,5 @@
 use Rattle.std.specs.Prelude.{◌++◌}
-use Rattle.std.proofs.Common.{arith, ap, ◌∙◌}
+use Rattle.std.proofs.Common.{ap, ◌∙◌}
 use Rattle.box_tree.specs.Nodes.{no_entry}
 use Rattle.box_tree.specs.Walks.{hits_waiting}
 use Rattle.box_tree.proofs.Hits.{hits_found}
