@@ -1,5 +1,5 @@
 -- What nodes own in memory, taken apart and put together. Assumes `Logic`.
-use Rattle.loop_ring.proofs.Walking.{◌≡◌, ℕ, ◌<◌, suc, List, [], ◌∷◌, ◌++◌, length, take, drop, set, get_or, refl, sym, ap, ◌∙◌, Ura, full_share, ent, sep, fst∗, never, ftrue, fat, Ty, Val, Logic, sem, Item, Goal, Seq, Step, step, ‵, ◌⊛◌, some, ◌$◌, ◌∵◌, !, qed, done, move, leave, use1, use2, use3, split, split3, fsplit, fjoin, pick, rewrite, Is, shows, part_at, lone, Ptr, block_ptr, null_ptr, in_a_block, nothing, peeks, only}
+use Rattle.loop_ring.proofs.Walking.{◌≡◌, ℕ, ◌<◌, suc, List, [], ◌∷◌, ◌++◌, length, take, drop, set, get_or, refl, sym, ap, ◌∙◌, Ura, full_share, ent, sep, fst∗, never, ftrue, fat, Ty, Val, Logic, sem, Item, Goal, Seq, Step, step, ‵, ◌⊛◌, some, ◌$◌, ◌∵◌, !, qed, done, move, leave, use1, use2, split, fsplit, fjoin, pick, rewrite, Is, shows, part_at, lone, Ptr, block_ptr, null_ptr, in_a_block, nothing, peeks, only}
 use borrow.Table.OneValue.{part_in, part_out}
 use Rattle.loop_ring.specs.declared.nodes.Node.{Node}
 use Rattle.loop_ring.specs.contracts.nodes.Node.{the_row as R}

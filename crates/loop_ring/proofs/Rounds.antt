@@ -1,6 +1,6 @@
 -- What each change of a ring's links leaves is a circle again, and a circle is followed to its end.
-use Rattle.std.proofs.Common.{◌≡◌, ℕ, suc, ◌+◌, ◌-◌, ◌<◌, List, [], ◌∷◌, ◌++◌, length, take, drop, set, get_or, map, refl, sym, ap, subst, ◌∙◌, arith}
-use Rattle.std.proofs.lemmas.List.{map-append, length-append, length-drop, length-map, drop-map}
+use Rattle.std.proofs.Common.{◌≡◌, ℕ, ◌+◌, ◌-◌, ◌<◌, List, [], ◌∷◌, ◌++◌, length, drop, set, get_or, refl, sym, ap, subst, ◌∙◌, arith}
+use Rattle.std.proofs.lemmas.List.{length-append, length-drop, length-map, drop-map}
 use denote.RawPtr.{Ptr, null_ptr}
 use Rattle.loop_ring.specs.Located.{Located, addresses, nexts, prevs, address_at}
 use Rattle.loop_ring.specs.Circles.{IsCircle, IsChain}
@@ -24,48 +24,48 @@ circle_back p q ns ms n count circle to turned =
     }
 
 -- ---- a circle whose first node goes
-second_of_turned : (as : List Ptr) → 1 < length as → get_or (turned_to 1 as) 0 null_ptr ≡ get_or as 1 null_ptr
+second_of_turned : (ps : List Ptr) → 1 < length ps → get_or (turned_to 1 ps) 0 null_ptr ≡ get_or ps 1 null_ptr
 second_of_turned [] more = absurd (omega arith)
 second_of_turned (a ∷ []) more = absurd (omega arith)
-second_of_turned (a ∷ b ∷ as) more = refl
+second_of_turned (a ∷ b ∷ ps) more = refl
 
-first_of_rest : (as : List Ptr) → get_or (drop 1 as) 0 null_ptr ≡ get_or as 1 null_ptr
+first_of_rest : (ps : List Ptr) → get_or (drop 1 ps) 0 null_ptr ≡ get_or ps 1 null_ptr
 first_of_rest [] = refl
-first_of_rest (a ∷ as) = refl
+first_of_rest (a ∷ ps) = refl
 
 pub circle_cut : (p q a : Ptr) (ns ls ms : List Located) (n : ℕ) → n ≡ length ns → 1 < n → IsCircle p ns → q ≡ get_or (nexts ns) 0 null_ptr → a ≡ get_or (prevs ns) 0 null_ptr
     → addresses ls ≡ addresses ns → nexts ls ≡ set (nexts ns) (n - 1) q → prevs ls ≡ set (prevs ns) 1 a → ms ≡ drop 1 ls → IsCircle q ms
 circle_cut p q a ns ls ms n count more circle to from there ahead behind gone =
-    let la = length-map ns (λ x. x.0) in let lb = length-map ns (λ x. x.1.prev) in let as = addresses ns in let bs = prevs ns in
-    let second : q ≡ get_or as 1 null_ptr = to ∙ ap (λ ps. get_or ps 0 null_ptr) circle.forward ∙ second_of_turned as (omega arith) in
-    let left : addresses ms ≡ drop 1 as = ap addresses gone ∙ sym (drop-map (λ x. x.0) 1 ls) ∙ ap (drop 1) there in
-    let ll = length-map ms (λ x. x.0) in let cut = ap length left in let rest = length-drop 1 as in
+    let la = length-map ns (λ x. x.0) in let lb = length-map ns (λ x. x.1.prev) in let ps = addresses ns in let bs = prevs ns in
+    let second : q ≡ get_or ps 1 null_ptr = to ∙ ap (λ ps. get_or ps 0 null_ptr) circle.forward ∙ second_of_turned ps (omega arith) in
+    let left : addresses ms ≡ drop 1 ps = ap addresses gone ∙ sym (drop-map (λ x. x.0) 1 ls) ∙ ap (drop 1) there in
+    let ll = length-map ms (λ x. x.0) in let cut = ap length left in let rest = length-drop 1 ps in
     record {
       some = omega arith;
-      front = second ∙ sym (first_of_rest as) ∙ ap (λ ps. get_or ps 0 null_ptr) (sym left);
-      forward = ap nexts gone ∙ sym (drop-map (λ x. x.1.next) 1 ls) ∙ ap (drop 1) (ahead ∙ (λ i. set (circle.forward i) (n - 1) (second i))) ∙ nexts_cut as n (omega arith) more ∙ ap (turned_to 1) (sym left);
+      front = second ∙ sym (first_of_rest ps) ∙ ap (λ ps. get_or ps 0 null_ptr) (sym left);
+      forward = ap nexts gone ∙ sym (drop-map (λ x. x.1.next) 1 ls) ∙ ap (drop 1) (ahead ∙ (λ i. set (circle.forward i) (n - 1) (second i))) ∙ nexts_cut ps n (omega arith) more ∙ ap (turned_to 1) (sym left);
       backward = ap (turned_to 1) (ap prevs gone ∙ sym (drop-map (λ x. x.1.prev) 1 ls) ∙ ap (drop 1) (behind ∙ ap (set bs 1) from)) ∙ prevs_cut bs (omega arith) ∙ ap (drop 1) circle.backward ∙ sym left;
     }
 
 -- ---- two circles joined
-first_of_both : (as cs : List Ptr) → 0 < length as → get_or (as ++ cs) 0 null_ptr ≡ get_or as 0 null_ptr
+first_of_both : (ps cs : List Ptr) → 0 < length ps → get_or (ps ++ cs) 0 null_ptr ≡ get_or ps 0 null_ptr
 first_of_both [] cs some = absurd (omega arith)
-first_of_both (a ∷ as) cs some = refl
+first_of_both (a ∷ ps) cs some = refl
 
 pub circle_spliced : (p q a b : Ptr) (ns ms ls : List Located) (n m : ℕ) → n ≡ length ns → m ≡ length ms → IsCircle p ns → IsCircle q ms
     → a ≡ get_or (prevs ns) 0 null_ptr → b ≡ get_or (prevs ms) 0 null_ptr → addresses ls ≡ addresses ns ++ addresses ms
     → nexts ls ≡ set (set (nexts ns ++ nexts ms) (n - 1) q) (n + m - 1) p → prevs ls ≡ set (set (prevs ns ++ prevs ms) n a) 0 b → IsCircle p ls
 circle_spliced p q a b ns ms ls n m here there one other from end both ahead behind =
-    let some = one.some in let more = other.some in let as = addresses ns in let cs = addresses ms in
+    let some = one.some in let more = other.some in let ps = addresses ns in let cs = addresses ms in
     let la = length-map ns (λ x. x.0) in let lc = length-map ms (λ x. x.0) in let lb = length-map ns (λ x. x.1.prev) in let ld = length-map ms (λ x. x.1.prev) in
-    let ll = length-map ls (λ x. x.0) in let whole = ap length both in let sum = length-append as cs in
+    let ll = length-map ls (λ x. x.0) in let whole = ap length both in let sum = length-append ps cs in
     record {
       some = omega arith;
-      front = one.front ∙ sym (first_of_both as cs (omega arith)) ∙ ap (λ ps. get_or ps 0 null_ptr) (sym both);
+      front = one.front ∙ sym (first_of_both ps cs (omega arith)) ∙ ap (λ ps. get_or ps 0 null_ptr) (sym both);
       forward = ahead ∙ (λ i. set (set (one.forward i ++ other.forward i) (n - 1) (other.front i)) (n + m - 1) (one.front i))
-      ∙ nexts_spliced as cs n m (omega arith) (omega arith) (omega arith) (omega arith) ∙ ap (turned_to 1) (sym both);
+          ∙ nexts_spliced ps cs n m (omega arith) (omega arith) (omega arith) (omega arith) ∙ ap (turned_to 1) (sym both);
       backward = ap (turned_to 1) (behind ∙ (λ i. set (set (prevs ns ++ prevs ms) n (from i)) 0 (end i)))
-      ∙ prevs_spliced (prevs ns) (prevs ms) n (omega arith) (omega arith) (omega arith) ∙ (λ i. one.backward i ++ other.backward i) ∙ sym both;
+          ∙ prevs_spliced (prevs ns) (prevs ms) n (omega arith) (omega arith) (omega arith) ∙ (λ i. one.backward i ++ other.backward i) ∙ sym both;
     }
 
 -- ---- a circle followed from node to node

@@ -1,5 +1,5 @@
 -- Lists turned, and what is set at their ends.
-use Rattle.std.proofs.Common.{◌≡◌, ℕ, zero, suc, ◌+◌, ◌-◌, ◌<◌, List, [], ◌∷◌, ◌++◌, length, take, drop, set, get_or, map, refl, sym, ap, subst, ◌∙◌, arith}
+use Rattle.std.proofs.Common.{◌≡◌, ℕ, ◌+◌, ◌-◌, ◌<◌, List, [], ◌∷◌, ◌++◌, length, take, drop, set, get_or, map, refl, sym, ap, subst, ◌∙◌, arith}
 use Rattle.std.proofs.lemmas.List.{map-append, length-append, length-drop, append_assoc, drop-map, take-map, take-append-drop}
 use Rattle.std.proofs.Math.Seq.{drop-append_seam, take-append_seam, set-append_seam}
 use denote.RawPtr.{Ptr, null_ptr}
@@ -32,10 +32,10 @@ set_last : {X : Type 0} (x y : X) (xs : List X) (n : ℕ) → n ≡ length xs �
 set_last x y xs n count = ap (λ m. set (xs ++ x ∷ []) m y) count ∙ set-append_seam xs x [] y
 
 -- The links of a circle whose first node goes: the last node is linked to the second.
-pub nexts_cut : (as : List Ptr) (n : ℕ) → n ≡ length as → 1 < n → drop 1 (set (turned_to 1 as) (n - 1) (get_or as 1 null_ptr)) ≡ turned_to 1 (drop 1 as)
+pub nexts_cut : (ps : List Ptr) (n : ℕ) → n ≡ length ps → 1 < n → drop 1 (set (turned_to 1 ps) (n - 1) (get_or ps 1 null_ptr)) ≡ turned_to 1 (drop 1 ps)
 nexts_cut [] n count more = absurd (omega arith)
 nexts_cut (a ∷ []) n count more = absurd (omega arith)
-nexts_cut (a ∷ b ∷ as) n count more = ap (drop 1) (set_last a b (b ∷ as) (n - 1) (omega arith))
+nexts_cut (a ∷ b ∷ ps) n count more = ap (drop 1) (set_last a b (b ∷ ps) (n - 1) (omega arith))
 
 pub prevs_cut : (bs : List Ptr) → 1 < length bs → turned_to 1 (drop 1 (set bs 1 (get_or bs 0 null_ptr))) ≡ drop 1 (turned_to 1 bs)
 prevs_cut [] more = absurd (omega arith)
@@ -43,15 +43,15 @@ prevs_cut (a ∷ []) more = absurd (omega arith)
 prevs_cut (a ∷ b ∷ bs) more = refl
 
 -- The links of two circles that become one: the last node of each is linked to the first of the other.
-pub nexts_spliced : (as cs : List Ptr) (n m : ℕ) → n ≡ length as → m ≡ length cs → 0 < n → 0 < m
-    → set (set (turned_to 1 as ++ turned_to 1 cs) (n - 1) (get_or cs 0 null_ptr)) (n + m - 1) (get_or as 0 null_ptr) ≡ turned_to 1 (as ++ cs)
+pub nexts_spliced : (ps cs : List Ptr) (n m : ℕ) → n ≡ length ps → m ≡ length cs → 0 < n → 0 < m
+    → set (set (turned_to 1 ps ++ turned_to 1 cs) (n - 1) (get_or cs 0 null_ptr)) (n + m - 1) (get_or ps 0 null_ptr) ≡ turned_to 1 (ps ++ cs)
 nexts_spliced [] cs n m here there some more = absurd (omega arith)
-nexts_spliced (a ∷ as) [] n m here there some more = absurd (omega arith)
-nexts_spliced (a ∷ as) (c ∷ cs) n m here there some more =
-    let all = length-append as (c ∷ cs) in
-    let first : set ((as ++ a ∷ []) ++ (cs ++ c ∷ [])) (n - 1) c ≡ (as ++ c ∷ cs) ++ c ∷ [] =
-    ap (λ ls. set ls (n - 1) c) (append_assoc as (a ∷ []) (cs ++ c ∷ [])) ∙ ap (λ k. set (as ++ a ∷ (cs ++ c ∷ [])) k c) (omega arith) ∙ set-append_seam as a (cs ++ c ∷ []) c ∙ sym (append_assoc as (c ∷ cs) (c ∷ [])) in
-    ap (λ ls. set ls (n + m - 1) a) first ∙ set_last c a (as ++ c ∷ cs) (n + m - 1) (omega arith)
+nexts_spliced (a ∷ ps) [] n m here there some more = absurd (omega arith)
+nexts_spliced (a ∷ ps) (c ∷ cs) n m here there some more =
+    let all = length-append ps (c ∷ cs) in
+    let first : set ((ps ++ a ∷ []) ++ (cs ++ c ∷ [])) (n - 1) c ≡ (ps ++ c ∷ cs) ++ c ∷ [] =
+    ap (λ ls. set ls (n - 1) c) (append_assoc ps (a ∷ []) (cs ++ c ∷ [])) ∙ ap (λ k. set (ps ++ a ∷ (cs ++ c ∷ [])) k c) (omega arith) ∙ set-append_seam ps a (cs ++ c ∷ []) c ∙ sym (append_assoc ps (c ∷ cs) (c ∷ [])) in
+    ap (λ ls. set ls (n + m - 1) a) first ∙ set_last c a (ps ++ c ∷ cs) (n + m - 1) (omega arith)
 
 pub prevs_spliced : (bs ds : List Ptr) (n : ℕ) → n ≡ length bs → 0 < n → 0 < length ds
     → turned_to 1 (set (set (bs ++ ds) n (get_or bs 0 null_ptr)) 0 (get_or ds 0 null_ptr)) ≡ turned_to 1 bs ++ turned_to 1 ds

@@ -55,8 +55,7 @@ impl Nodes {
     pub fn recount(&mut self, count: usize)
         requires { count ≤ length self.old.list }
         ensures { self.new.list ≡ turned_to count self.old.list }
-    {
-    }
+    {}
 
     // A node of the value follows.
     pub fn add(&mut self, alloc: Global, value: u32) -> Result<*mut Node, NoMemory>
@@ -81,10 +80,7 @@ impl Nodes {
     fn fill(&mut self, room: Vacant<Node, Global>, value: u32) -> *mut Node
         ensures { self.new.list ≡ self.old.list ++ alone result value ∷ [] }
     {
-        let Vacant {
-            ptr: at,
-            alloc: _,
-        } = room;
+        let Vacant { ptr: at, alloc: _ } = room;
         let node = Node {
             next: at,
             prev: at,

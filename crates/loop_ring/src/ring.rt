@@ -1,5 +1,6 @@
 // The ring: nodes in a circle, and a cursor at one of them.
 ghost use Rattle.std.specs.Prelude.{◌≡◌, ◌+◌, ◌-◌, ◌<◌, ◌^◌, [], ◌∷◌, ◌++◌, length, drop, slice_index, IfOk, OnOk, OnErr};
+ghost use Rattle.loop_ring.specs.Circles.{IsCircle};
 ghost use Rattle.loop_ring.specs.Turning.{turned_to};
 
 use crate::nodes::{Node, Nodes};
@@ -39,7 +40,8 @@ impl Ring {
     {
         let mut ring = Ring::alone(alloc, values[0])?;
         for i in 1..values.len() {
-            ring.grow(values[i])?;
+            let one = Ring::alone(alloc, values[i])?;
+            ring.join(one);
         }
         Ok(ring)
     }
@@ -90,7 +92,8 @@ impl Ring {
     pub fn behind(&self) -> u32
         ensures { result ≡ slice_index (turned_to (length self.now - 1) self.now) 0 }
     {
-        self.nodes.value(self.nodes.prev(self.first, 0), self.len - 1)
+        self.nodes
+            .value(self.nodes.prev(self.first, 0), self.len - 1)
     }
 
     /// Moves the cursor to the next place.
@@ -124,6 +127,26 @@ impl Ring {
 
     /// Puts the places of the other ring, from its cursor once round, before this ring's cursor. No node is copied.
     pub fn splice(&mut self, other: Ring)
+        requires { length self.old + length other < 2 ^ 32 }
+        ensures { self.new ≡ self.old ++ other }
+    {
+        self.join(other);
+    }
+
+    /// Puts a value before the cursor. It takes memory for one node. `NoMemory` may come for any ring, and leaves it as it
+    /// was.
+    pub fn grow(&mut self, value: u32) -> Result<(), NoMemory>
+        requires { length self.old + 1 < 2 ^ 32 }
+        ensures ok { OnOk result (self.new ≡ self.old ++ value ∷ []) }
+        ensures err { OnErr result (self.new ≡ self.old) }
+    {
+        let one = Ring::alone(self.alloc, value)?;
+        self.join(one);
+        Ok(())
+    }
+
+    // Links two circles to one.
+    fn join(&mut self, other: Ring)
         requires { length self.old + length other < 2 ^ 64 }
         ensures { self.new ≡ self.old ++ other }
     {
@@ -139,18 +162,6 @@ impl Ring {
         self.nodes.link(last, self.len - 1, first, self.len);
         self.nodes.link(end, self.len + len - 1, self.first, 0);
         self.len += len;
-    }
-
-    /// Puts a value before the cursor. It takes memory for one node. `NoMemory` may come for any ring, and leaves it as it
-    /// was.
-    pub fn grow(&mut self, value: u32) -> Result<(), NoMemory>
-        requires { length self.old + 1 < 2 ^ 64 }
-        ensures ok { OnOk result (self.new ≡ self.old ++ value ∷ []) }
-        ensures err { OnErr result (self.new ≡ self.old) }
-    {
-        let one = Ring::alone(self.alloc, value)?;
-        self.splice(one);
-        Ok(())
     }
 }
 

@@ -38,7 +38,10 @@ fn each_call_leaves_the_list_that_it_says(rt: HostRuntime) -> Result<(), Fail> {
 #[test]
 fn a_lone_place_is_its_own_neighbour(rt: HostRuntime) -> Result<(), Fail> {
     let mut ring = Ring::of(rt.alloc(), &[6])?;
-    assert_eq!(rt; (ring.len(), ring.get(), ring.ahead(), ring.behind()), (1, 6, 6, 6));
+    assert_eq!(rt;
+        (ring.len(), ring.get(), ring.ahead(), ring.behind()),
+        (1, 6, 6, 6)
+    );
     ring.step();
     ring.back();
     assert!(rt; has(rt.alloc(), &mut ring, &[6])?);

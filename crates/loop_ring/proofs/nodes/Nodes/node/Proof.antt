@@ -1,5 +1,5 @@
 -- One node is lent. Assumes `Logic`.
-use Rattle.loop_ring.proofs.Walking.{◌≡◌, ℕ, ◌<◌, List, [], ◌∷◌, length, get_or, refl, ◌∙◌, proved, after, Ptr-Good, fst∗, never, ftrue, full_share, fat, flft, named, ty_ptr, Val, vptr, vint, w64, sem, fact, tables, ‵, raw, ◌⊛◌, at_ret, ◌$◌, ◌∵◌, !, qed, done, move, keep, leave, use1, split, join, fsplit, fjoin, feq_i, rewrite, suffices, enter, of_opd, addr, stop, first, blocks, exec, returns, alloc_all, pass_all, free_all, look_at, take_at, give_at, get, through, sets, sets_last, env, usize, yes, Ptr, RawPtr, ptr_val, in_a_block, rawptr_vals, rawptr_Tells, ShrRef, shr_vals, shr_Tells, uint_vals, uint_Tells, plain, Struct, shape, nothing, heard, Stays, walk_of, says, stay_dropped, Goes-dropped, ends_at}
+use Rattle.loop_ring.proofs.Walking.{ℕ, List, [], ◌∷◌, get_or, refl, ◌∙◌, proved, after, Ptr-Good, fst∗, never, ftrue, full_share, fat, flft, named, ty_ptr, Val, vptr, vint, w64, sem, fact, tables, ‵, raw, ◌⊛◌, at_ret, ◌$◌, ◌∵◌, !, qed, done, move, keep, leave, use1, split, join, fsplit, fjoin, feq_i, rewrite, suffices, enter, of_opd, addr, stop, first, blocks, exec, returns, alloc_all, pass_all, free_all, look_at, take_at, give_at, get, through, sets, sets_last, env, usize, yes, Ptr, RawPtr, ptr_val, in_a_block, rawptr_vals, rawptr_Tells, ShrRef, shr_vals, shr_Tells, uint_vals, uint_Tells, plain, Struct, shape, nothing, heard, Stays, walk_of, says, stay_dropped, Goes-dropped, ends_at}
 use base.Fml.{fhide}
 use denote.Builtin.{RefOf}
 use denote.Memory.{hidden_shr, shared_of}

@@ -9,7 +9,7 @@ pub returns-clause-nexts : goal.returns-clause-nexts
 returns-clause-nexts c = other_seen (λ n. n.1.next) _ _ _ _ c.set_node.ensures
 
 pub returns-clause-prevs : goal.returns-clause-prevs
-returns-clause-prevs c = same_seen (λ n. n.1.prev) _ _ _ _ c.set_node.ensures (ap (λ x. x.prev) c.node.ensures)
+returns-clause-prevs c = same_seen (λ n. n.1.prev) _ _ _ _ c.set_node.ensures (ap (λ x. x.prev) c.node-node.ensures)
 
 pub returns-clause-values : goal.returns-clause-values
-returns-clause-values c = same_seen (λ n. n.1.value) _ _ _ _ c.set_node.ensures (ap (λ x. x.value) c.node.ensures)
+returns-clause-values c = same_seen (λ n. n.1.value) _ _ _ _ c.set_node.ensures (ap (λ x. x.value) c.node-node.ensures)

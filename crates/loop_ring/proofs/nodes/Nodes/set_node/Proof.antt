@@ -1,5 +1,5 @@
 -- One node is written over. Assumes `Logic`.
-use Rattle.loop_ring.proofs.Walking.{◌≡◌, ℕ, ◌<◌, List, [], ◌∷◌, length, set, refl, proved, after, Ptr-Good, ftrue, full_share, fat, flft, named, ty_ptr, vunit, vint, w64, fact, tables, ‵, raw, ◌⊛◌, at_ret, ◌$◌, ◌∵◌, !, qed, done, move, keep, split, join, feq_i, rewrite, suffices, frame, enter, of_opd, unit_lit, store, stop, assigns_last, first, blocks, exec, returns, alloc_all, pass_all, free_all, look_at, take_at, give_at, get, through, sets, env, usize, yes, Ptr, RawPtr, ptr_val, rawptr_vals, rawptr_Tells, mut_vals, mut_Tells, uint_vals, uint_Tells, plain, nothing, heard, Stays, walk_of, says, stay_dropped, stay_ref, Goes-dropped, Goes-ref, ends_at}
+use Rattle.loop_ring.proofs.Walking.{ℕ, List, [], ◌∷◌, set, refl, proved, after, Ptr-Good, ftrue, full_share, fat, flft, named, ty_ptr, vunit, vint, w64, fact, tables, ‵, raw, ◌⊛◌, at_ret, ◌$◌, ◌∵◌, !, qed, done, move, keep, split, join, feq_i, rewrite, suffices, frame, enter, of_opd, unit_lit, store, stop, assigns_last, first, blocks, exec, returns, alloc_all, pass_all, free_all, look_at, take_at, give_at, get, through, sets, env, usize, yes, Ptr, RawPtr, ptr_val, rawptr_vals, rawptr_Tells, mut_vals, mut_Tells, uint_vals, uint_Tells, plain, nothing, heard, Stays, walk_of, says, stay_dropped, stay_ref, Goes-dropped, Goes-ref, ends_at}
 use Rattle.loop_ring.specs.Located.{Located, IsAddress}
 use Rattle.loop_ring.proofs.Memory.{one_out, one_in}
 use Rattle.loop_ring.proofs.Borrowed.{Self, nodes_out, nodes_in}

@@ -1,5 +1,5 @@
 -- The block of the first node is given away. Assumes `Logic`.
-use Rattle.loop_ring.proofs.Walking.{◌≡◌, ◌<◌, List, [], ◌∷◌, length, drop, get_or, refl, proved, Ptr-Good, as_raw, ftrue, full_share, fat, froom, flft, named, ty_ptr, Val, fact, ‵, raw, ◌⊛◌, ◌$◌, ◌∵◌, !, qed, done, move, keep, leave, use1, split, join, rewrite, suffices, frame, enter, no_more, and_then, returns, alloc_all, pass_all, free_all, look_at, take_at, give_at, get, sets, agg, yes, Ptr, RawPtr, ptr_val, block_ptr, rawptr_vals, rawptr_Tells, mut_vals, mut_Tells, plain, nothing, heard, Stays, walk_of, says, stay_dropped, stay_ref, Goes-dropped, Goes-ref, ends_at}
+use Rattle.loop_ring.proofs.Walking.{List, [], ◌∷◌, drop, get_or, refl, proved, Ptr-Good, as_raw, ftrue, full_share, fat, froom, flft, named, ty_ptr, Val, fact, ‵, raw, ◌⊛◌, ◌$◌, ◌∵◌, !, qed, done, move, keep, leave, use1, split, join, rewrite, suffices, frame, enter, no_more, and_then, returns, alloc_all, pass_all, free_all, look_at, take_at, give_at, get, sets, agg, yes, Ptr, RawPtr, ptr_val, block_ptr, rawptr_vals, rawptr_Tells, mut_vals, mut_Tells, plain, nothing, heard, Stays, walk_of, says, stay_dropped, stay_ref, Goes-dropped, Goes-ref, ends_at}
 use Rattle.std.specs.contracts.alloc.Global.{the_row as G}
 use Rattle.std.proofs.alloc.Global.TheLaws as global
 use Rattle.loop_ring.specs.Located.{Located, nowhere, IsAddress}

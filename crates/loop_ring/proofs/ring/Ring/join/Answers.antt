@@ -2,7 +2,7 @@ use Rattle.std.proofs.Common.{ℕ, ◌-◌, ◌+◌, List, length, set, ap, ◌�
 use Rattle.std.proofs.lemmas.List.{length-append, map-append}
 use Rattle.loop_ring.specs.Located.{Located, addresses, nexts, prevs}
 use Rattle.loop_ring.proofs.Rounds.{circle_spliced}
-use Rattle.loop_ring.proofs.ring.Ring.splice.Goals as goal
+use Rattle.loop_ring.proofs.ring.Ring.join.Goals as goal
 
 pub invariant_of-self : goal.invariant_of-self
 invariant_of-self c =
