@@ -1,9 +1,8 @@
 -- A hole joined to a circle: the cursor goes to the place after the bridge's end, the hole's nodes come before it, and the cursor goes on to the first place.
 use Rattle.std.specs.Prelude.{◌≡◌, ℕ, ◌+◌, ◌<◌, List, [], ◌∷◌, ◌++◌, length, get_or, take, drop}
-use Rattle.std.proofs.Common.{arith, refl, sym, ap, ◌∙◌}
+use Rattle.std.proofs.Common.{arith, sym, ap, ◌∙◌}
 use Rattle.std.proofs.lemmas.List.{append_assoc, length-drop}
 use Rattle.std.proofs.Math.Seq.{drop-append_seam, take-append_seam}
-use Rattle.face_plane.specs.Rings.{vertex_at}
 use Rattle.hole_joining.specs.Bridges.{join}
 use Rattle.hole_joining.specs.Holes.{turned_to}
 use Rattle.hole_joining.proofs.Joins.{vertex_within}

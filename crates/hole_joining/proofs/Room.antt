@@ -1,7 +1,7 @@
 -- Rings are so short that all holes fit into each.
-use Rattle.std.specs.Prelude.{◌≡◌, ℕ, ◌+◌, ◌*◌, ◌^◌, ◌<◌, ◌≤◌, pos, List, [], ◌∷◌, ◌++◌, length, get_or, drop, Option, Some, None}
+use Rattle.std.specs.Prelude.{◌≡◌, ℕ, ◌+◌, ◌*◌, ◌^◌, ◌<◌, ◌≤◌, pos, List, [], ◌∷◌, length, get_or, drop, Option, Some, None}
 use Rattle.std.specs.List.{All, concat}
-use Rattle.std.proofs.Common.{arith, refl, sym, subst, ap, ◌∙◌}
+use Rattle.std.proofs.Common.{arith, refl, sym, subst, ap}
 use Rattle.std.proofs.lemmas.Int.{ints}
 use Rattle.std.proofs.lemmas.List.{length-append, at_drop_more}
 use Rattle.std.proofs.lemmas.List.Elements.{All-cons, All-head, All-tail, All-nil, All-set, All-get_or, All-weaker}
@@ -33,12 +33,16 @@ room_next m at rings holes now k within few e = subst (All Later) (sym e) (by_br
   where
     hole : List ℕ
     hole = get_or holes k []
+
     later : List (List ℕ)
     later = drop (k + 1) holes
+
     Later : List ℕ → Type 0
     Later r = length r + added (drop (k + 1) holes) < m
+
     others : All Later rings
     others = All-weaker (λ r. length r + added (drop k holes) < m) Later (λ r h. omega (arith, h, added_on holes k within)) rings few
+
     by_bridge : (o : Option Bridge) → chosen_bridge at rings hole later ≡ o → All Later (bridged hole rings o)
     by_bridge None c = others
     by_bridge (Some b) c =
