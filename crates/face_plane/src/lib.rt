@@ -6,11 +6,9 @@
 #![tactic(auto)]
 
 mod flat_point;
-mod places;
 mod plane;
 #[cfg(test)]
 mod tests;
 
 pub use flat_point::FlatPoint;
-pub use places::Places;
 pub use plane::FacePlane;

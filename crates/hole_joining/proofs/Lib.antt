@@ -1,7 +1,9 @@
 pub mod Choice
+pub mod Circles
 pub mod Joins
 pub mod Keeps
 pub mod Lists
 pub mod Loops
+pub mod Room
 pub mod Rounds
 pub mod Turning

@@ -9,7 +9,8 @@ ghost use Rattle.hole_joining.specs.Cones.{overlap, on_both_sides, boxes_meet, l
 ghost use Rattle.face_plane.specs.Planes.{turn};
 
 use crate::flat::{BridgeLine, FlatPoints, FlatVertex};
-use face_plane::{FlatPoint, Places};
+use crate::places::Places;
+use face_plane::FlatPoint;
 
 // Whether the least of a and b is at most the greatest of c and d.
 fn reaches(a: i64, b: i64, c: i64, d: i64) -> bool

@@ -11,18 +11,19 @@ ghost use Rattle.hole_joining.specs.Laws.{AreFillable, HasPlaces, settled_in};
 
 use crate::area::is_turned;
 use crate::flat::FlatPoints;
-use crate::splice::join_all;
+use crate::splice::{circles_of, join_all};
 use crate::start::{holes_of, rings_of};
 use face_loops::Loop;
-use face_plane::{FacePlane, Places};
+use face_plane::FacePlane;
+use loop_ring::Ring;
 use mb_base::{NoMemory, Point};
 use std::alloc::Global;
 
 /// The rings of a face after every hole was joined to one.
-#[derive(Debug, Drop)]
+#[derive(Drop)]
 pub struct Joined {
-    /// The rings, in the order of the loops that they come from.
-    pub rings: Vec<Places>,
+    /// The rings, in the order of the loops that they come from, each with its first place at the cursor.
+    pub rings: Vec<Ring>,
     /// Whether u and v are exchanged.
     pub turned: bool,
 }
@@ -76,6 +77,10 @@ pub fn join_holes(
     };
     let mut rings = rings_of(alloc, &flat, loops)?;
     let holes = holes_of(alloc, &flat, loops)?;
-    join_all(alloc, &flat, &mut rings, &holes)?;
-    Ok(Joined { rings, turned })
+    let mut circles = circles_of(alloc, &rings)?;
+    join_all(alloc, &flat, &mut rings, &mut circles, &holes)?;
+    Ok(Joined {
+        rings: circles,
+        turned,
+    })
 }

@@ -1,6 +1,6 @@
 // A hole in hand.
 use crate::flat::FlatPoints;
-use face_plane::Places;
+use crate::places::Places;
 
 /// The hole that is joined next, with the rings and the later holes, past which its bridge must run.
 #[derive(Clone, Copy, Drop)]

@@ -14,6 +14,7 @@ mod clear;
 mod flat;
 mod joined;
 mod joining;
+mod places;
 #[cfg(test)]
 mod rows;
 mod search;

@@ -7,7 +7,8 @@ ghost use Rattle.hole_joining.specs.Laws.{AreFillable};
 use crate::join_holes;
 use crate::rows::{RANDOM_ROWS, ROWS};
 use face_loops::Loop;
-use face_plane::{FacePlane, Places};
+use face_plane::FacePlane;
+use loop_ring::Ring;
 use mb_base::{NoMemory, Point};
 use std::alloc::Global;
 use std::test::Fail;
@@ -118,18 +119,25 @@ fn parts(line: &str) -> Option<(&str, &str, &str, &str)> {
     Some((drop, points, loops, rings))
 }
 
-// Whether the rings are those of the text.
-fn are_rings(alloc: Global, rings: &[Places], text: &str) -> Result<bool, Fail> {
-    let wanted = loops_of(alloc, text)?;
-    if wanted.len() != rings.len() {
-        return Ok(false);
+// Whether the ring has these values from its cursor once round.
+fn is_ring(mut ring: Ring, wanted: &[u32]) -> bool {
+    for vertex in wanted {
+        if ring.get() != *vertex {
+            return false;
+        }
+        ring.step();
     }
-    Ok(
-        wanted
-            .iter()
-            .zip(rings)
-            .all(|(one, ring)| one.vertices() == ring.places.as_slice()),
-    )
+    ring.len() == wanted.len()
+}
+
+// Whether the rings are those of the text.
+fn are_rings(alloc: Global, rings: Vec<Ring>, text: &str) -> Result<bool, Fail> {
+    let wanted = loops_of(alloc, text)?;
+    let mut same = wanted.len() == rings.len();
+    for (one, ring) in wanted.iter().zip(rings) {
+        same = same && is_ring(ring, one.vertices());
+    }
+    Ok(same)
 }
 
 // Whether joining gives the rings of a line, in the plane of its sign.
@@ -145,7 +153,7 @@ fn agrees(alloc: Global, line: &str) -> Result<bool, Fail> {
     }
     let joined = join_holes(alloc, plane, &loops, &points)?;
     let (sign, rings) = rings.split_once(" ").ok_or("a sign")?;
-    Ok(joined.turned == (sign == "~") && are_rings(alloc, &joined.rings, rings)?)
+    Ok(joined.turned == (sign == "~") && are_rings(alloc, joined.rings, rings)?)
 }
 
 #[test]

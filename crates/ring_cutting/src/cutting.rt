@@ -13,7 +13,8 @@ ghost use Rattle.ring_cutting.specs.Placed.{vertices_of, IsPlaced};
 use crate::Filled;
 use crate::ears::choose;
 use crate::place::{Place, after, before, here, placed};
-use face_plane::{FacePlane, FlatPoint, Places};
+use face_plane::{FacePlane, FlatPoint};
+use loop_ring::Ring;
 use mb_base::{NoMemory, Point};
 use std::alloc::Global;
 
@@ -33,7 +34,7 @@ pub fn cut_ring(
     alloc: Global,
     plane: FacePlane,
     turned: bool,
-    ring: Places,
+    ring: Ring,
     points: &[Point],
 ) -> Result<Filled, NoMemory>
     requires ringy { Ringy ring }
@@ -48,7 +49,7 @@ pub fn cut_ring(
     ensures most { IfOk result (λ f. f.forced ≤ length f.triples) }
     ensures left { IfOk result (λ f. f.forced ≡ 0 → All (λ t. pos 0 <ℤ orient (face_plane plane.drop turned points.now) t.0 t.1 t.2) f.triples) }
 {
-    let places = placed(alloc, plane, turned, &ring.places, points)?;
+    let places = placed(alloc, plane, turned, ring, points)?;
     cut_down(alloc, places)
 }
 

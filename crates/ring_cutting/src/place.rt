@@ -5,7 +5,8 @@ ghost use Rattle.face_plane.specs.Planes.{Plane, face_plane};
 ghost use Rattle.face_plane.specs.Rings.{vertex_at, vertex_before, vertex_after};
 ghost use Rattle.ring_cutting.specs.Placed.{vertices_of, IsPlaced};
 
-use face_plane::{FacePlane, FlatPoint, Places};
+use face_plane::{FacePlane, FlatPoint};
+use loop_ring::Ring;
 use mb_base::{NoMemory, Point};
 use std::alloc::Global;
 
@@ -16,25 +17,24 @@ pub struct Place {
     pub at: FlatPoint,
 }
 
-// The places of a ring in a plane.
+// The places of a ring in a plane, read once round. The ring is freed.
 pub(crate) fn placed(
     alloc: Global,
     plane: FacePlane,
     turned: bool,
-    ring: &[u32],
+    mut ring: Ring,
     points: &[Point],
 ) -> Result<Vec<Place>, NoMemory>
-    requires { All (λ v. v < length points.now) ring.now }
-    ensures vertices { IfOk result (λ ps. vertices_of ps.items ≡ ring.now) }
+    requires { All (λ v. v < length points.now) ring }
+    ensures vertices { IfOk result (λ ps. vertices_of ps.items ≡ ring) }
     ensures at { IfOk result (λ ps. IsPlaced (face_plane plane.drop turned points.now) ps.items) }
 {
     let mut places = Vec::with_capacity(alloc, ring.len())?;
-    for vertex in ring {
-        let at = plane.flat(turned, points[*vertex as usize]);
-        places.push(Place {
-            vertex: *vertex,
-            at,
-        })?;
+    for _ in 0..ring.len() {
+        let vertex = ring.get();
+        let at = plane.flat(turned, points[vertex as usize]);
+        places.push(Place { vertex, at })?;
+        ring.step();
     }
     Ok(places)
 }

@@ -7,7 +7,8 @@ ghost use Rattle.face_plane.specs.Rings.{Ringy, Three};
 mod table;
 
 use crate::{Filled, cut_ring, some_place_may_be_cut};
-use face_plane::{FacePlane, Places};
+use face_plane::FacePlane;
+use loop_ring::Ring;
 use mb_base::Point;
 use std::alloc::Global;
 use std::test::Fail;
@@ -109,7 +110,7 @@ fn cut(alloc: Global, sign: &str, points: &str, ring: &str) -> Result<Filled, Fa
     }
     let plane = FacePlane { drop: 2 };
     let turned = sign == "~";
-    Ok(cut_ring(alloc, plane, turned, Places { places }, &points)?)
+    Ok(cut_ring(alloc, plane, turned, Ring::of(alloc, &places)?, &points)?)
 }
 
 // Whether a ring is cut into the triangles of its line.

@@ -12,8 +12,9 @@ ghost use Rattle.triangulate.specs.Fills.{cuts, fill_of};
 ghost use Rattle.triangulate.specs.Laws.{HasCount, HasAreas};
 
 use face_loops::Loop;
-use face_plane::{FacePlane, Places};
+use face_plane::FacePlane;
 use hole_joining::join_holes;
+use loop_ring::Ring;
 use mb_base::{NoMemory, Point};
 use ring_cutting::{Filled, cut_ring};
 use std::alloc::Global;
@@ -58,7 +59,7 @@ fn cut_all(
     alloc: Global,
     plane: FacePlane,
     turned: bool,
-    rings: Vec<Places>,
+    rings: Vec<Ring>,
     points: &[Point],
 ) -> Result<Filled, NoMemory>
     requires ringy { All Ringy rings.items }

@@ -9,7 +9,8 @@ mod rows;
 #[cfg(test)]
 mod tests;
 
-pub use face_plane::{FacePlane, Places};
+pub use face_plane::FacePlane;
 pub use filling::fill;
 pub use hole_joining::{Joined, join_holes};
+pub use loop_ring::Ring;
 pub use ring_cutting::{Filled, cut_ring};

@@ -170,9 +170,12 @@ fn joined_and_cut(alloc: Global) -> Result<bool, Fail> {
     }
     let joined = join_holes(alloc, plane, &loops, &points)?;
     let mut count = 0;
-    for ring in joined.rings {
-        if ring.places.len() != 8 || ring.places.as_slice() != [0, 1, 5, 3, 4, 5, 1, 2].as_slice() {
-            return Ok(false);
+    for mut ring in joined.rings {
+        for vertex in [0, 1, 5, 3, 4, 5, 1, 2] {
+            if ring.len() != 8 || ring.get() != vertex {
+                return Ok(false);
+            }
+            ring.step();
         }
         let filled = cut_ring(alloc, plane, joined.turned, ring, &points)?;
         if !is_filling(alloc, &filled, "abfafdadecaeceffbc", 0)? {

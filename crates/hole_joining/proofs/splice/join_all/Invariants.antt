@@ -1,7 +1,14 @@
-use Rattle.std.proofs.Common.{◌≡◌, drop}
+use Rattle.std.proofs.Common.{◌≡◌, ◌+◌, ◌<◌, ◌^◌, drop, length}
+use Rattle.std.specs.List.{All}
 use Rattle.hole_joining.specs.Seen.{plane_at}
 use Rattle.hole_joining.specs.Bridges.{joined}
+use Rattle.hole_joining.specs.Room.{added}
 use Rattle.hole_joining.proofs.splice.join_all.Given as goal
 
+-- the holes so far are joined to both forms of the rings, and there is room for the others
 abbrev pub invariant-loop-k : goal.invariant-loop-k
-invariant-loop-k l = joined (plane_at l.flat) l.rings.items (drop l.k l.holes) ≡ joined (plane_at l.flat) l.fn.rings.items l.holes
+invariant-loop-k l = record {
+  joins : joined (plane_at l.flat) l.rings.items (drop l.k l.holes) ≡ joined (plane_at l.flat) l.fn.rings.items l.holes;
+  same : l.circles.items ≡ l.rings.items;
+  few : All (λ r. length r + added (drop l.k l.holes) < 2 ^ 32) l.rings.items;
+}

@@ -1,4 +1,4 @@
-use Rattle.std.proofs.Common.{◌≡◌, ◌+◌, ◌≤◌, ℕ, List, Result, Ok, Err, length, sym, subst, ◌∙◌}
+use Rattle.std.proofs.Common.{◌≡◌, ◌+◌, ◌≤◌, ℕ, List, Result, Ok, Err, length, sym, subst}
 use Rattle.std.specs.Prelude.{IfOk}
 use Rattle.std.specs.List.{All}
 use Rattle.chain_terms.specs.Chains.{all_edges}
@@ -18,15 +18,15 @@ of_made c P (Ok f) h e = subst P (sym e) h
 of_made c P (Err x) h e = e
 
 -- the plane of the face
-abbrev plane_at : goal.After-drop-ring-inside-2 → Plane
+abbrev plane_at : goal.After-cut_down → Plane
 plane_at c = face_plane c.args.plane.drop c.args.turned c.args.points.now
 
-made : (c : goal.After-drop-ring-inside-2) → IfOk c.cut_down.result (λ f. f ≡ cut_ring (plane_at c) c.args.ring)
+made : (c : goal.After-cut_down) → IfOk c.cut_down.result (λ f. f ≡ cut_ring (plane_at c) c.args.ring)
 made c =
-    let ring : vertices_of c.in_ok-places.places.items ≡ c.args.ring = c.in_ok-places.ensures.vertices ∙ c.deref.ensures.value ∙ c.ring.view_is in
+    let ring : vertices_of c.in_ok-places.places.items ≡ c.args.ring = c.in_ok-places.ensures.vertices in
     subst (λ (r : List ℕ). IfOk c.cut_down.result (λ f. f ≡ cut_ring (plane_at c) r)) ring (c.cut_down.ensures (plane_at c) c.in_ok-places.ensures.at)
 
-laws : (c : goal.After-drop-ring-inside-2) → IsCutting (plane_at c) c.args.ring (cut_ring (plane_at c) c.args.ring)
+laws : (c : goal.After-cut_down) → IsCutting (plane_at c) c.args.ring (cut_ring (plane_at c) c.args.ring)
 laws c = cutting (plane_at c) c.args.ring c.requires.ringy
 
 pub returns-clause-value : goal.returns-clause-value

@@ -1,9 +1,9 @@
-// The places of a ring.
+// The vertices of a ring or a hole as a vector, for passes over all places.
 
 use std::marker::Model;
 
 /// The places of a ring in order, each the number of a vertex; the last place stands before the first.
-#[derive(Debug, Drop)]
+#[derive(Drop)]
 pub struct Places {
     pub places: Vec<u32>,
 }

@@ -1,0 +1,3 @@
+pub mod Circles
+pub mod Located
+pub mod Turning
