@@ -1,5 +1,8 @@
+use Rattle.std.proofs.Common.{◌≡◌, ◌≤◌, ◌+◌, ℕ, subst}
+use Rattle.side_terms.specs.Sides.{Side}
 use Rattle.retained_verts.specs.Handed.{numbers}
-use Rattle.mesh_boolean.specs.Operation.{Tests}
+use Rattle.winding.specs.Windings.{components_of}
+use Rattle.mesh_boolean.specs.Operation.{Tests, first_side, second_side}
 use Rattle.mesh_boolean.proofs.Finished.{IsOfMeshes, IsOutcome, is_bounded, is_filled, is_prescribed, of_meshes, too_large}
 use Rattle.mesh_boolean.proofs.operate.boolean.Given.{Over}
 use Rattle.mesh_boolean.proofs.operate.boolean.Goals as goal
@@ -31,3 +34,23 @@ returns-clause-faces g c = is_bounded (tests g c.args.kernels.now) c.args.op c.a
 
 pub returns-clause-filled : goal.returns-clause-filled
 returns-clause-filled g c = is_filled (tests g c.args.kernels.now) c.args.op c.args.p.now c.args.q.now c.in_ok-prescribed.prescribed c.in_ok-prescribed.all c.in_ok-outcome.field-0 (assembled g c) (outcome g c)
+
+-- what was counted for two sides was so for equal ones
+counted : (old new : ℕ) (p q r s : Side) → p ≡ r → q ≡ s → new ≤ old + components_of p + components_of q → new ≤ old + components_of r + components_of s
+counted old new p q r s same_p same_q most =
+    subst (λ (k : Side). new ≤ old + components_of k + components_of s) same_p (subst (λ (k : Side). new ≤ old + components_of p + components_of k) same_q most)
+
+pub returns-in_err-prescribed-clause-cost : goal.returns-in_err-prescribed-clause-cost
+returns-in_err-prescribed-clause-cost g c =
+    counted c.args.steps.now c.all_numbers.new.steps c.in_ok-p.p c.in_ok-q.q (first_side c.args.op c.args.p.now) (second_side c.args.q.now)
+    c.in_ok-p.ensures.value c.in_ok-q.ensures.value c.all_numbers.ensures.cost
+
+pub returns-in_err-outcome-clause-cost : goal.returns-in_err-outcome-clause-cost
+returns-in_err-outcome-clause-cost g c =
+    counted c.args.steps.now c.all_numbers.new.steps c.in_ok-p.p c.in_ok-q.q (first_side c.args.op c.args.p.now) (second_side c.args.q.now)
+    c.in_ok-p.ensures.value c.in_ok-q.ensures.value c.all_numbers.ensures.cost
+
+pub returns-clause-cost : goal.returns-clause-cost
+returns-clause-cost g c =
+    counted c.args.steps.now c.all_numbers.new.steps c.in_ok-p.p c.in_ok-q.q (first_side c.args.op c.args.p.now) (second_side c.args.q.now)
+    c.in_ok-p.ensures.value c.in_ok-q.ensures.value c.all_numbers.ensures.cost
