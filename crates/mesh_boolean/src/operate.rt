@@ -43,8 +43,8 @@ use steps::Steps;
 /// The answer is `TooLarge` only where the prescribed half-edges are more than `limits.halfedges()`, with their number, and
 /// there no mesh is given. `NoMemory` may come for any meshes. The mesh is within the limits on points and triangles:
 /// for 3 prescribed half-edges it has at most 5 triangles, and for 2 at most 5 points. `steps` counts at most one for each
-/// connected component of the two reduced meshes. Besides crossings, winding numbers and fillings it takes time in proportion to the faces
-/// and to what is prescribed, a sort of the crossings, and, where a vertex has several fans, one of the half-edges.
+/// connected component of the reduced meshes. Besides crossings, winding numbers and fillings it takes time in proportion to
+/// the faces and to what is prescribed, a sort of the crossings, and, where a vertex has several fans, one of the half-edges.
 ///
 /// After J. M. Smith's thesis "Towards robust inexact geometric computation" and the Manifold library.
 pub fn boolean<K: Kernels, L: Ledger>(
