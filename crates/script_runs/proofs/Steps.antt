@@ -1,11 +1,13 @@
 -- A step of a script met its task where the call for its job did.
-use Rattle.std.proofs.Common.{◌≡◌, ◌+◌, ◌≤◌, ℕ, Result, subst}
+use Rattle.std.proofs.Common.{◌≡◌, ◌+◌, ◌≤◌, ℕ, Result, subst, sym}
+use Rattle.mb_base.specs.declared.op.Op.{Op}
 use Rattle.mesh_terms.specs.Limits.{Limits}
+use Rattle.mesh_terms.specs.Meshes.{Mesh}
 use Rattle.run_terms.specs.Files.{Bytes}
 use Rattle.run_terms.specs.Meets.{Meets, Seen, Why}
 use Rattle.script_terms.specs.Plays.{Meanings, Named, step_task}
 use Rattle.script_terms.specs.Steps.{Step}
-use Rattle.script_runs.specs.Costs.{step_cost}
+use Rattle.script_runs.specs.Costs.{operation_cost, step_cost}
 
 module _ (means : Meanings) (k : ℕ) (limits : Limits) (script : Bytes) (line : ℕ) (named : Named) (before now : Seen) (r : Result Named Why) where
   pub stepped : (job step : Step) → job ≡ step → Meets (step_task means k limits script line job named) before now r → Meets (step_task means k limits script line step named) before now r
@@ -14,3 +16,8 @@ module _ (means : Meanings) (k : ℕ) (limits : Limits) (script : Bytes) (line :
 -- what a step counts is what its job does
 pub counted : (job step : Step) (named : Named) (old new : ℕ) → job ≡ step → new ≤ old + step_cost job named → new ≤ old + step_cost step named
 counted job step named old new same most = subst (λ s. new ≤ old + step_cost s named) same most
+
+-- what an operation on the meshes of two names counts is what it counts on these meshes
+pub combined : (op : Op) (left right p q : Mesh) (old new : ℕ) → left ≡ p → right ≡ q → new ≤ old + operation_cost op p q → new ≤ old + operation_cost op left right
+combined op left right p q old new is_p is_q most =
+    subst (λ m. new ≤ old + operation_cost op m right) (sym is_p) (subst (λ m. new ≤ old + operation_cost op p m) (sym is_q) most)

@@ -10,6 +10,7 @@ use Rattle.script_runs.specs.Names.{named_in}
 use Rattle.script_runs.specs.Operations.{meanings}
 use Rattle.script_runs.specs.Outcomes.{IsOutcome}
 use Rattle.script_runs.proofs.Stages.{combine_named, combine_stopped, combine_unnamed, combine_unsaid}
+use Rattle.script_runs.proofs.Steps.{combined}
 use Rattle.script_runs.proofs.combining.combine.Goals as goal
 
 -- the numbers that are told are those of the operation
@@ -70,3 +71,39 @@ returns-clause-meets g c =
 
 pub returns-clause-named : goal.returns-clause-named
 returns-clause-named g c = (c.in_ok-outcome.outcome.mesh, c.in_ok-define.ensures.named)
+
+pub returns-in_err-outcome-clause-cost : goal.returns-in_err-outcome-clause-cost
+returns-in_err-outcome-clause-cost g c =
+    let named = named_in c.args.names.now in
+    let p = c.in-Some-Some.p.now in
+    let q = c.in-Some-Some.q.now in
+    let is_p : mesh_at named c.args.left.now ≡ p = ap mesh_or_none (sym c.mesh.ensures ∙ ap (option_map (λ m. m.now)) c.in-Some-Some.is-0) in
+    let is_q : mesh_at named c.args.right.now ≡ q = ap mesh_or_none (sym c.mesh-2.ensures ∙ ap (option_map (λ m. m.now)) c.in-Some-Some.is-1) in
+    combined c.args.op (mesh_at named c.args.left.now) (mesh_at named c.args.right.now) p q c.args.steps.now c.operate.new.steps is_p is_q c.in_err-outcome.ensures.cost
+
+pub returns-in_err-say_combined-clause-cost : goal.returns-in_err-say_combined-clause-cost
+returns-in_err-say_combined-clause-cost g c =
+    let named = named_in c.args.names.now in
+    let p = c.in-Some-Some.p.now in
+    let q = c.in-Some-Some.q.now in
+    let is_p : mesh_at named c.args.left.now ≡ p = ap mesh_or_none (sym c.mesh.ensures ∙ ap (option_map (λ m. m.now)) c.in-Some-Some.is-0) in
+    let is_q : mesh_at named c.args.right.now ≡ q = ap mesh_or_none (sym c.mesh-2.ensures ∙ ap (option_map (λ m. m.now)) c.in-Some-Some.is-1) in
+    combined c.args.op (mesh_at named c.args.left.now) (mesh_at named c.args.right.now) p q c.args.steps.now c.operate.new.steps is_p is_q c.in_ok-outcome.ensures.cost
+
+pub returns-in_err-define-clause-cost : goal.returns-in_err-define-clause-cost
+returns-in_err-define-clause-cost g c =
+    let named = named_in c.args.names.now in
+    let p = c.in-Some-Some.p.now in
+    let q = c.in-Some-Some.q.now in
+    let is_p : mesh_at named c.args.left.now ≡ p = ap mesh_or_none (sym c.mesh.ensures ∙ ap (option_map (λ m. m.now)) c.in-Some-Some.is-0) in
+    let is_q : mesh_at named c.args.right.now ≡ q = ap mesh_or_none (sym c.mesh-2.ensures ∙ ap (option_map (λ m. m.now)) c.in-Some-Some.is-1) in
+    combined c.args.op (mesh_at named c.args.left.now) (mesh_at named c.args.right.now) p q c.args.steps.now c.operate.new.steps is_p is_q c.in_ok-outcome.ensures.cost
+
+pub returns-clause-cost : goal.returns-clause-cost
+returns-clause-cost g c =
+    let named = named_in c.args.names.now in
+    let p = c.in-Some-Some.p.now in
+    let q = c.in-Some-Some.q.now in
+    let is_p : mesh_at named c.args.left.now ≡ p = ap mesh_or_none (sym c.mesh.ensures ∙ ap (option_map (λ m. m.now)) c.in-Some-Some.is-0) in
+    let is_q : mesh_at named c.args.right.now ≡ q = ap mesh_or_none (sym c.mesh-2.ensures ∙ ap (option_map (λ m. m.now)) c.in-Some-Some.is-1) in
+    combined c.args.op (mesh_at named c.args.left.now) (mesh_at named c.args.right.now) p q c.args.steps.now c.operate.new.steps is_p is_q c.in_ok-outcome.ensures.cost
