@@ -162,7 +162,7 @@ def shadow_of_face(folder):
 def tie(folder):
     f = Figure(760, 240)
     for left, name, out, words in (
-        (40, "union", 1, "P counts as beyond: they overlap, no wall is left"),
+        (40, "union", 1, "P counts as beyond: they overlap"),
         (420, "subtract, intersect", -1, "P counts as not beyond: they are apart"),
     ):
         p = [(left, 170), (left + 130, 170), (left + 130, 60), (left, 60)]

@@ -6,8 +6,8 @@
 //!
 //! | Command | Operands | Does |
 //! |---|---|---|
-//! | `load` | NAME FILE | reads a mesh |
-//! | `save` | OLD FILE | writes a mesh |
+//! | `load` | NAME FILE | the mesh of a file |
+//! | `save` | OLD FILE | a mesh goes to a file |
 //! | `measure` | OLD | tells the measures of a mesh |
 //! | `union` `intersect` `subtract` | NAME OLD OLD | the operation on two meshes |
 //! | `box` | NAME X Y Z X Y Z | the box between two corners, the low one first |
@@ -19,8 +19,8 @@
 //! | `mirror` | NAME OLD AXIS | a mesh with the other sign on one axis |
 //! | `turn` | NAME OLD AXIS | a mesh after a quarter turn about an axis |
 //!
-//! A NAME is one to 32 bytes: an ASCII letter, then ASCII letters, digits and `_`. An OLD is the NAME of an earlier
-//! line. A FILE is a text that ends with `.obj` or `.stl`, ASCII case ignored. X, Y, Z, SIZE and HEIGHT are decimal
+//! A NAME has at most 32 bytes, the first an ASCII letter and the others ASCII letters, digits or `_`. An OLD is a name
+//! that a line above gives. A FILE is a text that ends with `.obj` or `.stl`, ASCII case ignored. X, Y, Z, SIZE and HEIGHT are decimal
 //! numbers on the grid. N is from 1 to 60, SEED from 0 to 999999 and FACTOR from 1 to 1000000, each in one to seven
 //! digits. An AXIS is `x`, `y` or `z`.
 #![tactic(auto)]
@@ -50,12 +50,12 @@ pub use steps::{Line, Script, Step, Word};
 ///
 /// The first faulty line refuses the script, with
 ///
-/// - 20 where its first word is no command,
-/// - 21 where the operands are not as many as stated, and then for the operands in their order
-/// - 22 where a NAME or OLD is no name,
-/// - 23 where an OLD is not the NAME of an earlier line,
-/// - 24 where a number is none, off the grid or out of its range, or an AXIS is none,
-/// - 25 where a FILE is no text of UTF-8, or ends otherwise.
+/// - 20: no command has its first word,
+/// - 21: too few or too many operands, and then for the operands in their order
+/// - 22: no name can be written so,
+/// - 23: no line above gives this name,
+/// - 24: not a number on the grid, not in the range, or not an axis,
+/// - 25: not UTF-8, or not the ending of a mesh file.
 ///
 /// Besides these only memory may lack. The time is in proportion to the bytes, where the look-up of a name counts as
 /// constant.

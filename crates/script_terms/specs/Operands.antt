@@ -26,7 +26,7 @@ abbrev pub begins_name : Bytes → Bool
 begins_name [] = false
 begins_name (c ∷ cs) = is_ascii_alphabetic c
 
--- one to 32 bytes: an ASCII letter, then ASCII letters, digits and _
+-- at most 32 bytes, the first an ASCII letter, the others ASCII letters, digits or _
 abbrev pub is_name : Bytes → Bool
 is_name w = begins_name w && nat_le (length w) 32 && list_all is_name_byte w
 

@@ -15,8 +15,8 @@ use std::sync::ledger::Ledger;
 use steps::Steps;
 
 /// The winding numbers of all corners of P in Q, and of Q in P. The hits are those of `crossings` for the same sides and
-/// kernels: along every edge the winding number changes by minus the edge's numbers with all faces. It counts at most as
-/// many steps as the two meshes have connected components. `NoMemory` may come for any sides.
+/// kernels: along every edge the winding number changes by minus the edge's numbers with all faces. At most one step
+/// is counted for each connected component of either mesh. `NoMemory` may come for any sides.
 pub fn windings<K: Kernels, L: Ledger>(
     alloc: Global,
     p: &Side,
