@@ -3,8 +3,9 @@ use Rattle.std.proofs.Common.{◌≡◌, Result, Err, List, Option, Some, None, 
 use Rattle.std.specs.Option.{option_map}
 use Rattle.mesh_terms.specs.Limits.{Limits}
 use Rattle.run_terms.specs.Files.{Bytes, Files}
-use Rattle.run_terms.specs.Meets.{Why, Refused, Seen, Meets}
-use Rattle.play_terms.specs.Lines.{usage}
+use Rattle.run_terms.specs.Meets.{Why, Refused, Starved, Seen, Meets}
+use Rattle.run_laws.proofs.Tasks.{meets_starved}
+use Rattle.play_terms.specs.Lines.{no_memory, usage}
 use Rattle.play_terms.specs.ReadingBack.{CopiesReadable, WritesReadable, digits_in}
 use Rattle.play_terms.specs.Words.{Command, command}
 use Rattle.command_words.specs.Commands.{command_of}
@@ -31,6 +32,11 @@ pub refused_met : (limits : Limits) (words : List Bytes) (now : Seen) (told_befo
 refused_met limits words now told_before told_now none told =
     let refused : Meets (command_task meanings limits None) now now (Err (Refused usage)) = record { tells = refl; faults = refl; does = λ t. record { gives = refl; all_done = refl } } in
     (Err (Refused usage), play_met limits words None now now (Err (Refused usage)) none refused, (refl, told))
+
+-- where memory is wanting to read the words, nothing is done
+pub starved_met : (limits : Limits) (words : List Bytes) (now : Seen) (told_before told_now : OnOutput) → IsReported no_memory told_before told_now
+    → MeetsPlay limits words now now 8 told_before told_now
+starved_met limits words now told_before told_now told = (Err Starved, meets_starved (play meanings limits words) now, (refl, told))
 
 -- what a command writes is what the words that ask for it write
 pub play_back : (limits : Limits) (words : List Bytes) (what : Option Command) (files : Files) → command words ≡ what

@@ -10,36 +10,6 @@ returns-in_default-clause-play g c =
     let none = sym c.read_command.ensures.command in
     refused_met c.args.limits.now c.args.words.now _ _ _ (none ∙ ap (option_map command_of) c.in_default.is) c.tell_stop.ensures
 
-pub returns-in-InsideFile-clause-back : goal.returns-in-InsideFile-clause-back
-returns-in-InsideFile-clause-back g c files =
-    let asked = asked_for c.args.words.now _ _ c.read_command.ensures.command (c.in-Some.is ∙ ap Some c.in-InsideFile.is) in
-    play_back c.args.limits.now c.args.words.now _ files asked (c.inside-ended.ensures.back files)
-
-pub returns-in_default-clause-mesh_back : goal.returns-in_default-clause-mesh_back
-returns-in_default-clause-mesh_back g c =
-    let none = sym c.read_command.ensures.command in
-    copied_back c.args.limits.now c.args.words.now None (none ∙ ap (option_map command_of) c.in_default.is) tt
-
-pub returns-in-CopyFile-clause-mesh_back : goal.returns-in-CopyFile-clause-mesh_back
-returns-in-CopyFile-clause-mesh_back g c =
-    let asked = asked_for c.args.words.now _ _ c.read_command.ensures.command (c.in-Some.is ∙ ap Some c.in-CopyFile.is) in
-    copied_back c.args.limits.now c.args.words.now _ asked c.copy-ended.ensures.mesh_back
-
-pub returns-in-InsideFile-clause-mesh_back : goal.returns-in-InsideFile-clause-mesh_back
-returns-in-InsideFile-clause-mesh_back g c =
-    let asked = asked_for c.args.words.now _ _ c.read_command.ensures.command (c.in-Some.is ∙ ap Some c.in-InsideFile.is) in
-    copied_back c.args.limits.now c.args.words.now _ asked tt
-
-pub returns-in-RunScript-clause-mesh_back : goal.returns-in-RunScript-clause-mesh_back
-returns-in-RunScript-clause-mesh_back g c =
-    let asked = asked_for c.args.words.now _ _ c.read_command.ensures.command (c.in-Some.is ∙ ap Some c.in-RunScript.is) in
-    copied_back c.args.limits.now c.args.words.now _ asked tt
-
-pub returns-in-RunScript-clause-back : goal.returns-in-RunScript-clause-back
-returns-in-RunScript-clause-back g c files =
-    let asked = asked_for c.args.words.now _ _ c.read_command.ensures.command (c.in-Some.is ∙ ap Some c.in-RunScript.is) in
-    play_back c.args.limits.now c.args.words.now _ files asked (c.run_script-ended.ensures.back files)
-
 pub returns-in-InsideFile-clause-cost : goal.returns-in-InsideFile-clause-cost
 returns-in-InsideFile-clause-cost g c told =
     let asked = asked_for c.args.words.now _ _ c.read_command.ensures.command (c.in-Some.is ∙ ap Some c.in-InsideFile.is) in
