@@ -10,11 +10,14 @@ use Rattle.play_terms.specs.Words.{Given, digits_of, is_option_end}
 use Rattle.command_words.specs.Grammar.{given_by, grammar_app}
 use Rattle.command_words.proofs.Given.{given_by-attached, given_by-value, joined-nothing, joined-operand, joined-value, no_value}
 use Rattle.command_words.proofs.Sorts.{sort_of}
-use Rattle.command_words.proofs.Turns.{attached_turn, end_turn, ended_turn, ends_well, fault_first, fault_second, goes_on, nothing_settles, operand_settles, operand_turn, option_turn, stops, unknown_fails, value_settles, value_turn}
-use Rattle.command_words.proofs.Walks.{AreTexts, IsFault, Reads, Settles, Sort, Tells, Use, attaches, digits_given, digits_use, ends, free, joined, one_operand, one_value, opens, operand_use, outcome, plain, refused, rules, shape, stands, turn, unknown, use_faults, with_use}
+use Rattle.command_words.proofs.Turns.{attached_turn, end_turn, ended_turn, ends_well, fault_first, fault_second, goes_on, nothing_settles}
+use Rattle.command_words.proofs.Turns.{operand_settles, operand_turn, option_turn, stops, unknown_fails, value_settles, value_turn}
+use Rattle.command_words.proofs.Walks.{AreTexts, IsFault, Reads, Settles, Sort, Tells, Use, attaches, digits_given, digits_use, ends, free, joined, one_operand}
+use Rattle.command_words.proofs.Walks.{one_value, opens, operand_use, outcome, plain, refused, rules, shape, stands, turn, unknown, use_faults, with_use}
 
 -- one word, which is no fault, and then the others
-reads_on : (w later : Walk) (word : Bytes) (ws : List Bytes) (o rest : Option Given) → turn w word ≡ ([], later) → rest ≡ o → Reads (outcome later ws) rest → Reads (outcome w (word ∷ ws)) o
+reads_on : (w later : Walk) (word : Bytes) (ws : List Bytes) (o rest : Option Given) → turn w word ≡ ([], later) → rest ≡ o → Reads (outcome later ws) rest
+    → Reads (outcome w (word ∷ ws)) o
 reads_on w later word ws o rest step same reads = subst (λ e. Reads e o) (sym (goes_on w later word ws step)) (subst (Reads (outcome later ws)) same reads)
 
 -- the turn of a use that settles
@@ -83,19 +86,26 @@ opens_end : Opens []
 unfolding walk_fault
 opens_end rows g t = refused tt refl
 
-no_digit_given : (v : Bytes) (ws : List Bytes) (g : Given) → is_option_end v ≡ false → digits_of (v ∷ []) ≡ None → digits_given (joined g (given_by (codes "--digits" ∷ v ∷ ws))) ≡ None
+no_digit_given : (v : Bytes) (ws : List Bytes) (g : Given) → is_option_end v ≡ false → digits_of (v ∷ []) ≡ None
+    → digits_given (joined g (given_by (codes "--digits" ∷ v ∷ ws))) ≡ None
 no_digit_given v ws g unended none = ap (λ o. digits_given (joined g o)) (given_by-value v ws unended) ∙ no_value g v (given_by ws) (inr none)
 
 -- the value of --digits
 opens_on : (v : Bytes) → Sort v → (ws : List Bytes) → AreTexts ws → Walks ws → Opens (v ∷ ws)
 opens_on _ ends ws texts rest rows g t =
     let later = stands true (option (codes "digits")) rows (digits_use []) in
-    refused (fails_on (opened_at rows) later (codes "--") ws (end_turn (option (codes "digits")) rows (digits_use [])) (doomed_ended ws (option (codes "digits")) rows (digits_use []) tt)) refl
+    refused
+    (fails_on (opened_at rows) later (codes "--") ws (end_turn (option (codes "digits")) rows (digits_use [])) (doomed_ended ws (option (codes "digits")) rows (digits_use []) tt))
+    refl
 opens_on _ (attaches u) ws texts rest rows g t =
     let v = codes "--digits=" ++ u in
-    refused (stops (opened_at rows) v ws (subst FailsAt (sym (attached_turn (option (codes "digits")) rows (digits_use []) u)) tt)) (no_digit_given v ws g refl refl)
+    refused
+    (stops (opened_at rows) v ws (subst FailsAt (sym (attached_turn (option (codes "digits")) rows (digits_use []) u)) tt))
+    (no_digit_given v ws g refl refl)
 opens_on _ opens ws texts rest rows g t =
-    refused (stops (opened_at rows) (codes "--digits") ws (subst FailsAt (sym (option_turn (option (codes "digits")) rows (digits_use []))) tt)) (no_digit_given (codes "--digits") ws g refl refl)
+    refused
+    (stops (opened_at rows) (codes "--digits") ws (subst FailsAt (sym (option_turn (option (codes "digits")) rows (digits_use []))) tt))
+    (no_digit_given (codes "--digits") ws g refl refl)
 opens_on v (unknown is) ws texts rest rows g t =
     refused (stops (opened_at rows) v ws (unknown_fails (option (codes "digits")) rows (digits_use []) v is)) (no_digit_given v ws g is.unended is.no_digit)
 opens_on v (plain is) ws texts rest rows g t =
@@ -103,7 +113,8 @@ opens_on v (plain is) ws texts rest rows g t =
     let gives = given_by-value v ws is.unended in
     elim (value_settles rows g v t) [
       | inl settles ↦
-          reads_on (opened_at rows) later v ws _ _ (value_turn rows v is) (joined-value g v (given_by ws) ∙ ap (joined g) (sym gives)) (rest false rows (digits_use (v ∷ [])) (one_value g v) settles)
+          reads_on (opened_at rows) later v ws _ _ (value_turn rows v is) (joined-value g v (given_by ws) ∙ ap (joined g) (sym gives))
+          (rest false rows (digits_use (v ∷ [])) (one_value g v) settles)
       | inr twice ↦
           refused (fails_on (opened_at rows) later v ws (value_turn rows v is) (doomed ws texts rows (digits_use (v ∷ [])) twice.0))
           (ap (λ o. digits_given (joined g o)) gives ∙ no_value g v (given_by ws) (inl twice.1))
@@ -124,7 +135,8 @@ word_on _ (attaches v) ws rest opened more rows p g s =
       | inl settles ↦
           let after = with_use (digits_use (v ∷ [])) r in
           let later = stands false idle after None in
-          reads_on here later word ws _ _ (settled_turn here later word (or_else (or_else first second) []) (attached_turn (free more) rows p v) (ap₂ (λ a b. or_else (or_else a b) []) s.fault settles.fault))
+          let met = ap₂ (λ a b. or_else (or_else a b) []) s.fault settles.fault in
+          reads_on here later word ws _ _ (settled_turn here later word (or_else (or_else first second) []) (attached_turn (free more) rows p v) met)
           (joined-value g v (given_by ws) ∙ ap (joined g) (sym gives))
           (rest false after None (one_value g v) (nothing_settles after (one_value g v) settles.tells))
       | inr twice ↦
@@ -134,7 +146,8 @@ word_on _ (attaches v) ws rest opened more rows p g s =
 word_on _ opens ws rest opened more rows p g s =
     let here = stands false (free more) rows p in
     let later = stands false (option (codes "digits")) (with_use p rows) (digits_use []) in
-    reads_on here later (codes "--digits") ws _ _ (settled_turn here later (codes "--digits") (or_else (use_faults rows p) []) (option_turn (free more) rows p) (ap (λ k. or_else k []) s.fault)) refl
+    let met = ap (λ k. or_else k []) s.fault in
+    reads_on here later (codes "--digits") ws _ _ (settled_turn here later (codes "--digits") (or_else (use_faults rows p) []) (option_turn (free more) rows p) met) refl
     (opened (with_use p rows) g s.tells)
 word_on w (unknown is) ws rest opened more rows p g s =
     refused (stops (stands false (free more) rows p) w ws (unknown_fails (free more) rows p w is)) (ap (λ o. digits_given (joined g o)) (is.gives ws))
@@ -142,7 +155,8 @@ word_on w (plain is) ws rest opened more rows p g s =
     let here = stands false (free more) rows p in
     let r = with_use p rows in
     let later = stands false positional r (operand_use w) in
-    reads_on here later w ws _ _ (settled_turn here later w (use_faults rows p) (operand_turn more rows p w is) s.fault) (joined-operand g w (given_by ws) ∙ ap (joined g) (sym (is.gives ws)))
+    reads_on here later w ws _ _ (settled_turn here later w (use_faults rows p) (operand_turn more rows p w is) s.fault)
+    (joined-operand g w (given_by ws) ∙ ap (joined g) (sym (is.gives ws)))
     (rest true r (operand_use w) (one_operand g w) (operand_settles r g w s.tells))
 
 walks : (ws : List Bytes) → AreTexts ws → Walks ws
@@ -155,7 +169,8 @@ walks (w ∷ v ∷ ws) texts = word_on w (sort_of w texts.0) (v ∷ ws) (walks (
 no_subcommand_faults : (ws : List Bytes) → fault_of grammar_app ws ≡ level_fault shape [] nothing_held ws false []
 no_subcommand_faults ws = go (walk rules [] nothing_held ws).stopped
   where
-    go : (stop : Option (Bytes × List Bytes)) → level_fault shape [] nothing_held ws (is_some (entered (built grammar_app) stop)) (entered_fault (built grammar_app) stop) ≡ level_fault shape [] nothing_held ws false []
+    go : (stop : Option (Bytes × List Bytes))
+        → level_fault shape [] nothing_held ws (is_some (entered (built grammar_app) stop)) (entered_fault (built grammar_app) stop) ≡ level_fault shape [] nothing_held ws false []
     go None = refl
     go (Some p) = refl
 

@@ -1,5 +1,6 @@
 -- What the code reads of clap's answers.
-use Rattle.std.proofs.Common.{◌≡◌, ◌∙◌, ℕ, List, [], ◌∷◌, Bool, true, false, cond, ◌⊎◌, inl, inr, length, map, Option, Some, None, option_map, unwrap_or, codes, refl, ap, ap₂, sym, subst}
+use Rattle.std.proofs.Common.{◌≡◌, ◌∙◌, ℕ, List, [], ◌∷◌, Bool, true, false, cond, ◌⊎◌, inl, inr}
+use Rattle.std.proofs.Common.{length, map, Option, Some, None, option_map, unwrap_or, codes, refl, ap, ap₂, sym, subst}
 use Rattle.std.specs.Prelude.{String, string_bytes}
 use Rattle.std.specs.Option.{option_and_then}
 use Rattle.std.specs.Str.{bytes_eq}
@@ -24,7 +25,8 @@ texts_of (s ∷ ss) = (IsUtf8-string_bytes s, texts_of ss)
 -- the getters read the rows
 given_in-rows : (f : Found) → given_in f ≡ given_rows (rows_of f)
 given_in-rows f =
-    ap₂ (λ (a : Option (List Bytes)) (b : Option Bytes). record { operands = unwrap_or a []; digits = listed b }) (raw_values-rows f (codes "operands")) (first_value-rows f (codes "digits"))
+    ap₂ (λ (a : Option (List Bytes)) (b : Option Bytes). record { operands = unwrap_or a []; digits = listed b })
+    (raw_values-rows f (codes "operands")) (first_value-rows f (codes "digits"))
 
 -- clap's matches say what the words give
 pub matches_read : {Z : Type 0} (a : App) (ss : List (String Z)) (m : ArgMatches) → a ≡ grammar_app

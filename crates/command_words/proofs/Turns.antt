@@ -11,7 +11,8 @@ use Rattle.play_terms.specs.Words.{Given}
 use Rattle.command_words.specs.Grammar.{operands_rule}
 use Rattle.command_words.proofs.Given.{joined-end}
 use Rattle.command_words.proofs.Rows.{tells-operand, tells-value}
-use Rattle.command_words.proofs.Walks.{IsFault, Plain, Reads, Settles, Tells, Unknown, Use, are_some, digits_use, free, given_rows, held, joined, last_faults, one_operand, one_value, operand_use, outcome, rules, shape, stands, taken, turn, use_faults, with_use}
+use Rattle.command_words.proofs.Walks.{IsFault, Plain, Reads, Settles, Tells, Unknown, Use, are_some, digits_use, free, given_rows, held, joined}
+use Rattle.command_words.proofs.Walks.{last_faults, one_operand, one_value, operand_use, outcome, rules, shape, stands, taken, turn, use_faults, with_use}
 
 -- ---- faults
 
@@ -134,14 +135,17 @@ value_met rows w is = rw is.unended (rw is.no_long (rw is.no_short refl))
 pub value_turn : (rows : List Row) (w : Bytes) → Plain w
     → turn (stands false (option (codes "digits")) rows (digits_use [])) w ≡ ([], stands false idle rows (digits_use (w ∷ [])))
 value_turn rows w is =
-    met_turn (option (codes "digits")) rows (digits_use []) w (held rows (digits_use (w ∷ []))) (next idle) (no_flag (option (codes "digits")) w (held rows (digits_use [])) is) (value_met rows w is)
+    met_turn (option (codes "digits")) rows (digits_use []) w (held rows (digits_use (w ∷ []))) (next idle)
+    (no_flag (option (codes "digits")) w (held rows (digits_use [])) is) (value_met rows w is)
 
 -- ---- the words, one after the other
 
 -- a word that is no fault
 pub goes_on : (w later : Walk) (word : Bytes) (ws : List Bytes) → turn w word ≡ ([], later) → outcome w (word ∷ ws) ≡ outcome later ws
 unfolding walk_fault
-goes_on w later word ws step = ap (λ (t : Kinds × Walk). (or_else (or_else t.0 (walk_fault shape [] t.1 ws)) (last_faults (fold (walked rules []) t.1 ws).held), finished rules (fold (walked rules []) t.1 ws).held)) step
+goes_on w later word ws step =
+    let end : Walk → Held = λ v. (fold (walked rules []) v ws).held in
+    ap (λ (t : Kinds × Walk). (or_else (or_else t.0 (walk_fault shape [] t.1 ws)) (last_faults (end t.1)), finished rules (end t.1))) step
 
 -- a word that is one
 pub stops : (w : Walk) (word : Bytes) (ws : List Bytes) → IsFault (turn w word).0 → IsFault (outcome w (word ∷ ws)).0

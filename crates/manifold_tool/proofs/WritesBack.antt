@@ -7,11 +7,12 @@ use Rattle.std.proofs.lemmas.List.Elements.{All-nil}
 use Rattle.mesh_terms.specs.Limits.{IsLawful, Limits}
 use Rattle.run_terms.specs.Files.{Bytes, Files}
 use Rattle.play_terms.specs.ReadingBack.{CopiesReadable, WritesReadable, digits_in}
-use Rattle.play_terms.specs.Words.{Command, CopyFile, Given, InsideFile, RunScript, command, command_by, command_with, copy_of, digits_of, inside_at, inside_of, run_of}
+use Rattle.play_terms.specs.Words.{Command, CopyFile, Given, InsideFile, RunScript, after_end, before_end, command, command_by, command_with, copy_of}
+use Rattle.play_terms.specs.Words.{digits_of, given, inside_at, inside_of, run_of, with_more}
 use Rattle.play_laws.proofs.ReadingBack.{copy_keeps, inside_keeps, mesh_given}
 use Rattle.operation_laws.specs.Laws.{OperationsAreReadable}
 use Rattle.program_terms.specs.Commands.{command_task}
-use Rattle.script_runs.proofs.WritesBack.{script_back}
+use Rattle.script_laws.proofs.ReadingBack.{script_keeps}
 use Rattle.manifold_tool.specs.Playing.{meanings, windings}
 
 -- ---- the digits of words are at most 6
@@ -79,7 +80,7 @@ given_few w (Some g) = with_few w g.operands (digits_of g.digits) (digit_few g.d
 
 pub few_digits : (words : List Bytes) → digits_in (command words) ≤ 6
 few_digits [] = none_few
-few_digits (w ∷ ws) = given_few w _
+few_digits (w ∷ ws) = given_few w (with_more (after_end ws) (given (before_end ws)))
 
 -- ---- what a command writes
 
@@ -96,4 +97,5 @@ pub writes_back : (limits : Limits) (what : Option Command) → IsLawful limits 
 writes_back limits None lawful few law files = All-nil (WritesReadable 4 limits)
 writes_back limits (Some (CopyFile k from to)) lawful few law files = (copy_keeps k limits from to few lawful).actions files
 writes_back limits (Some (InsideFile k file point)) lawful few law files = (inside_keeps k windings limits file point few lawful).actions files
-writes_back limits (Some (RunScript k script)) lawful few law files = script_back k limits script few lawful law files
+writes_back limits (Some (RunScript k script)) lawful few law files =
+    (script_keeps meanings.scripts k limits few lawful (law k limits few lawful) script).actions files
