@@ -1,1 +1,7 @@
-pub mod CommandWords
+pub mod Given
+pub mod ReadByClap
+pub mod Reading
+pub mod Rows
+pub mod Sorts
+pub mod Turns
+pub mod Walks

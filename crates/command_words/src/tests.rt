@@ -16,17 +16,21 @@ fn listed(alloc: Global, words: &[&str]) -> Result<ArgList, NoMemory> {
 // Whether the words are of no command.
 fn is_no_command(alloc: Global, words: &[&str]) -> Result<bool, NoMemory> {
     let list = listed(alloc, words)?;
-    Ok(read_command(&list).is_none())
+    match read_command(alloc, &list) {
+        Ok(found) => Ok(found.is_none()),
+        Err(NoMemory) => Err(NoMemory),
+    }
 }
 
 // Whether the words are a copy of `a.obj` to `b.obj` with so many digits.
 fn is_copy_with(alloc: Global, words: &[&str], wanted: u8) -> Result<bool, NoMemory> {
     let list = listed(alloc, words)?;
-    match read_command(&list) {
-        Some(Command::CopyFile { digits, from, to }) => {
+    match read_command(alloc, &list) {
+        Ok(Some(Command::CopyFile { digits, from, to })) => {
             Ok(digits == wanted && from == "a.obj" && to == "b.obj")
         }
-        _ => Ok(false),
+        Ok(_) => Ok(false),
+        Err(NoMemory) => Err(NoMemory),
     }
 }
 
@@ -39,35 +43,43 @@ fn is_at(point: &Point, at: [i32; 3]) -> bool {
 // Whether the words ask for this point of the grid in `c.obj`.
 fn is_inside_at(alloc: Global, words: &[&str], at: [i32; 3]) -> Result<bool, NoMemory> {
     let list = listed(alloc, words)?;
-    let Some(command) = read_command(&list) else {
-        return Ok(false);
-    };
-    match command {
-        Command::CopyFile { .. } | Command::RunScript { .. } => Ok(false),
-        Command::InsideFile {
-            digits,
-            file,
-            point,
-        } => Ok(digits <= 6 && file == "c.obj" && is_at(&point, at)),
+    match read_command(alloc, &list) {
+        Ok(
+            Some(
+                Command::InsideFile {
+                    digits,
+                    file,
+                    point,
+                },
+            ),
+        ) => Ok(digits <= 6 && file == "c.obj" && is_at(&point, at)),
+        Ok(_) => Ok(false),
+        Err(NoMemory) => Err(NoMemory),
     }
 }
 
 // Whether the words run this script with so many digits.
 fn is_run_of(alloc: Global, words: &[&str], name: &str, wanted: u8) -> Result<bool, NoMemory> {
     let list = listed(alloc, words)?;
-    match read_command(&list) {
-        Some(Command::RunScript { digits, script }) => Ok(digits == wanted && script == name),
-        _ => Ok(false),
+    match read_command(alloc, &list) {
+        Ok(Some(Command::RunScript { digits, script })) => Ok(digits == wanted && script == name),
+        Ok(_) => Ok(false),
+        Err(NoMemory) => Err(NoMemory),
     }
 }
 
 #[test]
 fn other_words_are_no_command(rt: HostRuntime) -> Result<(), Fail> {
-    let others: [&[&str]; 16] = [
+    let others: [&[&str]; 21] = [
         &[],
         &["--help"],
         &["--version"],
+        &["help", "run"],
         &["run"],
+        &["run", "--help"],
+        &["run", "s.txt", "-h"],
+        &["run", "s.txt", "-V"],
+        &["run", "-é"],
         &["run", ""],
         &["run", "s.txt", "t.txt"],
         &["run", "-s.txt"],
@@ -103,7 +115,7 @@ fn names_of_both_formats_are_taken(rt: HostRuntime) -> Result<(), Fail> {
 
 #[test]
 fn other_digits_are_no_command(rt: HostRuntime) -> Result<(), Fail> {
-    let others: [&[&str]; 13] = [
+    let others: [&[&str]; 16] = [
         &["copy", "--digits", "7", "c.obj", "u.obj"],
         &["copy", "--digits=7", "c.obj", "u.obj"],
         &["copy", "--digits=07", "c.obj", "u.obj"],
@@ -115,6 +127,17 @@ fn other_digits_are_no_command(rt: HostRuntime) -> Result<(), Fail> {
         &["copy", "--digits", "--", "4", "c.obj", "u.obj"],
         &["copy", "--digits=3", "c.obj", "u.obj", "--digits=3"],
         &["copy", "--digits", "3", "--digits", "3", "c.obj", "u.obj"],
+        &["copy", "--digits", "--digits", "3", "c.obj", "u.obj"],
+        &[
+            "copy",
+            "c.obj",
+            "--digits=3",
+            "--digits",
+            "3",
+            "--",
+            "u.obj",
+        ],
+        &["copy", "--digits", "-5", "c.obj", "u.obj"],
         &["copy", "c.obj", "u.obj", "--", "--digits=3"],
         &["--digits", "3", "copy", "c.obj", "u.obj"],
     ];
@@ -205,10 +228,11 @@ fn digits_stand_anywhere_before_the_end_of_options(rt: HostRuntime) -> Result<()
 
 #[test]
 fn a_script_has_any_name(rt: HostRuntime) -> Result<(), Fail> {
-    let taken: [(&[&str], &str, u8); 4] = [
+    let taken: [(&[&str], &str, u8); 5] = [
         (&["run", "s.txt"], "s.txt", 4),
         (&["run", "--digits", "0", "-"], "-", 0),
         (&["run", "--", "-s"], "-s", 4),
+        (&["run", "--", "--digits=é"], "--digits=é", 4),
         (&["run", "a part.stl", "--digits=6"], "a part.stl", 6),
     ];
     for (words, name, digits) in taken {

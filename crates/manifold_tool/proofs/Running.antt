@@ -1,11 +1,11 @@
 -- A run by its words, its status and its counts.
-use Rattle.std.proofs.Common.{◌≡◌, Result, Err, List, Option, Some, None, ap, sym, ◌∙◌, refl, subst, All}
+use Rattle.std.proofs.Common.{◌≡◌, Result, Err, List, Option, Some, None, ap, sym, ◌∙◌, refl, subst}
 use Rattle.std.specs.Option.{option_map}
 use Rattle.mesh_terms.specs.Limits.{Limits}
-use Rattle.run_terms.specs.Files.{Bytes, Files}
-use Rattle.run_terms.specs.Meets.{Why, Refused, Seen, Meets}
-use Rattle.play_terms.specs.Lines.{usage}
-use Rattle.play_terms.specs.ReadingBack.{CopiesReadable, WritesReadable, digits_in}
+use Rattle.run_terms.specs.Files.{Bytes}
+use Rattle.run_terms.specs.Meets.{Why, Refused, Starved, Seen, Meets}
+use Rattle.run_laws.proofs.Tasks.{meets_starved}
+use Rattle.play_terms.specs.Lines.{no_memory, usage}
 use Rattle.play_terms.specs.Words.{Command, command}
 use Rattle.command_words.specs.Commands.{command_of}
 use Rattle.command_words.specs.declared.commands.Command.{Command as Read}
@@ -32,16 +32,7 @@ refused_met limits words now told_before told_now none told =
     let refused : Meets (command_task meanings limits None) now now (Err (Refused usage)) = record { tells = refl; faults = refl; does = λ t. record { gives = refl; all_done = refl } } in
     (Err (Refused usage), play_met limits words None now now (Err (Refused usage)) none refused, (refl, told))
 
--- what a command writes is what the words that ask for it write
-pub play_back : (limits : Limits) (words : List Bytes) (what : Option Command) (files : Files) → command words ≡ what
-    → All (WritesReadable (digits_in what) limits) (command_task meanings limits what files).actions
-    → All (WritesReadable (digits_in (command words)) limits) (play meanings limits words files).actions
-play_back limits words what files asked back =
-    let P : Option Command → Type 0 = λ o. All (WritesReadable (digits_in o) limits) (command_task meanings limits o files).actions in
-    subst P (sym asked) back
-
--- the same of the mesh that is copied
-pub copied_back : (limits : Limits) (words : List Bytes) (what : Option Command) → command words ≡ what → CopiesReadable limits what → CopiesReadable limits (command words)
-copied_back limits words what asked back =
-    let P : Option Command → Type 0 = λ o. CopiesReadable limits o in
-    subst P (sym asked) back
+-- where memory is wanting to read the words, nothing is done
+pub starved_met : (limits : Limits) (words : List Bytes) (now : Seen) (told_before told_now : OnOutput) → IsReported no_memory told_before told_now
+    → MeetsPlay limits words now now 8 told_before told_now
+starved_met limits words now told_before told_now told = (Err Starved, meets_starved (play meanings limits words) now, (refl, told))

@@ -16,3 +16,6 @@ status_number NoMemory = 8
 
 abbrev pub IsDoneOrStarved : Status → Type 0
 IsDoneOrStarved status = (status ≡ Done) ⊎ (status ≡ NoMemory)
+
+abbrev pub IsUsageOrStarved : Status → Type 0
+IsUsageOrStarved status = (status ≡ Usage) ⊎ (status ≡ NoMemory)

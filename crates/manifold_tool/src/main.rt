@@ -5,7 +5,7 @@
 //! streams.
 #![tactic(auto)]
 
-ghost use Rattle.std.specs.Prelude.{◌≡◌, ◌<◌, ◌^◌, ◌-◌, ◌↔◌, ◌⊎◌, [], None, IfOk, IfErr};
+ghost use Rattle.std.specs.Prelude.{◌≡◌, ◌<◌, ◌^◌, ◌-◌, ◌⊎◌, [], None, IfOk, IfErr};
 ghost use Rattle.std.specs.IoError.{error_kind};
 ghost use Rattle.play_terms.specs.Ends.{why_line, why_status};
 ghost use Rattle.play_terms.specs.Lines.{usage};
@@ -14,8 +14,9 @@ ghost use Rattle.mb_outside.specs.Seen.{on_output};
 ghost use Rattle.mesh_files.specs.Stops.{why_of};
 ghost use Rattle.report_lines.specs.Reports.{IsReported};
 ghost use Rattle.manifold_tool.specs.Playing.{TellsEnd};
-ghost use Rattle.manifold_tool.specs.Statuses.{status_number};
+ghost use Rattle.manifold_tool.specs.Statuses.{IsUsageOrStarved, status_number};
 
+mod back;
 mod copy;
 mod inside;
 mod run;
@@ -79,7 +80,8 @@ fn start_here<R: Files, O: Sink, E: Sink, L: Ledger>(
     requires name { blank.name ≡ L.name }
     requires parts { blank.parts ≡ L.parts }
     requires some { 0 < blank.parts }
-    ensures usage { IfOk words (λ words. (result ≡ Status.Usage) ↔ (command words ≡ None)) }
+    ensures usage { IfOk words (λ words. result ≡ Status.Usage → command words ≡ None) }
+    ensures no_command { IfOk words (λ words. command words ≡ None → IsUsageOrStarved result) }
     ensures refused { IfOk words (λ _. result ≡ Status.Usage → IsReported usage.line (on_output E.Sink err.old) (on_output E.Sink err.new)) }
     ensures told { IfOk words (λ _. TellsEnd E.Sink err.old err.new (status_number result)) }
     ensures quiet { IfOk words (λ _. result ≡ Status.Done → err.new ≡ err.old) }

@@ -1,5 +1,5 @@
 // The top call.
-ghost use Rattle.std.specs.Prelude.{◌≡◌, ◌≤◌, ◌<◌, ◌+◌, ℕ, ℤ, List, ◌^◌, ◌-◌, ◌↔◌, ◌⊎◌, All, IsTrue, Some, None, Ok};
+ghost use Rattle.std.specs.Prelude.{◌≡◌, ◌≤◌, ◌<◌, ◌+◌, ◌^◌, ◌-◌, All, IsTrue, None};
 ghost use Rattle.play_terms.specs.Ends.{ended_line, ended_status};
 ghost use Rattle.play_terms.specs.Lines.{usage};
 ghost use Rattle.play_terms.specs.ReadingBack.{CopiesReadable, WritesReadable, digits_in};
@@ -11,13 +11,14 @@ ghost use Rattle.report_lines.specs.Halts.{halted};
 ghost use Rattle.report_lines.specs.Reports.{IsReported};
 ghost use Rattle.manifold_tool.specs.Counting.{play_cost};
 ghost use Rattle.manifold_tool.specs.Playing.{IsUntroubled, RiseOn, RunMeets, meanings};
-ghost use Rattle.manifold_tool.specs.Statuses.{IsDoneOrStarved, status_number};
+ghost use Rattle.manifold_tool.specs.Statuses.{IsDoneOrStarved, IsUsageOrStarved, status_number};
 
+use crate::back::plays_are_readable;
 use crate::copy::copy;
 use crate::inside::inside;
 use crate::status::{Status, status_of};
 use command_words::{Command, read_command};
-use mb_base::{ArgList, Limits};
+use mb_base::{ArgList, Limits, NoMemory};
 use mb_outside::{Shelf, Sink};
 use mesh_files::Stop;
 use report_lines::{Halt, tell_halt, tell_stop};
@@ -44,10 +45,10 @@ fn concluded<E: Sink>(ended: Result<(), Halt<'_>>, err: &mut E) -> Status
 
 /// Runs the program on the words after its name.
 ///
-/// The words are `copy IN OUT`, `inside FILE X Y Z` or `run SCRIPT`, with digits or without, as `read_command` has them; any other are `Usage`, and
-/// nothing is done but the usage line on `err`. A unit of the files has 10^K steps of the grid, where K are the digits. `copy` reads and checks the mesh
-/// of IN, saves it to OUT and reports that on `out` in one line. `inside` reads and checks the mesh of FILE and reports the winding number of the point
-/// in it, and counts one step; a run that ends before the number is found counts none. `run` reads the whole script of SCRIPT, whose lines load meshes
+/// The words are `copy IN OUT`, `inside FILE X Y Z` or `run SCRIPT`, with digits or without, as `read_command` has them; any other are `Usage`, want of
+/// memory aside, and nothing is done but the usage line on `err`. A unit of the files has 10^K steps of the grid, where K are the digits. `copy` reads and
+/// checks the mesh of IN, saves it to OUT and reports that on `out` in one line. `inside` reads and checks the mesh of FILE and reports the winding number of
+/// the point in it, and counts one step; a run that ends before the number is found counts none. `run` reads the whole script of SCRIPT, whose lines load meshes
 /// or make solids and give them names, shift, scale, mirror and turn them, unite, intersect and subtract them, measure and save them; a faulty line is
 /// `BadScript`, and then no line is done. It then does its lines in order, and reports each that loads, combines, measures or saves on `out` in one line.
 /// A solid without a volume, and a solid or a moved mesh that would leave the grid, is `BadMesh`. What was saved before a stop stays. Of a script only
@@ -78,7 +79,8 @@ pub fn run<S: Shelf, O: Sink, E: Sink, L: Ledger>(
     requires writes { S.write_faults shelf.old < 2 ^ 64 - 1 }
     requires outs { O.faults out.old < 2 ^ 64 - 1 }
     requires errs { E.faults err.old < 2 ^ 64 - 1 }
-    ensures usage { (result ≡ Status.Usage) ↔ (command words.now ≡ None) }
+    ensures usage { result ≡ Status.Usage → command words.now ≡ None }
+    ensures no_command { command words.now ≡ None → IsUsageOrStarved result }
     ensures refused { result ≡ Status.Usage → IsReported usage.line (on_output E.Sink err.old) (on_output E.Sink err.new) }
     ensures untouched { result ≡ Status.Usage → (shelf.new ≡ shelf.old) × (out.new ≡ out.old) }
     ensures quiet { result ≡ Status.Done → err.new ≡ err.old }
@@ -93,9 +95,18 @@ pub fn run<S: Shelf, O: Sink, E: Sink, L: Ledger>(
     ensures cost { IsTrue (S.tells shelf.old) → steps.new ≤ steps.old + play_cost limits.now words.now (S.files shelf.old) }
     ensures uncounted { (IsRun (command words.now) → ⊥) → (result ≡ Status.Done → ⊥) → (result ≡ Status.WriteFault → ⊥) → steps.new ≡ steps.old }
 {
-    let Some(command) = read_command(words) else {
-        tell_stop("", &Stop::Usage, err);
-        return Status::Usage;
+    // The law of what a play writes.
+    plays_are_readable(limits, words);
+    let command = match read_command(alloc, words) {
+        Ok(Some(command)) => command,
+        Ok(None) => {
+            tell_stop("", &Stop::Usage, err);
+            return Status::Usage;
+        }
+        Err(NoMemory) => {
+            tell_stop("", &Stop::NoMemory, err);
+            return Status::NoMemory;
+        }
     };
     match command {
         Command::CopyFile { digits, from, to } => {

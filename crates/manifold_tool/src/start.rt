@@ -1,5 +1,5 @@
 // The start of the program, over any shelf and any outputs.
-ghost use Rattle.std.specs.Prelude.{◌≡◌, ◌≤◌, ◌<◌, ◌+◌, ◌^◌, ◌-◌, ◌↔◌, [], None, All, IfOk, IfErr, IsTrue};
+ghost use Rattle.std.specs.Prelude.{◌≡◌, ◌≤◌, ◌<◌, ◌+◌, ◌^◌, ◌-◌, [], None, All, IfOk, IfErr, IsTrue};
 ghost use Rattle.play_terms.specs.Ends.{why_line, why_status};
 ghost use Rattle.play_terms.specs.Lines.{usage};
 ghost use Rattle.play_terms.specs.ReadingBack.{CopiesReadable, WritesReadable, digits_in};
@@ -11,7 +11,7 @@ ghost use Rattle.mesh_files.specs.Stops.{why_of};
 ghost use Rattle.report_lines.specs.Reports.{IsReported};
 ghost use Rattle.manifold_tool.specs.Counting.{play_cost};
 ghost use Rattle.manifold_tool.specs.Playing.{IsUntroubled, ProgramMeets, RiseOn, meanings, program_limits};
-ghost use Rattle.manifold_tool.specs.Statuses.{IsDoneOrStarved, status_number};
+ghost use Rattle.manifold_tool.specs.Statuses.{IsDoneOrStarved, IsUsageOrStarved, status_number};
 
 use crate::run::run;
 use crate::status::{Status, status_at};
@@ -37,7 +37,8 @@ pub fn start<S: Shelf, O: Sink, E: Sink, L: Ledger>(
     requires writes { S.write_faults shelf.old < 2 ^ 64 - 1 }
     requires outs { O.faults out.old < 2 ^ 64 - 1 }
     requires errs { E.faults err.old < 2 ^ 64 - 1 }
-    ensures usage { IfOk words (λ words. (result ≡ Status.Usage) ↔ (command words ≡ None)) }
+    ensures usage { IfOk words (λ words. result ≡ Status.Usage → command words ≡ None) }
+    ensures no_command { IfOk words (λ words. command words ≡ None → IsUsageOrStarved result) }
     ensures play { IfOk words (λ words.
         ProgramMeets S.Shelf O.Sink E.Sink words (shelf.old, out.old, err.old) (shelf.new, out.new, err.new) (status_number result)) }
     ensures refused { IfOk words (λ _. result ≡ Status.Usage → IsReported usage.line (on_output E.Sink err.old) (on_output E.Sink err.new)) }

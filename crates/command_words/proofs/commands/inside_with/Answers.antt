@@ -1,6 +1,6 @@
 use Rattle.std.proofs.Common.{◌∙◌, map, sym}
 use Rattle.std.proofs.lemmas.List.{length-map}
-use Rattle.command_words.proofs.CommandWords.{not_four}
+use Rattle.command_words.proofs.Reading.{not_four}
 use Rattle.command_words.proofs.commands.inside_with.Goals as goal
 
 pub returns-then-operands-ne4-clause-command : goal.returns-then-operands-ne4-clause-command
