@@ -1,7 +1,6 @@
 // Winding numbers in cubes, worked out by hand.
 ghost use Rattle.std.specs.Prelude.{◌≡◌, ◌<◌};
 
-mod joined;
 mod low;
 mod numbers;
 mod pairs;
