@@ -5,7 +5,7 @@ ghost use Rattle.face_loops.specs.Segments.{AreDifferent};
 ghost use Rattle.hole_joining.specs.Laws.{AreFillable};
 
 use crate::rows::{HARD, RANDOM};
-use crate::{FacePlane, Filled, cut_ring, fill, join_holes};
+use crate::{FacePlane, Filled, Ring, cut_ring, fill, join_holes};
 use face_loops::Loop;
 use mb_base::{NoMemory, Point};
 use std::alloc::Global;
@@ -160,6 +160,17 @@ fn random_loops_are_filled_by_the_rule(rt: HostRuntime) -> Result<(), Fail> {
     Ok(())
 }
 
+// Whether a ring has these vertices, from its cursor on.
+fn is_ring(mut ring: Ring, wanted: &[u32]) -> bool {
+    for vertex in wanted {
+        if ring.get() != *vertex {
+            return false;
+        }
+        ring.step();
+    }
+    ring.len() == wanted.len()
+}
+
 // A triangle with a hole: its loops joined to one ring, and the ring cut.
 fn joined_and_cut(alloc: Global) -> Result<bool, Fail> {
     let points = points_of(alloc, "0,0,0;10,0,0;10,10,0;520;640;720")?;
@@ -168,14 +179,16 @@ fn joined_and_cut(alloc: Global) -> Result<bool, Fail> {
     if !can_fill(alloc, &loops, points.len())? {
         return Ok(false);
     }
+    for ring in join_holes(alloc, plane, &loops, &points)?.rings {
+        if !is_ring(ring, &[0, 1, 5, 3, 4, 5, 1, 2]) {
+            return Ok(false);
+        }
+    }
     let joined = join_holes(alloc, plane, &loops, &points)?;
     let mut count = 0;
-    for mut ring in joined.rings {
-        for vertex in [0, 1, 5, 3, 4, 5, 1, 2] {
-            if ring.len() != 8 || ring.get() != vertex {
-                return Ok(false);
-            }
-            ring.step();
+    for ring in joined.rings {
+        if ring.len() != 8 {
+            return Ok(false);
         }
         let filled = cut_ring(alloc, plane, joined.turned, ring, &points)?;
         if !is_filling(alloc, &filled, "abfafdadecaeceffbc", 0)? {
