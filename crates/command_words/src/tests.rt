@@ -40,20 +40,24 @@ fn is_at(point: &Point, at: [i32; 3]) -> bool {
     x == at[0] && y == at[1] && z == at[2]
 }
 
+// Whether a command asks for this point of the grid in `c.obj`.
+fn asks_for(command: &Command<'_>, at: [i32; 3]) -> bool {
+    match command {
+        Command::InsideFile {
+            digits,
+            file,
+            point,
+        } => *digits <= 6 && *file == "c.obj" && is_at(point, at),
+        _ => false,
+    }
+}
+
 // Whether the words ask for this point of the grid in `c.obj`.
 fn is_inside_at(alloc: Global, words: &[&str], at: [i32; 3]) -> Result<bool, NoMemory> {
     let list = listed(alloc, words)?;
     match read_command(alloc, &list) {
-        Ok(
-            Some(
-                Command::InsideFile {
-                    digits,
-                    file,
-                    point,
-                },
-            ),
-        ) => Ok(digits <= 6 && file == "c.obj" && is_at(&point, at)),
-        Ok(_) => Ok(false),
+        Ok(Some(command)) => Ok(asks_for(&command, at)),
+        Ok(None) => Ok(false),
         Err(NoMemory) => Err(NoMemory),
     }
 }
