@@ -7,7 +7,7 @@ ghost use Rattle.side_terms.specs.Corners.{corner_at, AllFine, AllWhole, IsFineC
 ghost use Rattle.side_terms.specs.Sides.{IsSide, side_of, corners_of, face_at, face_boxes, edge_at};
 
 use crate::corner::corner_of;
-use crate::faces::{boxes_of, face_of};
+use crate::faces::{face_of, tree_over};
 use box_tree::Tree;
 use halfedge::Twins;
 use mb_base::{Corner, NoMemory, Point};
@@ -44,9 +44,8 @@ impl Side {
         ensures { IfOk result (λ side. side ≡ side_of mesh.now ups.items) }
     {
         let corners = corners_of(alloc, mesh.points(), &ups)?;
+        let tree = tree_over(alloc, &corners, mesh.triples())?;
         let twins = mesh.twins().clone()?;
-        let boxes = boxes_of(alloc, &corners, twins.triples())?;
-        let tree = Tree::build(alloc, &boxes)?;
         Ok(Side {
             corners,
             twins,

@@ -1,6 +1,7 @@
 //! Closed triangle meshes: `Mesh::check` accepts a soup exactly where each directed edge occurs as
 //! often as its reverse, and names the least open edge where one does not. `reduce` removes the
-//! triangles that cancel, and leaves no two with the same three vertices and different orientations.
+//! triangles that cancel, and leaves no two with the same three vertices and different orientations;
+//! `is_plainly_reduced` tells in one pass where there are none to remove.
 #![tactic(auto)]
 
 mod cancel;
@@ -13,4 +14,4 @@ mod reduction;
 mod tests;
 
 pub use mesh::{Mesh, MeshFault};
-pub use reduction::reduce;
+pub use reduction::{is_plainly_reduced, reduce};

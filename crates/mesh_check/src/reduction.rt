@@ -24,7 +24,7 @@ pub fn reduce(alloc: Global, mesh: &Mesh) -> Result<Mesh, NoMemory>
     ensures triples { IfOk result (λ m. m.triples ≡ (reduced mesh.now.points mesh.now.triples).triples) }
     ensures apart { IfOk result (λ m. NoOpposite m.triples) }
 {
-    if has_no_opposites(mesh.twins()) {
+    if is_plainly_reduced(mesh) {
         return Ok(mesh.clone()?);
     }
     let triples = kept_triples(alloc, mesh)?;
@@ -32,6 +32,16 @@ pub fn reduce(alloc: Global, mesh: &Mesh) -> Result<Mesh, NoMemory>
         return Ok(mesh.clone()?);
     }
     mesh_of_kept(alloc, mesh, triples)
+}
+
+/// Whether one pass over the triangles shows that `reduce` removes nothing, so that the mesh can be taken as it is. Where two
+/// half-edges run the same way the answer is false, even if nothing would be removed.
+pub fn is_plainly_reduced(mesh: &Mesh) -> bool
+    ensures points { IsTrue result → mesh.now.points ≡ (reduced mesh.now.points mesh.now.triples).points }
+    ensures triples { IsTrue result → mesh.now.triples ≡ (reduced mesh.now.points mesh.now.triples).triples }
+    ensures apart { IsTrue result → NoOpposite mesh.now.triples }
+{
+    has_no_opposites(mesh.twins())
 }
 
 // The triples that stay.

@@ -4,16 +4,11 @@ use Rattle.std.proofs.lemmas.Result.{IfOk-weaker}
 use Rattle.mesh_terms.specs.Meshes.{Triple, Mesh, Soup, IsMesh, triple_of, triples_of}
 use Rattle.mesh_check.specs.Cancelling.{kept_marks}
 use Rattle.mesh_check.specs.Reduced.{kept_triples, reduced, NoOpposite}
-use Rattle.mesh_check.proofs.Across.{kept_none_opposite}
 use Rattle.mesh_check.proofs.KeptMarks.{kept_by_marks, picked_all}
 use Rattle.mesh_check.proofs.ReducedMesh.{reduced_no_opposite, reduced_itself}
 use Rattle.mesh_check.proofs.reduction.reduce.Goals as goal
 
--- a mesh without opposite triples is its reduced mesh
-none_goes : (points : List (List ℤ)) (ts us : List Triple) → us ≡ ts → NoOpposite us → IsMesh (length points) ts → reduced points ts ≡ record { points = points; triples = ts; unused = 0 }
-none_goes points ts us same none mesh = reduced_itself points ts mesh (kept_none_opposite ts (subst NoOpposite same none))
-
--- so is one of which as many triples are kept as there are
+-- a mesh of which as many triples are kept as there are is its reduced mesh
 all_stay : (points : List (List ℤ)) (ts kept : List Triple) → kept ≡ kept_triples ts → length kept ≡ length ts → IsMesh (length points) ts → reduced points ts ≡ record { points = points; triples = ts; unused = 0 }
 all_stay points ts kept is count mesh = reduced_itself points ts mesh (kept_by_marks ts ∙ picked_all (kept_marks ts) ts (sym (ap length (is ∙ kept_by_marks ts)) ∙ count))
 
@@ -21,15 +16,11 @@ all_stay points ts kept is count mesh = reduced_itself points ts mesh (kept_by_m
 apart_by : (points : List (List ℤ)) (ts us : List Triple) → IsMesh (length points) ts → us ≡ (reduced points ts).triples → NoOpposite us
 apart_by points ts us mesh is = subst NoOpposite (sym is) (reduced_no_opposite points ts mesh)
 
-pub returns-then-has_no_opposites-clause-points : goal.returns-then-has_no_opposites-clause-points
-returns-then-has_no_opposites-clause-points c =
-    let same = none_goes c.args.mesh.now.points c.args.mesh.now.triples c.twins.result.now.triples c.twins.ensures.triples (c.has_no_opposites.ensures (search rules)) c.twins.ensures.accepted.mesh in
-    ap (λ (m : Mesh). m.points) c.in_ok-clone.ensures.cases ∙ sym (ap (λ (s : Soup). s.points) same)
+pub returns-then-is_plainly_reduced-clause-points : goal.returns-then-is_plainly_reduced-clause-points
+returns-then-is_plainly_reduced-clause-points c = ap (λ (m : Mesh). m.points) c.in_ok-clone.ensures.cases ∙ c.is_plainly_reduced.ensures.points (search rules)
 
-pub returns-then-has_no_opposites-clause-triples : goal.returns-then-has_no_opposites-clause-triples
-returns-then-has_no_opposites-clause-triples c =
-    let same = none_goes c.args.mesh.now.points c.args.mesh.now.triples c.twins.result.now.triples c.twins.ensures.triples (c.has_no_opposites.ensures (search rules)) c.twins.ensures.accepted.mesh in
-    ap (λ (m : Mesh). m.triples) c.in_ok-clone.ensures.cases ∙ sym (ap (λ (s : Soup). s.triples) same)
+pub returns-then-is_plainly_reduced-clause-triples : goal.returns-then-is_plainly_reduced-clause-triples
+returns-then-is_plainly_reduced-clause-triples c = ap (λ (m : Mesh). m.triples) c.in_ok-clone.ensures.cases ∙ c.is_plainly_reduced.ensures.triples (search rules)
 
 -- as many are kept as there are
 count_here : (c : goal.After-drop-triples-then-len-triples) → reduced c.args.mesh.now.points c.args.mesh.now.triples ≡ record { points = c.args.mesh.now.points; triples = c.args.mesh.now.triples; unused = 0 }
@@ -37,7 +28,7 @@ count_here c =
     let kept = c.in_ok-triples.triples.items in
     let count : length (triples_of kept) ≡ length c.args.mesh.now.triples =
     omega (arith, c.if-len-triples.true, c.len.ensures, c.in_ok-triples.triples.ok.0, length-map kept triple_of, length-map c.triples.result.now triple_of, ap length c.triples.ensures.value) in
-    all_stay c.args.mesh.now.points c.args.mesh.now.triples (triples_of kept) c.in_ok-triples.ensures count c.twins.ensures.accepted.mesh
+    all_stay c.args.mesh.now.points c.args.mesh.now.triples (triples_of kept) c.in_ok-triples.ensures count c.triples.ensures.accepted.mesh
 
 pub returns-then-len-triples-clause-points : goal.returns-then-len-triples-clause-points
 returns-then-len-triples-clause-points c = ap (λ (m : Mesh). m.points) c.in_ok-clone-2.ensures.cases ∙ sym (ap (λ (s : Soup). s.points) (count_here c))
@@ -46,7 +37,7 @@ pub returns-then-len-triples-clause-triples : goal.returns-then-len-triples-clau
 returns-then-len-triples-clause-triples c = ap (λ (m : Mesh). m.triples) c.in_ok-clone-2.ensures.cases ∙ sym (ap (λ (s : Soup). s.triples) (count_here c))
 
 pub returns-then-len-triples-clause-apart : goal.returns-then-len-triples-clause-apart
-returns-then-len-triples-clause-apart c = apart_by c.args.mesh.now.points c.args.mesh.now.triples c.in_ok-clone-2.field-0.triples c.twins.ensures.accepted.mesh (returns-then-len-triples-clause-triples c)
+returns-then-len-triples-clause-apart c = apart_by c.args.mesh.now.points c.args.mesh.now.triples c.in_ok-clone-2.field-0.triples c.triples.ensures.accepted.mesh (returns-then-len-triples-clause-triples c)
 
 pub returns-clause-apart : goal.returns-clause-apart
-returns-clause-apart c = IfOk-weaker c.mesh_of_kept.result _ _ (λ m is. apart_by c.args.mesh.now.points c.args.mesh.now.triples m.triples c.twins.ensures.accepted.mesh is) c.mesh_of_kept.ensures.triples
+returns-clause-apart c = IfOk-weaker c.mesh_of_kept.result _ _ (λ m is. apart_by c.args.mesh.now.points c.args.mesh.now.triples m.triples c.triples.ensures.accepted.mesh is) c.mesh_of_kept.ensures.triples
