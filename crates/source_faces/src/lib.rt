@@ -4,7 +4,7 @@
 
 mod all;
 mod face;
-pub mod given;
+mod given;
 pub mod laws;
 mod plain;
 mod triangles;
