@@ -1,6 +1,8 @@
+mod Conserved
 mod Copies
 mod Flat
 mod Halves
+mod HitLists
 mod PlainFaces
 mod Rings
 pub mod Added
