@@ -1,0 +1,227 @@
+// How far operations on made meshes raise the counter of steps.
+ghost use Rattle.std.specs.Prelude.{◌≡◌, ◌<◌, ◌≤◌, ◌+◌, IfOk, length};
+ghost use Rattle.chain_terms.specs.Chains.{all_edges};
+ghost use Rattle.component_terms.specs.Counts.{component_count};
+ghost use Rattle.mesh_boolean.specs.Operation.{first_side, reduced_mesh, second_side};
+ghost use Rattle.winding.specs.Windings.{components_of};
+
+use mb_base::{Limits, NoMemory, Op, Point};
+use mesh_boolean::boolean;
+use mesh_check::{Mesh, reduce};
+use mesh_make::{make_box, make_lattice};
+use mesh_measures::measure;
+use rounding::Nearest;
+use samples::{BOX, box_points, soup_of};
+use shadow_kernels::Grid;
+use std::alloc::Global;
+use std::marker::Brand;
+use std::sync::ledger::{Blank, Ledger};
+use std::test::Fail;
+use steps::Steps;
+
+// How many components a mesh has once it is reduced.
+fn reduced_components(alloc: Global, mesh: &Mesh) -> Result<u64, NoMemory>
+    ensures { IfOk result (λ n. n ≡ component_count (length (reduced_mesh mesh.now).points) (all_edges (reduced_mesh mesh.now).triples)) }
+{
+    let reduced = reduce(alloc, mesh)?;
+    Ok(measure(alloc, &reduced)?.components)
+}
+
+// How many the first side of an operation has.
+#[tactic(auto, using(crate::proofs::Counted::first_counted))]
+fn first_components(alloc: Global, op: Op, p: &Mesh) -> Result<u64, NoMemory>
+    ensures { IfOk result (λ n. n ≡ components_of (first_side op p.now)) }
+{
+    let _ = op;
+    reduced_components(alloc, p)
+}
+
+// How many the second has.
+#[tactic(auto, using(crate::proofs::Counted::second_counted))]
+fn second_components(alloc: Global, q: &Mesh) -> Result<u64, NoMemory>
+    ensures { IfOk result (λ n. n ≡ components_of (second_side q.now)) }
+{
+    reduced_components(alloc, q)
+}
+
+// The most sums that an operation takes.
+fn most_sums(alloc: Global, op: Op, p: &Mesh, q: &Mesh) -> Result<u64, Fail>
+    ensures { IfOk result (λ n. n ≡ components_of (first_side op p.now) + components_of (second_side q.now)) }
+{
+    let first = first_components(alloc, op, p)?;
+    let second = second_components(alloc, q)?;
+    Ok(first.checked_add(second).ok_or("too many components")?)
+}
+
+// What an operation gives, and the most by which it raises the counter.
+fn operated<L: Ledger>(
+    alloc: Global,
+    op: Op,
+    p: &Mesh,
+    q: &Mesh,
+    steps: &mut Steps<L>,
+) -> Result<(Mesh, u64), Fail>
+    ensures { IfOk result (λ r. steps.new ≤ steps.old + r.1) }
+{
+    let most = most_sums(alloc, op, p, q)?;
+    let kernels = Grid { rounding: Nearest };
+    let outcome = boolean(alloc, op, p, q, &kernels, &Limits::program(), steps)?;
+    Ok((outcome.mesh, most))
+}
+
+// The same with the number of its points in place of the mesh.
+fn counted<L: Ledger>(
+    alloc: Global,
+    op: Op,
+    p: &Mesh,
+    q: &Mesh,
+    steps: &mut Steps<L>,
+) -> Result<(usize, u64), Fail>
+    ensures { IfOk result (λ r. steps.new ≤ steps.old + r.1) }
+{
+    let (mesh, most) = operated(alloc, op, p, q, steps)?;
+    Ok((mesh.points().len(), most))
+}
+
+fn box_of(alloc: Global, low: [i32; 3], high: [i32; 3]) -> Result<Mesh, Fail> {
+    let [x, y, z] = low;
+    let low = Point::of(x, y, z).ok_or("a point of the grid")?;
+    let [x, y, z] = high;
+    let high = Point::of(x, y, z).ok_or("a point of the grid")?;
+    Ok(make_box(alloc, low, high, &Limits::program())?)
+}
+
+// A union, an intersection and a difference of a box and one that stands through its top.
+fn three_operations<L: Ledger>(
+    alloc: Global,
+    a: &Mesh,
+    b: &Mesh,
+    steps: &mut Steps<L>,
+) -> Result<([usize; 3], u64), Fail>
+    ensures { IfOk result (λ r. steps.new ≤ steps.old + r.1) }
+{
+    let (union, first) = counted(alloc, Op::Union, a, b, steps)?;
+    let (common, second) = counted(alloc, Op::Intersect, a, b, steps)?;
+    let (rest, third) = counted(alloc, Op::Subtract, a, b, steps)?;
+    let two = first.checked_add(second).ok_or("too many components")?;
+    let most = two.checked_add(third).ok_or("too many components")?;
+    Ok(([union, common, rest], most))
+}
+
+fn post_through_a_box<L: Ledger>(
+    alloc: Global,
+    steps: &mut Steps<L>,
+) -> Result<([usize; 3], u64), Fail>
+    ensures { IfOk result (λ r. steps.new ≤ steps.old + r.1) }
+{
+    let a = box_of(alloc, [0; 3], [10; 3])?;
+    let b = box_of(alloc, [3, 4, 5], [6, 7, 20])?;
+    three_operations(alloc, &a, &b, steps)
+}
+
+// A lattice of 8,000 boxes less a box that cuts it.
+fn cut_lattice<L: Ledger>(alloc: Global, steps: &mut Steps<L>) -> Result<(usize, u64), Fail>
+    ensures { IfOk result (λ r. steps.new ≤ steps.old + r.1) }
+{
+    let grid = make_lattice(alloc, 20, 7, &Limits::program())?;
+    let cut = box_of(alloc, [1005, -100, -150], [3000, 2100, 2050])?;
+    counted(alloc, Op::Subtract, &grid, &cut, steps)
+}
+
+// The triangles of two boxes: the last vertex of the first is the first of the second.
+const JOINED: [[u32; 3]; 24] = [
+    [0, 3, 1],
+    [0, 2, 3],
+    [4, 5, 7],
+    [4, 7, 6],
+    [0, 1, 4],
+    [1, 5, 4],
+    [1, 3, 7],
+    [1, 7, 5],
+    [3, 2, 6],
+    [3, 6, 7],
+    [0, 4, 6],
+    [0, 6, 2],
+    [7, 10, 8],
+    [7, 9, 10],
+    [11, 12, 14],
+    [11, 14, 13],
+    [7, 8, 11],
+    [8, 12, 11],
+    [8, 10, 14],
+    [8, 14, 12],
+    [10, 9, 13],
+    [10, 13, 14],
+    [7, 11, 13],
+    [7, 13, 9],
+];
+
+fn joined_boxes(alloc: Global) -> Result<Mesh, Fail> {
+    let [a, b, c, d, e, f, g, h] = box_points([0; 3], [10; 3]);
+    let [_, i, j, k, l, m, n, o] = box_points([10; 3], [20; 3]);
+    let points = [a, b, c, d, e, f, g, h, i, j, k, l, m, n, o];
+    Ok(Mesh::check(alloc, soup_of(alloc, &points, &JOINED)?)?)
+}
+
+// Two boxes that share a vertex, and a box apart from them.
+fn joined_boxes_and_one<L: Ledger>(
+    alloc: Global,
+    steps: &mut Steps<L>,
+) -> Result<(usize, u64), Fail>
+    ensures { IfOk result (λ r. steps.new ≤ steps.old + r.1) }
+{
+    let joined = joined_boxes(alloc)?;
+    let other = box_of(alloc, [40; 3], [50; 3])?;
+    counted(alloc, Op::Union, &joined, &other, steps)
+}
+
+fn three_operations_from<L: Ledger>(alloc: Global, blank: Blank) -> Result<([usize; 3], u64), Fail>
+    requires name { blank.name ≡ L.name }
+    requires parts { blank.parts ≡ L.parts }
+    requires some { 0 < blank.parts }
+{
+    let mut steps = Steps::<L>::over(blank);
+    post_through_a_box(alloc, &mut steps)
+}
+
+fn cut_lattice_from<L: Ledger>(alloc: Global, blank: Blank) -> Result<(usize, u64), Fail>
+    requires name { blank.name ≡ L.name }
+    requires parts { blank.parts ≡ L.parts }
+    requires some { 0 < blank.parts }
+{
+    let mut steps = Steps::<L>::over(blank);
+    cut_lattice(alloc, &mut steps)
+}
+
+fn joined_boxes_from<L: Ledger>(alloc: Global, blank: Blank) -> Result<(usize, u64), Fail>
+    requires name { blank.name ≡ L.name }
+    requires parts { blank.parts ≡ L.parts }
+    requires some { 0 < blank.parts }
+{
+    let mut steps = Steps::<L>::over(blank);
+    joined_boxes_and_one(alloc, &mut steps)
+}
+
+#[test]
+fn three_operations_on_two_boxes_take_at_most_six_sums(rt: HostRuntime) -> Result<(), Fail> {
+    let (points, most) = three_operations_from::<Brand>(rt.alloc(), Blank::new(1))?;
+    assert_eq!(rt; points, [22, 14, 22]);
+    assert_eq!(rt; most, 6);
+    Ok(())
+}
+
+#[test]
+fn a_cut_of_a_lattice_takes_at_most_a_sum_a_box(rt: HostRuntime) -> Result<(), Fail> {
+    let (points, most) = cut_lattice_from::<Brand>(rt.alloc(), Blank::new(1))?;
+    assert_eq!(rt; points, 36_800);
+    assert_eq!(rt; most, 8001);
+    Ok(())
+}
+
+#[test]
+fn boxes_that_share_a_vertex_take_one_sum_together(rt: HostRuntime) -> Result<(), Fail> {
+    let (points, most) = joined_boxes_from::<Brand>(rt.alloc(), Blank::new(1))?;
+    assert_eq!(rt; points, 24);
+    assert_eq!(rt; most, 2);
+    Ok(())
+}
