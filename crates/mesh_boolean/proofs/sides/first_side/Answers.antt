@@ -1,4 +1,4 @@
-use Rattle.std.proofs.Common.{◌≡◌, sym, ◌∙◌, ap, subst}
+use Rattle.std.proofs.Common.{rules, ◌≡◌, sym, ◌∙◌, ap, subst}
 use Rattle.std.proofs.lemmas.Result.{IfOk-weaker}
 use Rattle.mb_base.specs.declared.op.Op.{Op}
 use Rattle.mesh_check.specs.Reduced.{NoOpposite}
@@ -24,9 +24,9 @@ returns-then-is_plainly_reduced-clause-apart c =
 pub returns-clause-value : goal.returns-clause-value
 returns-clause-value c =
     let m = c.in_ok-p.p in
-    IfOk-weaker c.marked_side.result (λ side. side ≡ p_side c.args.op m) (λ side. side ≡ p_side c.args.op (reduced_mesh c.args.p.now)) (λ side is. side_of_reduced c.args.op m c.args.p.now side c.in_ok-p.ensures.points c.in_ok-p.ensures.triples is) c.marked_side.ensures
+    IfOk-weaker c.marked_side-2.result (λ side. side ≡ p_side c.args.op m) (λ side. side ≡ p_side c.args.op (reduced_mesh c.args.p.now)) (λ side is. side_of_reduced c.args.op m c.args.p.now side c.in_ok-p.ensures.points c.in_ok-p.ensures.triples is) c.marked_side-2.ensures
 
 pub returns-clause-apart : goal.returns-clause-apart
 returns-clause-apart c =
     let m = c.in_ok-p.p in
-    IfOk-weaker c.marked_side.result (λ side. side ≡ p_side c.args.op m) (λ side. NoOpposite side.triples) (λ side is. subst (λ (s : Side). NoOpposite s.triples) (sym is) c.in_ok-p.ensures.apart) c.marked_side.ensures
+    IfOk-weaker c.marked_side-2.result (λ side. side ≡ p_side c.args.op m) (λ side. NoOpposite side.triples) (λ side is. subst (λ (s : Side). NoOpposite s.triples) (sym is) c.in_ok-p.ensures.apart) c.marked_side-2.ensures

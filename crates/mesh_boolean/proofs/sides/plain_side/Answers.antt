@@ -6,8 +6,8 @@ use Rattle.side_terms.specs.Sides.{side_of}
 use Rattle.mesh_boolean.specs.Operation.{q_side}
 use Rattle.mesh_boolean.proofs.sides.plain_side.Goals as goal
 
-pub returns-clause : goal.returns-clause
-returns-clause c =
+pub returns : goal.returns
+returns c =
     let m = c.args.q.now in
     let ups = c.in_ok-ups.ups.items in
     let clone : (y : List Bool) → AllZipBelow (λ (a b : Bool). b ≡ a) (false ∷ false ∷ false ∷ []) y 3 → y ≡ false ∷ false ∷ false ∷ [] = λ y same. same_from_all_zip (λ a b. b ≡ a) (false ∷ false ∷ false ∷ []) y same.whole (λ a b e. e) in

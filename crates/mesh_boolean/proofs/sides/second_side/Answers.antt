@@ -1,4 +1,4 @@
-use Rattle.std.proofs.Common.{◌≡◌, sym, ◌∙◌, ap, subst}
+use Rattle.std.proofs.Common.{rules, ◌≡◌, sym, ◌∙◌, ap, subst}
 use Rattle.std.proofs.lemmas.Result.{IfOk-weaker}
 use Rattle.mesh_check.specs.Reduced.{NoOpposite}
 use Rattle.mesh_terms.specs.Meshes.{Mesh}
@@ -23,9 +23,9 @@ returns-then-is_plainly_reduced-clause-apart c =
 pub returns-clause-value : goal.returns-clause-value
 returns-clause-value c =
     let m = c.in_ok-q.q in
-    IfOk-weaker c.plain_side.result (λ side. side ≡ q_side m) (λ side. side ≡ q_side (reduced_mesh c.args.q.now)) (λ side is. side_of_reduced m c.args.q.now side c.in_ok-q.ensures.points c.in_ok-q.ensures.triples is) c.plain_side.ensures
+    IfOk-weaker c.plain_side-2.result (λ side. side ≡ q_side m) (λ side. side ≡ q_side (reduced_mesh c.args.q.now)) (λ side is. side_of_reduced m c.args.q.now side c.in_ok-q.ensures.points c.in_ok-q.ensures.triples is) c.plain_side-2.ensures
 
 pub returns-clause-apart : goal.returns-clause-apart
 returns-clause-apart c =
     let m = c.in_ok-q.q in
-    IfOk-weaker c.plain_side.result (λ side. side ≡ q_side m) (λ side. NoOpposite side.triples) (λ side is. subst (λ (s : Side). NoOpposite s.triples) (sym is) c.in_ok-q.ensures.apart) c.plain_side.ensures
+    IfOk-weaker c.plain_side-2.result (λ side. side ≡ q_side m) (λ side. NoOpposite side.triples) (λ side is. subst (λ (s : Side). NoOpposite s.triples) (sym is) c.in_ok-q.ensures.apart) c.plain_side-2.ensures
