@@ -1,7 +1,7 @@
 // Small meshes, closed and open, and their reductions against a table from outside.
 mod table;
 
-use crate::{Mesh, MeshFault, reduce};
+use crate::{Mesh, MeshFault, is_plainly_reduced, reduce};
 use samples::{BOX, TETRAHEDRON, soup_of};
 use std::alloc::Global;
 use std::process::Abort;
@@ -127,6 +127,22 @@ fn two_sided_triangles_go_with_their_points(rt: HostRuntime) -> Result<(), Fail>
     // There are more vertices than triangles.
     let stay = [15, 16, 17, 18];
     assert!(rt; reduces_to(rt.alloc(), 19, &SHEETS_AND_TETRAHEDRON, &stay, &TETRAHEDRON)?);
+    Ok(())
+}
+
+// Whether the mesh of these triangles is plainly reduced.
+fn plainly_reduced(alloc: Global, count: i32, triples: &[[u32; 3]]) -> Result<bool, Fail> {
+    let mesh = checked(alloc, count, triples)??;
+    Ok(is_plainly_reduced(&mesh))
+}
+
+#[test]
+fn a_box_is_plainly_reduced(rt: HostRuntime) -> Result<(), Fail> {
+    assert!(rt; plainly_reduced(rt.alloc(), 8, &BOX)?);
+    assert!(rt; !plainly_reduced(rt.alloc(), 11, &SHEET_AND_BOX)?);
+    // Two half-edges run the same way along each edge. Nothing goes, but that is not plain.
+    let [a, b, c, d] = TETRAHEDRON;
+    assert!(rt; !plainly_reduced(rt.alloc(), 4, &[a, b, c, d, a, b, c, d])?);
     Ok(())
 }
 

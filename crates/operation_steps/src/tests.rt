@@ -11,7 +11,7 @@ use mesh_check::{Mesh, reduce};
 use mesh_make::{make_box, make_lattice};
 use mesh_measures::measure;
 use rounding::Nearest;
-use samples::{BOX, box_points, soup_of};
+use samples::{box_points, soup_of};
 use shadow_kernels::Grid;
 use std::alloc::Global;
 use std::marker::Brand;
@@ -44,7 +44,7 @@ fn second_components(alloc: Global, q: &Mesh) -> Result<u64, NoMemory>
     reduced_components(alloc, q)
 }
 
-// The most sums that an operation takes.
+// The most winding sums that an operation takes, a step each: one for each component of its sides.
 fn most_sums(alloc: Global, op: Op, p: &Mesh, q: &Mesh) -> Result<u64, Fail>
     ensures { IfOk result (λ n. n ≡ components_of (first_side op p.now) + components_of (second_side q.now)) }
 {
@@ -91,7 +91,8 @@ fn box_of(alloc: Global, low: [i32; 3], high: [i32; 3]) -> Result<Mesh, Fail> {
     Ok(make_box(alloc, low, high, &Limits::program())?)
 }
 
-// A union, an intersection and a difference of a box and one that stands through its top.
+// A union, an intersection and a difference of two meshes: the points of each, and the most by which they raise the counter
+// together.
 fn three_operations<L: Ledger>(
     alloc: Global,
     a: &Mesh,
@@ -108,6 +109,7 @@ fn three_operations<L: Ledger>(
     Ok(([union, common, rest], most))
 }
 
+// Those of a box and a post that stands through its top.
 fn post_through_a_box<L: Ledger>(
     alloc: Global,
     steps: &mut Steps<L>,
@@ -211,7 +213,7 @@ fn three_operations_on_two_boxes_take_at_most_six_sums(rt: HostRuntime) -> Resul
 }
 
 #[test]
-fn a_cut_of_a_lattice_takes_at_most_a_sum_a_box(rt: HostRuntime) -> Result<(), Fail> {
+fn a_cut_of_a_lattice_takes_at_most_one_sum_for_each_box(rt: HostRuntime) -> Result<(), Fail> {
     let (points, most) = cut_lattice_from::<Brand>(rt.alloc(), Blank::new(1))?;
     assert_eq!(rt; points, 36_800);
     assert_eq!(rt; most, 8001);
@@ -219,7 +221,7 @@ fn a_cut_of_a_lattice_takes_at_most_a_sum_a_box(rt: HostRuntime) -> Result<(), F
 }
 
 #[test]
-fn boxes_that_share_a_vertex_take_one_sum_together(rt: HostRuntime) -> Result<(), Fail> {
+fn boxes_that_share_a_vertex_count_as_one_component(rt: HostRuntime) -> Result<(), Fail> {
     let (points, most) = joined_boxes_from::<Brand>(rt.alloc(), Blank::new(1))?;
     assert_eq!(rt; points, 24);
     assert_eq!(rt; most, 2);
