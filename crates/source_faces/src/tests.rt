@@ -1,4 +1,4 @@
-// The vertices, segments and loops of all source faces, on pairs of small meshes.
+// The vertices, segments and loops of all source faces, on pairs of small meshes, as the crates below give them.
 ghost use Rattle.mesh_check.specs.Reduced.{NoOpposite};
 
 mod conserved;

@@ -23,7 +23,7 @@ pub fn are_conserved(p: &Side, q: &Side, windings: &Windings, hits: &Hits) -> bo
         && pairs_agree(p, q, &hits.x12, &hits.x21)
 }
 
-// The number that hits give an edge with a face, if it is no great one.
+// The number that hits give an edge with a face, unless a sum leaves an i64.
 fn hit_number(hits: &[Hit], edge: u32, face: u32) -> Option<i64>
     ensures { IfSome result (λ n. n ≡ hit_number hits.now edge face) }
 {
@@ -83,7 +83,7 @@ fn edge_agrees(side: &Side, windings: &[i64], hits: &[Hit], half: u32, faces: u3
     }
 }
 
-// Whether the one and a sum make the other.
+// Whether the second number and the sum make the first.
 fn changes_by(from: i64, to: i64, sum: i64) -> bool
     ensures { IsTrue result → (to -ℤ from) ≡ neg_ℤ sum }
 {

@@ -1,5 +1,5 @@
 // Numbers that are handed in: whether they meet what the source faces ask for.
-ghost use Rattle.std.specs.Prelude.{◌≡◌, ◌<◌, ◌≤◌, ◌*◌, IsTrue, length};
+ghost use Rattle.std.specs.Prelude.{◌≡◌, ◌<◌, ◌*◌, IsTrue, length};
 ghost use Rattle.std.specs.List.{All};
 ghost use Rattle.assembly_terms.specs.Standing.{AreConserved};
 ghost use Rattle.chain_terms.specs.Chains.{all_edges};
