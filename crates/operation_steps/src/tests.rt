@@ -28,7 +28,6 @@ fn reduced_components(alloc: Global, mesh: &Mesh) -> Result<u64, NoMemory>
 }
 
 // How many the first side of an operation has.
-#[tactic(auto, using(crate::proofs::Counted::first_counted))]
 fn first_components(alloc: Global, op: Op, p: &Mesh) -> Result<u64, NoMemory>
     ensures { IfOk result (λ n. n ≡ components_of (first_side op p.now)) }
 {
@@ -121,12 +120,18 @@ fn post_through_a_box<L: Ledger>(
     three_operations(alloc, &a, &b, steps)
 }
 
-// A lattice of 8,000 boxes less a box that cuts it.
+// A lattice of 8,000 boxes, and a box that cuts it.
+fn lattice_and_box(alloc: Global) -> Result<(Mesh, Mesh), Fail> {
+    let grid = make_lattice(alloc, 20, 7, &Limits::program())?;
+    let cut = box_of(alloc, [1005, -100, -150], [3000, 2100, 2050])?;
+    Ok((grid, cut))
+}
+
+// The lattice less the box.
 fn cut_lattice<L: Ledger>(alloc: Global, steps: &mut Steps<L>) -> Result<(usize, u64), Fail>
     ensures { IfOk result (λ r. steps.new ≤ steps.old + r.1) }
 {
-    let grid = make_lattice(alloc, 20, 7, &Limits::program())?;
-    let cut = box_of(alloc, [1005, -100, -150], [3000, 2100, 2050])?;
+    let (grid, cut) = lattice_and_box(alloc)?;
     counted(alloc, Op::Subtract, &grid, &cut, steps)
 }
 
