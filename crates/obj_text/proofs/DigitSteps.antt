@@ -1,9 +1,11 @@
 -- The number that digits spell, digit after digit, as far as it counts.
-use Rattle.std.proofs.Common.{◌≡◌, ℕ, suc, ◌+◌, ◌*◌, ◌-◌, ◌<◌, ◌≤◌, min, List, [], ◌∷◌, arith, length, drop, get_or, ap, ◌∙◌, sym, ⊎_elim}
+use Rattle.std.proofs.Common.{◌≡◌, ℕ, suc, ◌+◌, ◌*◌, ◌-◌, ◌<◌, ◌≤◌, min, List, [], ◌∷◌, arith, length, drop, get_or, refl, ap, ◌∙◌, sym, ⊎_elim, append_assoc, ◌++◌}
 use Rattle.std.proofs.lemmas.Bool.{cases_lt}
 use Rattle.std.proofs.Math.Seq.{drop-cons}
 use Rattle.std.specs.Prelude.{Bool, true, ◌&&◌}
+use Rattle.text_laws.proofs.Digits.{both, all_digits-append, value_from-append}
 use Rattle.text_terms.specs.Numbers.{is_digit, all_digits, value_from}
+use Rattle.obj_text.specs.Plain.{SpellsOn}
 
 -- more digits never make the number smaller
 value_from-le : (v : ℕ) (cs : List ℕ) → v ≤ value_from v cs
@@ -31,3 +33,12 @@ value_from-step n v i word inside =
 pub all_digits-step : (i : ℕ) (word : List ℕ) → i < length word → is_digit (get_or word i 0) ≡ true → all_digits (drop i word) ≡ all_digits (drop (suc i) word)
 all_digits-step i word inside digit =
     ap all_digits (drop-cons word i 0 inside) ∙ ap (λ (b : Bool). b && all_digits (drop (suc i) word)) digit
+
+-- a digit more at the front of a text
+pub SpellsOn-more : (before value size digit : ℕ) (text rest later : List ℕ) → SpellsOn before text value rest → rest ≡ digit ∷ later → is_digit digit ≡ true → size ≡ digit - 48 → SpellsOn before text (value * 10 + size) later
+SpellsOn-more before value size digit text rest later s next is sized = record {
+  digits = s.digits ++ digit ∷ [];
+  split = s.split ∙ ap (λ (t : List ℕ). s.digits ++ t) next ∙ sym (append_assoc s.digits (digit ∷ []) later);
+  are_digits = all_digits-append s.digits (digit ∷ []) s.are_digits (both (is_digit digit) true is refl);
+  spelled = ap (λ (v : ℕ). v * 10 + size) s.spelled ∙ ap (λ (n : ℕ). value_from before s.digits * 10 + n) sized ∙ sym (value_from-append before s.digits (digit ∷ []));
+}

@@ -4,3 +4,5 @@ mod DigitSteps
 mod ItemSteps
 mod NamedTwice
 mod FaceSteps
+mod PlainLines
+mod PlainReads

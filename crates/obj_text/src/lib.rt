@@ -22,6 +22,7 @@ ghost use Rattle.text_lines.specs.Faults.{IsFaultOf};
 
 mod items;
 mod lines;
+mod plain;
 mod reading;
 mod repeats;
 mod words;
