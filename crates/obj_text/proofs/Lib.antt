@@ -6,3 +6,4 @@ mod NamedTwice
 mod FaceSteps
 mod PlainLines
 mod PlainReads
+mod ShortNumbers

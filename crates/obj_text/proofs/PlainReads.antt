@@ -63,10 +63,10 @@ point_begins k text after_letter words second third rest x y z letter blank a b 
   split =
       letter ∙ ap (λ (t : List ℕ). 118 ∷ t) blank ∙ ap (λ (t : List ℕ). 118 ∷ 32 ∷ t) a.split
       ∙ ap (λ (t : List ℕ). 118 ∷ 32 ∷ (a.word ++ 32 ∷ t)) b.split ∙ ap (λ (t : List ℕ). 118 ∷ 32 ∷ (a.word ++ 32 ∷ (b.word ++ 32 ∷ t))) c.split;
-  x_plain = a.is_read.plain;
-  y_plain = b.is_read.plain;
-  z_plain = c.is_read.plain;
-  reads = each_read-three (coordinate k) a.word b.word c.word x y z a.is_read.reads b.is_read.reads c.is_read.reads;
+  x_plain = a.plain;
+  y_plain = b.plain;
+  z_plain = c.plain;
+  reads = each_read-three (coordinate k) a.word b.word c.word x y z a.reads b.reads c.reads;
 }
 
 -- the line at the front of a text is the first of its lines

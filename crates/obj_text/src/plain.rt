@@ -1,13 +1,11 @@
 // The lines of most files: `f` and three numbers of digits, or `v` and three coordinates, with one space
 // before each and an LF behind. Nothing is said of another line.
-ghost use Rattle.std.specs.Prelude.{◌≡◌, ◌<◌, ◌≤◌, [], ◌∷◌, ◌++◌, ◌^◌, not, IfSome};
+ghost use Rattle.std.specs.Prelude.{◌≡◌, ◌≤◌, [], ◌∷◌, not, IfSome};
 ghost use Rattle.std.specs.List.{position_or_len};
-ghost use Rattle.obj_text.specs.Plain.{is_plain, SpellsOn, BeginsIndex, BeginsCoordinate, BeginsFace, BeginsPoint};
+ghost use Rattle.obj_text.specs.Plain.{is_plain, BeginsIndex, BeginsWord, BeginsCoordinate, BeginsFace, BeginsPoint};
 
+use crate::decimals::{leading_digits, short_coordinate};
 use text_lines::coordinate;
-
-// Digits are read while they spell less than this.
-const MANY: u64 = 10_000_000_000;
 
 /// The vertices, from 0, that the line of a face at the front of a text names, and the text after it.
 pub fn face_line(text: &[u8]) -> Option<(u64, u64, u64, &[u8])>
@@ -34,8 +32,8 @@ pub fn point_line(text: &[u8], digits: u8) -> Option<(i32, i32, i32, &[u8])>
     Some((x, y, z, text))
 }
 
-// The text after a byte at its front.
-fn after_byte(text: &[u8], byte: u8) -> Option<&[u8]>
+/// The text after a byte at its front.
+pub fn after_byte(text: &[u8], byte: u8) -> Option<&[u8]>
     ensures { IfSome result (λ rest. text.now ≡ byte ∷ rest.now) }
 {
     match text.split_first() {
@@ -48,30 +46,13 @@ fn after_byte(text: &[u8], byte: u8) -> Option<&[u8]>
 fn index_before(text: &[u8], last: u8) -> Option<(u64, &[u8])>
     ensures { IfSome result (λ r. BeginsIndex text.now r.0 last r.1.now) }
 {
-    let (value, rest) = leading_digits(text, 0);
-    if value == 0 {
+    let (number, count) = leading_digits(text, 0, 9);
+    if number == 0 {
         return None;
     }
+    let (_, rest) = text.split_at(count);
     let rest = after_byte(rest, last)?;
-    Some((value - 1, rest))
-}
-
-// What digits at the front of a text spell behind digits that spell `before`, and the text after them.
-fn leading_digits(text: &[u8], before: u64) -> (u64, &[u8])
-    requires { before < 10 ^ 11 }
-    ensures below { result.0 < 10 ^ 11 }
-    ensures spelled { SpellsOn before text.now result.0 result.1.now }
-{
-    let mut value = before;
-    let mut rest = text;
-    while let Some((digit, later)) = rest.split_first() {
-        if !digit.is_ascii_digit() || value >= MANY {
-            return (value, rest);
-        }
-        value = value * 10 + u64::from(*digit - b'0');
-        rest = later;
-    }
-    (value, rest)
+    Some((number - 1, rest))
 }
 
 // The coordinate of the word at the front of a text, and the text after the byte behind it.
@@ -79,19 +60,41 @@ fn coordinate_before(text: &[u8], last: u8, digits: u8) -> Option<(i32, &[u8])>
     requires { digits ≤ 6 }
     ensures { IfSome result (λ r. BeginsCoordinate digits text.now r.0 last r.1.now) }
 {
-    word_before(text, last, digits)
+    match short_before(text, last, digits) {
+        Some(short) => Some(short),
+        None => word_before(text, last, digits),
+    }
 }
 
-// The same by the word alone.
+// The same of a short number.
+fn short_before(text: &[u8], last: u8, digits: u8) -> Option<(i32, &[u8])>
+    requires { digits ≤ 6 }
+    ensures { IfSome result (λ r. BeginsCoordinate digits text.now r.0 last r.1.now) }
+{
+    let (value, rest) = short_coordinate(text, digits)?;
+    let rest = after_byte(rest, last)?;
+    Some((value, rest))
+}
+
+// The same of a plain word.
 fn word_before(text: &[u8], last: u8, digits: u8) -> Option<(i32, &[u8])>
     requires { digits ≤ 6 }
     ensures { IfSome result (λ r. BeginsCoordinate digits text.now r.0 last r.1.now) }
+{
+    let (value, rest) = word_coordinate(text, digits)?;
+    let rest = after_byte(rest, last)?;
+    Some((value, rest))
+}
+
+// The coordinate of the plain word at the front of a text, and the text after it.
+fn word_coordinate(text: &[u8], digits: u8) -> Option<(i32, &[u8])>
+    requires { digits ≤ 6 }
+    ensures { IfSome result (λ r. BeginsWord digits text.now r.0 r.1.now) }
 {
     let (word, rest) = text.split_at(plain_len(text));
     if word.is_empty() {
         return None;
     }
-    let rest = after_byte(rest, last)?;
     match coordinate(word, digits) {
         Ok(value) => Some((value, rest)),
         Err(_) => None,
