@@ -80,6 +80,17 @@ fn dropped(text: &[u8]) -> (u64, &[u8])
     ensures drops { Drops text.now result.0 result.1.now }
     ensures few { result.0 ≤ 1 }
 {
+    match text.first() {
+        Some(digit) if digit.is_ascii_digit() => dropped_digits(text),
+        _ => (0, text),
+    }
+}
+
+// The same where there are some.
+fn dropped_digits(text: &[u8]) -> (u64, &[u8])
+    ensures drops { Drops text.now result.0 result.1.now }
+    ensures few { result.0 ≤ 1 }
+{
     let (lost, rest) = text.split_at(digits_len(text));
     (carry_by(lost), rest)
 }
@@ -125,7 +136,7 @@ pub fn leading_digits(text: &[u8], before: u64, most: usize) -> (u64, usize)
     let mut value = before;
     let mut count = 0;
     while count < end && text[count].is_ascii_digit() {
-        value = value * 10 + u64::from(text[count] - b'0');
+        value = value * 10 + (u64::from(text[count]) - 48);
         count += 1;
     }
     (value, count)

@@ -2,7 +2,7 @@ use Rattle.std.proofs.Common.{not}
 use Rattle.text_terms.specs.Numbers.{is_digit}
 use Rattle.text_lines.proofs.Positions.{position_or_len-le}
 use Rattle.obj_text.proofs.ShortNumbers.{drops_front}
-use Rattle.obj_text.proofs.decimals.dropped.Goals as goal
+use Rattle.obj_text.proofs.decimals.dropped_digits.Goals as goal
 
 pub split_at-requires : goal.split_at-requires
 split_at-requires c = rw c.digits_len.ensures (position_or_len-le (λ x. not (is_digit x)) c.args.text.now)
