@@ -1,12 +1,11 @@
 -- A plain line is the first of its text, and its words are those that it was made of.
-use Rattle.std.proofs.Common.{◌≡◌, ℕ, suc, ◌<◌, ◌+◌, Bool, true, false, not, List, [], ◌∷◌, ◌++◌, length, take, refl, ap, ◌∙◌, sym, arith, append_assoc, length-append}
-use Rattle.std.specs.Prelude.{◌==◌, ◌&&◌}
+use Rattle.std.proofs.Common.{◌≡◌, ℕ, suc, ◌<◌, ◌+◌, Bool, true, false, not, List, [], ◌∷◌, ◌++◌, length, take, refl, ap, ◌∙◌, arith, append_assoc, length-append}
+use Rattle.std.specs.Prelude.{◌&&◌}
 use Rattle.std.specs.List.{position_or_len}
 use Rattle.std.proofs.lemmas.Bool.Decides.{nat_tests}
 use Rattle.text_laws.proofs.Digits.{both, left, right}
 use Rattle.text_lines.proofs.Positions.{position_or_len-here, position_or_len-past}
 use Rattle.text_terms.specs.Lines.{words_of, lines_of, last_is, is_comment, is_continued, begins_comment, before_comment, joined_from}
-use Rattle.text_terms.specs.Numbers.{is_digit, all_digits}
 use Rattle.text_terms.specs.Written.{line_of}
 use Rattle.obj_terms.specs.Obj.{word_lines}
 use Rattle.obj_laws.proofs.Bytes.{Above, Above-lower}

@@ -1,5 +1,5 @@
 -- What a plain line gives.
-use Rattle.std.proofs.Common.{◌≡◌, ℕ, ◌+◌, ◌-◌, ◌<◌, ◌≤◌, ◌&&◌, if◌then◌else◌, Bool, true, false, List, [], ◌∷◌, ◌++◌, length, codes, refl, ap, ◌∙◌, sym, arith, Option, Some, Result, Ok, Err, ℤ, nat_lt, nat_le}
+use Rattle.std.proofs.Common.{◌≡◌, ℕ, ◌+◌, ◌-◌, ◌<◌, ◌&&◌, if◌then◌else◌, Bool, true, false, List, [], ◌∷◌, ◌++◌, length, codes, ap, ◌∙◌, sym, arith, Option, Some, Result, Ok, Err, ℤ, nat_lt, nat_le}
 use Rattle.std.proofs.lemmas.Bool.Decides.{nat_tests}
 use Rattle.mesh_terms.specs.Faults.{Points, Triangles, Fault, Bad, Over}
 use Rattle.mesh_terms.specs.Limits.{Limits}
@@ -7,7 +7,7 @@ use Rattle.mesh_terms.specs.Meshes.{HasThree, IsBelow}
 use Rattle.text_terms.specs.Lines.{lines_of, joined_from}
 use Rattle.text_terms.specs.Coordinates.{coordinate}
 use Rattle.text_terms.specs.FirstFault.{then_read, put_read, each_read, on_line}
-use Rattle.text_terms.specs.Numbers.{is_digit, all_digits, digits_value}
+use Rattle.text_terms.specs.Numbers.{is_digit, all_digits}
 use Rattle.obj_terms.specs.Faces.{is_slash, whole_number, item_tail, named_vertex, item_vertex, has_repeat, face_fan}
 use Rattle.obj_terms.specs.Obj.{Gathered, with_point, with_triples, obj_triples, obj_line, obj_lines, word_lines}
 use Rattle.grid_number.proofs.Cuts.{cut_at-only_digits}

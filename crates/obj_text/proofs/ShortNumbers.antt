@@ -1,5 +1,5 @@
 -- Short decimal numbers at the front of a text, and what they are in steps.
-use Rattle.std.proofs.Common.{◌≡◌, ℕ, suc, ◌+◌, ◌*◌, ◌-◌, ◌^◌, ◌<◌, ◌≤◌, ◌&&◌, if◌then◌else◌, cond, Bool, true, false, not, List, [], ◌∷◌, ◌++◌, length, take, drop, refl, ap, ◌∙◌, sym, arith, append-nil, append_assoc, length-append, Option, Some, None, option_map, ℤ, pos, neg_ℤ, negsuc, ◌+ℤ◌, ◌-ℤ◌, nat_lt, Ok, Err}
+use Rattle.std.proofs.Common.{◌≡◌, ℕ, suc, ◌+◌, ◌*◌, ◌^◌, ◌<◌, ◌≤◌, if◌then◌else◌, cond, Bool, true, false, not, List, [], ◌∷◌, ◌++◌, length, take, drop, refl, ap, ◌∙◌, sym, arith, append-nil, append_assoc, length-append, Option, Some, None, option_map, ℤ, pos, negsuc, ◌+ℤ◌, ◌-ℤ◌, nat_lt, Ok, Err}
 use Rattle.std.specs.Prelude.{◌==◌}
 use Rattle.std.specs.List.{position_or_len}
 use Rattle.text_lines.proofs.Positions.{position_or_len-here, position_or_len-past}
@@ -7,7 +7,7 @@ use Rattle.std.proofs.lemmas.Int.{ints}
 use Rattle.std.proofs.lemmas.Bool.Decides.{nat_tests}
 use Rattle.std.proofs.lemmas.List.{take-append-drop, length-take-le}
 use Rattle.text_laws.proofs.Digits.{both, left, right, all_digits-append, value_from-append}
-use Rattle.text_terms.specs.Numbers.{Parts, is_digit, all_digits, value_from, digits_value, scaled, size_of, value_of, signed, number_parts, or_empty, is_on_grid}
+use Rattle.text_terms.specs.Numbers.{Parts, is_digit, all_digits, value_from, digits_value, scaled, size_of, value_of, signed, number_parts, or_empty}
 use Rattle.text_terms.specs.Coordinates.{on_grid, coordinate}
 use Rattle.obj_terms.specs.Faces.{minus_first}
 use Rattle.grid_number.specs.Reading.{carry_of, with_sign, parts_with}
@@ -16,7 +16,7 @@ use Rattle.grid_number.proofs.Dropped.{scaled-dropped}
 use Rattle.grid_number.proofs.Known.{on_grid-size}
 use Rattle.grid_number.proofs.Parts.{parts_of_runs, number_parts-runs}
 use Rattle.grid_number.proofs.ReadBack.{scaled-pos}
-use Rattle.obj_text.specs.Plain.{is_plain, all_plain, IsPlainWord, SpellsOn, mantissa, carry_by, Drops, BeginsSize, EndsSize, BeginsWord, BeginsCoordinate}
+use Rattle.obj_text.specs.Plain.{is_plain, all_plain, SpellsOn, mantissa, carry_by, Drops, BeginsSize, EndsSize, BeginsWord, BeginsCoordinate}
 
 -- digits before and after the point of a number without an exponent
 abbrev parts_so : List ℕ → List ℕ → Parts

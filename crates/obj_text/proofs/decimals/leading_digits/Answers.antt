@@ -1,4 +1,4 @@
-use Rattle.std.proofs.Common.{◌≡◌, ◌<◌, ◌≤◌, ◌-◌, true, get_or, length, rules, arith}
+use Rattle.std.proofs.Common.{◌≡◌, ◌<◌, ◌-◌, true, get_or, length, rules, arith}
 use Rattle.text_terms.specs.Numbers.{is_digit}
 use Rattle.grid_number.proofs.Saturated.{all_digits-step}
 use Rattle.obj_text.proofs.DigitSteps.{spelled-step, below-step}

@@ -1,6 +1,5 @@
-use Rattle.std.proofs.Common.{◌≡◌, ◌∷◌, [], rules, to_z, of_z}
+use Rattle.std.proofs.Common.{◌≡◌, ◌∷◌, rules, to_z, of_z}
 use Rattle.std.specs.Int.{w32}
-use Rattle.obj_text.specs.Plain.{BeginsCoordinate}
 use Rattle.obj_text.proofs.PlainReads.{point_begins}
 use Rattle.obj_text.proofs.plain.point_line.Goals as goal
 

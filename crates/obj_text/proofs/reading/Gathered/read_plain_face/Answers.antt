@@ -1,4 +1,4 @@
-use Rattle.std.proofs.Common.{◌≡◌, ◌<◌, ◌∷◌, [], ◌++◌, length, rules}
+use Rattle.std.proofs.Common.{◌<◌, length, rules}
 use Rattle.mesh_terms.specs.Meshes.{HasThree, IsBelow}
 use Rattle.obj_text.proofs.PlainReads.{face-read}
 use Rattle.obj_text.proofs.reading.Gathered.read_plain_face.Goals as goal
