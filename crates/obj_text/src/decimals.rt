@@ -1,5 +1,5 @@
 // Numbers of few digits at the front of a text.
-ghost use Rattle.std.specs.Prelude.{◌≡◌, ◌≤◌, ◌^◌, IfSome, not};
+ghost use Rattle.std.specs.Prelude.{◌≡◌, ◌<◌, ◌≤◌, ◌-◌, ◌^◌, IsTrue, IfSome, not};
 ghost use Rattle.std.specs.List.{position_or_len};
 ghost use Rattle.text_terms.specs.Numbers.{is_digit};
 ghost use Rattle.grid_number.specs.Reading.{with_sign};
@@ -135,9 +135,21 @@ pub fn leading_digits(text: &[u8], before: u64, most: usize) -> (u64, usize)
     let end = most.min(text.len());
     let mut value = before;
     let mut count = 0;
-    while count < end && text[count].is_ascii_digit() {
-        value = value * 10 + (u64::from(text[count]) - 48);
+    while count < end {
+        let digit = digit_of(text[count]);
+        if digit >= 10 {
+            return (value, count);
+        }
+        value = value * 10 + digit;
         count += 1;
     }
     (value, count)
+}
+
+// The digit that a byte is, or a number from 10 on.
+fn digit_of(byte: u8) -> u64
+    ensures digit { result < 10 → IsTrue (is_digit byte) }
+    ensures value { result < 10 → result ≡ byte - 48 }
+{
+    u64::from(byte).wrapping_sub(48)
 }

@@ -7,11 +7,12 @@ use Rattle.obj_text.proofs.decimals.leading_digits.Goals as goal
 pub loop-count-preserved : goal.loop-count-preserved
 loop-count-preserved c =
     let inside : c.loop-count.count < length c.args.text.now = search rules in
-    let digit : is_digit (get_or c.args.text.now c.loop-count.count 0) ≡ true = search rules in
-    let small : c.from.result - 48 < 10 = search rules in
+    let small : c.digit_of-digit.result < 10 = search rules in
+    let digit : is_digit (get_or c.args.text.now c.loop-count.count 0) ≡ true = c.digit_of-digit.ensures.digit small in
+    let value : c.digit_of-digit.result ≡ get_or c.args.text.now c.loop-count.count 0 - 48 = c.digit_of-digit.ensures.value small in
     record {
       within = omega (arith, c.loop-count-test.true);
       digits = all_digits-step c.loop-count.count c.args.text.now inside c.loop-count.invariant.digits digit;
-      spelled = rw c.from.ensures (spelled-step c.args.before c.loop-count.value c.loop-count.count c.args.text.now inside c.loop-count.invariant.spelled);
-      below = below-step c.loop-count.value c.loop-count.count (c.from.result - 48) c.loop-count.invariant.below small;
+      spelled = rw value (spelled-step c.args.before c.loop-count.value c.loop-count.count c.args.text.now inside c.loop-count.invariant.spelled);
+      below = below-step c.loop-count.value c.loop-count.count c.digit_of-digit.result c.loop-count.invariant.below small;
     }
