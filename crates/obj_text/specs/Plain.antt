@@ -13,6 +13,11 @@ abbrev pub all_plain : List ℕ → Bool
 all_plain [] = true
 all_plain (c ∷ cs) = is_plain c && all_plain cs
 
+-- no plain byte stands at the front
+abbrev pub ends_plain : List ℕ → Bool
+ends_plain [] = true
+ends_plain (c ∷ cs) = not (is_plain c)
+
 -- some plain bytes
 pub record IsPlainWord (word : List ℕ) : Type 0 where
   pub some : 0 < length word

@@ -2,7 +2,7 @@
 // before each and an LF behind, or a CR and an LF. Nothing is said of another line.
 ghost use Rattle.std.specs.Prelude.{◌≡◌, ◌≤◌, [], ◌∷◌, not, IfSome};
 ghost use Rattle.std.specs.List.{position_or_len};
-ghost use Rattle.obj_text.specs.Plain.{is_plain, BeginsIndex, BeginsWord, BeginsCoordinate, EndsLine, BeginsFace, BeginsPoint};
+ghost use Rattle.obj_text.specs.Plain.{is_plain, ends_plain, BeginsIndex, BeginsWord, BeginsCoordinate, EndsLine, BeginsFace, BeginsPoint};
 
 use crate::decimals::{leading_digits, short_coordinate};
 use text_lines::coordinate;
@@ -88,7 +88,7 @@ fn front_coordinate(text: &[u8], digits: u8) -> Option<(i32, &[u8])>
     ensures { IfSome result (λ r. BeginsWord digits text.now r.0 r.1.now) }
 {
     match short_coordinate(text, digits) {
-        Some((value, rest)) if plain_len(rest) == 0 => Some((value, rest)),
+        Some((value, rest)) if ends_plain(rest) => Some((value, rest)),
         _ => word_coordinate(text, digits),
     }
 }
@@ -105,6 +105,16 @@ fn word_coordinate(text: &[u8], digits: u8) -> Option<(i32, &[u8])>
     match coordinate(word, digits) {
         Ok(value) => Some((value, rest)),
         Err(_) => None,
+    }
+}
+
+// Whether no byte of a plain word stands at the front.
+fn ends_plain(text: &[u8]) -> bool
+    ensures { result ≡ ends_plain text.now }
+{
+    match text.split_first() {
+        Some((byte, _)) => !is_plain(*byte),
+        None => true,
     }
 }
 
