@@ -5,6 +5,7 @@ use Rattle.mb_base.specs.declared.op.Op.{Op}
 use Rattle.mesh_terms.specs.Meshes.{Mesh, triples_of}
 use Rattle.side_terms.specs.Sides.{Side}
 use Rattle.assembly_terms.specs.Prescribed.{Numbers, prescribed_halfedges}
+use Rattle.assembly_terms.specs.Standing.{AreConserved}
 use Rattle.filling_terms.specs.Filled.{points_of_copies}
 use Rattle.pinch_split.specs.Back.{named_by}
 use Rattle.pinch_split.specs.Split.{split_from, split_points, split_triples}
@@ -15,7 +16,7 @@ use Rattle.mesh_boolean.specs.declared.outcome.Outcome.{Outcome}
 use Rattle.mesh_boolean.specs.Assembly.{IsAssembled, IsOfMeshes}
 use Rattle.mesh_boolean.specs.Faults.{IsTooLarge}
 use Rattle.mesh_boolean.specs.Operation.{Tests, first_side, numbers_of, second_side}
-use Rattle.mesh_boolean.specs.Results.{IsBounded, IsFilled, IsPrescribed, copies_in, halfedges_in, numbers_in}
+use Rattle.mesh_boolean.specs.Results.{ConserveIn, IsBounded, IsFilled, IsPrescribed, copies_in, halfedges_in, numbers_in}
 use Rattle.mesh_boolean.proofs.Faces.{are_bounded}
 
 -- two sides with their numbers are those of two meshes
@@ -38,6 +39,13 @@ of_meshes t op m k p q n r all known assembled =
 pub all_of_meshes : (t : Tests) (op : Op) (m k : Mesh) (p q : Side) (n : Numbers) (r : Result (Prescribed × SourceTriangles) PrescribeFault) → AreSidesOf t op m k p q n → IfOk r (λ x. IsAssembled op p q n x.0 x.1) → IfOk r (λ x. IsOfMeshes t op m k x.0 x.1)
 all_of_meshes t op m k p q n (Ok x) known assembled = of_meshes t op m k p q n x.0 x.1 known assembled
 all_of_meshes t op m k p q n (Err e) known assembled = tt
+
+-- numbers that are conserved over the sides are conserved over the meshes
+pub conserve_in : {X : Type 0} (t : Tests) (op : Op) (m k : Mesh) (p q : Side) (n : Numbers) (r : Result X PrescribeFault) → AreSidesOf t op m k p q n → AreConserved p q n → IfOk r (λ _. ConserveIn t op m k)
+conserve_in t op m k p q n (Ok x) known conserved =
+    subst (λ l. AreConserved (first_side op m) (second_side k) l) (same_numbers t op m k p q n known)
+    (subst (λ s. AreConserved (first_side op m) s n) known.second (subst (λ s. AreConserved s q n) known.first conserved))
+conserve_in t op m k p q n (Err e) known conserved = tt
 
 -- the mesh of what was assembled, with one vertex for each fan
 pub record IsOutcome (r : Prescribed) (all : SourceTriangles) (o : Outcome) : Type 0 where

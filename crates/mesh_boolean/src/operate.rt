@@ -90,6 +90,7 @@ fn assemble_meshes<K: Kernels, L: Ledger>(
     limits: &Limits,
     steps: &mut Steps<L>,
 ) -> Result<(Prescribed, SourceTriangles), PrescribeFault>
+    ensures conserved { IfOk result (λ _. ConserveIn (⟦<K as Tested>⟧.tests kernels.now) op p.now q.now) }
     ensures assembled { IfOk result (λ r. IsOfMeshes (⟦<K as Tested>⟧.tests kernels.now) op p.now q.now r.0 r.1) }
     ensures within { IfOk result (λ r. r.0.halfedges ≤ limits.now.halfedges) }
     ensures too_large { IfErr result (IsTooLarge limits.now.halfedges (halfedges_in (⟦<K as Tested>⟧.tests kernels.now) op p.now q.now)) }
