@@ -5,8 +5,8 @@ pub mod FirstPlaces
 pub mod Members
 pub mod Reading
 pub mod Rounds
-pub mod Seen
 pub mod Steps
+pub mod Thirds
 pub mod Turned
 pub mod UnderWay
 pub mod WholeCuts

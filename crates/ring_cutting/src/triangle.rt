@@ -7,13 +7,14 @@ ghost use Rattle.ring_cutting.specs.Placed.{place_blocks};
 use crate::place::Place;
 use face_plane::FlatPoint;
 
-// Whether a point lies in a triangle that turns left, its rim included.
+// Whether a point lies in a triangle that turns left, its rim included. With an ear's neighbours as a and c, most points of
+// its ring lie beyond the side from c to a, so that side is asked first.
 fn covers(a: FlatPoint, b: FlatPoint, c: FlatPoint, x: FlatPoint) -> bool
     ensures { result ≡ covers a b c x }
 {
-    FlatPoint::keeps_left(a, b, x)
+    FlatPoint::keeps_left(c, a, x)
+        && FlatPoint::keeps_left(a, b, x)
         && FlatPoint::keeps_left(b, c, x)
-        && FlatPoint::keeps_left(c, a, x)
 }
 
 // Whether a place has another vertex than the three, with its point in their triangle.
