@@ -3,6 +3,7 @@ pub mod Bent
 pub mod Different
 pub mod FirstPlaces
 pub mod Members
+pub mod Others
 pub mod Reading
 pub mod Rounds
 pub mod Steps

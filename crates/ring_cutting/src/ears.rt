@@ -41,6 +41,7 @@ pub(crate) fn choose(places: &[Place]) -> Choice
 
 // The least ear.
 fn first_ear(places: &[Place]) -> Option<usize>
+    requires { 3 ≤ length places.now }
     ensures within { IfSome result (λ i. i < length places.now) }
     ensures allowed { IfSome result (λ i. IsTrue (is_allowed (vertices_of places.now) i)) }
     ensures value { (at : Plane) → IsPlaced at places.now → result ≡ position (is_ear at (vertices_of places.now)) (upto (length places.now)) }
@@ -72,14 +73,15 @@ fn first_allowed(places: &[Place]) -> usize
 
 // Whether a place is an ear.
 fn is_ear(places: &[Place], i: usize) -> bool
-    requires { i < length places.now }
+    requires long { 3 ≤ length places.now }
+    requires within { i < length places.now }
     ensures allowed { IsTrue result → IsTrue (is_allowed (vertices_of places.now) i) }
     ensures value { (at : Plane) → IsPlaced at places.now → result ≡ is_ear at (vertices_of places.now) i }
 {
     let (p, x, n) = (before(places, i), here(places, i), after(places, i));
     FlatPoint::turns_left(p.at, x.at, n.at)
         && is_allowed(places, i)
-        && !is_blocked(p, x, n, places)
+        && !is_blocked(p, x, n, places, i)
 }
 
 // Whether a place may be cut: its neighbours differ, and some place beside it has a third vertex.

@@ -1,8 +1,9 @@
 // Which places block a triangle.
-ghost use Rattle.std.specs.Prelude.{◌≡◌};
+ghost use Rattle.std.specs.Prelude.{◌≡◌, ◌<◌, ◌≤◌, length};
 ghost use Rattle.std.specs.List.{list_any};
+ghost use Rattle.face_plane.specs.Rings.{vertex_at, vertex_before, vertex_after};
 ghost use Rattle.ring_cutting.specs.Cuts.{covers};
-ghost use Rattle.ring_cutting.specs.Placed.{place_blocks};
+ghost use Rattle.ring_cutting.specs.Placed.{place_blocks, vertices_of};
 
 use crate::place::Place;
 use face_plane::FlatPoint;
@@ -27,10 +28,30 @@ fn blocks(p: Place, x: Place, n: Place, place: Place) -> bool
         && place.vertex != n.vertex
 }
 
-// Whether some place blocks the triangle. The last places are cut last, so a place that blocks is looked for from the
-// last to the first: what is found stays longest.
-pub(crate) fn is_blocked(p: Place, x: Place, n: Place, places: &[Place]) -> bool
+// Whether some of these places blocks the triangle. The last places are cut last, so a place that blocks is looked for from
+// the last to the first: what is found stays longest.
+fn any_blocks(p: &Place, x: &Place, n: &Place, places: &[Place]) -> bool
+    ensures { result ≡ list_any (place_blocks p.now x.now n.now) places.now }
+{
+    places.iter().rev().any(|place| blocks(*p, *x, *n, *place))
+}
+
+// Whether some place of the ring blocks the triangle of a place and the two beside it. These three do not block it, so the
+// others are asked; beside the last place the first one is asked with them.
+pub(crate) fn is_blocked(p: Place, x: Place, n: Place, places: &[Place], i: usize) -> bool
+    requires long { 3 ≤ length places.now }
+    requires within { i < length places.now }
+    requires before { p.vertex ≡ vertex_before (vertices_of places.now) i }
+    requires here { x.vertex ≡ vertex_at (vertices_of places.now) i }
+    requires after { n.vertex ≡ vertex_after (vertices_of places.now) i }
     ensures { result ≡ list_any (place_blocks p x n) places.now }
 {
-    places.iter().rev().any(|place| blocks(p, x, n, *place))
+    let last = places.len() - 1;
+    if i == 0 {
+        any_blocks(&p, &x, &n, &places[2..last])
+    } else if i == last {
+        any_blocks(&p, &x, &n, &places[..i - 1])
+    } else {
+        any_blocks(&p, &x, &n, &places[i + 2..]) || any_blocks(&p, &x, &n, &places[..i - 1])
+    }
 }
