@@ -1,7 +1,7 @@
 -- A place and its neighbours do not block their own triangle, so it is enough to ask the others.
-use Rattle.std.specs.Prelude.{◌≡◌, ℕ, ◌+◌, ◌-◌, ◌<◌, ◌≤◌, List, [], ◌∷◌, ◌++◌, true, false, Bool, not, ◌&&◌, ◌||◌, ◌==◌, length, get_or, take, drop, ◌⊎◌}
+use Rattle.std.specs.Prelude.{◌≡◌, ℕ, ◌+◌, ◌-◌, ◌<◌, ◌≤◌, List, [], ◌∷◌, true, false, Bool, not, ◌&&◌, ◌||◌, ◌==◌, length, get_or, take, drop}
 use Rattle.std.specs.List.{list_any}
-use Rattle.std.proofs.Common.{arith, refl, sym, ap, ◌∙◌, inl, inr}
+use Rattle.std.proofs.Common.{arith, refl, sym, ap, ◌∙◌}
 use Rattle.std.proofs.lemmas.Bool.{eq-eqb, and_left, and_right}
 use Rattle.std.proofs.lemmas.List.{get_or-map, get_or-drop, length-drop, take-append-drop, take_more, take_all, drop_all, at_drop_more}
 use Rattle.std.proofs.lemmas.List.Folds.{list_any-append}
