@@ -1,15 +1,15 @@
--- A place and its neighbours do not block their own triangle, so it is enough to ask the others.
+-- A place and its neighbours do not block their own triangle, so at the first place it is enough to ask the others.
 use Rattle.std.specs.Prelude.{◌≡◌, ℕ, ◌+◌, ◌-◌, ◌<◌, ◌≤◌, List, [], ◌∷◌, true, false, Bool, not, ◌&&◌, ◌||◌, ◌==◌, length, get_or, take, drop}
 use Rattle.std.specs.List.{list_any}
 use Rattle.std.proofs.Common.{arith, refl, sym, ap, ◌∙◌}
 use Rattle.std.proofs.lemmas.Bool.{eq-eqb, and_left, and_right}
-use Rattle.std.proofs.lemmas.List.{get_or-map, get_or-drop, length-drop, take-append-drop, take_more, take_all, drop_all, at_drop_more}
+use Rattle.std.proofs.lemmas.List.{get_or-map, get_or-drop, length-drop, take_more, take_all, at_drop_more}
 use Rattle.std.proofs.lemmas.List.Folds.{list_any-append}
 use Rattle.face_plane.specs.Rings.{vertex_at, vertex_before, vertex_after}
 use Rattle.ring_cutting.specs.declared.place.Place.{Place}
 use Rattle.ring_cutting.specs.Cuts.{covers}
 use Rattle.ring_cutting.specs.Placed.{vertices_of, place_blocks}
-use Rattle.ring_cutting.proofs.Reading.{before_first, before_other, here_read, after_other}
+use Rattle.ring_cutting.proofs.Reading.{before_first, here_read, after_other}
 
 -- three places of a ring: one and its neighbours, by their vertices
 pub record Stands (ps : List Place) (i : ℕ) (p x n : Place) : Type 0 where
@@ -59,21 +59,9 @@ vertex_read ps k d h = sym (get_or-map (λ (q : Place). q.vertex) ps k d 0 h)
 here_out : (ps : List Place) (i : ℕ) (p x n : Place) → Stands ps i p x n → place_blocks p x n (get_or ps i x) ≡ false
 here_out ps i p x n s = by_second p x n (get_or ps i x) (vertex_read ps i x s.within ∙ here_read ps i s.within ∙ sym s.here)
 
--- the one before it
-before_out : (ps : List Place) (i : ℕ) (p x n : Place) → Stands ps i p x n → 0 < i → place_blocks p x n (get_or ps (i - 1) x) ≡ false
-before_out ps i p x n s some =
-    let within = s.within in
-    by_first p x n (get_or ps (i - 1) x) (vertex_read ps (i - 1) x (omega arith) ∙ before_other ps i some s.within ∙ sym s.before)
-
 -- the one after it
 after_out : (ps : List Place) (i : ℕ) (p x n : Place) → Stands ps i p x n → i + 1 < length ps → place_blocks p x n (get_or ps (i + 1) x) ≡ false
 after_out ps i p x n s more = by_third p x n (get_or ps (i + 1) x) (vertex_read ps (i + 1) x more ∙ after_other ps i more ∙ sym s.after)
-
--- of the places up to one those before its neighbour are left
-front_left : (ps : List Place) (i : ℕ) (p x n : Place) → Stands ps i p x n → 0 < i → any_of p x n (take i ps) ≡ any_of p x n (take (i - 1) ps)
-front_left ps i p x n s some =
-    let within = s.within in let f = place_blocks p x n in let next : i ≡ (i - 1) + 1 = omega arith in
-    ap (λ k. list_any f (take k ps)) next ∙ last_out f ps (i - 1) x (omega arith) (before_out ps i p x n s some)
 
 -- at the first place
 pub at_first : (ps : List Place) (p x n : Place) (last : ℕ) → Stands ps 0 p x n → last ≡ length ps - 1 → any_of p x n (take (last - 2) (drop 2 ps)) ≡ any_of p x n ps
@@ -84,32 +72,3 @@ at_first ps p x n last s is =
     by_first p x n (get_or rest k x) (ap (λ (q : Place). q.vertex) end ∙ vertex_read ps (length ps - 1) x (omega arith) ∙ before_first ps (omega arith) ∙ sym s.before) in
     sym (last_out f rest k x (omega arith) fails) ∙ ap (list_any f) (take_all (k + 1) rest (omega arith))
     ∙ sym (first_out f ps 0 x s.within (here_out ps 0 p x n s) ∙ first_out f ps 1 x (omega arith) (after_out ps 0 p x n s (omega arith)))
-
--- a part on each side
-sides : {X : Type 0} (f : X → Bool) (i : ℕ) (xs : List X) → list_any f xs ≡ (list_any f (take i xs) || list_any f (drop i xs))
-sides f i xs = ap (list_any f) (sym (take-append-drop i xs)) ∙ list_any-append f (take i xs) (drop i xs)
-
--- at the last place
-pub at_last : (ps : List Place) (i : ℕ) (p x n : Place) → Stands ps i p x n → i ≡ length ps - 1 → any_of p x n (take (i - 1) ps) ≡ any_of p x n ps
-at_last ps i p x n s is =
-    let f = place_blocks p x n in let long = s.long in
-    let none : list_any f (drop i ps) ≡ false = first_out f ps i x s.within (here_out ps i p x n s) ∙ ap (list_any f) (drop_all (i + 1) ps (omega arith)) in
-    sym (front_left ps i p x n s (omega arith)) ∙ alone (list_any f (take i ps)) ∙ ap (λ (b : Bool). list_any f (take i ps) || b) (sym none) ∙ sym (sides f i ps)
-  where
-    alone : (b : Bool) → b ≡ (b || false)
-    alone true = refl
-    alone false = refl
-
--- between them
-pub at_middle : (ps : List Place) (i : ℕ) (p x n : Place) → Stands ps i p x n → 0 < i → i + 1 < length ps → (any_of p x n (drop (i + 2) ps) || any_of p x n (take (i - 1) ps)) ≡ any_of p x n ps
-at_middle ps i p x n s some more =
-    let f = place_blocks p x n in let on : (i + 1) + 1 ≡ i + 2 = omega arith in
-    let back : list_any f (drop i ps) ≡ list_any f (drop (i + 2) ps) =
-    first_out f ps i x s.within (here_out ps i p x n s) ∙ first_out f ps (i + 1) x more (after_out ps i p x n s more) ∙ ap (λ k. list_any f (drop k ps)) on in
-    either (list_any f (drop (i + 2) ps)) (list_any f (take (i - 1) ps)) ∙ sym (λ j. front_left ps i p x n s some j || back j) ∙ sym (sides f i ps)
-  where
-    either : (a b : Bool) → (a || b) ≡ (b || a)
-    either true true = refl
-    either true false = refl
-    either false true = refl
-    either false false = refl

@@ -36,8 +36,8 @@ fn any_blocks(p: &Place, x: &Place, n: &Place, places: &[Place]) -> bool
     places.iter().rev().any(|place| blocks(*p, *x, *n, *place))
 }
 
-// Whether some place of the ring blocks the triangle of a place and the two beside it. These three do not block it, so the
-// others are asked; beside the last place the first one is asked with them.
+// Whether some place of the ring blocks the triangle of a place and the two beside it. These three do not block it: at the
+// first place, where most ears are, the others alone are asked.
 pub(crate) fn is_blocked(p: Place, x: Place, n: Place, places: &[Place], i: usize) -> bool
     requires long { 3 ≤ length places.now }
     requires within { i < length places.now }
@@ -46,12 +46,9 @@ pub(crate) fn is_blocked(p: Place, x: Place, n: Place, places: &[Place], i: usiz
     requires after { n.vertex ≡ vertex_after (vertices_of places.now) i }
     ensures { result ≡ list_any (place_blocks p x n) places.now }
 {
-    let last = places.len() - 1;
     if i == 0 {
-        any_blocks(&p, &x, &n, &places[2..last])
-    } else if i == last {
-        any_blocks(&p, &x, &n, &places[..i - 1])
+        any_blocks(&p, &x, &n, &places[2..places.len() - 1])
     } else {
-        any_blocks(&p, &x, &n, &places[i + 2..]) || any_blocks(&p, &x, &n, &places[..i - 1])
+        any_blocks(&p, &x, &n, places)
     }
 }
