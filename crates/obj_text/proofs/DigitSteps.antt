@@ -1,8 +1,11 @@
 -- The number that digits spell, digit after digit, as far as it counts.
-use Rattle.std.proofs.Common.{◌≡◌, ℕ, suc, ◌+◌, ◌*◌, ◌-◌, ◌<◌, ◌≤◌, min, List, [], ◌∷◌, arith, length, drop, get_or, ap, ◌∙◌, sym, ⊎_elim}
+use Rattle.std.proofs.Common.{◌≡◌, ℕ, suc, ◌+◌, ◌*◌, ◌-◌, ◌<◌, ◌≤◌, min, List, [], ◌∷◌, arith, length, drop, get_or, ap, ◌∙◌, sym, ⊎_elim, add-one, ◌^◌, take}
 use Rattle.std.proofs.lemmas.Bool.{cases_lt}
+use Rattle.std.proofs.lemmas.List.{take_more}
 use Rattle.std.proofs.Math.Seq.{drop-cons}
 use Rattle.std.specs.Prelude.{Bool, true, ◌&&◌}
+use Rattle.text_laws.proofs.Digits.{value_from-append}
+use Rattle.std.proofs.Math.Nat.{pow-suc, pow-le-pow_right}
 use Rattle.text_terms.specs.Numbers.{is_digit, all_digits, value_from}
 
 -- more digits never make the number smaller
@@ -31,3 +34,22 @@ value_from-step n v i word inside =
 pub all_digits-step : (i : ℕ) (word : List ℕ) → i < length word → is_digit (get_or word i 0) ≡ true → all_digits (drop i word) ≡ all_digits (drop (suc i) word)
 all_digits-step i word inside digit =
     ap all_digits (drop-cons word i 0 inside) ∙ ap (λ (b : Bool). b && all_digits (drop (suc i) word)) digit
+
+-- what the digits at the front spell with one more
+pub spelled-step : (before value i : ℕ) (text : List ℕ) → i < length text → value ≡ value_from before (take i text) → value * 10 + (get_or text i 0 - 48) ≡ value_from before (take (i + 1) text)
+spelled-step before value i text inside spelled =
+    ap (λ (v : ℕ). v * 10 + (get_or text i 0 - 48)) spelled
+    ∙ sym (ap (value_from before) (take_more text i 0 inside) ∙ value_from-append before (take i text) (get_or text i 0 ∷ []))
+
+-- ten times a power of 10
+next_power : (i : ℕ) → 10 ^ (i + 1) ≡ 10 ^ i * 10
+next_power i = ap (λ (m : ℕ). 10 ^ m) (add-one i) ∙ pow-suc 10 i
+
+-- a bound for it
+pub below-step : (value i d : ℕ) → value < 1073741825 * 10 ^ i → d < 10 → value * 10 + d < 1073741825 * 10 ^ (i + 1)
+below-step value i d below small = omega (arith, below, small, next_power i)
+
+pub below-nine : (value i : ℕ) → i < 9 → value < 1073741825 * 10 ^ i → value * 10 + 10 ≤ 1073741825 * 10 ^ 9
+below-nine value i few below =
+    let most : 10 ^ (i + 1) ≤ 10 ^ 9 = pow-le-pow_right {n = 10} (omega arith) {i = i + 1} {j = 9} (omega arith) in
+    omega (arith, below, most, next_power i)

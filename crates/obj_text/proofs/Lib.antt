@@ -4,3 +4,6 @@ mod DigitSteps
 mod ItemSteps
 mod NamedTwice
 mod FaceSteps
+mod PlainLines
+mod PlainReads
+mod ShortNumbers

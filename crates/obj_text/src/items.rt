@@ -169,8 +169,8 @@ fn whole_number(word: &[u8]) -> Option<(bool, u64)>
     Some((negative, size))
 }
 
-// Whether a word begins with `-`, and the word without it.
-fn minus_first(word: &[u8]) -> (bool, &[u8])
+/// Whether a word begins with `-`, and the word without it.
+pub fn minus_first(word: &[u8]) -> (bool, &[u8])
     ensures sign { result.0 ≡ (minus_first word.now).0 }
     ensures rest { result.1.now ≡ (minus_first word.now).1 }
 {

@@ -20,8 +20,10 @@ ghost use Rattle.text_terms.specs.Lines.{without_mark};
 ghost use Rattle.obj_terms.specs.Obj.{obj};
 ghost use Rattle.text_lines.specs.Faults.{IsFaultOf};
 
+mod decimals;
 mod items;
 mod lines;
+mod plain;
 mod reading;
 mod repeats;
 mod words;

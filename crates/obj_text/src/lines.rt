@@ -1,9 +1,11 @@
 // The lines of a text, joined where they go on.
-ghost use Rattle.std.specs.Prelude.{◌≡◌, ◌<◌, ◌≤◌, ◌+◌, ◌∷◌, ◌^◌, length};
+ghost use Rattle.std.specs.Prelude.{◌≡◌, ◌<◌, ◌≤◌, ◌+◌, [], ◌∷◌, ◌^◌, length, IfSome};
 ghost use Rattle.text_terms.specs.Lines.{lines_of, joined_lines};
 ghost use Rattle.obj_terms.specs.Obj.{word_lines};
 ghost use Rattle.obj_text.specs.Lines.{lines_past};
+ghost use Rattle.obj_text.specs.Plain.{IsFaceFirst, IsPointFirst};
 
+use crate::plain::{face_line, point_line};
 use crate::words::{Words, is_continued};
 use std::marker::Model;
 use text_lines::first_line;
@@ -35,6 +37,25 @@ impl<'t> Lines<'t> {
         ensures { result ≡ word_lines (joined_lines text.now) }
     {
         Lines { text, number: 1 }
+    }
+
+    /// The vertices, from 0, that a face names, where its plain line comes next, and the lines after it.
+    pub fn face(&self) -> Option<(u64, u64, u64, Lines<'t>)>
+        ensures { IfSome result (λ r. IsFaceFirst self.now r.0 r.1 r.2 r.3) }
+    {
+        let (a, b, c, text) = face_line(self.text)?;
+        let number = self.number + 1;
+        Some((a, b, c, Lines { text, number }))
+    }
+
+    /// The coordinates of a point, where its plain line comes next, and the lines after it.
+    pub fn point(&self, digits: u8) -> Option<(i32, i32, i32, Lines<'t>)>
+        requires { digits ≤ 6 }
+        ensures { IfSome result (λ r. IsPointFirst digits self.now (r.0 ∷ r.1 ∷ r.2 ∷ []) r.3) }
+    {
+        let (x, y, z, text) = point_line(self.text, digits)?;
+        let number = self.number + 1;
+        Some((x, y, z, Lines { text, number }))
     }
 }
 

@@ -1,8 +1,9 @@
 // What the lines of an OBJ file give, one after the other.
-ghost use Rattle.std.specs.Prelude.{◌≡◌, ◌<◌, ◌≤◌, ◌++◌, false, Ok, OnOk, OnErr, IfOk, IfErr, All, length, bytes_eq};
+ghost use Rattle.std.specs.Prelude.{◌≡◌, ◌<◌, ◌≤◌, [], ◌∷◌, ◌++◌, ℕ, false, Ok, OnOk, OnErr, IfOk, IfErr, IsTrue, IsFalse, All, length, bytes_eq};
 ghost use Rattle.std.specs.List.{list_any};
 ghost use Rattle.text_terms.specs.Lines.{joined_lines};
-ghost use Rattle.mesh_terms.specs.Meshes.{triples_of, soup_of};
+ghost use Rattle.mesh_terms.specs.Limits.{most_points, most_triangles};
+ghost use Rattle.mesh_terms.specs.Meshes.{HasThree, IsBelow, triples_of, soup_of};
 ghost use Rattle.obj_terms.specs.Faces.{face_fan, has_repeat};
 ghost use Rattle.obj_terms.specs.Obj.{nothing_gathered, with_point, with_triples, obj_point, obj_face, obj_line, obj_lines, passed_over, word_lines};
 ghost use Rattle.text_lines.specs.Faults.{IsFaultOf};
@@ -101,6 +102,104 @@ impl Gathered {
         push_fan(&mut self.triples, vertices)?;
         Ok(())
     }
+
+    // Reads the next line where it is plain and has no fault, and tells whether it did.
+    fn read_plain(
+        &mut self,
+        lines: &mut Lines<'_>,
+        digits: u8,
+        limits: &Limits,
+    ) -> Result<bool, AllocError>
+        requires { digits ≤ 6 }
+        ensures read { IfOk result (λ _. obj_lines digits limits.now lines.old self.old ≡ obj_lines digits limits.now lines.new self.new) }
+        ensures more { IfOk result (λ more. IsTrue more → length lines.new < length lines.old) }
+        ensures kept { IfOk result (λ more. IsFalse more → lines.new ≡ lines.old) }
+    {
+        if self.read_plain_face(lines, limits)? {
+            return Ok(true);
+        }
+        self.read_plain_point(lines, digits, limits)
+    }
+
+    // The same for the line of a face.
+    fn read_plain_face(
+        &mut self,
+        lines: &mut Lines<'_>,
+        limits: &Limits,
+    ) -> Result<bool, AllocError>
+        ensures read { IfOk result (λ _. (k : ℕ) → obj_lines k limits.now lines.old self.old ≡ obj_lines k limits.now lines.new self.new) }
+        ensures more { IfOk result (λ more. IsTrue more → length lines.new < length lines.old) }
+        ensures kept { IfOk result (λ more. IsFalse more → lines.new ≡ lines.old) }
+    {
+        let Some((a, b, c, after)) = lines.face() else {
+            return Ok(false);
+        };
+        if !self.has_room_for(a, b, c, limits) {
+            return Ok(false);
+        }
+        self.push_triangle(a, b, c)?;
+        *lines = after;
+        Ok(true)
+    }
+
+    // The same for the line of a point.
+    fn read_plain_point(
+        &mut self,
+        lines: &mut Lines<'_>,
+        digits: u8,
+        limits: &Limits,
+    ) -> Result<bool, AllocError>
+        requires { digits ≤ 6 }
+        ensures read { IfOk result (λ _. obj_lines digits limits.now lines.old self.old ≡ obj_lines digits limits.now lines.new self.new) }
+        ensures more { IfOk result (λ more. IsTrue more → length lines.new < length lines.old) }
+        ensures kept { IfOk result (λ more. IsFalse more → lines.new ≡ lines.old) }
+    {
+        if self.count() >= limits.points() {
+            return Ok(false);
+        }
+        let Some((x, y, z, after)) = lines.point(digits) else {
+            return Ok(false);
+        };
+        let Some(point) = Point::of(x, y, z) else {
+            return Ok(false);
+        };
+        self.push_point(point)?;
+        *lines = after;
+        Ok(true)
+    }
+
+    // Whether three numbers are those of three points so far, and one more triangle is allowed.
+    fn has_room_for(&self, a: u64, b: u64, c: u64, limits: &Limits) -> bool
+        ensures below { IsTrue result → IsBelow (length self.now.points) (a, b, c) }
+        ensures apart { IsTrue result → HasThree (a, b, c) }
+        ensures room { IsTrue result → length self.now.triples < limits.now.triangles }
+        ensures few { IsTrue result → limits.now.triangles ≤ most_triangles }
+    {
+        let count = u64::from(self.count());
+        let below = a < count && b < count && c < count;
+        let apart = a != b && b != c && c != a;
+        below && apart && (self.triples.len() as u64) < u64::from(limits.triangles())
+    }
+
+    // Adds a triangle.
+    fn push_triangle(&mut self, a: u64, b: u64, c: u64) -> Result<(), AllocError>
+        requires below { IsBelow (length self.old.points) (a, b, c) }
+        requires apart { HasThree (a, b, c) }
+        requires room { length self.old.triples < most_triangles }
+        ensures { OnOk result (self.new ≡ record { points = self.old.points; triples = self.old.triples ++ (a, b, c) ∷ [] }) }
+    {
+        self.triples.push([a as u32, b as u32, c as u32])?;
+        Ok(())
+    }
+
+    // Adds a point.
+    fn push_point(&mut self, point: Point) -> Result<(), AllocError>
+        requires { length self.old.points < most_points }
+        ensures { OnOk result (self.new ≡ record { points = self.old.points ++ point ∷ []; triples = self.old.triples }) }
+    {
+        self.points.push(point)?;
+        Ok(())
+    }
 }
 
 // Adds the triangles of a face of these vertices: the first with each two that follow one another. Where
@@ -142,10 +241,32 @@ impl Reading {
             vertices: Vec::new(alloc),
             sorted: Vec::new(alloc),
         };
-        for (number, words) in Lines::of(text) {
-            reading.read_line(words, number, digits, limits)?;
-        }
+        let mut lines = Lines::of(text);
+        while reading.read_next(&mut lines, digits, limits)? {}
         Ok(reading)
+    }
+
+    // Reads the next line, and tells whether there was one.
+    fn read_next(
+        &mut self,
+        lines: &mut Lines<'_>,
+        digits: u8,
+        limits: &Limits,
+    ) -> Result<bool, TextFault>
+        requires { digits ≤ 6 }
+        ensures read { IfOk result (λ _. obj_lines digits limits.now lines.old self.old.gathered ≡ obj_lines digits limits.now lines.new self.new.gathered) }
+        ensures more { IfOk result (λ more. IsTrue more → length lines.new < length lines.old) }
+        ensures end { IfOk result (λ more. IsFalse more → lines.new ≡ []) }
+        ensures fault { IfErr result (IsFaultOf (obj_lines digits limits.now lines.old self.old.gathered)) }
+    {
+        if self.gathered.read_plain(lines, digits, limits)? {
+            return Ok(true);
+        }
+        let Some((number, words)) = lines.next() else {
+            return Ok(false);
+        };
+        self.read_line(words, number, digits, limits)?;
+        Ok(true)
     }
 
     /// The points and triangles, without the points that no triangle uses.

@@ -141,3 +141,112 @@ fn counts_to_the_limits(rt: HostRuntime) -> Result<(), Fail> {
     );
     Ok(())
 }
+
+// Three points and a triangle in plain lines.
+const FRONT: &[u8] = b"v 0 0 0\nv 1 0 0\nv 0 1 0\nf 1 2 3\n";
+
+// The triangles of what comes after them, of which the last is to be this one.
+fn triangles_with(rt: &HostRuntime, after: &[u8], last: [u32; 3]) -> Result<usize, Fail> {
+    let mut bytes = FRONT.to_vec(rt.alloc())?;
+    bytes.extend_from_slice(after)?;
+    let soup = read_obj(rt.alloc(), &bytes, 4, &Limits::program())?;
+    match soup.triples().last() {
+        Some(triple) if *triple == last => Ok(soup.triples().len()),
+        _ => Ok(0),
+    }
+}
+
+// A plain line, and what is no plain line for one reason: a CR, a tab, two blanks, one at the end or at the front, a
+// slash, a minus, ten digits, a comment, a backslash, no LF. The answers are the reference program's.
+#[test]
+fn reads_plain_lines_among_others(rt: HostRuntime) -> Result<(), Fail> {
+    let lines: [&[u8]; 17] = [
+        b"f 3 2 1\n",
+        b"f 000000003 2 1\n",
+        b"f 3 2 1\r\n",
+        b"f 3\t2 1\n",
+        b"f 3  2 1\n",
+        b"f 3 2 1 \n",
+        b" f 3 2 1\n",
+        b"f  3 2 1\n",
+        b"f 3/1 2 1\n",
+        b"f -1 2 1\n",
+        b"f 0000000003 2 1\n",
+        b"f 3 2 1 # 1\n",
+        b"f 3 2\\\n 1\n",
+        b"f 3 2 1\\\n",
+        b"f 3 2 1",
+        b"v 2 2 2\nf 3 2 1\n",
+        b"#\nv 2 2 2e0\r\nf 3 2 1\n",
+    ];
+    for line in lines {
+        assert_eq!(rt; triangles_with(&rt, line, [2, 1, 0])?, 2);
+    }
+    let mixed = b"f 3 2 1\nv 9 9 9\nf 1 2 3 \nf 2 4 3\n";
+    assert_eq!(rt; triangles_with(&rt, mixed, [1, 3, 2])?, 4);
+    Ok(())
+}
+
+#[test]
+fn refuses_faults_after_plain_lines(rt: HostRuntime) -> Result<(), Fail> {
+    let refused: [(&[u8], u64, TextKind); 23] = [
+        (b"f 0 1 2\n", 5, TextKind::BadIndex),
+        (b"f 1 2 4\n", 5, TextKind::BadIndex),
+        (b"f 4294967297 2 3\n", 5, TextKind::BadIndex),
+        (b"f 999999999 2 1\n", 5, TextKind::BadIndex),
+        (b"f 1 2 2\n", 5, TextKind::FaceRepeatsVertex),
+        (b"f 1 2 1\n", 5, TextKind::FaceRepeatsVertex),
+        (b"f 2 2 1\n", 5, TextKind::FaceRepeatsVertex),
+        (b"f 1 2\n", 5, TextKind::BadFace),
+        (b"f 1 2 \n", 5, TextKind::BadFace),
+        (b"f 1 2 3-\n", 5, TextKind::BadFace),
+        (b"f 1 2 3#\n", 5, TextKind::BadFace),
+        (b"f 1 2 3\n\x0b", 6, TextKind::UnknownLine),
+        (b"v 1 2 -\n", 5, TextKind::BadNumber),
+        (b"v 1 2 .\n", 5, TextKind::BadNumber),
+        (b"v 1 2 1.5.\n", 5, TextKind::BadNumber),
+        (b"v 1 --1 2\n", 5, TextKind::BadNumber),
+        (b"v 1 2 1e\n", 5, TextKind::BadNumber),
+        (b"v 1 2 3#\n", 5, TextKind::BadNumber),
+        (b"v 1 2 1.5e99\n", 5, TextKind::OutOfGrid),
+        (b"v 107375 2 1\n", 5, TextKind::OutOfGrid),
+        (b"v 1 2 \n", 5, TextKind::BadVertex),
+        (b"v 1 2 3\n\nf 5 1 2\n", 7, TextKind::BadIndex),
+        (b"f 3 2 1\nv 1 2 3\nf 3 2 1 \nq\n", 8, TextKind::UnknownLine),
+    ];
+    for (after, line, kind) in refused {
+        let mut bytes = FRONT.to_vec(rt.alloc())?;
+        bytes.extend_from_slice(after)?;
+        assert_eq!(rt;
+            refusal(&rt, &bytes, 4, &Limits::program())?,
+            TextFault::Bad { line, kind }
+        );
+    }
+    Ok(())
+}
+
+// Numbers, and what they are in hundredths by the reference program.
+const NUMBERS: &str =
+    "0 0\n-0 0\n-7 -700\n1.5 150\n-1.25 -125\n1.254 125\n1.255 126\n-1.255 -126\n1.2549999999999 125\n0.0049 0\n-0.005 -1\n1. 100\n007.10 710\n10737418.24 1073741824\n10737418.244 1073741824\n-10737418.24 -1073741824\n.5 50\n+3 300\n1e2 10000\n1.5e-1 15\n0.00000000000000000001 0\n1.999999999999999999999 200\n";
+
+// The first coordinate of a line with this number, in hundredths.
+fn hundredths(rt: &HostRuntime, word: &str) -> Result<i32, Fail> {
+    let mut bytes = b"v ".to_vec(rt.alloc())?;
+    bytes.extend_from_slice(word.as_bytes())?;
+    bytes.extend_from_slice(b" 1 1\nv 0 0 0\nv 0 1 0\nf 1 2 3\n")?;
+    let soup = read_obj(rt.alloc(), &bytes, 2, &Limits::program())?;
+    match soup.points().first() {
+        Some(point) => Ok(point.at()[0]),
+        None => Err(Fail::from("no point")),
+    }
+}
+
+#[test]
+fn reads_the_numbers_of_plain_lines(rt: HostRuntime) -> Result<(), Fail> {
+    for line in NUMBERS.lines() {
+        let (word, value) = line.split_once(" ").ok_or("row")?;
+        let value: i32 = value.parse()?;
+        assert!(rt; hundredths(&rt, word)? == value, "at {word}");
+    }
+    Ok(())
+}
