@@ -1,18 +1,18 @@
 -- A plain line is the first of its text, and its words are those that it was made of.
-use Rattle.std.proofs.Common.{◌≡◌, ℕ, suc, ◌<◌, ◌+◌, Bool, true, false, not, List, [], ◌∷◌, ◌++◌, length, take, refl, ap, ◌∙◌, arith, append_assoc, length-append}
-use Rattle.std.specs.Prelude.{◌&&◌}
+use Rattle.std.proofs.Common.{◌≡◌, ℕ, suc, ◌<◌, ◌+◌, Bool, true, false, cond, not, List, [], ◌∷◌, ◌++◌, take, map, refl, ap, ◌∙◌, sym, arith, append_assoc}
+use Rattle.std.specs.Prelude.{◌&&◌, ◌==◌}
 use Rattle.std.specs.List.{position_or_len}
 use Rattle.std.proofs.lemmas.Bool.Decides.{nat_tests}
 use Rattle.text_laws.proofs.Digits.{both, left, right}
+use Rattle.text_lines.proofs.LineSteps.{without_cr-drops}
 use Rattle.text_lines.proofs.Positions.{position_or_len-here, position_or_len-past}
-use Rattle.text_terms.specs.Lines.{words_of, lines_of, last_is, is_comment, is_continued, begins_comment, before_comment, joined_from}
-use Rattle.text_terms.specs.Written.{line_of}
+use Rattle.text_terms.specs.Lines.{add_first, raw_lines, without_cr, words_of, lines_of, last_is, is_comment, is_continued, begins_comment, before_comment, joined_from}
 use Rattle.obj_terms.specs.Obj.{word_lines}
 use Rattle.obj_laws.proofs.Bytes.{Above, Above-lower}
 use Rattle.obj_laws.proofs.Words.{spaced, words_of-spaced, Above-spaced}
 use Rattle.obj_laws.proofs.Lines.{lines_of-line}
 use Rattle.obj_laws.proofs.Plain.{IsPlain, IsPlain-letter, last_is-word}
-use Rattle.obj_text.specs.Plain.{is_plain, all_plain, IsPlainWord, with_line}
+use Rattle.obj_text.specs.Plain.{is_plain, all_plain, IsPlainWord, line_end, with_line}
 
 -- plain bytes are above a space
 Above-plain : (cs : List ℕ) → all_plain cs ≡ true → Above 32 cs
@@ -47,9 +47,27 @@ all_plain-front (c ∷ cs) = by_plain (is_plain c) refl (all_plain-front cs) whe
 word_lines-alone : (n : ℕ) (l : List ℕ) (ls : List (List ℕ)) → is_continued l ≡ false → word_lines (joined_from n (l ∷ ls)) ≡ (n, before_comment (words_of l)) ∷ word_lines (joined_from (suc n) ls)
 word_lines-alone n l ls e = rw e refl
 
--- a text with a plain line in front is that line, its LF and the rest
-with_line-is : (w : ℕ) (a b c rest : List ℕ) → with_line w a b c rest ≡ line_of (spaced (w ∷ []) a b c) ++ rest
-with_line-is w a b c rest = simp append_assoc
+-- a byte above 13 is no LF
+no_feed : (c : ℕ) → 13 < c → (c == 10) ≡ false
+no_feed c more = grind (arith, nat_tests)
+
+-- a CR before the LF is the last of its line
+raw_lines-cr : (line rest : List ℕ) → Above 13 line → raw_lines (line ++ 13 ∷ 10 ∷ rest) ≡ (line ++ 13 ∷ []) ∷ raw_lines rest
+raw_lines-cr [] rest above = refl
+raw_lines-cr (c ∷ cs) rest above =
+    ap (λ (b : Bool). cond b ([] ∷ raw_lines (cs ++ 13 ∷ 10 ∷ rest)) (add_first c (raw_lines (cs ++ 13 ∷ 10 ∷ rest)))) (no_feed c above.0)
+    ∙ ap (add_first c) (raw_lines-cr cs rest above.1)
+
+-- a line is the first one, whatever ends it
+lines_of-ended : (cr : Bool) (line rest : List ℕ) → Above 13 line → lines_of (line ++ (line_end cr ++ rest)) ≡ line ∷ lines_of rest
+lines_of-ended false line rest above = ap lines_of (sym (append_assoc line (10 ∷ []) rest)) ∙ lines_of-line line rest above
+lines_of-ended true line rest above =
+    ap (λ (ls : List (List ℕ)). map without_cr ls) (raw_lines-cr line rest above)
+    ∙ ap (λ (l : List ℕ). l ∷ lines_of rest) (without_cr-drops line)
+
+-- a text with a plain line in front is that line, its end and the rest
+with_line-is : (w : ℕ) (a b c : List ℕ) (cr : Bool) (rest : List ℕ) → with_line w a b c cr rest ≡ spaced (w ∷ []) a b c ++ (line_end cr ++ rest)
+with_line-is w a b c cr rest = simp append_assoc
 
 -- the words of four plain words with a space between them
 words-plain : (w a b c : List ℕ) → IsPlain w → IsPlain a → IsPlain b → IsPlain c → before_comment (words_of (spaced w a b c)) ≡ w ∷ a ∷ b ∷ c ∷ []
@@ -64,19 +82,14 @@ is_continued-plain w a b c s = ap (λ (e : Bool). e && not (begins_comment (word
   regrouped w a b c = simp append_assoc
 
 -- so it is the first line, with these words
-pub words-first : (n w : ℕ) (a b c text rest : List ℕ) → text ≡ with_line w a b c rest → 92 < w → IsPlain a → IsPlain b → IsPlain c →
+pub words-first : (n w : ℕ) (a b c : List ℕ) (cr : Bool) (text rest : List ℕ) → text ≡ with_line w a b c cr rest → 92 < w → IsPlain a → IsPlain b → IsPlain c →
     word_lines (joined_from n (lines_of text)) ≡ (n, (w ∷ []) ∷ a ∷ b ∷ c ∷ []) ∷ word_lines (joined_from (n + 1) (lines_of rest))
-words-first n w a b c text rest split high q r s =
+words-first n w a b c cr text rest split high q r s =
     let p = IsPlain-letter w high in
     let next : suc n ≡ n + 1 = omega arith in
     let line = spaced (w ∷ []) a b c in
-    ap (λ (t : List ℕ). word_lines (joined_from n (lines_of t))) (split ∙ with_line-is w a b c rest)
-    ∙ ap (λ (ls : List (List ℕ)). word_lines (joined_from n ls)) (lines_of-line line rest (Above-lower 13 31 line (omega arith) (Above-spaced (w ∷ []) a b c p.word q.word r.word s.word)))
+    ap (λ (t : List ℕ). word_lines (joined_from n (lines_of t))) (split ∙ with_line-is w a b c cr rest)
+    ∙ ap (λ (ls : List (List ℕ)). word_lines (joined_from n ls)) (lines_of-ended cr line rest (Above-lower 13 31 line (omega arith) (Above-spaced (w ∷ []) a b c p.word q.word r.word s.word)))
     ∙ word_lines-alone n line (lines_of rest) (is_continued-plain (w ∷ []) a b c s)
     ∙ ap (λ (ws : List (List ℕ)). (n, ws) ∷ word_lines (joined_from (suc n) (lines_of rest))) (words-plain (w ∷ []) a b c p q r s)
     ∙ ap (λ (m : ℕ). (n, (w ∷ []) ∷ a ∷ b ∷ c ∷ []) ∷ word_lines (joined_from m (lines_of rest))) next
-
--- the text after the line is shorter
-pub length-first : (w : ℕ) (a b c text rest : List ℕ) → text ≡ with_line w a b c rest → length rest + 1 < length text
-length-first w a b c text rest split =
-    omega (arith, ap (λ (t : List ℕ). length t) split, length-append a (32 ∷ (b ++ 32 ∷ (c ++ 10 ∷ rest))), length-append b (32 ∷ (c ++ 10 ∷ rest)), length-append c (10 ∷ rest))

@@ -13,7 +13,7 @@ use Rattle.obj_terms.specs.Obj.{Gathered, with_point, with_triples, obj_triples,
 use Rattle.grid_number.proofs.Cuts.{cut_at-only_digits}
 use Rattle.obj_laws.proofs.Decimals.{IsSpelled, minus_first-spelled, sized, sized-spelled}
 use Rattle.obj_laws.proofs.Plain.{IsPlain, IsPlain-digits}
-use Rattle.obj_text.specs.Plain.{IsIndexOf, BeginsCoordinate, BeginsFace, BeginsPoint, IsFaceFirst, IsPointFirst}
+use Rattle.obj_text.specs.Plain.{IsIndexOf, BeginsCoordinate, line_end, EndsLine, with_line, BeginsFace, BeginsPoint, IsFaceFirst, IsPointFirst}
 use Rattle.obj_text.proofs.PlainLines.{IsPlain-word, words-first}
 
 -- the digits of a number are some
@@ -53,16 +53,21 @@ item_vertex-index count v word below index =
 each_read-three : {X Y E : Type 0} (f : X → Result Y E) (a b c : X) (x y z : Y) → f a ≡ Ok x → f b ≡ Ok y → f c ≡ Ok z → each_read f (a ∷ b ∷ c ∷ []) ≡ Ok (x ∷ y ∷ z ∷ [])
 each_read-three f a b c x y z p q r = λ i. put_read (p i) (put_read (q i) (put_read (r i) (Ok [])))
 
--- a text begins with the line of a point where each word reads
-pub point_begins : (k : ℕ) (text after_letter words second third rest : List ℕ) (x y z : ℤ) → text ≡ 118 ∷ after_letter → after_letter ≡ 32 ∷ words →
-    BeginsCoordinate k words x 32 second → BeginsCoordinate k second y 32 third → BeginsCoordinate k third z 10 rest → BeginsPoint k text (x ∷ y ∷ z ∷ []) rest
-point_begins k text after_letter words second third rest x y z letter blank a b c = record {
+-- a letter, three words behind spaces and the end of a line
+line_begins : (letter : ℕ) (first second third : List ℕ) (cr : Bool) (text t u v w rest : List ℕ) → text ≡ letter ∷ t → t ≡ 32 ∷ (first ++ u) → u ≡ 32 ∷ (second ++ v) → v ≡ 32 ∷ (third ++ w) → w ≡ line_end cr ++ rest →
+    text ≡ with_line letter first second third cr rest
+line_begins letter first second third cr text t u v w rest l a b c e =
+    l ∙ ap (λ (s : List ℕ). letter ∷ s) a ∙ ap (λ (s : List ℕ). letter ∷ 32 ∷ (first ++ s)) b
+    ∙ ap (λ (s : List ℕ). letter ∷ 32 ∷ (first ++ 32 ∷ (second ++ s))) c ∙ ap (λ (s : List ℕ). letter ∷ 32 ∷ (first ++ 32 ∷ (second ++ 32 ∷ (third ++ s)))) e
+
+-- so a text begins with the line of a point where each word reads
+pub point_begins : (k : ℕ) (text t u v w rest : List ℕ) (x y z : ℤ) → text ≡ 118 ∷ t → BeginsCoordinate k t x u → BeginsCoordinate k u y v → BeginsCoordinate k v z w → EndsLine w rest → BeginsPoint k text (x ∷ y ∷ z ∷ []) rest
+point_begins k text t u v w rest x y z letter a b c e = record {
   first = a.word;
   second = b.word;
   third = c.word;
-  split =
-      letter ∙ ap (λ (t : List ℕ). 118 ∷ t) blank ∙ ap (λ (t : List ℕ). 118 ∷ 32 ∷ t) a.split
-      ∙ ap (λ (t : List ℕ). 118 ∷ 32 ∷ (a.word ++ 32 ∷ t)) b.split ∙ ap (λ (t : List ℕ). 118 ∷ 32 ∷ (a.word ++ 32 ∷ (b.word ++ 32 ∷ t))) c.split;
+  cr = e.cr;
+  split = line_begins 118 a.word b.word c.word e.cr text t u v w rest letter a.split b.split c.split e.split;
   x_plain = a.plain;
   y_plain = b.plain;
   z_plain = c.plain;
@@ -76,7 +81,7 @@ face_first n a b c text rest face = record {
   first = face.first;
   second = face.second;
   third = face.third;
-  cut = words-first n 102 face.first face.second face.third text rest face.split (omega arith) (IsPlain-index a face.first face.a_is) (IsPlain-index b face.second face.b_is) (IsPlain-index c face.third face.c_is);
+  cut = words-first n 102 face.first face.second face.third face.cr text rest face.split (omega arith) (IsPlain-index a face.first face.a_is) (IsPlain-index b face.second face.b_is) (IsPlain-index c face.third face.c_is);
   a_is = face.a_is;
   b_is = face.b_is;
   c_is = face.c_is;
@@ -88,7 +93,7 @@ point_first k n text rest p point = record {
   first = point.first;
   second = point.second;
   third = point.third;
-  cut = words-first n 118 point.first point.second point.third text rest point.split (omega arith) (IsPlain-word point.first point.x_plain) (IsPlain-word point.second point.y_plain) (IsPlain-word point.third point.z_plain);
+  cut = words-first n 118 point.first point.second point.third point.cr text rest point.split (omega arith) (IsPlain-word point.first point.x_plain) (IsPlain-word point.second point.y_plain) (IsPlain-word point.third point.z_plain);
   reads = point.reads;
 }
 

@@ -16,7 +16,7 @@ use Rattle.grid_number.proofs.Dropped.{scaled-dropped}
 use Rattle.grid_number.proofs.Known.{on_grid-size}
 use Rattle.grid_number.proofs.Parts.{parts_of_runs, number_parts-runs}
 use Rattle.grid_number.proofs.ReadBack.{scaled-pos}
-use Rattle.obj_text.specs.Plain.{is_plain, all_plain, SpellsOn, mantissa, carry_by, Drops, BeginsSize, EndsSize, BeginsWord, BeginsCoordinate}
+use Rattle.obj_text.specs.Plain.{is_plain, all_plain, SpellsOn, mantissa, carry_by, Drops, BeginsSize, EndsSize, BeginsWord}
 
 -- digits before and after the point of a number without an exponent
 abbrev parts_so : List ℕ → List ℕ → Parts
@@ -204,13 +204,4 @@ begins_short k size negative value text unsigned rest sign after b on is = recor
     plain = plain-signed negative (mantissa b.whole b.fraction) (plain-mantissa b.whole b.fraction b.digits b.more);
   };
   reads = reads_so k size negative b.whole b.fraction b.some b.digits b.more b.sized on ∙ ap (λ (z : ℤ). Ok z) (sym is);
-}
-
--- a byte behind the word
-pub begins_before : (k last : ℕ) (value : ℤ) (text rest after : List ℕ) → BeginsWord k text value rest → rest ≡ last ∷ after → BeginsCoordinate k text value last after
-begins_before k last value text rest after b next = record {
-  word = b.word;
-  split = b.split ∙ ap (λ (t : List ℕ). b.word ++ t) next;
-  plain = b.plain;
-  reads = b.reads;
 }

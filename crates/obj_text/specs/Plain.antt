@@ -1,4 +1,4 @@
--- Plain lines: a letter and three words with one space before each, and an LF behind.
+-- Plain lines: a letter and three words with one space before each, and an LF or a CR and an LF behind.
 use Rattle.std.specs.Prelude.{◌≡◌, ℕ, ◌+◌, ◌<◌, ◌≤◌, ℤ, pos, List, [], ◌∷◌, ◌++◌, true, false, Bool, Option, Some, None, take, not, ◌&&◌, ◌==◌, nat_lt, length, codes, IsTrue, Ok}
 use Rattle.text_terms.specs.Numbers.{all_digits, value_from, digits_value, or_empty, size_of}
 use Rattle.text_terms.specs.Coordinates.{coordinate}
@@ -63,10 +63,10 @@ pub record IsIndexOf (vertex : ℕ) (word : List ℕ) : Type 0 where
   pub digits : IsTrue (all_digits word)
   pub spelled : digits_value word ≡ vertex + 1
 
--- a text begins with such a word and this byte
-pub record BeginsIndex (text : List ℕ) (vertex last : ℕ) (rest : List ℕ) : Type 0 where
+-- a text begins with a space and such a word
+pub record BeginsIndex (text : List ℕ) (vertex : ℕ) (rest : List ℕ) : Type 0 where
   pub word : List ℕ
-  pub split : text ≡ word ++ last ∷ rest
+  pub split : text ≡ 32 ∷ (word ++ rest)
   pub index : IsIndexOf vertex word
 
 -- a text begins with a plain word that reads as a coordinate
@@ -76,23 +76,34 @@ pub record BeginsWord (k : ℕ) (text : List ℕ) (value : ℤ) (rest : List ℕ
   pub plain : IsPlainWord word
   pub reads : coordinate k word ≡ Ok value
 
--- the same, and this byte
-pub record BeginsCoordinate (k : ℕ) (text : List ℕ) (value : ℤ) (last : ℕ) (rest : List ℕ) : Type 0 where
+-- the same behind a space
+pub record BeginsCoordinate (k : ℕ) (text : List ℕ) (value : ℤ) (rest : List ℕ) : Type 0 where
   pub word : List ℕ
-  pub split : text ≡ word ++ last ∷ rest
+  pub split : text ≡ 32 ∷ (word ++ rest)
   pub plain : IsPlainWord word
   pub reads : coordinate k word ≡ Ok value
 
+-- what ends a line: an LF, or a CR and an LF
+abbrev pub line_end : Bool → List ℕ
+line_end false = 10 ∷ []
+line_end true = 13 ∷ 10 ∷ []
+
+-- a text begins with the end of a line
+pub record EndsLine (text rest : List ℕ) : Type 0 where
+  pub cr : Bool
+  pub split : text ≡ line_end cr ++ rest
+
 -- a text whose first line is a letter and three words
-abbrev pub with_line : ℕ → List ℕ → List ℕ → List ℕ → List ℕ → List ℕ
-with_line letter a b c rest = letter ∷ 32 ∷ (a ++ 32 ∷ (b ++ 32 ∷ (c ++ 10 ∷ rest)))
+abbrev pub with_line : ℕ → List ℕ → List ℕ → List ℕ → Bool → List ℕ → List ℕ
+with_line letter a b c cr rest = letter ∷ 32 ∷ (a ++ 32 ∷ (b ++ 32 ∷ (c ++ (line_end cr ++ rest))))
 
 -- a text begins with the line of a face
 pub record BeginsFace (text : List ℕ) (a b c : ℕ) (rest : List ℕ) : Type 0 where
   pub first : List ℕ
   pub second : List ℕ
   pub third : List ℕ
-  pub split : text ≡ with_line 102 first second third rest
+  pub cr : Bool
+  pub split : text ≡ with_line 102 first second third cr rest
   pub a_is : IsIndexOf a first
   pub b_is : IsIndexOf b second
   pub c_is : IsIndexOf c third
@@ -102,7 +113,8 @@ pub record BeginsPoint (k : ℕ) (text : List ℕ) (point : List ℤ) (rest : Li
   pub first : List ℕ
   pub second : List ℕ
   pub third : List ℕ
-  pub split : text ≡ with_line 118 first second third rest
+  pub cr : Bool
+  pub split : text ≡ with_line 118 first second third cr rest
   pub x_plain : IsPlainWord first
   pub y_plain : IsPlainWord second
   pub z_plain : IsPlainWord third

@@ -1,8 +1,8 @@
 // The lines of most files: `f` and three numbers of digits, or `v` and three coordinates, with one space
-// before each and an LF behind. Nothing is said of another line.
+// before each and an LF behind, or a CR and an LF. Nothing is said of another line.
 ghost use Rattle.std.specs.Prelude.{◌≡◌, ◌≤◌, [], ◌∷◌, not, IfSome};
 ghost use Rattle.std.specs.List.{position_or_len};
-ghost use Rattle.obj_text.specs.Plain.{is_plain, BeginsIndex, BeginsWord, BeginsCoordinate, BeginsFace, BeginsPoint};
+ghost use Rattle.obj_text.specs.Plain.{is_plain, BeginsIndex, BeginsWord, BeginsCoordinate, EndsLine, BeginsFace, BeginsPoint};
 
 use crate::decimals::{leading_digits, short_coordinate};
 use text_lines::coordinate;
@@ -12,10 +12,10 @@ pub fn face_line(text: &[u8]) -> Option<(u64, u64, u64, &[u8])>
     ensures { IfSome result (λ r. BeginsFace text.now r.0 r.1 r.2 r.3.now) }
 {
     let text = after_byte(text, b'f')?;
-    let text = after_byte(text, b' ')?;
-    let (first, text) = index_before(text, b' ')?;
-    let (second, text) = index_before(text, b' ')?;
-    let (third, text) = index_before(text, b'\n')?;
+    let (first, text) = next_index(text)?;
+    let (second, text) = next_index(text)?;
+    let (third, text) = next_index(text)?;
+    let text = after_line_end(text)?;
     Some((first, second, third, text))
 }
 
@@ -25,10 +25,10 @@ pub fn point_line(text: &[u8], digits: u8) -> Option<(i32, i32, i32, &[u8])>
     ensures { IfSome result (λ r. BeginsPoint digits text.now (r.0 ∷ r.1 ∷ r.2 ∷ []) r.3.now) }
 {
     let text = after_byte(text, b'v')?;
-    let text = after_byte(text, b' ')?;
-    let (x, text) = coordinate_before(text, b' ', digits)?;
-    let (y, text) = coordinate_before(text, b' ', digits)?;
-    let (z, text) = coordinate_before(text, b'\n', digits)?;
+    let (x, text) = next_coordinate(text, digits)?;
+    let (y, text) = next_coordinate(text, digits)?;
+    let (z, text) = next_coordinate(text, digits)?;
+    let text = after_line_end(text)?;
     Some((x, y, z, text))
 }
 
@@ -42,48 +42,55 @@ pub fn after_byte(text: &[u8], byte: u8) -> Option<&[u8]>
     }
 }
 
-// The vertex, from 0, that the digits at the front of a text name, and the text after the byte behind them.
-fn index_before(text: &[u8], last: u8) -> Option<(u64, &[u8])>
-    ensures { IfSome result (λ r. BeginsIndex text.now r.0 last r.1.now) }
+// The text after the end of a line at its front.
+fn after_line_end(text: &[u8]) -> Option<&[u8]>
+    ensures { IfSome result (λ rest. EndsLine text.now rest.now) }
 {
+    match after_byte(text, b'\n') {
+        Some(rest) => Some(rest),
+        None => after_cr_lf(text),
+    }
+}
+
+// The text after a CR and an LF at its front.
+fn after_cr_lf(text: &[u8]) -> Option<&[u8]>
+    ensures { IfSome result (λ rest. text.now ≡ 13 ∷ 10 ∷ rest.now) }
+{
+    let text = after_byte(text, b'\r')?;
+    after_byte(text, b'\n')
+}
+
+// The vertex, from 0, that the digits behind a space at the front of a text name, and the text after them.
+fn next_index(text: &[u8]) -> Option<(u64, &[u8])>
+    ensures { IfSome result (λ r. BeginsIndex text.now r.0 r.1.now) }
+{
+    let text = after_byte(text, b' ')?;
     let (number, count) = leading_digits(text, 0, 9);
     if number == 0 {
         return None;
     }
     let (_, rest) = text.split_at(count);
-    let rest = after_byte(rest, last)?;
     Some((number - 1, rest))
 }
 
-// The coordinate of the word at the front of a text, and the text after the byte behind it.
-fn coordinate_before(text: &[u8], last: u8, digits: u8) -> Option<(i32, &[u8])>
+// The coordinate of the word behind a space at the front of a text, and the text after it.
+fn next_coordinate(text: &[u8], digits: u8) -> Option<(i32, &[u8])>
     requires { digits ≤ 6 }
-    ensures { IfSome result (λ r. BeginsCoordinate digits text.now r.0 last r.1.now) }
+    ensures { IfSome result (λ r. BeginsCoordinate digits text.now r.0 r.1.now) }
 {
-    match short_before(text, last, digits) {
-        Some(short) => Some(short),
-        None => word_before(text, last, digits),
+    let text = after_byte(text, b' ')?;
+    front_coordinate(text, digits)
+}
+
+// The coordinate of the word at the front of a text, and the text after it.
+fn front_coordinate(text: &[u8], digits: u8) -> Option<(i32, &[u8])>
+    requires { digits ≤ 6 }
+    ensures { IfSome result (λ r. BeginsWord digits text.now r.0 r.1.now) }
+{
+    match short_coordinate(text, digits) {
+        Some((value, rest)) if plain_len(rest) == 0 => Some((value, rest)),
+        _ => word_coordinate(text, digits),
     }
-}
-
-// The same of a short number.
-fn short_before(text: &[u8], last: u8, digits: u8) -> Option<(i32, &[u8])>
-    requires { digits ≤ 6 }
-    ensures { IfSome result (λ r. BeginsCoordinate digits text.now r.0 last r.1.now) }
-{
-    let (value, rest) = short_coordinate(text, digits)?;
-    let rest = after_byte(rest, last)?;
-    Some((value, rest))
-}
-
-// The same of a plain word.
-fn word_before(text: &[u8], last: u8, digits: u8) -> Option<(i32, &[u8])>
-    requires { digits ≤ 6 }
-    ensures { IfSome result (λ r. BeginsCoordinate digits text.now r.0 last r.1.now) }
-{
-    let (value, rest) = word_coordinate(text, digits)?;
-    let rest = after_byte(rest, last)?;
-    Some((value, rest))
 }
 
 // The coordinate of the plain word at the front of a text, and the text after it.

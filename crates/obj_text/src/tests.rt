@@ -156,11 +156,11 @@ fn triangles_with(rt: &HostRuntime, after: &[u8], last: [u32; 3]) -> Result<usiz
     }
 }
 
-// A plain line, and what is no plain line for one reason: a CR, a tab, two blanks, one at the end or at the front, a
-// slash, a minus, ten digits, a comment, a backslash, no LF. The answers are the reference program's.
+// Plain lines that end at LF or at CR LF, and what is no plain line for one reason: a tab, two blanks, one at the end
+// or at the front, a slash, a minus, ten digits, a comment, a backslash, no LF. The answers are the reference program's.
 #[test]
 fn reads_plain_lines_among_others(rt: HostRuntime) -> Result<(), Fail> {
-    let lines: [&[u8]; 17] = [
+    let lines: [&[u8]; 23] = [
         b"f 3 2 1\n",
         b"f 000000003 2 1\n",
         b"f 3 2 1\r\n",
@@ -176,7 +176,13 @@ fn reads_plain_lines_among_others(rt: HostRuntime) -> Result<(), Fail> {
         b"f 3 2\\\n 1\n",
         b"f 3 2 1\\\n",
         b"f 3 2 1",
+        b"f 3 2 1\r",
+        b"f 3 2 1 \r\n",
         b"v 2 2 2\nf 3 2 1\n",
+        b"v 2 2 2\r\nf 3 2 1\r\n",
+        b"v 2 2 2.5\nf 3 2 1\r\n",
+        b"v 2 2 2.5\r\nf 3 2 1\n",
+        b"v 2 2 2e0\r\n\r\nf 3 2 1\r\n",
         b"#\nv 2 2 2e0\r\nf 3 2 1\n",
     ];
     for line in lines {
@@ -184,12 +190,14 @@ fn reads_plain_lines_among_others(rt: HostRuntime) -> Result<(), Fail> {
     }
     let mixed = b"f 3 2 1\nv 9 9 9\nf 1 2 3 \nf 2 4 3\n";
     assert_eq!(rt; triangles_with(&rt, mixed, [1, 3, 2])?, 4);
+    let ended = b"f 3 2 1\r\nv 9 9 9\r\nf 1 2 3\nf 2 4 3\r\n";
+    assert_eq!(rt; triangles_with(&rt, ended, [1, 3, 2])?, 4);
     Ok(())
 }
 
 #[test]
 fn refuses_faults_after_plain_lines(rt: HostRuntime) -> Result<(), Fail> {
-    let refused: [(&[u8], u64, TextKind); 23] = [
+    let refused: [(&[u8], u64, TextKind); 29] = [
         (b"f 0 1 2\n", 5, TextKind::BadIndex),
         (b"f 1 2 4\n", 5, TextKind::BadIndex),
         (b"f 4294967297 2 3\n", 5, TextKind::BadIndex),
@@ -202,6 +210,10 @@ fn refuses_faults_after_plain_lines(rt: HostRuntime) -> Result<(), Fail> {
         (b"f 1 2 3-\n", 5, TextKind::BadFace),
         (b"f 1 2 3#\n", 5, TextKind::BadFace),
         (b"f 1 2 3\n\x0b", 6, TextKind::UnknownLine),
+        (b"f 1 2 3\r\r\n", 5, TextKind::BadFace),
+        (b"f 1 2 3\rf 1 2 3\n", 5, TextKind::BadFace),
+        (b"v 1 2 3\r\r\n", 5, TextKind::BadNumber),
+        (b"v 1 2 3\rv 1 2 3\n", 5, TextKind::BadNumber),
         (b"v 1 2 -\n", 5, TextKind::BadNumber),
         (b"v 1 2 .\n", 5, TextKind::BadNumber),
         (b"v 1 2 1.5.\n", 5, TextKind::BadNumber),
@@ -212,6 +224,8 @@ fn refuses_faults_after_plain_lines(rt: HostRuntime) -> Result<(), Fail> {
         (b"v 107375 2 1\n", 5, TextKind::OutOfGrid),
         (b"v 1 2 \n", 5, TextKind::BadVertex),
         (b"v 1 2 3\n\nf 5 1 2\n", 7, TextKind::BadIndex),
+        (b"v 1 2 3\r\nf 4 2 1\r\nf 5 1 2\r\n", 7, TextKind::BadIndex),
+        (b"f 3 2 1\r\nq\r\n", 6, TextKind::UnknownLine),
         (b"f 3 2 1\nv 1 2 3\nf 3 2 1 \nq\n", 8, TextKind::UnknownLine),
     ];
     for (after, line, kind) in refused {
