@@ -17,7 +17,7 @@ use std::alloc::Global;
 /// The doubled areas of loops.
 #[derive(Drop)]
 pub struct Areas {
-    /// The area of each loop.
+    /// The doubled area of each loop.
     pub each: Vec<i128>,
     /// Their sum.
     pub sum: i128,
@@ -74,7 +74,7 @@ pub fn areas_of(alloc: Global, flat: &FlatPoints, loops: &[Loop]) -> Result<Area
     Ok(Areas { each, sum })
 }
 
-/// Whether they add up to less than 0.
+/// Whether the areas add up to less than 0.
 pub fn is_turned(areas: &Areas) -> bool
     ensures { result ≡ int_lt areas.now.sum (pos 0) }
 {

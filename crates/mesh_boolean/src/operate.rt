@@ -80,7 +80,8 @@ pub fn boolean<K: Kernels, L: Ledger>(
     Ok(outcome(alloc, prescribed, all)?)
 }
 
-// The vertices that an operation on two meshes prescribes, and the triangles of all source faces. The sides and their numbers are let go.
+// The vertices that an operation on two meshes prescribes, and the triangles of all source faces. The sides and their
+// numbers are let go.
 fn assemble_meshes<K: Kernels, L: Ledger>(
     alloc: Global,
     op: Op,

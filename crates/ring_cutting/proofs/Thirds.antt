@@ -1,4 +1,4 @@
--- A third vertex beside two different ones that stand in a list.
+-- A third vertex than two different ones that stand in a list.
 use Rattle.std.specs.Prelude.{◌≡◌, ◌≢◌, ℕ, ◌+◌, ◌<◌, List, [], ◌∷◌, ◌++◌, true, false, Bool, not, ◌==◌, ◌||◌, ◌&&◌, nat_lt, length, take, drop, ◌⊎◌}
 use Rattle.std.specs.List.{list_any}
 use Rattle.std.proofs.Common.{refl, sym, subst, ap, ◌∙◌, inl, inr}
@@ -63,12 +63,12 @@ three_by_third p n r first second apart = elim (cases_Bool (list_any (is_third p
   ]
 ]
 
--- the neighbours of a place stand beside it where they differ
+-- the neighbours of a place stand in other places where they differ
 beside : (x : ℕ) (c : List ℕ) → last_of x c ≢ head_or x c → In (last_of x c) c × In (head_or x c) c
 beside x [] apart = absurd (apart refl)
 beside x (y ∷ c) apart = (last_in y c, inl refl)
 
--- a place whose neighbours differ is allowed where a third vertex stands beside it
+-- a place whose neighbours differ is allowed where a third vertex stands in another place
 pub allowed_by_third : (r : List ℕ) (i : ℕ) → i < length r → vertex_before r i ≢ vertex_after r i → list_any (is_third (vertex_before r i) (vertex_after r i)) (without_place i r) ≡ is_allowed r i
 allowed_by_third r i h =
     let s = splits_at r i h in
@@ -82,7 +82,7 @@ allowed_by_third r i h =
         let two = beside x (b ++ a) apart in let p = last_of x (b ++ a) in let n = head_or x (b ++ a) in
         sym (ap (λ (t : Bool). not t && nat_lt 2 (different (a ++ b))) (ne_eqb p n apart) ∙ three_by_third p n (a ++ b) (in_moved p b a two.0) (in_moved n b a two.1) apart))
 
--- the places before and behind one are those beside it
+-- the places before and behind one are the others
 pub third_beside : (p n : ℕ) (ps : List Place) (i : ℕ) → list_any (is_third p n) (without_place i (vertices_of ps)) ≡ (list_any (is_third p n) (vertices_of (take i ps)) || list_any (is_third p n) (vertices_of (drop (i + 1) ps)))
 third_beside p n ps i =
     let f : Place → ℕ = λ q. q.vertex in

@@ -84,7 +84,7 @@ fn is_ear(places: &[Place], i: usize) -> bool
         && !is_blocked(p, x, n, places, i)
 }
 
-// Whether a place may be cut: its neighbours differ, and some place beside it has a third vertex.
+// Whether a place may be cut: its neighbours differ, and some other place has a third vertex.
 fn is_allowed(places: &[Place], i: usize) -> bool
     requires { i < length places.now }
     ensures { result ≡ is_allowed (vertices_of places.now) i }

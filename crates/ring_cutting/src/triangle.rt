@@ -36,8 +36,8 @@ fn any_blocks(p: &Place, x: &Place, n: &Place, places: &[Place]) -> bool
     places.iter().rev().any(|place| blocks(*p, *x, *n, *place))
 }
 
-// Whether some place of the ring blocks the triangle of a place and the two beside it. These three do not block it: at the
-// first place, where most ears are, the others alone are asked.
+// Whether some place of the ring blocks the triangle of a place and its two neighbours. These three do not block it: at the
+// first place, where an ear is sought first, the others alone are asked.
 pub(crate) fn is_blocked(p: Place, x: Place, n: Place, places: &[Place], i: usize) -> bool
     requires long { 3 ≤ length places.now }
     requires within { i < length places.now }
