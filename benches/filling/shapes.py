@@ -40,7 +40,7 @@ def plate(side):
     return loops
 
 
-for length in (15, 1000, 4000):
+for length in (15, 30, 60, 125, 1000, 4000):
     line("strip", strip(length))
 for turns in (4, 250, 1001):
     line("spiral", spiral(turns))

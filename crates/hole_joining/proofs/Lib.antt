@@ -1,3 +1,4 @@
+pub mod Areas
 pub mod Choice
 pub mod Circles
 pub mod Joins

@@ -1,9 +1,9 @@
 -- Lists taken one member after the other, and a list put among others.
-use Rattle.std.specs.Prelude.{◌≡◌, ℕ, zero, suc, ◌+◌, ◌<◌, ◌≤◌, List, [], ◌∷◌, ◌++◌, Bool, true, false, cond, not, length, get_or, take, drop, set, filter, map, Some, None}
+use Rattle.std.specs.Prelude.{◌≡◌, ℕ, zero, suc, ◌+◌, ◌<◌, ◌≤◌, ℤ, List, [], ◌∷◌, ◌++◌, Bool, true, false, cond, not, length, get_or, take, drop, set, filter, map, Some, None}
 use Rattle.std.specs.List.{concat, insert, position_or_len}
 use Rattle.std.proofs.Common.{arith, refl, sym, ap, ◌∙◌}
 use Rattle.std.proofs.lemmas.Bool.{cond-true, cond-false}
-use Rattle.std.proofs.lemmas.List.{append-nil, length-append, take_more, at_drop_more}
+use Rattle.std.proofs.lemmas.List.{append_assoc, append-nil, length-append, take_more, at_drop_more}
 use Rattle.std.proofs.lemmas.List.Folds.{concat-append}
 use Rattle.face_plane.specs.Planes.{Plane}
 use Rattle.face_plane.specs.Rings.{vertex_at}
@@ -24,6 +24,12 @@ pub concat_take_le : (xs : List (List ℕ)) (i : ℕ) → length (concat (take i
 concat_take_le xs zero = omega arith
 concat_take_le [] (suc i) = omega arith
 concat_take_le (x ∷ xs) (suc i) = omega (arith, length-append x (concat (take i xs)), length-append x (concat xs), concat_take_le xs i)
+
+-- what f gives of one list more
+pub each_more : (f : List ℕ → ℤ) (xs : List (List ℕ)) (done now : List ℤ) (z : ℤ) (i : ℕ) → i < length xs → z ≡ f (get_or xs i []) → now ≡ done ++ z ∷ [] → now ++ map f (drop (i + 1) xs) ≡ done ++ map f (drop i xs)
+each_more f xs done now z i h e more =
+    ap (λ l. l ++ map f (drop (i + 1) xs)) more ∙ append_assoc done (z ∷ []) (map f (drop (i + 1) xs)) ∙ ap (λ y. done ++ y ∷ map f (drop (i + 1) xs)) e
+    ∙ sym (at_drop_more (λ l. done ++ map f l) xs i [] h)
 
 -- one place further on in a longer list
 insert_later : {X : Type 0} (k : X) (ks : List X) (i : ℕ) (x : X) → insert (k ∷ ks) (1 + i) x ≡ k ∷ insert ks i x

@@ -192,7 +192,7 @@ some_ring at ls up some = elim (cases_lt 0 (length (filter (is_ring at) ls))) as
 ]
 
 -- exchanged, a loop has its area negated
-area-exchanged : (at : Plane) (l : List ℕ) → area (exchanged at) l ≡ neg_ℤ (area at l)
+pub area-exchanged : (at : Plane) (l : List ℕ) → area (exchanged at) l ≡ neg_ℤ (area at l)
 area-exchanged at l = total-same (across (exchanged at)) (λ e. neg_ℤ (across at e)) (λ e. turned (at e.0).0 (at e.0).1 (at e.1).0 (at e.1).1) (round_edges l) ∙ total-neg (across at) (round_edges l)
   where
     turned : (a b c d : ℤ) → b *ℤ c -ℤ d *ℤ a ≡ neg_ℤ (a *ℤ d -ℤ c *ℤ b)

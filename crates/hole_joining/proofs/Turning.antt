@@ -4,6 +4,7 @@ use Rattle.std.proofs.Common.{arith, sym, ap, ◌∙◌, inl, inr, append_assoc}
 use Rattle.std.proofs.lemmas.Bool.{cases_eq, eq-eqb, ne_eqb}
 use Rattle.std.proofs.lemmas.List.{append-nil, length-append, take-append-drop}
 use Rattle.std.proofs.lemmas.List.Sums.{sum_by-append}
+use Rattle.std.proofs.Math.Seq.{drop-length, take-length}
 use Rattle.chain_terms.specs.Chains.{one_if}
 use Rattle.chain_terms.specs.Sums.{total}
 use Rattle.chain_terms.specs.Paths.{round_edges}
@@ -31,6 +32,10 @@ round_turned g i r = round_later g (drop i r) (take i r) ∙ ap (once_round g) (
 -- and the same length
 pub length-turned : (i : ℕ) (r : List ℕ) → length (turned_to i r) ≡ length r
 length-turned i r = omega (arith, length-append (drop i r) (take i r), length-append (take i r) (drop i r), ap length (take-append-drop i r))
+
+-- turned once round it is the same
+pub turned_all : (r : List ℕ) → turned_to (length r) r ≡ r
+turned_all r = λ j. drop-length r j ++ take-length r j
 
 -- how often a vertex stands in the list
 abbrev pub often : ℕ → List ℕ → ℕ

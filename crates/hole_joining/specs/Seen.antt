@@ -1,5 +1,5 @@
 -- What the code of this crate looks at: the points of the vertices in a plane, and a hole in hand among rings and later holes.
-use Rattle.std.specs.Prelude.{ℕ, List, [], ◌∷◌, ◌++◌, get_or, Bool, not, ◌&&◌, ◌||◌, ◌==◌}
+use Rattle.std.specs.Prelude.{ℕ, List, [], ◌∷◌, ◌++◌, get_or, Bool, false, not, ◌&&◌, ◌||◌, ◌==◌}
 use Rattle.face_plane.specs.Planes.{Plane, face_plane}
 use Rattle.face_plane.specs.Rings.{vertex_at}
 use Rattle.hole_joining.specs.declared.flat.FlatPoints.{FlatPoints}
@@ -13,6 +13,10 @@ use Rattle.hole_joining.specs.Bridges.{is_clear_bridge, edges_of, bridges_to, al
 -- the plane of these points
 abbrev pub plane_at : FlatPoints → Plane
 plane_at f = face_plane f.plane.drop f.turned f.points.now
+
+-- the same where u and v are not exchanged
+abbrev pub straight_at : FlatPoints → Plane
+straight_at f = face_plane f.plane.drop false f.points.now
 
 -- a vertex with its point
 abbrev pub flat_vertex : Plane → ℕ → FlatVertex

@@ -9,7 +9,7 @@ ghost use Rattle.hole_joining.specs.Bridges.{join_holes};
 ghost use Rattle.hole_joining.specs.Holes.{ring_count};
 ghost use Rattle.hole_joining.specs.Laws.{AreFillable, HasPlaces, settled_in};
 
-use crate::area::is_turned;
+use crate::area::{areas_of, is_turned};
 use crate::flat::FlatPoints;
 use crate::splice::{circles_of, join_all};
 use crate::start::{holes_of, rings_of};
@@ -69,14 +69,15 @@ pub fn join_holes(
         turned: false,
         points,
     };
-    let turned = is_turned(&straight, loops);
+    let areas = areas_of(alloc, &straight, loops)?;
+    let turned = is_turned(&areas);
     let flat = FlatPoints {
         plane,
         turned,
         points,
     };
-    let mut rings = rings_of(alloc, &flat, loops)?;
-    let holes = holes_of(alloc, &flat, loops)?;
+    let mut rings = rings_of(alloc, &flat, loops, &areas.each)?;
+    let holes = holes_of(alloc, &flat, loops, &areas.each)?;
     let mut circles = circles_of(alloc, &rings)?;
     join_all(alloc, &flat, &mut rings, &mut circles, &holes)?;
     Ok(Joined {

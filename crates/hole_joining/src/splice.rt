@@ -42,12 +42,35 @@ fn join(alloc: Global, ring: &[u32], place: usize, hole: &[u32]) -> Result<Place
 }
 
 // Moves the cursor so many places on.
-fn turn(circle: &mut Ring, count: usize)
+fn turn_on(circle: &mut Ring, count: usize)
     requires { count ≤ length circle.old }
     ensures { circle.new ≡ turned_to count circle.old }
 {
     for _ in 0..count {
         circle.step();
+    }
+}
+
+// The same, by going back past all the other places.
+fn turn_back(circle: &mut Ring, count: usize)
+    requires { count ≤ length circle.old }
+    ensures { circle.new ≡ turned_to count circle.old }
+{
+    let rest = circle.len() - count;
+    for _ in 0..rest {
+        circle.back();
+    }
+}
+
+// The same, the shorter way round.
+fn turn(circle: &mut Ring, count: usize)
+    requires { count ≤ length circle.old }
+    ensures { circle.new ≡ turned_to count circle.old }
+{
+    if circle.len() - count < count {
+        turn_back(circle, count);
+    } else {
+        turn_on(circle, count);
     }
 }
 

@@ -1,10 +1,11 @@
 -- What an operation on two meshes gives, from what was assembled of their sides.
-use Rattle.std.proofs.Common.{◌≡◌, ℕ, Result, Ok, Err, IfErr, IsErrAnd, map, length, sym, ◌∙◌, ap, subst}
+use Rattle.std.proofs.Common.{◌≡◌, ℕ, Result, Ok, Err, IfErr, IfOk, map, length, sym, ◌∙◌, ap, subst}
 use Rattle.std.proofs.lemmas.List.{length-map}
 use Rattle.mb_base.specs.declared.op.Op.{Op}
 use Rattle.mesh_terms.specs.Meshes.{Mesh, triples_of}
 use Rattle.side_terms.specs.Sides.{Side}
 use Rattle.assembly_terms.specs.Prescribed.{Numbers, prescribed_halfedges}
+use Rattle.assembly_terms.specs.Standing.{AreConserved}
 use Rattle.filling_terms.specs.Filled.{points_of_copies}
 use Rattle.pinch_split.specs.Back.{named_by}
 use Rattle.pinch_split.specs.Split.{split_from, split_points, split_triples}
@@ -12,10 +13,10 @@ use Rattle.retained_verts.specs.declared.list.PrescribeFault.{PrescribeFault}
 use Rattle.retained_verts.specs.declared.list.Prescribed.{Prescribed}
 use Rattle.source_faces.specs.declared.triangles.SourceTriangles.{SourceTriangles}
 use Rattle.mesh_boolean.specs.declared.outcome.Outcome.{Outcome}
-use Rattle.mesh_boolean.specs.Assembly.{IsAssembled}
+use Rattle.mesh_boolean.specs.Assembly.{IsAssembled, IsOfMeshes}
 use Rattle.mesh_boolean.specs.Faults.{IsTooLarge}
 use Rattle.mesh_boolean.specs.Operation.{Tests, first_side, numbers_of, second_side}
-use Rattle.mesh_boolean.specs.Results.{IsBounded, IsFilled, IsPrescribed, copies_in, halfedges_in, numbers_in}
+use Rattle.mesh_boolean.specs.Results.{ConserveIn, IsBounded, IsFilled, IsPrescribed, copies_in, halfedges_in, numbers_in}
 use Rattle.mesh_boolean.proofs.Faces.{are_bounded}
 
 -- two sides with their numbers are those of two meshes
@@ -28,15 +29,23 @@ pub record AreSidesOf (t : Tests) (op : Op) (m k : Mesh) (p q : Side) (n : Numbe
 pub same_numbers : (t : Tests) (op : Op) (m k : Mesh) (p q : Side) (n : Numbers) → AreSidesOf t op m k p q n → n ≡ numbers_in t op m k
 same_numbers t op m k p q n known = known.numbers ∙ (λ i. numbers_of t (known.first i) (known.second i))
 
--- what is assembled of the meshes
-abbrev pub IsOfMeshes : Tests → Op → Mesh → Mesh → Prescribed → SourceTriangles → Type 0
-IsOfMeshes t op m k r all = IsAssembled op (first_side op m) (second_side k) (numbers_in t op m k) r all
-
--- is what is assembled of the sides
-pub of_meshes : (t : Tests) (op : Op) (m k : Mesh) (p q : Side) (n : Numbers) (r : Prescribed) (all : SourceTriangles) → AreSidesOf t op m k p q n → IsAssembled op p q n r all → IsOfMeshes t op m k r all
+-- what is assembled of the sides is what is assembled of the meshes
+of_meshes : (t : Tests) (op : Op) (m k : Mesh) (p q : Side) (n : Numbers) (r : Prescribed) (all : SourceTriangles) → AreSidesOf t op m k p q n → IsAssembled op p q n r all → IsOfMeshes t op m k r all
 of_meshes t op m k p q n r all known assembled =
     subst (λ l. IsAssembled op (first_side op m) (second_side k) l r all) (same_numbers t op m k p q n known)
     (subst (λ s. IsAssembled op (first_side op m) s n r all) known.second (subst (λ s. IsAssembled op s q n r all) known.first assembled))
+
+-- so an answer that is assembled of the sides is assembled of the meshes
+pub all_of_meshes : (t : Tests) (op : Op) (m k : Mesh) (p q : Side) (n : Numbers) (r : Result (Prescribed × SourceTriangles) PrescribeFault) → AreSidesOf t op m k p q n → IfOk r (λ x. IsAssembled op p q n x.0 x.1) → IfOk r (λ x. IsOfMeshes t op m k x.0 x.1)
+all_of_meshes t op m k p q n (Ok x) known assembled = of_meshes t op m k p q n x.0 x.1 known assembled
+all_of_meshes t op m k p q n (Err e) known assembled = tt
+
+-- numbers that are conserved over the sides are conserved over the meshes
+pub conserve_in : {X : Type 0} (t : Tests) (op : Op) (m k : Mesh) (p q : Side) (n : Numbers) (r : Result X PrescribeFault) → AreSidesOf t op m k p q n → AreConserved p q n → IfOk r (λ _. ConserveIn t op m k)
+conserve_in t op m k p q n (Ok x) known conserved =
+    subst (λ l. AreConserved (first_side op m) (second_side k) l) (same_numbers t op m k p q n known)
+    (subst (λ s. AreConserved (first_side op m) s n) known.second (subst (λ s. AreConserved s q n) known.first conserved))
+conserve_in t op m k p q n (Err e) known conserved = tt
 
 -- the mesh of what was assembled, with one vertex for each fan
 pub record IsOutcome (r : Prescribed) (all : SourceTriangles) (o : Outcome) : Type 0 where
@@ -71,8 +80,6 @@ is_filled t op m k r all o assembled made = record {
     count = ap length points ∙ length-map (copies_in t op m k) (λ c. c.point)
 
 -- half-edges that are too many for the sides are so for the meshes
-pub too_large : {X : Type 0} (t : Tests) (op : Op) (m k : Mesh) (p q : Side) (n : Numbers) (limit : ℕ) (fault : PrescribeFault) (r : Result X PrescribeFault) → AreSidesOf t op m k p q n → IsTooLarge limit (prescribed_halfedges op p q n) fault → IsErrAnd r (λ e. e ≡ fault) →
-    IfErr r (IsTooLarge limit (halfedges_in t op m k))
-too_large t op m k p q n limit fault (Ok x) known large is = tt
-too_large t op m k p q n limit fault (Err e) known large is =
-    subst (IsTooLarge limit (halfedges_in t op m k)) (sym is) (subst (λ h. IsTooLarge limit h fault) (λ i. prescribed_halfedges op (known.first i) (known.second i) (same_numbers t op m k p q n known i)) large)
+pub too_large : {X : Type 0} (t : Tests) (op : Op) (m k : Mesh) (p q : Side) (n : Numbers) (limit : ℕ) (r : Result X PrescribeFault) → AreSidesOf t op m k p q n → IfErr r (IsTooLarge limit (prescribed_halfedges op p q n)) → IfErr r (IsTooLarge limit (halfedges_in t op m k))
+too_large t op m k p q n limit r known large =
+    subst (λ h. IfErr r (IsTooLarge limit h)) (λ i. prescribed_halfedges op (known.first i) (known.second i) (same_numbers t op m k p q n known i)) large

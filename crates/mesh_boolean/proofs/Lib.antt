@@ -4,3 +4,4 @@ pub mod Faces
 pub mod Finished
 pub mod Pairs
 pub mod Parts
+pub mod Reduced

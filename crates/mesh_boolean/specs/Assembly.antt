@@ -4,7 +4,7 @@ use Rattle.chain_terms.specs.Chains.{all_edges}
 use Rattle.mb_base.specs.declared.op.Op.{Op}
 use Rattle.mb_base.specs.declared.results.Hits.{Hits}
 use Rattle.mb_base.specs.declared.results.Windings.{Windings}
-use Rattle.mesh_terms.specs.Meshes.{IsAccepted, triples_of}
+use Rattle.mesh_terms.specs.Meshes.{IsAccepted, Mesh, triples_of}
 use Rattle.side_terms.specs.Hits.{AreHits}
 use Rattle.side_terms.specs.Sides.{Side}
 use Rattle.assembly_terms.specs.Lists.{Copy}
@@ -17,7 +17,8 @@ use Rattle.segment_terms.specs.Segments.{source_count}
 use Rattle.filling_terms.specs.Assembling.{FillFace}
 use Rattle.filling_terms.specs.Filled.{all_filled, all_triples, filled_face, forced_of, sources_of}
 use Rattle.source_faces.specs.declared.triangles.SourceTriangles.{SourceTriangles}
-use Rattle.mesh_boolean.specs.Results.{ArePrescribed}
+use Rattle.mesh_boolean.specs.Operation.{Tests, first_side, second_side}
+use Rattle.mesh_boolean.specs.Results.{ArePrescribed, numbers_in}
 
 -- a winding number for each corner, hits of the edges of each side with the faces of the other, all conserved
 pub record AreNumbers (p q : Side) (windings : Windings) (hits : Hits) : Type 0 where
@@ -43,3 +44,7 @@ pub record IsAssembled (op : Op) (p q : Side) (n : Numbers) (r : Prescribed) (al
   pub fillings : AreFillings p q (copies_of_numbers op p q n)
   pub accepted : IsAccepted (length r.points.items) (triples_of all.triples.items)
   pub few : 3 * length all.triples.items ≤ 5 * r.halfedges
+
+-- what is assembled of two meshes: of their sides, and of the numbers that the tests give for these
+abbrev pub IsOfMeshes : Tests → Op → Mesh → Mesh → Prescribed → SourceTriangles → Type 0
+IsOfMeshes t op m k r all = IsAssembled op (first_side op m) (second_side k) (numbers_in t op m k) r all

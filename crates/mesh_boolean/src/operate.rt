@@ -1,5 +1,6 @@
 // One whole operation.
 ghost use Rattle.std.specs.Prelude.{◌≡◌, ◌≤◌, ◌+◌, ◌*◌, IfErr, IfOk, length, map};
+ghost use Rattle.mesh_boolean.specs.Assembly.{IsOfMeshes};
 ghost use Rattle.mesh_boolean.specs.Faults.{IsTooLarge};
 ghost use Rattle.mesh_boolean.specs.Operation.{first_side, second_side};
 ghost use Rattle.mesh_boolean.specs.Results.{
@@ -75,11 +76,31 @@ pub fn boolean<K: Kernels, L: Ledger>(
 {
     // Read so that what limits keep is known here.
     let _ = limits.halfedges();
+    let (prescribed, all) = assemble_meshes(alloc, op, p, q, kernels, limits, steps)?;
+    Ok(outcome(alloc, prescribed, all)?)
+}
+
+// The vertices that an operation on two meshes prescribes, and the triangles of all source faces. The sides and their
+// numbers are let go.
+fn assemble_meshes<K: Kernels, L: Ledger>(
+    alloc: Global,
+    op: Op,
+    p: &Mesh,
+    q: &Mesh,
+    kernels: &K,
+    limits: &Limits,
+    steps: &mut Steps<L>,
+) -> Result<(Prescribed, SourceTriangles), PrescribeFault>
+    ensures conserved { IfOk result (λ _. ConserveIn (⟦<K as Tested>⟧.tests kernels.now) op p.now q.now) }
+    ensures assembled { IfOk result (λ r. IsOfMeshes (⟦<K as Tested>⟧.tests kernels.now) op p.now q.now r.0 r.1) }
+    ensures within { IfOk result (λ r. r.0.halfedges ≤ limits.now.halfedges) }
+    ensures too_large { IfErr result (IsTooLarge limits.now.halfedges (halfedges_in (⟦<K as Tested>⟧.tests kernels.now) op p.now q.now)) }
+    ensures cost { steps.new ≤ steps.old + components_of (first_side op p.now) + components_of (second_side q.now) }
+{
     let p = first_side(alloc, op, p)?;
     let q = second_side(alloc, q)?;
     let (windings, hits) = all_numbers(alloc, &p, &q, kernels, steps)?;
-    let (prescribed, all) = assemble(alloc, op, &p, &q, &windings, &hits, limits)?;
-    Ok(outcome(alloc, prescribed, all)?)
+    assemble(alloc, op, &p, &q, &windings, &hits, limits)
 }
 
 // The mesh of these vertices and triangles, one vertex for each fan.

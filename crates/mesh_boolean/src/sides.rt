@@ -8,7 +8,8 @@ use mb_base::{NoMemory, Op};
 use mesh_check::{Mesh, is_plainly_reduced, reduce};
 use std::alloc::Global;
 
-/// The first side: the mesh reduced, with the marks for the operation. Where it plainly is reduced no copy is made of it.
+/// The first side: the mesh reduced, with the marks for the operation. Where it plainly is reduced, the side is made of the
+/// mesh itself.
 pub fn first_side(alloc: Global, op: Op, p: &Mesh) -> Result<Side, NoMemory>
     ensures value { IfOk result (λ side. side ≡ p_side op (reduced_mesh p.now)) }
     ensures apart { IfOk result (λ side. NoOpposite side.triples) }
@@ -20,7 +21,7 @@ pub fn first_side(alloc: Global, op: Op, p: &Mesh) -> Result<Side, NoMemory>
     marked_side(alloc, op, &p)
 }
 
-/// The second side: the mesh reduced, with no marks. Where it plainly is reduced no copy is made of it.
+/// The second side: the mesh reduced, with no marks. Where it plainly is reduced, the side is made of the mesh itself.
 pub fn second_side(alloc: Global, q: &Mesh) -> Result<Side, NoMemory>
     ensures value { IfOk result (λ side. side ≡ q_side (reduced_mesh q.now)) }
     ensures apart { IfOk result (λ side. NoOpposite side.triples) }

@@ -139,35 +139,35 @@ pub fn read_file<S: Shelf>(
     read_to(alloc, name, limits, size, shelf)
 }
 
-// The points and triangles of a text, in the format of its file's name.
+// The points and triangles of a text, in the format of its file's name. The text is let go.
 fn soup_of_text(
     alloc: Global,
     name: &str,
-    bytes: &[u8],
+    bytes: Vec<u8>,
     digits: u8,
     limits: &Limits,
 ) -> Result<Soup, TextFault>
     requires { digits ≤ 6 }
-    ensures soup { IfOk result (λ soup. mesh_soup digits limits.now name.now bytes.now ≡ Ok soup) }
-    ensures fault { IfErr result (IsFaultOf (mesh_soup digits limits.now name.now bytes.now)) }
+    ensures soup { IfOk result (λ soup. mesh_soup digits limits.now name.now bytes.items ≡ Ok soup) }
+    ensures fault { IfErr result (IsFaultOf (mesh_soup digits limits.now name.now bytes.items)) }
 {
     if is_stl_name(name.as_bytes()) {
-        read_stl(alloc, bytes, digits, limits)
+        read_stl(alloc, &bytes, digits, limits)
     } else {
-        read_obj(alloc, bytes, digits, limits)
+        read_obj(alloc, &bytes, digits, limits)
     }
 }
 
-// The mesh of a text.
+// The mesh of a text, which is let go before the mesh is checked.
 fn mesh_of_text(
     alloc: Global,
     name: &str,
-    bytes: &[u8],
+    bytes: Vec<u8>,
     digits: u8,
     limits: &Limits,
 ) -> Result<Read, Stop>
     requires { digits ≤ 6 }
-    ensures meets { (now : Seen) → Meets (give (checked name.now (mesh_soup digits limits.now name.now bytes.now))) now now (ended_by soup_with name.now result) }
+    ensures meets { (now : Seen) → Meets (give (checked name.now (mesh_soup digits limits.now name.now bytes.items))) now now (ended_by soup_with name.now result) }
     ensures stop { IfErr result (λ stop. IsTrue (is_reading_stop stop)) }
 {
     let soup = soup_of_text(alloc, name, bytes, digits, limits)?;
@@ -196,5 +196,5 @@ pub fn read_mesh<S: Shelf>(
     ensures spare { S.spare shelf.new ≡ S.spare shelf.old }
 {
     let bytes = read_file(alloc, name, limits, shelf)?;
-    mesh_of_text(alloc, name, &bytes, digits, limits)
+    mesh_of_text(alloc, name, bytes, digits, limits)
 }

@@ -14,8 +14,9 @@ const END: u64 = 1 << 30;
 // 10 to the power of each number of digits.
 const STEPS: [u64; 7] = [1, 10, 100, 1_000, 10_000, 100_000, 1_000_000];
 
-/// The coordinate of the number at the front of a text, and the text after it: an optional `-`, one to nine
-/// digits, and a point and digits or none. None for another number, and off the grid.
+/// The coordinate of a number that a text begins with, and the text after it: an optional `-`, one to nine
+/// digits, and a point and digits or none. What comes behind is not looked at, so the word may go on. None
+/// where the text begins with no such number, or where it is off the grid.
 pub fn short_coordinate(text: &[u8], digits: u8) -> Option<(i32, &[u8])>
     requires { digits ≤ 6 }
     ensures { IfSome result (λ r. BeginsWord digits text.now r.0 r.1.now) }
@@ -124,8 +125,8 @@ fn steps(places: u8) -> u64
     STEPS[usize::from(places)]
 }
 
-/// What at most so many digits at the front of a text spell behind digits that spell `before`, and how many
-/// they are.
+/// What digits at the front of a text spell behind digits that spell `before`, and how many they are: at most
+/// so many. No clause says that it stops at no digit.
 pub fn leading_digits(text: &[u8], before: u64, most: usize) -> (u64, usize)
     requires few { most ≤ 9 }
     requires before { before ≤ 2 ^ 30 }

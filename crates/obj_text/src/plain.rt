@@ -1,5 +1,6 @@
-// The lines of most files: `f` and three numbers of digits, or `v` and three coordinates, with one space
-// before each and an LF behind, or a CR and an LF. Nothing is said of another line.
+// Plain lines, as this program writes them: `f` and three numbers of digits, or `v` and three coordinates,
+// with one space before each and an LF behind, or a CR and an LF. Where the answer is None nothing is said,
+// and the line is read by its words.
 ghost use Rattle.std.specs.Prelude.{◌≡◌, ◌≤◌, [], ◌∷◌, not, IfSome};
 ghost use Rattle.std.specs.List.{position_or_len};
 ghost use Rattle.obj_text.specs.Plain.{is_plain, ends_plain, BeginsIndex, BeginsWord, BeginsCoordinate, EndsLine, BeginsFace, BeginsPoint};

@@ -168,7 +168,8 @@ impl Gathered {
         Ok(true)
     }
 
-    // Whether three numbers are those of three points so far, and one more triangle is allowed.
+    // Says yes only where a triangle of these vertices may be added: they are three different ones of the
+    // points so far, and one more triangle is allowed.
     fn has_room_for(&self, a: u64, b: u64, c: u64, limits: &Limits) -> bool
         ensures below { IsTrue result → IsBelow (length self.now.points) (a, b, c) }
         ensures apart { IsTrue result → HasThree (a, b, c) }

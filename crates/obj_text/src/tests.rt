@@ -145,7 +145,7 @@ fn counts_to_the_limits(rt: HostRuntime) -> Result<(), Fail> {
 // Three points and a triangle in plain lines.
 const FRONT: &[u8] = b"v 0 0 0\nv 1 0 0\nv 0 1 0\nf 1 2 3\n";
 
-// The triangles of what comes after them, of which the last is to be this one.
+// How many triangles they and what comes after them give, where the last is this one, else 0.
 fn triangles_with(rt: &HostRuntime, after: &[u8], last: [u32; 3]) -> Result<usize, Fail> {
     let mut bytes = FRONT.to_vec(rt.alloc())?;
     bytes.extend_from_slice(after)?;
@@ -156,8 +156,9 @@ fn triangles_with(rt: &HostRuntime, after: &[u8], last: [u32; 3]) -> Result<usiz
     }
 }
 
-// Plain lines that end at LF or at CR LF, and what is no plain line for one reason: a tab, two blanks, one at the end
-// or at the front, a slash, a minus, ten digits, a comment, a backslash, no LF. The answers are the reference program's.
+// Plain lines that end at LF or at CR LF, and lines that are not plain for one reason each: a tab, two blanks, one at
+// the end or at the front, a slash, a minus, ten digits, a comment, a backslash, no LF; and plain points before a face.
+// The answers are those of an independent reference program, which was written from the definitions alone.
 #[test]
 fn reads_plain_lines_among_others(rt: HostRuntime) -> Result<(), Fail> {
     let lines: [&[u8]; 23] = [
@@ -239,9 +240,11 @@ fn refuses_faults_after_plain_lines(rt: HostRuntime) -> Result<(), Fail> {
     Ok(())
 }
 
-// Numbers, and what they are in hundredths by the reference program.
+// Numbers, and what they are in hundredths by an independent reference program.
 const NUMBERS: &str =
-    "0 0\n-0 0\n-7 -700\n1.5 150\n-1.25 -125\n1.254 125\n1.255 126\n-1.255 -126\n1.2549999999999 125\n0.0049 0\n-0.005 -1\n1. 100\n007.10 710\n10737418.24 1073741824\n10737418.244 1073741824\n-10737418.24 -1073741824\n.5 50\n+3 300\n1e2 10000\n1.5e-1 15\n0.00000000000000000001 0\n1.999999999999999999999 200\n";
+    "0 0\n-0 0\n-7 -700\n1.5 150\n-1.25 -125\n1.254 125\n1.255 126\n-1.255 -126\n1.2549999999999 125\n0.0049 0\n-0.005 -1\n\
+    1. 100\n007.10 710\n10737418.24 1073741824\n10737418.244 1073741824\n-10737418.24 -1073741824\n.5 50\n+3 300\n1e2 10000\n\
+    1.5e-1 15\n0.00000000000000000001 0\n1.999999999999999999999 200\n";
 
 // The first coordinate of a line with this number, in hundredths.
 fn hundredths(rt: &HostRuntime, word: &str) -> Result<i32, Fail> {

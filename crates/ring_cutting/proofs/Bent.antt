@@ -50,7 +50,7 @@ bent_or_straight p x (n ∷ r) = elim (cases_eq p n) as (λ _. Bent (p ∷ x ∷
 ]
 
 -- of three vertices that are one of two, two are the same
-no_three : (p x a b c : ℕ) → (a ≡ p) ⊎ (a ≡ x) → (b ≡ p) ⊎ (b ≡ x) → (c ≡ p) ⊎ (c ≡ x) → a ≢ b → b ≢ c → c ≢ a → ⊥
+pub no_three : (p x a b c : ℕ) → (a ≡ p) ⊎ (a ≡ x) → (b ≡ p) ⊎ (b ≡ x) → (c ≡ p) ⊎ (c ≡ x) → a ≢ b → b ≢ c → c ≢ a → ⊥
 no_three p x a b c (inl e) (inl f) k ab bc ca = ab (e ∙ sym f)
 no_three p x a b c (inl e) (inr f) (inl g) ab bc ca = ca (g ∙ sym e)
 no_three p x a b c (inl e) (inr f) (inr g) ab bc ca = bc (f ∙ sym g)

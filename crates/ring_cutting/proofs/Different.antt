@@ -1,9 +1,9 @@
 -- How many different vertices stand in a list.
-use Rattle.std.specs.Prelude.{◌≡◌, ◌≢◌, ℕ, ◌+◌, ◌<◌, List, [], ◌∷◌, ◌++◌, true, false, cond}
+use Rattle.std.specs.Prelude.{◌≡◌, ◌≢◌, ℕ, ◌<◌, List, [], ◌∷◌, true, false, cond}
 use Rattle.std.proofs.Common.{arith, refl, sym, ap, ◌∙◌, inl, inr}
 use Rattle.std.proofs.lemmas.Bool.{cases_eq}
 use Rattle.face_plane.specs.Rings.{In, in_list, different, Three}
-use Rattle.ring_cutting.proofs.Members.{in_as, in_or_not, in_front, in_back, in_either, in_list-true, in_list-false, in_list-same, in_wider, in_middle}
+use Rattle.ring_cutting.proofs.Members.{in_as, in_or_not, in_list-true, in_list-false}
 
 -- 0 where a vertex stands there, else 1
 abbrev pub new_in : ℕ → List ℕ → ℕ
@@ -100,22 +100,3 @@ are_three (x ∷ r) h = elim (in_or_not x r) as (λ _. Three (x ∷ r)) [
       let t = are_two r (omega (arith, h, new_in-new x r n)) in
       record { a = x; b = t.a; c = t.b; a_in = inl refl; b_in = inr t.a_in; c_in = inr t.b_in; ab = λ e. n (in_as x t.a r e t.a_in); bc = t.ab; ca = λ e. n (in_as x t.b r (sym e) t.b_in) }
 ]
-
--- a place in the middle counts where its vertex stands nowhere else
-pub different_middle : (a : List ℕ) (x : ℕ) (b : List ℕ) → different (a ++ x ∷ b) ≡ different (a ++ b) + new_in x (a ++ b)
-different_middle [] x b = omega arith
-different_middle (y ∷ a) x b = elim (cases_eq y x) as (λ _. different (y ∷ a ++ x ∷ b) ≡ different (y ∷ a ++ b) + new_in x (y ∷ a ++ b)) [
-  | inl e ↦
-      let same : new_in y (a ++ b) ≡ new_in x (a ++ b) = ap (λ v. new_in v (a ++ b)) e in
-      omega (arith, different_middle a x b, new_in-old y (a ++ x ∷ b) (in_as y x (a ++ x ∷ b) e (in_middle a x b)), new_in-old x (y ∷ (a ++ b)) (inl (sym e)), same)
-  | inr n ↦
-      let here : new_in y (a ++ x ∷ b) ≡ new_in y (a ++ b) = ap (λ t. cond t 0 1) (in_list-same y (a ++ x ∷ b) (a ++ b) (in_narrower y a x b n) (in_wider y a x b)) in
-      let there : new_in x (y ∷ (a ++ b)) ≡ new_in x (a ++ b) = ap (λ t. cond t 0 1) (in_list-same x (y ∷ (a ++ b)) (a ++ b) (λ h. in_rest x y (a ++ b) h (λ e. n (sym e))) (λ h. inr h)) in
-      omega (arith, different_middle a x b, here, there)
-]
-  where
-    in_narrower : (v : ℕ) (xs : List ℕ) (z : ℕ) (ys : List ℕ) → (v ≡ z → ⊥) → In v (xs ++ z ∷ ys) → In v (xs ++ ys)
-    in_narrower v xs z ys d h = elim (in_either v xs (z ∷ ys) h) as (λ _. In v (xs ++ ys)) [
-      | inl i ↦ in_front v xs ys i
-      | inr i ↦ in_back v xs ys (in_rest v z ys i d)
-    ]

@@ -3,10 +3,11 @@ pub mod Bent
 pub mod Different
 pub mod FirstPlaces
 pub mod Members
+pub mod Others
 pub mod Reading
 pub mod Rounds
-pub mod Seen
 pub mod Steps
+pub mod Thirds
 pub mod Turned
 pub mod UnderWay
 pub mod WholeCuts

@@ -1,17 +1,15 @@
 -- What is read of the places of a ring.
-use Rattle.std.specs.Prelude.{◌≡◌, ℕ, suc, ◌+◌, ◌-◌, ◌<◌, List, [], ◌∷◌, ◌++◌, true, false, Bool, cond, ◌||◌, nat_lt, length, get_or, map, take, drop}
+use Rattle.std.specs.Prelude.{◌≡◌, ℕ, suc, ◌+◌, ◌-◌, ◌<◌, List, [], ◌∷◌, ◌++◌, length, get_or, map, take, drop}
 use Rattle.std.specs.List.{list_any, remove}
-use Rattle.std.proofs.Common.{arith, refl, sym, subst, ap, ◌∙◌, inl, inr}
-use Rattle.std.proofs.lemmas.Bool.{cases_lt, lt-ltb, le-ltb, or_right}
+use Rattle.std.proofs.Common.{arith, refl, sym, subst, ap, ◌∙◌}
 use Rattle.std.proofs.lemmas.List.{get_or-map, length-map, map-append, take-map, drop-map}
 use Rattle.std.proofs.lemmas.List.Elements.{All-append, All-take, All-drop}
 use Rattle.face_plane.specs.Planes.{Plane}
-use Rattle.face_plane.specs.Rings.{in_list, different, vertex_at, vertex_before, vertex_after, without_place}
+use Rattle.face_plane.specs.Rings.{vertex_at, vertex_before, vertex_after, without_place}
 use Rattle.ring_cutting.specs.declared.place.Place.{Place}
 use Rattle.ring_cutting.specs.Cuts.{blocks}
 use Rattle.ring_cutting.specs.Placed.{vertices_of, IsPlaced, place_blocks}
-use Rattle.ring_cutting.proofs.Different.{different_middle}
-use Rattle.ring_cutting.proofs.Turned.{at_within, at_round, here_is, without_is, splits_at}
+use Rattle.ring_cutting.proofs.Turned.{at_within, at_round}
 
 -- a place that was read has a vertex, and in each plane that vertex's point
 pub record IsRead (ps : List Place) (v : ℕ) (x : Place) : Type 0 where
@@ -58,26 +56,6 @@ after_last ps i h =
 
 pub after_other : (ps : List Place) (i : ℕ) → i + 1 < length ps → get_or (vertices_of ps) (i + 1) 0 ≡ vertex_after (vertices_of ps) i
 after_other ps i h = sym (at_within (vertices_of ps) (i + 1) (omega (arith, length-vertices ps, h)))
-
--- of d different vertices beside a place, and D with it
-three_left : (d D : ℕ) (b : Bool) → D ≡ d + cond b 0 1 → 2 < D → nat_lt 2 d ≡ (nat_lt 3 D || b)
-three_left d D true e h =
-    let low : 2 < d = omega (arith, e, h) in lt-ltb 2 d low ∙ sym (or_right (nat_lt 3 D) true refl)
-three_left d D false e h = elim (cases_lt 2 d) as (λ _. nat_lt 2 d ≡ (nat_lt 3 D || false)) [
-  | inl l ↦ rw (lt-ltb 2 d l, lt-ltb 3 D (omega (arith, e, l))) refl
-  | inr l ↦ rw (le-ltb 2 d l, le-ltb 3 D (omega (arith, e, l))) refl
-]
-
--- three different vertices stay where there were four, or where the vertex stands in another place
-pub keeps_three : (r : List ℕ) (i : ℕ) → i < length r → 2 < different r → nat_lt 2 (different (without_place i r)) ≡ (nat_lt 3 (different r) || in_list (vertex_at r i) (without_place i r))
-keeps_three r i h =
-    let s = splits_at r i h in
-    let P : List ℕ → ℕ → Type 0 = λ l k. 2 < different l → nat_lt 2 (different (without_place k l)) ≡ (nat_lt 3 (different l) || in_list (vertex_at l k) (without_place k l)) in
-    subst (λ l. P l i) (sym s.joined) (subst (P (s.front ++ s.vertex ∷ s.back)) (sym s.place) (middle s.front s.vertex s.back))
-  where
-    middle : (a : List ℕ) (x : ℕ) (b : List ℕ) → 2 < different (a ++ x ∷ b) →
-        nat_lt 2 (different (without_place (length a) (a ++ x ∷ b))) ≡ (nat_lt 3 (different (a ++ x ∷ b)) || in_list (vertex_at (a ++ x ∷ b) (length a)) (without_place (length a) (a ++ x ∷ b)))
-    middle a x b three = rw (without_is a x b, here_is a x b) (three_left (different (a ++ b)) (different (a ++ x ∷ b)) (in_list x (a ++ b)) (different_middle a x b) three)
 
 -- a place blocks where its vertex does
 pub blocks_of : (at : Plane) (ps : List Place) (p x n : Place) (a b c : ℕ) → IsPlaced at ps → IsRead ps a p → IsRead ps b x → IsRead ps c n → list_any (place_blocks p x n) ps ≡ list_any (blocks at a b c) (vertices_of ps)

@@ -17,3 +17,7 @@ IsPlaced at ps = All (λ p. p.at ≡ at p.vertex) ps
 abbrev pub place_blocks : Place → Place → Place → Place → Bool
 place_blocks p x n w =
     not (w.vertex == p.vertex) && not (w.vertex == x.vertex) && not (w.vertex == n.vertex) && covers p.at x.at n.at w.at
+
+-- a vertex that is neither of two
+abbrev pub is_third : ℕ → ℕ → ℕ → Bool
+is_third p n v = not (v == p) && not (v == n)

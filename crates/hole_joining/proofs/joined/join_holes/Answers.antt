@@ -1,4 +1,5 @@
-use Rattle.std.proofs.Common.{◌≡◌, ◌<◌, ℕ, ℤ, List, Bool, true, false, cond, length, refl, ap, sym, subst, ◌∙◌}
+use Rattle.std.proofs.Common.{◌≡◌, ◌<◌, ℕ, ℤ, pos, List, Bool, true, false, cond, length, refl, ap, sym, subst, ◌∙◌}
+use Rattle.std.specs.Prelude.{int_lt}
 use Rattle.std.specs.List.{All}
 use Rattle.face_plane.specs.Planes.{Plane, exchanged, plane_of, point_at, face_plane, is_turned}
 use Rattle.hole_joining.specs.Holes.{ring_list, hole_list}
@@ -32,8 +33,8 @@ kept drop_axis points loops now fits e =
 
 pub returns-clause-rings : goal.returns-clause-rings
 returns-clause-rings c =
-    made c.args.plane.drop c.args.points.now c.args.loops.now c.in_ok-rings.rings.items c.in_ok-holes.holes.items c.join_all.new.circles.items c.is_turned-turned.result c.is_turned-turned.ensures c.in_ok-rings.ensures
-    c.in_ok-holes.ensures (c.in_ok-join_all.ensures ∙ ap (joined (face_plane c.args.plane.drop c.is_turned-turned.result c.args.points.now) c.in_ok-rings.rings.items) c.deref-2.ensures.value)
+    made c.args.plane.drop c.args.points.now c.args.loops.now c.in_ok-rings.rings.items c.in_ok-holes.holes.items c.join_all.new.circles.items c.is_turned-turned.result (c.is_turned-turned.ensures ∙ ap (λ (z : ℤ). int_lt z (pos 0)) c.in_ok-areas.ensures.sum) c.in_ok-rings.ensures
+    c.in_ok-holes.ensures (c.in_ok-join_all.ensures ∙ ap (joined (face_plane c.args.plane.drop c.is_turned-turned.result c.args.points.now) c.in_ok-rings.rings.items) c.deref-4.ensures.value)
 
 pub returns-clause-count : goal.returns-clause-count
 returns-clause-count c = (kept c.args.plane.drop c.args.points.now c.args.loops.now c.join_all.new.circles.items c.requires.loops (returns-clause-rings c)).count
@@ -52,12 +53,12 @@ returns-clause-chain c = (kept c.args.plane.drop c.args.points.now c.args.loops.
 
 pub circles_of-requires : goal.circles_of-requires
 circles_of-requires c =
-    subst (λ (rs : List (List ℕ)). All (λ r. 0 < length r) rs) (sym (c.deref.ensures.value ∙ c.in_ok-rings.ensures)) (some_rings (face_plane c.args.plane.drop c.is_turned-turned.result c.args.points.now) c.args.loops.now (length c.args.points.now) c.requires.loops)
+    subst (λ (rs : List (List ℕ)). All (λ r. 0 < length r) rs) (sym (c.deref-3.ensures.value ∙ c.in_ok-rings.ensures)) (some_rings (face_plane c.args.plane.drop c.is_turned-turned.result c.args.points.now) c.args.loops.now (length c.args.points.now) c.requires.loops)
 
 pub join_all-requires-clause-some : goal.join_all-requires-clause-some
 join_all-requires-clause-some c =
-    subst (λ (hs : List (List ℕ)). All (λ h. 0 < length h) hs) (sym (c.deref-2.ensures.value ∙ c.in_ok-holes.ensures)) (some_holes (face_plane c.args.plane.drop c.is_turned-turned.result c.args.points.now) c.args.loops.now (length c.args.points.now) c.requires.loops)
+    subst (λ (hs : List (List ℕ)). All (λ h. 0 < length h) hs) (sym (c.deref-4.ensures.value ∙ c.in_ok-holes.ensures)) (some_holes (face_plane c.args.plane.drop c.is_turned-turned.result c.args.points.now) c.args.loops.now (length c.args.points.now) c.requires.loops)
 
 pub join_all-requires-clause-few : goal.join_all-requires-clause-few
 join_all-requires-clause-few c =
-    has_room (face_plane c.args.plane.drop c.is_turned-turned.result c.args.points.now) c.args.loops.now c.in_ok-rings.rings.items c.deref-2.result.now (length c.args.points.now) c.requires.loops c.in_ok-rings.ensures (c.deref-2.ensures.value ∙ c.in_ok-holes.ensures)
+    has_room (face_plane c.args.plane.drop c.is_turned-turned.result c.args.points.now) c.args.loops.now c.in_ok-rings.rings.items c.deref-4.result.now (length c.args.points.now) c.requires.loops c.in_ok-rings.ensures (c.deref-4.ensures.value ∙ c.in_ok-holes.ensures)

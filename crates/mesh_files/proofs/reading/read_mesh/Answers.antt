@@ -10,4 +10,4 @@ returns-in_err-bytes-clause-meets g c =
 pub returns-clause-meets : goal.returns-clause-meets
 returns-clause-meets g c =
     mesh_read c.args.digits c.args.limits.now c.args.name.now _ _ _ c.mesh_of_text.result c.in_ok-bytes.ensures.meets
-    (λ now. rw c.deref.ensures.value at (c.mesh_of_text.ensures.meets now))
+    c.mesh_of_text.ensures.meets

@@ -7,7 +7,6 @@ use Rattle.face_plane.specs.Planes.{Plane}
 use Rattle.ring_cutting.specs.declared.place.Place.{Place}
 use Rattle.ring_cutting.specs.Cuts.{is_ear, first_ear, first_allowed, cut_place, forced_here}
 use Rattle.ring_cutting.specs.Placed.{vertices_of}
-use Rattle.ring_cutting.proofs.Different.{three_are}
 use Rattle.ring_cutting.proofs.FirstPlaces.{some_first, none_first}
 use Rattle.ring_cutting.proofs.Reading.{length-vertices}
 use Rattle.ring_cutting.proofs.ears.choose.Goals as goal
@@ -30,9 +29,6 @@ missed at ps i h is =
     let none = none_first (is_ear at r) (length r) (h ∙ ap (λ m. position (is_ear at r) (upto m)) (sym (length-vertices ps))) in
     let test : nat_lt (first_ear at r) (length r) ≡ false = le-ltb (first_ear at r) (length r) none in
     record { place = rw test is; forced = rw test refl }
-
-pub first_ear-requires-clause-three : goal.first_ear-requires-clause-three
-first_ear-requires-clause-three c = three_are (vertices_of c.args.places.now) c.requires.ringy.three
 
 pub returns-in-Some-clause-place : goal.returns-in-Some-clause-place
 returns-in-Some-clause-place c = λ at placed. (found at c.args.places.now c.in-Some.place (c.in-Some.ensures.value at placed)).place

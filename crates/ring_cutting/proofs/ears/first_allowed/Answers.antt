@@ -5,7 +5,6 @@ use Rattle.face_plane.specs.Rings.{Ringy}
 use Rattle.ring_cutting.specs.declared.place.Place.{Place}
 use Rattle.ring_cutting.specs.Cuts.{is_allowed}
 use Rattle.ring_cutting.specs.Placed.{vertices_of}
-use Rattle.ring_cutting.proofs.Different.{three_are}
 use Rattle.ring_cutting.proofs.Bent.{some_allowed}
 use Rattle.ring_cutting.proofs.FirstPlaces.{first_place}
 use Rattle.ring_cutting.proofs.Reading.{length-vertices}
@@ -26,9 +25,6 @@ never c = omega (arith, still_within c.args.places.now c.loop-i.i c.requires.rin
 
 pub loop-i-init : goal.loop-i-init
 loop-i-init c = λ k low. absurd (omega (arith, low))
-
-pub is_allowed-requires-clause-three : goal.is_allowed-requires-clause-three
-is_allowed-requires-clause-three c = three_are (vertices_of c.args.places.now) c.requires.ringy.three
 
 pub loop-i-preserved : goal.loop-i-preserved
 loop-i-preserved c =

@@ -1,30 +1,45 @@
-use Rattle.std.proofs.Common.{◌≡◌, ◌≢◌, ◌<◌, ℕ, List, true, false, Bool, length, sym, ap, ◌∙◌, arith}
-use Rattle.std.specs.Prelude.{◌||◌, ◌&&◌, ◌==◌, not, nat_lt}
-use Rattle.std.proofs.lemmas.Bool.{ne_eqb}
-use Rattle.face_plane.specs.Rings.{in_list, different, vertex_at, vertex_before, vertex_after, without_place}
+use Rattle.std.proofs.Common.{◌≡◌, ◌≢◌, ◌<◌, ◌+◌, ℕ, List, true, false, Bool, length, take, drop, sym, ap, ◌∙◌, arith}
+use Rattle.std.specs.Prelude.{◌||◌}
+use Rattle.std.specs.List.{list_any}
+use Rattle.std.proofs.lemmas.Bool.{or_left}
+use Rattle.std.proofs.lemmas.List.{take_rest}
+use Rattle.face_plane.specs.Rings.{vertex_before, vertex_after, without_place}
+use Rattle.ring_cutting.specs.declared.place.Place.{Place}
 use Rattle.ring_cutting.specs.Cuts.{is_allowed}
-use Rattle.ring_cutting.specs.Placed.{vertices_of}
-use Rattle.ring_cutting.proofs.Reading.{keeps_three, length-vertices}
+use Rattle.ring_cutting.specs.Placed.{vertices_of, is_third}
+use Rattle.ring_cutting.proofs.Reading.{length-vertices}
+use Rattle.ring_cutting.proofs.Thirds.{allowed_by_third, third_beside}
 use Rattle.ring_cutting.proofs.ears.is_allowed.Goals as goal
 
--- where the neighbours differ, the rule of three decides
-by_three : (r : List ℕ) (i a b : ℕ) (more : Bool) → i < length r → 2 < different r → a ≡ vertex_before r i → b ≡ vertex_after r i → a ≢ b → more ≡ (nat_lt 3 (different r) || in_list (vertex_at r i) (without_place i r)) → more ≡ is_allowed r i
-by_three r i a b more h three before after apart test =
-    let bent : (vertex_before r i == vertex_after r i) ≡ false = ne_eqb (vertex_before r i) (vertex_after r i) (λ e. apart (before ∙ e ∙ sym after)) in
-    test ∙ sym (keeps_three r i h three) ∙ sym (ap (λ (b : Bool). not b && nat_lt 2 (different (without_place i r))) bent)
+-- the test of the places before and behind one
+abbrev tested : ℕ → ℕ → List Place → ℕ → Bool
+tested p n ps i = list_any (is_third p n) (vertices_of (take i ps)) || list_any (is_third p n) (vertices_of (drop (i + 1) ps))
 
-pub returns-then-four : goal.returns-then-four
-returns-then-four c =
-    let r = vertices_of c.args.places.now in
-    let i = c.args.i in
-    let four : nat_lt 3 (different r) ≡ true = sym c.requires.four ∙ c.if-four.true in
-    by_three r i c.before-2.result.vertex c.after.result.vertex c.args.four (omega (arith, c.requires.within, length-vertices c.args.places.now)) c.requires.three c.before-2.ensures.vertex c.after.ensures.vertex c.if-before-after.true
-    (c.if-four.true ∙ sym (ap (λ (b : Bool). b || in_list (vertex_at r i) (without_place i r)) four))
+-- where the neighbours differ, a third vertex decides
+by_third : (ps : List Place) (i p n : ℕ) → i < length ps → p ≡ vertex_before (vertices_of ps) i → n ≡ vertex_after (vertices_of ps) i → p ≢ n → tested p n ps i ≡ is_allowed (vertices_of ps) i
+by_third ps i p n h before after apart =
+    let r = vertices_of ps in
+    let known : list_any (is_third p n) (without_place i r) ≡ is_allowed r i =
+    (λ j. list_any (is_third (before j) (after j)) (without_place i r)) ∙ allowed_by_third r i (omega (arith, h, length-vertices ps)) (λ e. apart (before ∙ e ∙ sym after)) in
+    sym (third_beside p n ps i) ∙ known
 
-pub returns-else-four : goal.returns-else-four
-returns-else-four c =
-    let r = vertices_of c.args.places.now in
-    let i = c.args.i in
-    let four : nat_lt 3 (different r) ≡ false = sym c.requires.four ∙ c.if-four.false in
-    by_three r i c.before-2.result.vertex c.after.result.vertex c.is_repeated.result (omega (arith, c.requires.within, length-vertices c.args.places.now)) c.requires.three c.before-2.ensures.vertex c.after.ensures.vertex c.if-before-after.true
-    (c.is_repeated.ensures ∙ sym (ap (λ (b : Bool). b || in_list (vertex_at r i) (without_place i r)) four))
+pub returns-then-has_third : goal.returns-then-has_third
+returns-then-has_third c =
+    let ps : List Place = c.args.places.now in
+    let i : ℕ = c.args.i in
+    let p : ℕ = c.before-2.result.vertex in
+    let n : ℕ = c.after.result.vertex in
+    let first : list_any (is_third p n) (vertices_of (take i ps)) ≡ true = sym c.has_third.ensures ∙ c.if-has_third.true in
+    c.if-has_third.true ∙ sym (or_left (list_any (is_third p n) (vertices_of (take i ps))) (list_any (is_third p n) (vertices_of (drop (i + 1) ps))) first)
+    ∙ by_third ps i p n c.requires c.before-2.ensures.vertex c.after.ensures.vertex c.if-p-n.true
+
+pub returns-else-has_third : goal.returns-else-has_third
+returns-else-has_third c =
+    let ps : List Place = c.args.places.now in
+    let i : ℕ = c.args.i in
+    let p : ℕ = c.before-2.result.vertex in
+    let n : ℕ = c.after.result.vertex in
+    let first : list_any (is_third p n) (vertices_of (take i ps)) ≡ false = sym c.has_third.ensures ∙ c.if-has_third.false in
+    c.has_third-else-has_third.ensures ∙ ap (λ (l : List Place). list_any (is_third p n) (vertices_of l)) (take_rest ps (i + 1))
+    ∙ sym (ap (λ (b : Bool). b || list_any (is_third p n) (vertices_of (drop (i + 1) ps))) first)
+    ∙ by_third ps i p n c.requires c.before-2.ensures.vertex c.after.ensures.vertex c.if-p-n.true

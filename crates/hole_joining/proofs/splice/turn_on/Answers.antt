@@ -1,7 +1,7 @@
 use Rattle.std.proofs.Common.{ap, ◌∙◌, arith}
 use Rattle.loop_ring.proofs.Reading.{turned_more}
 use Rattle.hole_joining.specs.Holes.{turned_to}
-use Rattle.hole_joining.proofs.splice.turn.Goals as goal
+use Rattle.hole_joining.proofs.splice.turn_on.Goals as goal
 
 pub loop-preserved : goal.loop-preserved
 loop-preserved c =

@@ -1,0 +1,37 @@
+-- Rings and holes told by the areas in the plane that is not exchanged.
+use Rattle.std.specs.Prelude.{◌≡◌, ℕ, ◌<◌, ℤ, pos, neg_ℤ, int_lt, int_le, List, [], Bool, true, false, cond, length, get_or, map}
+use Rattle.std.proofs.Common.{arith, refl, sym, ap, ◌∙◌}
+use Rattle.std.proofs.lemmas.Int.{ints}
+use Rattle.std.proofs.lemmas.List.{get_or-map}
+use Rattle.face_plane.specs.Planes.{area, face_plane}
+use Rattle.hole_joining.specs.declared.flat.FlatPoints.{FlatPoints}
+use Rattle.hole_joining.specs.Seen.{plane_at, straight_at}
+use Rattle.hole_joining.specs.Holes.{is_ring, is_hole}
+use Rattle.hole_joining.proofs.Loops.{area-exchanged}
+
+-- the area of the loop at an index
+pub read_area : (f : FlatPoints) (loops : List (List ℕ)) (areas : List ℤ) (i : ℕ) → areas ≡ map (area (straight_at f)) loops → i < length loops → get_or areas i (pos 0) ≡ area (straight_at f) (get_or loops i [])
+read_area f loops areas i is within = ap (λ l. get_or l i (pos 0)) is ∙ get_or-map (area (straight_at f)) loops i [] (pos 0) within
+
+-- where u and v are exchanged it is negated
+negated : (f : FlatPoints) (l : List ℕ) → f.turned ≡ true → area (plane_at f) l ≡ neg_ℤ (area (straight_at f) l)
+negated f l turned = by_turn f.turned ∙ ap (λ t. cond t (neg_ℤ z) z) turned
+  where
+    z : ℤ
+    z = area (straight_at f) l
+
+    by_turn : (t : Bool) → area (face_plane f.plane.drop t f.points.now) l ≡ cond t (neg_ℤ z) z
+    by_turn true = area-exchanged (straight_at f) l
+    by_turn false = refl
+
+pub ring_turned : (f : FlatPoints) (l : List ℕ) (z : ℤ) → f.turned ≡ true → z ≡ area (straight_at f) l → int_le z (pos 0) ≡ is_ring (plane_at f) l
+ring_turned f l z turned is = over z (area (plane_at f) l) (negated f l turned ∙ ap neg_ℤ (sym is))
+  where
+    over : (y w : ℤ) → w ≡ neg_ℤ y → int_le y (pos 0) ≡ int_le (pos 0) w
+    over y w e = grind (arith, ints)
+
+pub hole_turned : (f : FlatPoints) (l : List ℕ) (z : ℤ) → f.turned ≡ true → z ≡ area (straight_at f) l → int_lt (pos 0) z ≡ is_hole (plane_at f) l
+hole_turned f l z turned is = over z (area (plane_at f) l) (negated f l turned ∙ ap neg_ℤ (sym is))
+  where
+    over : (y w : ℤ) → w ≡ neg_ℤ y → int_lt (pos 0) y ≡ int_lt w (pos 0)
+    over y w e = grind (arith, ints)
