@@ -134,7 +134,7 @@ impl Gathered {
         let Some((a, b, c, after)) = lines.face() else {
             return Ok(false);
         };
-        if !self.has_room_for(a, b, c, limits) {
+        if !self.may_add(a, b, c, limits) {
             return Ok(false);
         }
         self.push_triangle(a, b, c)?;
@@ -170,7 +170,7 @@ impl Gathered {
 
     // Says yes only where a triangle of these vertices may be added: they are three different ones of the
     // points so far, and one more triangle is allowed.
-    fn has_room_for(&self, a: u64, b: u64, c: u64, limits: &Limits) -> bool
+    fn may_add(&self, a: u64, b: u64, c: u64, limits: &Limits) -> bool
         ensures below { IsTrue result → IsBelow (length self.now.points) (a, b, c) }
         ensures apart { IsTrue result → HasThree (a, b, c) }
         ensures room { IsTrue result → length self.now.triples < limits.now.triangles }
