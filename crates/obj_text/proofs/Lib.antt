@@ -1,3 +1,4 @@
+mod Fronts
 mod GoesOn
 mod CutSteps
 mod DigitSteps

@@ -1,11 +1,9 @@
 -- A plain line is the first of its text, and its words are those that it was made of.
-use Rattle.std.proofs.Common.{◌≡◌, ℕ, suc, ◌<◌, ◌+◌, Bool, true, false, cond, not, List, [], ◌∷◌, ◌++◌, take, map, refl, ap, ◌∙◌, sym, arith, append_assoc}
+use Rattle.std.proofs.Common.{◌≡◌, ℕ, suc, ◌<◌, ◌+◌, Bool, true, false, cond, not, List, [], ◌∷◌, ◌++◌, map, refl, ap, ◌∙◌, sym, arith, append_assoc}
 use Rattle.std.specs.Prelude.{◌&&◌, ◌==◌}
-use Rattle.std.specs.List.{position_or_len}
 use Rattle.std.proofs.lemmas.Bool.Decides.{nat_tests}
-use Rattle.text_laws.proofs.Digits.{both, left, right}
+use Rattle.text_laws.proofs.Digits.{left, right}
 use Rattle.text_lines.proofs.LineSteps.{without_cr-drops}
-use Rattle.text_lines.proofs.Positions.{position_or_len-here, position_or_len-past}
 use Rattle.text_terms.specs.Lines.{add_first, raw_lines, without_cr, words_of, lines_of, last_is, is_comment, is_continued, begins_comment, before_comment, joined_from}
 use Rattle.obj_terms.specs.Obj.{word_lines}
 use Rattle.obj_laws.proofs.Bytes.{Above, Above-lower}
@@ -34,14 +32,6 @@ is_comment-plain (c ∷ cs) plain = let here = left (is_plain c) (all_plain cs) 
 
 pub IsPlain-word : (w : List ℕ) → IsPlainWord w → IsPlain w
 IsPlain-word w p = record { word = record { some = p.some; marks = Above-plain w p.plain }; no_comment = is_comment-plain w p.plain; no_end = last_is-plain w p.plain }
-
--- the plain bytes at the front of a text
-pub all_plain-front : (cs : List ℕ) → all_plain (take (position_or_len (λ c. not (is_plain c)) cs) cs) ≡ true
-all_plain-front [] = refl
-all_plain-front (c ∷ cs) = by_plain (is_plain c) refl (all_plain-front cs) where
-  by_plain : (b : Bool) → is_plain c ≡ b → all_plain (take (position_or_len (λ c. not (is_plain c)) cs) cs) ≡ true → all_plain (take (position_or_len (λ c. not (is_plain c)) (c ∷ cs)) (c ∷ cs)) ≡ true
-  by_plain true e h = rw (position_or_len-past (λ c. not (is_plain c)) c cs (ap not e)) (both (is_plain c) (all_plain (take (position_or_len (λ c. not (is_plain c)) cs) cs)) e h)
-  by_plain false e h = rw (position_or_len-here (λ c. not (is_plain c)) c cs (ap not e)) refl
 
 -- a line that does not go on has its own words
 word_lines-alone : (n : ℕ) (l : List ℕ) (ls : List (List ℕ)) → is_continued l ≡ false → word_lines (joined_from n (l ∷ ls)) ≡ (n, before_comment (words_of l)) ∷ word_lines (joined_from (suc n) ls)

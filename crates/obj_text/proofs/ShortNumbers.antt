@@ -2,7 +2,6 @@
 use Rattle.std.proofs.Common.{◌≡◌, ℕ, suc, ◌+◌, ◌*◌, ◌^◌, ◌<◌, ◌≤◌, if◌then◌else◌, cond, Bool, true, false, not, List, [], ◌∷◌, ◌++◌, length, take, drop, refl, ap, ◌∙◌, sym, arith, append-nil, append_assoc, length-append, Option, Some, None, option_map, ℤ, pos, negsuc, ◌+ℤ◌, ◌-ℤ◌, nat_lt, Ok, Err}
 use Rattle.std.specs.Prelude.{◌==◌}
 use Rattle.std.specs.List.{position_or_len}
-use Rattle.text_lines.proofs.Positions.{position_or_len-here, position_or_len-past}
 use Rattle.std.proofs.lemmas.Int.{ints}
 use Rattle.std.proofs.lemmas.Bool.Decides.{nat_tests}
 use Rattle.std.proofs.lemmas.List.{take-append-drop, length-take-le}
@@ -16,6 +15,7 @@ use Rattle.grid_number.proofs.Dropped.{scaled-dropped}
 use Rattle.grid_number.proofs.Known.{on_grid-size}
 use Rattle.grid_number.proofs.Parts.{parts_of_runs, number_parts-runs}
 use Rattle.grid_number.proofs.ReadBack.{scaled-pos}
+use Rattle.obj_text.proofs.Fronts.{all-front}
 use Rattle.obj_text.specs.Plain.{is_plain, all_plain, SpellsOn, mantissa, carry_by, Drops, BeginsSize, EndsSize, BeginsWord}
 
 -- digits before and after the point of a number without an exponent
@@ -43,20 +43,12 @@ size-dropped k ds fs b back full digits =
 spelled_behind : (ds text : List ℕ) (whole kept count : ℕ) → SpellsOn whole text kept count → digits_value ds ≡ whole → digits_value (ds ++ take count text) ≡ kept
 spelled_behind ds text whole kept count s e = value_from-append 0 ds (take count text) ∙ ap (λ (v : ℕ). value_from v (take count text)) e ∙ sym s.spelled
 
--- the digits at the front of a text
-all_digits-front : (cs : List ℕ) → all_digits (take (position_or_len (λ c. not (is_digit c)) cs) cs) ≡ true
-all_digits-front [] = refl
-all_digits-front (c ∷ cs) = by_digit (is_digit c) refl (all_digits-front cs) where
-  by_digit : (b : Bool) → is_digit c ≡ b → all_digits (take (position_or_len (λ c. not (is_digit c)) cs) cs) ≡ true → all_digits (take (position_or_len (λ c. not (is_digit c)) (c ∷ cs)) (c ∷ cs)) ≡ true
-  by_digit true e h = rw (position_or_len-past (λ c. not (is_digit c)) c cs (ap not e)) (both (is_digit c) (all_digits (take (position_or_len (λ c. not (is_digit c)) cs) cs)) e h)
-  by_digit false e h = rw (position_or_len-here (λ c. not (is_digit c)) c cs (ap not e)) refl
-
--- are dropped
+-- the digits at the front of a text are dropped
 pub drops_front : (n carry : ℕ) (text lost rest : List ℕ) → n ≡ position_or_len (λ c. not (is_digit c)) text → lost ≡ take n text → rest ≡ drop n text → carry ≡ carry_by lost → Drops text carry rest
 drops_front n carry text lost rest place front back carries = record {
   lost = lost;
   split = sym (take-append-drop n text) ∙ ap (λ (t : List ℕ). t ++ drop n text) (sym front) ∙ ap (λ (t : List ℕ). lost ++ t) (sym back);
-  digits = ap all_digits (front ∙ ap (λ (m : ℕ). take m text) place) ∙ all_digits-front text;
+  digits = ap all_digits (front ∙ ap (λ (m : ℕ). take m text) place) ∙ all-front is_digit all_digits refl (λ c cs. refl) text;
   carries = carries;
 }
 

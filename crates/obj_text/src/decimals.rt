@@ -50,10 +50,7 @@ fn short_size(text: &[u8], digits: u8) -> Option<(u64, &[u8])>
     let (_, rest) = text.split_at(count);
     match after_byte(rest, b'.') {
         None => Some((whole * steps(digits), rest)),
-        Some(fraction) => {
-            let (size, rest) = size_with(whole, fraction, digits)?;
-            Some((size, rest))
-        }
+        Some(fraction) => size_with(whole, fraction, digits),
     }
 }
 
@@ -76,7 +73,8 @@ fn size_with(whole: u64, text: &[u8], digits: u8) -> Option<(u64, &[u8])>
     Some((kept + carry, rest))
 }
 
-// What the digits at the front of a text carry where they are dropped, and the text after them.
+// What the digits at the front of a text carry where they are dropped, and the text after them. Most numbers
+// end here, so the search is made only where a digit stands.
 fn dropped(text: &[u8]) -> (u64, &[u8])
     ensures drops { Drops text.now result.0 result.1.now }
     ensures few { result.0 ≤ 1 }

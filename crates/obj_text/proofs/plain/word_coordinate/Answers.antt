@@ -1,11 +1,11 @@
-use Rattle.std.proofs.Common.{◌≡◌, ◌<◌, ℕ, ℤ, List, ◌++◌, length, take, drop, not, Ok, rules, sym, ap, ◌∙◌, to_z, of_z}
+use Rattle.std.proofs.Common.{◌≡◌, ◌<◌, ℕ, ℤ, List, ◌++◌, length, take, drop, not, Ok, refl, rules, sym, ap, ◌∙◌, to_z, of_z}
 use Rattle.std.specs.Int.{w32}
 use Rattle.std.specs.List.{position_or_len}
 use Rattle.std.proofs.lemmas.List.{take-append-drop}
 use Rattle.text_terms.specs.Coordinates.{coordinate}
 use Rattle.text_lines.proofs.Positions.{position_or_len-le}
 use Rattle.obj_text.specs.Plain.{is_plain, all_plain, BeginsWord}
-use Rattle.obj_text.proofs.PlainLines.{all_plain-front}
+use Rattle.obj_text.proofs.Fronts.{all-front}
 use Rattle.obj_text.proofs.plain.word_coordinate.Goals as goal
 
 -- the plain bytes at the front are a word that reads
@@ -13,7 +13,7 @@ begins_so : (k n : ℕ) (text word rest : List ℕ) (v w : ℤ) → w ≡ v → 
 begins_so k n text word rest v w same place front back some reads = rw same (record {
   word = word;
   split = sym (take-append-drop n text) ∙ ap (λ (t : List ℕ). t ++ drop n text) (sym front) ∙ ap (λ (t : List ℕ). word ++ t) (sym back);
-  plain = record { some = some; plain = ap all_plain (front ∙ ap (λ (m : ℕ). take m text) place) ∙ all_plain-front text };
+  plain = record { some = some; plain = ap all_plain (front ∙ ap (λ (m : ℕ). take m text) place) ∙ all-front is_plain all_plain refl (λ c cs. refl) text };
   reads = reads;
 })
 
