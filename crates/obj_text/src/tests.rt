@@ -246,12 +246,14 @@ const NUMBERS: &str =
     1. 100\n007.10 710\n10737418.24 1073741824\n10737418.244 1073741824\n-10737418.24 -1073741824\n.5 50\n+3 300\n1e2 10000\n\
     1.5e-1 15\n0.00000000000000000001 0\n1.999999999999999999999 200\n";
 
-// The first coordinate of a line with this number, in hundredths.
-fn hundredths(rt: &HostRuntime, word: &str) -> Result<i32, Fail> {
+// The first coordinate of a line with this number, in steps of so many digits after the point.
+fn in_steps(rt: &HostRuntime, word: &str, digits: u8) -> Result<i32, Fail>
+    requires { digits ≤ 6 }
+{
     let mut bytes = b"v ".to_vec(rt.alloc())?;
     bytes.extend_from_slice(word.as_bytes())?;
     bytes.extend_from_slice(b" 1 1\nv 0 0 0\nv 0 1 0\nf 1 2 3\n")?;
-    let soup = read_obj(rt.alloc(), &bytes, 2, &Limits::program())?;
+    let soup = read_obj(rt.alloc(), &bytes, digits, &Limits::program())?;
     match soup.points().first() {
         Some(point) => Ok(point.at()[0]),
         None => Err(Fail::from("no point")),
@@ -263,7 +265,8 @@ fn reads_the_numbers_of_plain_lines(rt: HostRuntime) -> Result<(), Fail> {
     for line in NUMBERS.lines() {
         let (word, value) = line.split_once(" ").ok_or("row")?;
         let value: i32 = value.parse()?;
-        assert!(rt; hundredths(&rt, word)? == value, "at {word}");
+        assert!(rt; in_steps(&rt, word, 2)? == value, "at {word}");
     }
+    assert!(rt; in_steps(&rt, "0.5", 0)? == 1, "at no digits");
     Ok(())
 }
