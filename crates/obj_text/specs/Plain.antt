@@ -1,9 +1,11 @@
 -- Plain lines: a letter and three words with one space before each, and an LF or a CR and an LF behind.
-use Rattle.std.specs.Prelude.{◌≡◌, ℕ, ◌+◌, ◌<◌, ◌≤◌, ℤ, pos, List, [], ◌∷◌, ◌++◌, true, false, Bool, Option, Some, None, take, not, ◌&&◌, ◌==◌, nat_lt, length, codes, IsTrue, Ok}
+use Rattle.std.specs.Prelude.{◌≡◌, ℕ, ◌+◌, ◌<◌, ◌≤◌, ℤ, pos, List, [], ◌∷◌, ◌++◌, true, false, Bool, Option, Some, None, take, not, ◌&&◌, ◌==◌, nat_lt, length, codes, IsTrue, IsFalse, Ok}
+use Rattle.mesh_terms.specs.Limits.{Limits}
 use Rattle.text_terms.specs.Numbers.{all_digits, value_from, digits_value, or_empty, size_of}
 use Rattle.text_terms.specs.Coordinates.{coordinate}
 use Rattle.grid_number.specs.Reading.{carry_of}
 use Rattle.text_terms.specs.FirstFault.{each_read}
+use Rattle.obj_terms.specs.Obj.{Gathered, obj_lines}
 
 -- a byte above a space that is neither # nor \
 abbrev pub is_plain : ℕ → Bool
@@ -144,3 +146,10 @@ pub record IsPointFirst (k : ℕ) (lines : List (ℕ × List (List ℕ))) (point
   pub third : List ℕ
   pub cut : lines ≡ (number, codes "v" ∷ first ∷ second ∷ third ∷ []) ∷ after
   pub reads : each_read (coordinate k) (first ∷ second ∷ third ∷ []) ≡ Ok point
+
+-- from some lines and what was gathered before them to where one more line is read, or none: all comes to the same in
+-- the end, and where one was read there are fewer lines, else the same
+pub record ReadsLine (k : ℕ) (limits : Limits) (old new : List (ℕ × List (List ℕ)) × Gathered) (more : Bool) : Type 0 where
+  pub read : obj_lines k limits old.0 old.1 ≡ obj_lines k limits new.0 new.1
+  pub fewer : IsTrue more → length new.0 < length old.0
+  pub kept : IsFalse more → new.0 ≡ old.0

@@ -7,6 +7,7 @@ ghost use Rattle.mesh_terms.specs.Meshes.{HasThree, IsBelow, triples_of, soup_of
 ghost use Rattle.obj_terms.specs.Faces.{face_fan, has_repeat};
 ghost use Rattle.obj_terms.specs.Obj.{nothing_gathered, with_point, with_triples, obj_point, obj_face, obj_line, obj_lines, passed_over, word_lines};
 ghost use Rattle.text_lines.specs.Faults.{IsFaultOf};
+ghost use Rattle.obj_text.specs.Plain.{ReadsLine};
 
 use crate::items::{point_of, read_vertices};
 use crate::lines::Lines;
@@ -111,9 +112,7 @@ impl Gathered {
         limits: &Limits,
     ) -> Result<bool, AllocError>
         requires { digits ≤ 6 }
-        ensures read { IfOk result (λ _. obj_lines digits limits.now lines.old self.old ≡ obj_lines digits limits.now lines.new self.new) }
-        ensures more { IfOk result (λ more. IsTrue more → length lines.new < length lines.old) }
-        ensures kept { IfOk result (λ more. IsFalse more → lines.new ≡ lines.old) }
+        ensures { IfOk result (ReadsLine digits limits.now (lines.old, self.old) (lines.new, self.new)) }
     {
         if self.read_plain_face(lines, limits)? {
             return Ok(true);
@@ -127,9 +126,7 @@ impl Gathered {
         lines: &mut Lines<'_>,
         limits: &Limits,
     ) -> Result<bool, AllocError>
-        ensures read { IfOk result (λ _. (k : ℕ) → obj_lines k limits.now lines.old self.old ≡ obj_lines k limits.now lines.new self.new) }
-        ensures more { IfOk result (λ more. IsTrue more → length lines.new < length lines.old) }
-        ensures kept { IfOk result (λ more. IsFalse more → lines.new ≡ lines.old) }
+        ensures { IfOk result (λ more. (k : ℕ) → ReadsLine k limits.now (lines.old, self.old) (lines.new, self.new) more) }
     {
         let Some((a, b, c, after)) = lines.face() else {
             return Ok(false);
@@ -150,9 +147,7 @@ impl Gathered {
         limits: &Limits,
     ) -> Result<bool, AllocError>
         requires { digits ≤ 6 }
-        ensures read { IfOk result (λ _. obj_lines digits limits.now lines.old self.old ≡ obj_lines digits limits.now lines.new self.new) }
-        ensures more { IfOk result (λ more. IsTrue more → length lines.new < length lines.old) }
-        ensures kept { IfOk result (λ more. IsFalse more → lines.new ≡ lines.old) }
+        ensures { IfOk result (ReadsLine digits limits.now (lines.old, self.old) (lines.new, self.new)) }
     {
         if self.count() >= limits.points() {
             return Ok(false);
