@@ -63,10 +63,11 @@ impl Twins {
         requires kept_around { AreKeptAround (all_edges self.now.triples) of.old }
         ensures { IsFanNumbered (all_edges self.now.triples) h number of.old of.new }
     {
+        let twins = self.twins();
         let mut half = h;
         while of[half as usize] == NO_FAN {
             of[half as usize] = number;
-            half = self.next(self.twin(half));
+            half = self.next(twins[half as usize]);
         }
     }
 }

@@ -12,18 +12,22 @@ ghost use Rattle.halfedge.specs.Laws.{PairUp, GoAround, AreSingle};
 ghost use Rattle.mesh_terms.specs.Twins.{IsTwinned};
 
 mod renamed;
+#[cfg(test)]
+mod tests;
 
 use crate::open_edge::least_open_edge;
 use crate::pairing::paired;
 use mb_base::NoMemory;
-use std::alloc::{AllocError, Global};
+use std::alloc::{AllocError, AllocFailed, Global};
 use std::marker::Model;
+use std::rc::Rc;
 
-/// Closed triangles, each with three different vertices, and the twin of each of their half-edges.
+/// Closed triangles, each with three different vertices, and the twin of each of their half-edges. A
+/// clone shares both lists, and takes no memory.
 #[derive(Drop)]
 pub struct Twins {
-    triples: Vec<[u32; 3]>,
-    twins: Vec<u32>,
+    triples: Rc<Vec<[u32; 3]>>,
+    twins: Rc<Vec<u32>>,
     // Whether no two half-edges run the same way.
     single: bool,
 }
@@ -35,21 +39,18 @@ impl Model for Twins {
 
     ghost Value = { TheTwins };
 
-    ghost view = { λ t. record { triples = triples_of t.triples.items; twins = t.twins.items } };
+    ghost view = { λ t. record { triples = triples_of t.triples.value.items; twins = t.twins.value.items } };
 
-    ghost invariant = { λ t. IsKept (triples_of t.triples.items) t.twins.items t.single };
+    ghost invariant = { λ t. IsKept (triples_of t.triples.value.items) t.twins.value.items t.single };
 }
 
 impl Clone for Twins {
     ghost is_clone = { λ t copy. copy ≡ t };
 
     fn clone(&self) -> Result<Twins, AllocError> {
-        let alloc = *self.twins.allocator();
-        let triples = self.triples.to_vec(alloc)?;
-        let twins = self.twins.to_vec(alloc)?;
         Ok(Twins {
-            triples,
-            twins,
+            triples: self.triples.clone()?,
+            twins: self.twins.clone()?,
             single: self.single,
         })
     }
@@ -69,6 +70,16 @@ impl From<NoMemory> for TwinFault {
     ghost from_gives = { λ _ e. e ≡ NoMemory };
 
     fn from(_: NoMemory) -> Self {
+        TwinFault::NoMemory
+    }
+}
+
+impl<T: Drop> From<AllocFailed<T>> for TwinFault {
+    ghost use Rattle.halfedge.specs.declared.twins.TwinFault.TheVariants.{NoMemory};
+
+    ghost from_gives = { λ _ e. e ≡ NoMemory };
+
+    fn from(_: AllocFailed<T>) -> Self {
         TwinFault::NoMemory
     }
 }
@@ -93,8 +104,8 @@ impl Twins {
         let (twins, single) = listed_twins(alloc, triples)?;
         let triples = copied(alloc, triples)?;
         Ok(Twins {
-            triples,
-            twins,
+            triples: Rc::new(alloc, triples)?,
+            twins: Rc::new(alloc, twins)?,
             single,
         })
     }
@@ -104,7 +115,7 @@ impl Twins {
         ensures value { triples_of result.now ≡ self.now.triples }
         ensures twinned { IsTwinned self.now.triples self.now.twins }
     {
-        &self.triples
+        self.triples.as_slice()
     }
 
     /// The twin of each half-edge, by the numbers of the half-edges. Beside the values the clauses say
@@ -116,7 +127,7 @@ impl Twins {
         ensures pairs { PairUp (all_edges self.now.triples) }
         ensures around { GoAround (all_edges self.now.triples) }
     {
-        &self.twins
+        self.twins.as_slice()
     }
 
     /// Whether no two half-edges run the same way, from the same vertex to the same vertex.
@@ -134,7 +145,7 @@ impl Twins {
         ensures listed { result ≡ get_or self.now.twins h 0 }
         ensures back { RunsBack (all_edges self.now.triples) h result }
     {
-        self.twins[h as usize]
+        self.twins()[h as usize]
     }
 
     /// The half-edge that follows half-edge h round its triangle.

@@ -4,7 +4,7 @@ ghost use Rattle.std.specs.List.{All};
 ghost use Rattle.chain_terms.specs.Chains.{all_edges};
 ghost use Rattle.chain_terms.specs.Ranks.{start};
 ghost use Rattle.mesh_terms.specs.Limits.{most_points};
-ghost use Rattle.mesh_terms.specs.Meshes.{IsBelow};
+ghost use Rattle.mesh_terms.specs.Meshes.{IsBelow, triples_of};
 ghost use Rattle.halfedge.specs.Clean.{IsClean};
 
 use crate::fans::NO_FAN;
@@ -21,11 +21,12 @@ impl Twins {
         requires few { points ≤ most_points }
         ensures { IfOk result (λ clean. IsTrue clean ↔ IsClean (all_edges self.now.triples)) }
     {
-        let mut of = vec![in alloc; NO_FAN; 3 * self.triples().len()]?;
+        let triples = self.triples();
+        let mut of = vec![in alloc; NO_FAN; 3 * triples.len()]?;
         let mut seen = vec![in alloc; false; points]?;
-        for half in 0..3 * self.triples().len() as u32 {
+        for half in 0..3 * triples.len() as u32 {
             if of[half as usize] == NO_FAN {
-                let vertex = self.start(half);
+                let vertex = start(triples, half);
                 if seen[vertex as usize] {
                     return Ok(false);
                 }
@@ -35,12 +36,12 @@ impl Twins {
         }
         Ok(true)
     }
+}
 
-    // The vertex where half-edge h starts.
-    fn start(&self, h: u32) -> u32
-        requires { h < 3 * length self.now.triples }
-        ensures { result ≡ start (all_edges self.now.triples) h }
-    {
-        self.triples()[h as usize / 3][h as usize % 3]
-    }
+// The vertex where half-edge h starts.
+fn start(triples: &[[u32; 3]], h: u32) -> u32
+    requires { h < 3 * length triples.now }
+    ensures { result ≡ start (all_edges (triples_of triples.now)) h }
+{
+    triples[h as usize / 3][h as usize % 3]
 }

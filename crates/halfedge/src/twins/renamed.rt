@@ -8,11 +8,12 @@ ghost use Rattle.halfedge.specs.Laws.{AreSingle};
 use crate::twins::{TwinFault, Twins};
 use mb_base::NoMemory;
 use std::alloc::Global;
+use std::rc::Rc;
 
 impl Twins {
     /// These triangles with the twins that the half-edges have here. The triangles must be such that these are their
     /// twins, and that no two half-edges run the same way where none do here. Where none do, nothing is
-    /// found again and no memory is taken; otherwise whether some do is found out as in `of`.
+    /// found again and no list is copied; otherwise whether some do is found out as in `of`.
     /// `NoMemory` may come for any triangles.
     pub fn renamed(self, alloc: Global, triples: Vec<[u32; 3]>) -> Result<Twins, NoMemory>
         requires twinned { IsTwinned (triples_of triples.items) self.twins }
@@ -23,7 +24,7 @@ impl Twins {
         if self.are_single() {
             let Twins { twins, .. } = self;
             return Ok(Twins {
-                triples,
+                triples: Rc::new(alloc, triples)?,
                 twins,
                 single: true,
             });

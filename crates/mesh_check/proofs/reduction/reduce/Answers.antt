@@ -22,6 +22,9 @@ returns-then-is_plainly_reduced-clause-points c = ap (λ (m : Mesh). m.points) c
 pub returns-then-is_plainly_reduced-clause-triples : goal.returns-then-is_plainly_reduced-clause-triples
 returns-then-is_plainly_reduced-clause-triples c = ap (λ (m : Mesh). m.triples) c.in_ok-clone.ensures.cases ∙ c.is_plainly_reduced.ensures.triples (search rules)
 
+pub returns-then-is_plainly_reduced-clause-apart : goal.returns-then-is_plainly_reduced-clause-apart
+returns-then-is_plainly_reduced-clause-apart c = subst NoOpposite (sym (ap (λ (m : Mesh). m.triples) c.in_ok-clone.ensures.cases)) (c.is_plainly_reduced.ensures.apart (search rules))
+
 -- as many are kept as there are
 count_here : (c : goal.After-drop-triples-then-len-triples) → reduced c.args.mesh.now.points c.args.mesh.now.triples ≡ record { points = c.args.mesh.now.points; triples = c.args.mesh.now.triples; unused = 0 }
 count_here c =

@@ -17,12 +17,12 @@ use Rattle.halfedge.proofs.twins.Twins.are_clean.Goals.{then-index+else-index-2,
 pub loop-half-init : goal.loop-half-init
 loop-half-init c =
     let ts = c.args.self.now.triples in
-    let numbers : c.in_ok-of.of.items ≡ replicate (3 * length c.triples.result.now) no_fan = c.in_ok-of.ensures.items_if_clones_equal (λ y same. same) in
+    let numbers : c.in_ok-of.of.items ≡ replicate (3 * length c.triples-triples.result.now) no_fan = c.in_ok-of.ensures.items_if_clones_equal (λ y same. same) in
     let marks : c.in_ok-seen.seen.items ≡ replicate c.args.points false = c.in_ok-seen.ensures.items_if_clones_equal (λ y same. same) in
-    let count : 3 * length c.triples.result.now ≡ length (all_edges ts) = omega (arith, length-map c.triples.result.now triple_of, ap length c.triples.ensures.value, length-all_edges ts) in
+    let count : 3 * length c.triples-triples.result.now ≡ length (all_edges ts) = omega (arith, length-map c.triples-triples.result.now triple_of, ap length c.triples-triples.ensures.value, length-all_edges ts) in
     record {
       marks = subst (λ of. AreMarked (all_edges ts) of c.in_ok-seen.seen.items) (sym numbers)
-          (subst (λ seen. AreMarked (all_edges ts) (replicate (3 * length c.triples.result.now) no_fan) seen) (sym marks) (no_marks ts c.triples.ensures.twinned.closed (3 * length c.triples.result.now) c.args.points count));
+          (subst (λ seen. AreMarked (all_edges ts) (replicate (3 * length c.triples-triples.result.now) no_fan) seen) (sym marks) (no_marks ts c.triples-triples.ensures.twinned.closed (3 * length c.triples-triples.result.now) c.args.points count));
       room = ap length marks ∙ length-replicate c.args.points false;
       done = λ x low none. omega (arith, low);
     }
@@ -30,6 +30,10 @@ loop-half-init c =
 -- a number below three times the triples is a half-edge
 half_below : (xs : List (List ℕ)) (ts : List (ℕ × ℕ × ℕ)) → triples_of xs ≡ ts → (h : ℕ) → h < 3 * length xs → h < length (all_edges ts)
 half_below xs ts same h low = omega (arith, low, length-map xs triple_of, ap length same, length-all_edges ts)
+
+-- its start is the one that was read off the triples
+start_is : (xs : List (List ℕ)) (ts : List (ℕ × ℕ × ℕ)) → triples_of xs ≡ ts → (h v : ℕ) → v ≡ start (all_edges (triples_of xs)) h → v ≡ start (all_edges ts) h
+start_is xs ts same h v is = is ∙ ap (λ l. start (all_edges l) h) same
 
 -- its start is a point
 vertex_below : (n : ℕ) (ts : List (ℕ × ℕ × ℕ)) → All (IsBelow n) ts → (h v : ℕ) → h < length (all_edges ts) → v ≡ start (all_edges ts) h → v < n
@@ -39,7 +43,9 @@ pub index-requires-then-index : goal.index-requires-then-index
 index-requires-then-index c =
     let ts = c.args.self.now.triples in
     let h = c.loop-half.half in
-    let low = vertex_below c.args.points ts c.requires.below h c.start-vertex.result (half_below c.triples-2.result.now ts c.triples-2.ensures.value h c.loop-half-test.true) c.start-vertex.ensures in
+    let below = half_below c.triples-triples.result.now ts c.triples-triples.ensures.value h c.loop-half-test.true in
+    let starts = start_is c.triples-triples.result.now ts c.triples-triples.ensures.value h c.start-vertex.result c.start-vertex.ensures in
+    let low = vertex_below c.args.points ts c.requires.below h c.start-vertex.result below starts in
     let read = c.loop-half.seen.ok.0 in
     omega (arith, low, read, c.loop-half.invariant.room)
 
@@ -57,20 +63,23 @@ returns-then-index-2 c =
     let es = all_edges ts in
     let h = c.loop-half.half in
     let inv = c.loop-half.invariant in
-    let below = half_below c.triples-2.result.now ts c.triples-2.ensures.value h c.loop-half-test.true in
-    let low = vertex_below c.args.points ts c.requires.below h c.start-vertex.result below c.start-vertex.ensures in
+    let below = half_below c.triples-triples.result.now ts c.triples-triples.ensures.value h c.loop-half-test.true in
+    let starts = start_is c.triples-triples.result.now ts c.triples-triples.ensures.value h c.start-vertex.result c.start-vertex.ensures in
+    let low = vertex_below c.args.points ts c.requires.below h c.start-vertex.result below starts in
     let none : get_or c.loop-half.of.items h 0 ≡ no_fan = entry c.loop-half.of.items h c.index.result.now 0 no_fan (omega (arith, below, inv.marks.full)) c.index.ensures c.if-index.true in
     let is : get_or c.loop-half.seen.items c.start-vertex.result false ≡ true =
     entry c.loop-half.seen.items c.start-vertex.result c.index-then-index.result.now false true (omega (arith, low, inv.room)) c.index-then-index.ensures c.if-index-2.true in (
       (λ wrong. absurd (false≢true wrong)),
-      (λ clean. absurd (not_clean ts c.triples.ensures.twinned.closed c.loop-half.of.items c.loop-half.seen.items inv.marks h below none (ap (λ v. get_or c.loop-half.seen.items v false) (sym c.start-vertex.ensures) ∙ is) clean)),
+      (λ clean. absurd (not_clean ts c.triples-triples.ensures.twinned.closed c.loop-half.of.items c.loop-half.seen.items inv.marks h below none (ap (λ v. get_or c.loop-half.seen.items v false) (sym starts) ∙ is) clean)),
     )
 
 pub index_mut-requires : goal.index_mut-requires
 index_mut-requires c =
     let ts = c.args.self.now.triples in
     let h = c.loop-half.half in
-    let low = vertex_below c.args.points ts c.requires.below h c.start-vertex.result (half_below c.triples-2.result.now ts c.triples-2.ensures.value h c.loop-half-test.true) c.start-vertex.ensures in
+    let below = half_below c.triples-triples.result.now ts c.triples-triples.ensures.value h c.loop-half-test.true in
+    let starts = start_is c.triples-triples.result.now ts c.triples-triples.ensures.value h c.start-vertex.result c.start-vertex.ensures in
+    let low = vertex_below c.args.points ts c.requires.below h c.start-vertex.result below starts in
     let read = c.loop-half.seen.ok.0 in
     omega (arith, low, read, c.loop-half.invariant.room)
 
@@ -78,7 +87,9 @@ pub number_fan-requires-clause-number : goal.number_fan-requires-clause-number
 number_fan-requires-clause-number c =
     let ts = c.args.self.now.triples in
     let h = c.loop-half.half in
-    let low = vertex_below c.args.points ts c.requires.below h c.start-vertex.result (half_below c.triples-2.result.now ts c.triples-2.ensures.value h c.loop-half-test.true) c.start-vertex.ensures in
+    let below = half_below c.triples-triples.result.now ts c.triples-triples.ensures.value h c.loop-half-test.true in
+    let starts = start_is c.triples-triples.result.now ts c.triples-triples.ensures.value h c.start-vertex.result c.start-vertex.ensures in
+    let low = vertex_below c.args.points ts c.requires.below h c.start-vertex.result below starts in
     vertex_number c.args.points c.start-vertex.result low c.requires.few
 
 -- one half-edge more is marked
@@ -122,12 +133,13 @@ loop-half-preserved c = elim c.if-index.branch [
       let v = w.start-vertex.result in
       let new = w.number_fan.new.of in
       let inv = c.loop-half.invariant in
-      let below = half_below c.triples-2.result.now ts c.triples-2.ensures.value h c.loop-half-test.true in
-      let low = vertex_below c.args.points ts c.requires.below h v below w.start-vertex.ensures in
+      let below = half_below c.triples-triples.result.now ts c.triples-triples.ensures.value h c.loop-half-test.true in
+      let starts = start_is c.triples-triples.result.now ts c.triples-triples.ensures.value h v w.start-vertex.ensures in
+      let low = vertex_below c.args.points ts c.requires.below h v below starts in
       let fresh : get_or c.loop-half.seen.items v false ≡ false =
       entry c.loop-half.seen.items v w.index-then-index.result.now false false (omega (arith, low, inv.room)) w.index-then-index.ensures w.if-index-2.false in
       let numbered = subst (λ l. IsFanNumbered es h v l new) w.deref_mut.ensures.value w.number_fan.ensures in
-      let more = step ts c.triples.ensures.twinned.closed c.args.points h v c.loop-half.of.items new c.loop-half.seen.items below w.start-vertex.ensures low c.requires.few inv.marks inv.room inv.done fresh numbered in
+      let more = step ts c.triples-triples.ensures.twinned.closed c.args.points h v c.loop-half.of.items new c.loop-half.seen.items below starts low c.requires.few inv.marks inv.room inv.done fresh numbered in
       let full : length new ≡ c.loop-half.of.len = numbered.full ∙ sym inv.marks.full ∙ sym c.loop-half.of.ok.0 in
       let of_is : c.if-index.of.items ≡ new = ap (λ (x : Vec ℕ Global). x.items) w.of-is ∙ with_items_is c.loop-half.of new full in
       let seen_is : c.if-index.seen.items ≡ slice_set c.loop-half.seen.items v true = ap (λ (x : Vec Bool Global). x.items) w.seen-is in
@@ -141,7 +153,7 @@ loop-half-preserved c = elim c.if-index.branch [
       let es = all_edges ts in
       let h = c.loop-half.half in
       let inv = c.loop-half.invariant in
-      let below = half_below c.triples-2.result.now ts c.triples-2.ensures.value h c.loop-half-test.true in
+      let below = half_below c.triples-triples.result.now ts c.triples-triples.ensures.value h c.loop-half-test.true in
       let has : IsMarked c.loop-half.of.items h =
       λ none. w.if-index.false (c.index.ensures ∙ get_or_default c.loop-half.of.items h c.index.result.now 0 (omega (arith, below, inv.marks.full)) ∙ none) in
       let of_is : c.if-index.of.items ≡ c.loop-half.of.items = ap (λ (x : Vec ℕ Global). x.items) w.of-is in
@@ -158,6 +170,6 @@ returns c =
     let ts = c.args.self.now.triples in
     let inv = c.loop-half.invariant in (
       (λ _. clean_from_marks (all_edges ts) c.loop-half.of.items c.loop-half.seen.items inv.marks
-          (λ h below. inv.done h (omega (arith, below, c.loop-half-test.false, length-map c.triples-2.result.now triple_of, ap length c.triples-2.ensures.value, length-all_edges ts)))),
+          (λ h below. inv.done h (omega (arith, below, c.loop-half-test.false, length-map c.triples-triples.result.now triple_of, ap length c.triples-triples.ensures.value, length-all_edges ts)))),
       (λ _. refl),
     )
