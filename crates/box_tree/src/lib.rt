@@ -2,14 +2,18 @@
 #![tactic(auto)]
 
 mod bounds;
+mod boxes;
 mod common_point;
 mod extent;
 mod nodes;
 mod order;
+#[cfg(test)]
+mod tests;
 mod touching;
 mod tree;
 mod walk;
 
+pub use boxes::Boxes;
 pub use common_point::touch;
 pub use touching::Touching;
 pub use tree::Tree;
