@@ -22,7 +22,7 @@ pub use tree::Tree;
 pub const MOST_BOXES: usize = 300_000_000;
 
 /// The most entries in a block.
-const BLOCK: usize = 4;
+const BLOCK: usize = 16;
 
 /// The places of a walk's stack. Each place has at most half as many blocks as the one below it, so some thirty are used.
 const STACK: usize = 64;
