@@ -5,6 +5,7 @@ mod bounds;
 mod boxes;
 mod common_point;
 mod extent;
+mod keys;
 mod nodes;
 mod order;
 #[cfg(test)]
