@@ -1,5 +1,6 @@
 pub mod Halves
 pub mod Hits
+pub mod KeyRuns
 pub mod Points
 pub mod Rounds
 pub mod Runs

@@ -1,9 +1,10 @@
--- Numbers in another order: what passes a test stays the same but for its order.
+-- Numbers in another order: what passes a test, and lists that are joined, stay the same but for their order.
 use Rattle.std.proofs.Common.{◌≡◌, ◌∙◌, ℕ, ◌<◌, ◌==◌, ◌&&◌, Bool, cond, List, [], ◌∷◌, ◌++◌, refl, sym, ap, arith, subst, inl, inr}
-use Rattle.std.specs.List.{filter, count_by}
+use Rattle.std.specs.List.{filter, flat_map, count_by, sum_by}
 use Rattle.std.specs.List.Sorted.{IsPermutation}
 use Rattle.std.proofs.lemmas.Bool.{cases_Bool}
 use Rattle.std.proofs.lemmas.Bool.Decides.{Decides-eqb}
+use Rattle.std.proofs.lemmas.List.Sums.{sum_by-append, sum_by-cons}
 use Rattle.std.proofs.lemmas.List.Sorted.{sum_by-IsPermutation, IsPermutation-refl, IsPermutation-cons, IsPermutation-trans, IsPermutation-middle, IsPermutation-sym}
 use Rattle.chain_terms.specs.Chains.{one_if}
 use Rattle.chain_laws.specs.Counts.{count_by-cons, count_by-middle, one_if-true, split_by}
@@ -42,3 +43,15 @@ pub filter_moved : (p : ℕ → Bool) (xs ys : List ℕ) → IsPermutation xs ys
 filter_moved p xs ys moved =
     same_counts (filter p xs) (filter p ys)
     (λ k. count_filter p (λ n. n == k) xs ∙ sym (sum_by-IsPermutation (λ n. cond (p n && (n == k)) 1 0) xs ys moved) ∙ sym (count_filter p (λ n. n == k) ys))
+
+-- how many in joined lists pass a test
+count_flat_map : {X : Type 0} (q : ℕ → Bool) (f : X → List ℕ) → (xs : List X) → count_by q (flat_map f xs) ≡ sum_by (λ x. count_by q (f x)) xs
+count_flat_map q f [] = refl
+count_flat_map q f (x ∷ xs) =
+    omega (arith, sum_by-append (λ n. cond (q n) 1 0) (f x) (flat_map f xs), sum_by-cons (λ y. count_by q (f y)) x xs, count_flat_map q f xs)
+
+-- lists that are joined in another order
+pub flat_map_moved : {X : Type 0} (f : X → List ℕ) (xs ys : List X) → IsPermutation xs ys → IsPermutation (flat_map f xs) (flat_map f ys)
+flat_map_moved f xs ys moved =
+    same_counts (flat_map f xs) (flat_map f ys)
+    (λ k. count_flat_map (λ n. n == k) f xs ∙ sym (sum_by-IsPermutation (λ x. count_by (λ n. n == k) (f x)) xs ys moved) ∙ sym (count_flat_map (λ n. n == k) f ys))

@@ -1,5 +1,5 @@
 -- What the entries of a tree owe to a question.
-use Rattle.std.proofs.Common.{◌≡◌, ◌∙◌, ℕ, ◌+◌, ◌<◌, ◌≤◌, ◌&&◌, true, List, [], ◌∷◌, ◌++◌, length, map, zero-add, refl, sym, ap, arith, subst}
+use Rattle.std.proofs.Common.{◌≡◌, ◌∙◌, ℕ, ◌<◌, ◌≤◌, ◌&&◌, true, List, [], ◌∷◌, length, map, refl, sym, ap, arith, subst}
 use Rattle.std.specs.Prelude.{ℤ, pos, negsuc, ◌≤ℤ◌}
 use Rattle.std.specs.Int.{int_shr}
 use Rattle.std.specs.Int.Signed.{le_z}
@@ -9,18 +9,20 @@ use Rattle.std.proofs.Math.Pow.{shr_mono}
 use Rattle.std.proofs.lemmas.Bool.{and_parts, and_from}
 use Rattle.std.proofs.lemmas.Int.{ints, clamps}
 use Rattle.std.proofs.lemmas.List.{length-map}
-use Rattle.std.proofs.lemmas.List.Elements.{All-nil, All-cons, All-head, All-tail, All-from_get_or, All-map, All-same, All-weaker}
-use Rattle.std.proofs.lemmas.List.Sorted.{All-permutation, length_permutation, IsPermutation-map}
+use Rattle.std.proofs.lemmas.List.Elements.{All-from_get_or, All-map, All-same, All-weaker}
+use Rattle.std.proofs.lemmas.List.Sorted.{All-permutation, length_permutation}
 use Rattle.chain_terms.specs.Sums.{upto}
-use Rattle.chain_laws.proofs.Places.{get_or-up_from, length-up_from, up_from-append}
+use Rattle.chain_laws.proofs.Places.{get_or-up_from, length-up_from}
 use Rattle.mb_base.specs.declared.point.Box3.{Box3}
 use Rattle.box_tree.specs.declared.TheConstants.{MOST_BOXES}
 use Rattle.box_tree.specs.declared.nodes.Entry.{Entry}
-use Rattle.box_tree.specs.declared.order.Key.{Key}
+use Rattle.box_tree.specs.declared.keys.Key.{Key}
 use Rattle.box_tree.specs.Coarse.{coarse_step, coarse_range, coarse_box, ranges_meet, bounds_meet}
 use Rattle.box_tree.specs.Touching.{end_on, overlap_on, touches, box_at}
+use Rattle.box_tree.specs.Keys.{numbers_of_run, numbers_of_runs}
 use Rattle.box_tree.specs.Nodes.{AreEntries, AreStored, entry_of, numbers_of, stored_box}
 use Rattle.box_tree.specs.Walks.{IsFair}
+use Rattle.box_tree.proofs.Orders.{flat_map_moved}
 use Rattle.box_tree.proofs.Points.{overlap_meets, test_from_le}
 
 -- a shift keeps the order
@@ -85,45 +87,21 @@ HasBox stored boxes e = stored_box stored e ≡ box_at boxes e.number
 pub all_boxes : (shift : ℕ) (stored boxes : List Box3) (entries : List Entry) → AreEntries shift boxes entries → AreStored shift stored boxes → All (HasBox stored boxes) entries
 all_boxes shift stored boxes entries h kept = each_entry shift boxes entries (HasBox stored boxes) h kept
 
--- the numbers of keys
-abbrev pub numbers_in : List Key → List ℕ
-numbers_in keys = map (λ k. k.number) keys
-
--- numbers that are below n in a list are so one by one
-pub each_below : (n : ℕ) (keys : List Key) → All (λ k. k < n) (numbers_in keys) → All (λ k. k.number < n) keys
-each_below n [] all = All-nil (λ k. k.number < n)
-each_below n (k ∷ keys) all =
-    All-cons (λ x. x.number < n) k keys (All-head (λ x. x < n) k.number (numbers_in keys) all) (each_below n keys (All-tail (λ x. x < n) k.number (numbers_in keys) all))
-
--- the numbers of the boxes, in the order of keys, are below their count
-pub keys_below : (n : ℕ) (keys sorted : List Key) → numbers_in keys ≡ upto n → IsPermutation keys sorted → All (λ k. k.number < n) sorted
-keys_below n keys sorted all moved =
-    let numbers = IsPermutation-map (λ k. k.number) keys sorted moved in
-    each_below n sorted (All-permutation (λ k. k < n) (numbers_in keys) (numbers_in sorted) numbers (All-same (λ k. k < n) (numbers_in keys) (upto n) all (below_upto n)))
-
--- entries that are made of keys have their numbers
-made_numbers : (shift : ℕ) (boxes : List Box3) (keys : List Key) → numbers_of (map (λ k. entry_of shift boxes k.number) keys) ≡ numbers_in keys
+-- entries that are made of numbers have them
+made_numbers : (shift : ℕ) (boxes : List Box3) (numbers : List ℕ) → numbers_of (map (entry_of shift boxes) numbers) ≡ numbers
 made_numbers shift boxes [] = refl
-made_numbers shift boxes (k ∷ keys) = ap (λ l. k.number ∷ l) (made_numbers shift boxes keys)
+made_numbers shift boxes (k ∷ ks) = ap (λ l. k ∷ l) (made_numbers shift boxes ks)
 
--- entries that are made of numbers in keys
-made_of_numbers : (shift : ℕ) (boxes : List Box3) (keys : List Key) → map (λ k. entry_of shift boxes k.number) keys ≡ map (entry_of shift boxes) (numbers_in keys)
-made_of_numbers shift boxes [] = refl
-made_of_numbers shift boxes (k ∷ keys) = ap (λ l. entry_of shift boxes k.number ∷ l) (made_of_numbers shift boxes keys)
-
--- the entries that are made of the keys in another order
-pub entries_made : (shift : ℕ) (boxes : List Box3) (keys sorted : List Key) (entries : List Entry) → length boxes ≤ MOST_BOXES → numbers_in keys ≡ upto (length boxes) → IsPermutation keys sorted →
-    entries ≡ map (λ k. entry_of shift boxes k.number) sorted → AreEntries shift boxes entries
-entries_made shift boxes keys sorted entries few all moved made =
-    let numbers : numbers_of entries ≡ numbers_in sorted = ap numbers_of made ∙ made_numbers shift boxes sorted in
+-- the entries that are made of the runs of keys in another order
+pub entries_made : (shift : ℕ) (boxes : List Box3) (run : ℕ) (keys sorted : List Key) (entries : List Entry) → length boxes ≤ MOST_BOXES → numbers_of_runs (length boxes) run keys ≡ upto (length boxes) →
+    IsPermutation keys sorted → entries ≡ map (entry_of shift boxes) (numbers_of_runs (length boxes) run sorted) → AreEntries shift boxes entries
+entries_made shift boxes run keys sorted entries few all moved made =
+    let runs = numbers_of_runs (length boxes) run sorted in
+    let numbers : numbers_of entries ≡ runs = ap numbers_of made ∙ made_numbers shift boxes runs in
     let P : List ℕ → Type 0 = λ l. IsPermutation (upto (length boxes)) l in
-    let Q : List ℕ → Type 0 = λ l. IsPermutation l (numbers_in sorted) in
+    let Q : List ℕ → Type 0 = λ l. IsPermutation l runs in
     record {
       few = few;
-      order = subst P (sym numbers) (subst Q all (IsPermutation-map (λ k. k.number) keys sorted moved));
-      made = made ∙ made_of_numbers shift boxes sorted ∙ ap (map (entry_of shift boxes)) (sym numbers);
+      order = subst P (sym numbers) (subst Q all (flat_map_moved (λ k. numbers_of_run (length boxes) run k.first) keys sorted moved));
+      made = made ∙ ap (map (entry_of shift boxes)) (sym numbers);
     }
-
--- one number more
-pub upto_more : (n : ℕ) → upto (n + 1) ≡ upto n ++ n ∷ []
-upto_more n = up_from-append 0 n 1 ∙ ap (λ m. upto n ++ m ∷ []) (zero-add n)

@@ -1,5 +1,5 @@
 // Boxes in coarse steps, which take half the room of boxes in fine steps.
-ghost use Rattle.std.specs.Prelude.{◌≡◌, ◌<◌, ◌≤ℤ◌, ℤ};
+ghost use Rattle.std.specs.Prelude.{◌≡◌, ◌<◌, ◌^◌, ◌≤ℤ◌, ℤ};
 ghost use Rattle.box_tree.specs.Coarse.{coarse_step, coarse_range, coarse_box, fine_box, ranges_meet, bounds_meet, IsRangeIn, IsBoundsIn};
 
 use mb_base::Box3;
@@ -18,6 +18,15 @@ pub struct Bounds {
     pub y: Range,
     pub z: Range,
 }
+
+const NO_RANGE: Range = Range { low: 0, high: 0 };
+
+/// Bounds that reach nowhere.
+pub const NO_BOUNDS: Bounds = Bounds {
+    x: NO_RANGE,
+    y: NO_RANGE,
+    z: NO_RANGE,
+};
 
 /// A coordinate in coarse steps of 2^shift fine steps, rounded down, and cut off at the ends of an i32.
 #[inline]
@@ -48,6 +57,14 @@ impl Range {
         ensures { result ≡ ranges_meet self other }
     {
         self.low <= other.high && other.low <= self.high
+    }
+
+    // How far it reaches.
+    #[inline]
+    fn reach(self) -> u64
+        ensures { result < 2 ^ 32 }
+    {
+        u64::from(self.high.abs_diff(self.low))
     }
 
     // The range that takes in both.
@@ -94,6 +111,12 @@ impl Bounds {
         ensures { result ≡ bounds_meet self other }
     {
         self.x.meets(other.x) && self.y.meets(other.y) && self.z.meets(other.z)
+    }
+
+    /// How far they reach on all three axes together.
+    #[inline]
+    pub fn reach(self) -> u64 {
+        self.x.reach() + self.y.reach() + self.z.reach()
     }
 
     /// Bounds that take in both.

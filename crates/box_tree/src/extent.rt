@@ -4,7 +4,7 @@ ghost use Rattle.std.specs.List.{All};
 ghost use Rattle.box_tree.specs.Coarse.{IsShort};
 
 use crate::bounds::Bounds;
-use mb_base::Box3;
+use crate::boxes::Boxes;
 
 // How many binary digits a number has.
 fn digits(number: u64) -> u32
@@ -14,11 +14,12 @@ fn digits(number: u64) -> u32
 }
 
 /// Whether each coordinate of the boxes is an i32.
-pub fn are_short(boxes: &[Box3]) -> bool
-    ensures { IsTrue result → All IsShort boxes.now }
+pub fn are_short<B: Boxes>(boxes: &B) -> bool
+    ensures { IsTrue result → All IsShort (B.boxes boxes.now) }
 {
-    for one in boxes {
-        if Bounds::of(one, 0).fine() != *one {
+    for number in 0..boxes.count() {
+        let one = boxes.box_at(number);
+        if Bounds::of(&one, 0).fine() != one {
             return false;
         }
     }
@@ -26,11 +27,12 @@ pub fn are_short(boxes: &[Box3]) -> bool
 }
 
 // The least power of two such that the boxes' coordinates, in coarse steps of it, are no greater than an i32.
-fn shift_over(boxes: &[Box3]) -> u32
+fn shift_over<B: Boxes>(boxes: &B) -> u32
     ensures { result < 64 }
 {
     let mut most = 0;
-    for one in boxes {
+    for number in 0..boxes.count() {
+        let one = boxes.box_at(number);
         for axis in 0..3 {
             most = most | one.low[axis].unsigned_abs() | one.high[axis].unsigned_abs();
         }
@@ -39,7 +41,7 @@ fn shift_over(boxes: &[Box3]) -> u32
 }
 
 /// The power of two of a coarse step over boxes: 0 where each coordinate is an i32.
-pub fn coarse_shift(boxes: &[Box3], short: bool) -> u32
+pub fn coarse_shift<B: Boxes>(boxes: &B, short: bool) -> u32
     ensures small { result < 64 }
     ensures fine { IsTrue short → result ≡ 0 }
 {

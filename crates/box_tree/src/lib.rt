@@ -2,14 +2,19 @@
 #![tactic(auto)]
 
 mod bounds;
+mod boxes;
 mod common_point;
 mod extent;
+mod keys;
 mod nodes;
 mod order;
+#[cfg(test)]
+mod tests;
 mod touching;
 mod tree;
 mod walk;
 
+pub use boxes::Boxes;
 pub use common_point::touch;
 pub use touching::Touching;
 pub use tree::Tree;
@@ -18,7 +23,7 @@ pub use tree::Tree;
 pub const MOST_BOXES: usize = 300_000_000;
 
 /// The most entries in a block.
-const BLOCK: usize = 4;
+const BLOCK: usize = 16;
 
 /// The places of a walk's stack. Each place has at most half as many blocks as the one below it, so some thirty are used.
 const STACK: usize = 64;

@@ -8,6 +8,7 @@ ghost use Rattle.box_tree.specs.Touching.{IsBox, touching_numbers};
 
 use crate::MOST_BOXES;
 use crate::bounds::Bounds;
+use crate::boxes::Boxes;
 use crate::extent::{are_short, coarse_shift};
 use crate::nodes::{Entry, Node, nodes_over};
 use crate::order::entries_of;
@@ -41,15 +42,29 @@ impl Model for Tree {
 }
 
 // The boxes that are stored beside the entries: none where the bounds of the entries are the boxes.
-fn stored(alloc: Global, boxes: &[Box3], short: bool, shift: u32) -> Result<Vec<Box3>, NoMemory>
-    requires { IsTrue short → (shift ≡ 0) × All IsShort boxes.now }
-    ensures { IfOk result (λ stored. AreStored shift stored.items boxes.now) }
+fn stored<B: Boxes>(
+    alloc: Global,
+    boxes: &B,
+    short: bool,
+    shift: u32,
+) -> Result<Vec<Box3>, NoMemory>
+    requires { IsTrue short → (shift ≡ 0) × All IsShort (B.boxes boxes.now) }
+    ensures { IfOk result (λ stored. AreStored shift stored.items (B.boxes boxes.now)) }
 {
     if short {
         return Ok(Vec::new(alloc));
     }
-    let mut copy = Vec::with_capacity(alloc, boxes.len())?;
-    copy.extend_from_slice(boxes)?;
+    copy_of(alloc, boxes)
+}
+
+// All boxes, in order.
+fn copy_of<B: Boxes>(alloc: Global, boxes: &B) -> Result<Vec<Box3>, NoMemory>
+    ensures { IfOk result (λ copy. copy.items ≡ B.boxes boxes.now) }
+{
+    let mut copy = Vec::with_capacity(alloc, boxes.count())?;
+    for number in 0..boxes.count() {
+        copy.push(boxes.box_at(number))?;
+    }
     Ok(copy)
 }
 
@@ -59,6 +74,16 @@ impl Tree {
         requires few { length boxes.now ≤ MOST_BOXES }
         requires boxes { All IsBox boxes.now }
         ensures { IfOk result (λ tree. tree ≡ boxes.now) }
+    {
+        Tree::over(alloc, &boxes)
+    }
+
+    /// The tree over boxes that are told one by one, the first of which has the number 0. It keeps a copy of them only where
+    /// some coordinate is no i32. `NoMemory` may come for any boxes.
+    pub fn over<B: Boxes>(alloc: Global, boxes: &B) -> Result<Tree, NoMemory>
+        requires few { length (B.boxes boxes.now) ≤ MOST_BOXES }
+        requires boxes { All IsBox (B.boxes boxes.now) }
+        ensures { IfOk result (λ tree. tree ≡ B.boxes boxes.now) }
     {
         let short = are_short(boxes);
         let shift = coarse_shift(boxes, short);

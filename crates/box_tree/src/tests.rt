@@ -1,0 +1,109 @@
+// Trees over boxes that lie in memory.
+ghost use Rattle.std.specs.Prelude.{◌≤◌, length, IfOk};
+ghost use Rattle.std.specs.List.{All};
+ghost use Rattle.box_tree.specs.Touching.{IsBox};
+
+use crate::keys::run_over;
+use crate::{BLOCK, Tree};
+use mb_base::Box3;
+use std::alloc::Global;
+use std::test::Fail;
+
+// The first two have a corner in common; a coordinate of the last one is no i32.
+const BOXES: [Box3; 3] = [
+    Box3 {
+        low: [0, 0, 0],
+        high: [4, 4, 4],
+    },
+    Box3 {
+        low: [4, 4, 4],
+        high: [8, 9, 10],
+    },
+    Box3 {
+        low: [9, 9, 0],
+        high: [9, 9, 1 << 40],
+    },
+];
+
+// The numbers of the boxes that touch an area, ascending.
+fn found(alloc: Global, tree: &Tree, area: Box3) -> Result<Vec<u32>, Fail> {
+    let mut numbers = Vec::new(alloc);
+    for number in tree.touching(area) {
+        numbers.push(number)?;
+    }
+    numbers.sort_unstable();
+    Ok(numbers)
+}
+
+#[test]
+fn boxes_are_found_by_an_area(rt: HostRuntime) -> Result<(), Fail> {
+    let tree = Tree::build(rt.alloc(), &BOXES)?;
+    let corner = Box3 {
+        low: [4, 4, 4],
+        high: [4, 4, 4],
+    };
+    assert_eq!(rt;
+        found(rt.alloc(), &tree, corner)?.as_slice(),
+        [0, 1].as_slice()
+    );
+    let far = Box3 {
+        low: [8, 8, 1 << 40],
+        high: [9, 9, 1 << 41],
+    };
+    assert_eq!(rt; found(rt.alloc(), &tree, far)?.as_slice(), [2].as_slice());
+    Ok(())
+}
+
+// Two blocks and a half.
+const COUNT: u32 = 40;
+
+// The box at a place of a line. Those at two places do not touch.
+fn box_at(place: u32) -> Box3
+    ensures { IsBox result }
+{
+    let low = i64::from(place) * 3;
+    Box3 {
+        low: [low, 0, 0],
+        high: [low + 2, 2, 2],
+    }
+}
+
+// Boxes on a line, each a stride of places after the one before, where places are counted round.
+fn line(alloc: Global, stride: u32) -> Result<Vec<Box3>, Fail>
+    ensures few { IfOk result (λ boxes. length boxes.items ≤ 40) }
+    ensures boxes { IfOk result (λ boxes. All IsBox boxes.items) }
+{
+    let mut boxes = Vec::new(alloc);
+    for number in 0..COUNT {
+        boxes.push(box_at(number.wrapping_mul(stride) % COUNT))?;
+    }
+    Ok(boxes)
+}
+
+// Whether a tree over the boxes of a line finds all of them, and each by itself.
+fn all_are_found(alloc: Global, stride: u32) -> Result<bool, Fail> {
+    let boxes = line(alloc, stride)?;
+    let tree = Tree::build(alloc, &boxes)?;
+    let mut each = Vec::new(alloc);
+    for area in &boxes {
+        for number in tree.touching(*area) {
+            each.push(number)?;
+        }
+    }
+    let around = Box3 {
+        low: [0, 0, 0],
+        high: [1_000, 2, 2],
+    };
+    let all = found(alloc, &tree, around)?;
+    Ok(each.iter().copied().eq(0..COUNT) && all.iter().copied().eq(0..COUNT))
+}
+
+#[test]
+fn keys_stand_for_runs_or_single_boxes(rt: HostRuntime) -> Result<(), Fail> {
+    for (stride, run) in [(1, BLOCK), (17, 1)] {
+        let boxes = line(rt.alloc(), stride)?;
+        assert!(rt; run_over(&boxes.as_slice(), 0) == run);
+        assert!(rt; all_are_found(rt.alloc(), stride)?);
+    }
+    Ok(())
+}
