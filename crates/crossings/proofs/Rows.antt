@@ -12,7 +12,7 @@ use Rattle.chain_laws.proofs.Ascending.{filter-upto_yes, filter-upto_no}
 use Rattle.mb_base.specs.declared.results.Hit.{Hit}
 use Rattle.edge_face.specs.declared.Cross.{Cross}
 use Rattle.side_terms.specs.Sides.{Side, edge_at, face_at}
-use Rattle.crossings.specs.Hits.{CrossTest, hit_of, hits_along}
+use Rattle.crossings.specs.Hits.{CrossTest, hit_of, hits_along, hits_before}
 
 -- the hits of one half-edge with some faces
 abbrev pub hits_with : CrossTest → Side → Side → ℕ → List ℕ → List Hit
@@ -40,10 +40,6 @@ along_some test edges faces h fs i c below e =
 -- a push after what stands already
 pub pushed : (new old before row row' : List Hit) (h : Hit) → new ≡ old ++ h ∷ [] → old ≡ before ++ row → row' ≡ row ++ h ∷ [] → new ≡ before ++ row'
 pushed new old before row row' h e f g = let a = append_assoc before row (h ∷ []) in cc
-
--- the hits of the first n half-edges
-abbrev pub hits_before : CrossTest → Side → Side → ℕ → List Hit
-hits_before test edges faces n = flat_map (hits_along test edges faces) (filter (λ h. nat_lt h (twin (all_edges edges.triples) h)) (upto n))
 
 -- one more, which is the lower one of its edge
 pub hits_lower : (test : CrossTest) (edges faces : Side) (n : ℕ) → n < twin (all_edges edges.triples) n → hits_before test edges faces (n + 1) ≡ hits_before test edges faces n ++ hits_along test edges faces n

@@ -14,7 +14,8 @@ use std::alloc::Global;
 
 /// The crossings of two sides: one hit for each edge of p and face of q whose number is not 0, and one for each edge of q
 /// and face of p. An edge is named by its lower half-edge, the smaller of it and its twin, and taken in that direction.
-/// Both lists ascend by edge, then face. `NoMemory` may come for any sides.
+/// Both lists ascend by edge, then face. A run of triangles near no face of the other side is passed over by one question
+/// to its tree, so time goes mostly to the edges near one. `NoMemory` may come for any sides.
 pub fn crossings<K: Kernels>(
     alloc: Global,
     p: &Side,

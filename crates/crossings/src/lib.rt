@@ -8,6 +8,7 @@ mod both;
 mod hits;
 mod near;
 mod pairs;
+mod runs;
 #[cfg(test)]
 mod tests;
 

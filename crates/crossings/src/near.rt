@@ -1,5 +1,5 @@
 // The faces of a side that are near an area.
-ghost use Rattle.std.specs.Prelude.{◌≡◌, OnOk};
+ghost use Rattle.std.specs.Prelude.{◌≡◌, ◌↔◌, ◌<◌, IsTrue, OnOk, length};
 ghost use Rattle.box_tree.specs.Touching.{touching_numbers};
 ghost use Rattle.side_terms.specs.Sides.{IsSide, face_boxes};
 
@@ -18,4 +18,12 @@ pub fn find_near(near: &mut Vec<u32>, faces: &Side, area: Box3) -> Result<(), No
     }
     near.sort_unstable();
     Ok(())
+}
+
+/// Whether the box of a face touches the area.
+pub fn is_near(faces: &Side, area: Box3) -> bool
+    ensures near { IsTrue result ↔ (0 < length (touching_numbers (face_boxes faces.now) area)) }
+    ensures side { IsSide faces.now }
+{
+    faces.tree().touching(area).next().is_some()
 }
