@@ -1,5 +1,0 @@
-pub mod Classes
-pub mod Ends
-pub mod Marks
-pub mod Spokes
-pub mod Walks

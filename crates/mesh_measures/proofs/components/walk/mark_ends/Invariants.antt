@@ -1,8 +1,0 @@
-use Rattle.std.proofs.Common.{take}
-use Rattle.chain_terms.specs.Chains.{all_edges}
-use Rattle.mesh_terms.specs.Meshes.{triples_of}
-use Rattle.mesh_measures.specs.Walks.{AreReached}
-use Rattle.mesh_measures.proofs.components.walk.mark_ends.Given as goal
-
-abbrev pub invariant-loop-half : goal.invariant-loop-half
-invariant-loop-half l = AreReached (all_edges (triples_of l.triples)) (take l.half-index l.halves) l.initial.seen l.initial.stack.items l.seen l.stack.items
