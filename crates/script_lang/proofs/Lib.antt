@@ -1,5 +1,2 @@
-mod LineSteps
 mod NameSets
 mod NameTests
-mod Positions
-mod WordSteps

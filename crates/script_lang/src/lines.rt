@@ -1,12 +1,12 @@
 // The lines of a script.
-ghost use Rattle.std.specs.Prelude.{◌≡◌, ◌<◌, ◌≤◌, ◌+◌, ◌∷◌, ◌^◌, length};
-ghost use Rattle.text_terms.specs.Lines.{lines_of, numbered, raw_lines, without_cr, without_mark};
+ghost use Rattle.std.specs.Prelude.{◌≡◌, ◌+◌, length};
+ghost use Rattle.text_terms.specs.Lines.{lines_of, numbered};
 ghost use Rattle.obj_terms.specs.Obj.{word_lines};
 ghost use Rattle.script_terms.specs.Scripts.{numbered_words};
 
 use crate::words::Words;
-use memchr::memchr;
 use std::marker::Model;
+use text_lines::{first_line, without_mark};
 
 /// The lines of a script from the first to the last, each with its number, from 1, and its words. A line ends at
 /// its LF or at the end of the text, and one CR at its end is dropped.
@@ -54,45 +54,9 @@ impl<'t> Iterator for Lines<'t> {
             return None;
         }
         let number = self.number;
-        let (line, after) = cut_line(self.text);
+        let (line, after) = first_line(self.text);
         self.text = after;
         self.number = number + 1;
-        Some((number, Words::of(without_cr(line))))
+        Some((number, Words::of(line)))
     }
-}
-
-// A text without the mark at its start, if there is one.
-fn without_mark(bytes: &[u8]) -> &[u8]
-    ensures { result.now ≡ without_mark bytes.now }
-{
-    match bytes {
-        [0xef, 0xbb, 0xbf, rest @ ..] => rest,
-        _ => bytes,
-    }
-}
-
-// The first line of a text without its LF, and the text after it.
-fn cut_line(text: &[u8]) -> (&[u8], &[u8])
-    requires { 0 < length text.now }
-    ensures lines { raw_lines text.now ≡ result.0.now ∷ raw_lines result.1.now }
-    ensures less { length result.1.now < length text.now }
-{
-    match memchr(b'\n', text) {
-        None => text.split_at(text.len()),
-        Some(end) => {
-            let (line, _) = text.split_at(end);
-            let (_, rest) = text.split_at(end + 1);
-            (line, rest)
-        }
-    }
-}
-
-// A line without the CR at its end, if there is one.
-fn without_cr(line: &[u8]) -> &[u8]
-    ensures { result.now ≡ without_cr line.now }
-{
-    let Some((last, front)) = line.split_last() else {
-        return line;
-    };
-    if *last == b'\r' { front } else { line }
 }
