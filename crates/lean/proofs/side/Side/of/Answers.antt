@@ -1,0 +1,26 @@
+use Rattle.std.proofs.Common.{List, length, map, ap, sym, subst, ◌∙◌}
+use Rattle.mb_base.specs.declared.point.Corner.{Corner}
+use Rattle.mesh_terms.specs.Meshes.{IsAccepted, triples_of}
+use Rattle.mesh_terms.specs.Twins.{Twins, IsTwinned}
+use Rattle.mb_base.specs.Boxes.{box_of}
+use Rattle.side_terms.specs.Sides.{face_of}
+use Rattle.lean.proofs.side.Side.of.Goals as goal
+
+-- the clone is the twins of the mesh
+pub invariant_of-result : goal.invariant_of-result
+invariant_of-result c =
+    let corners = c.in_ok-corners.corners.items in
+    let twins = c.in_ok-twins.twins in
+    let same = c.in_ok-twins.ensures.cases in
+    let triples = ap (λ (t : Twins). t.triples) same ∙ c.twins.ensures.triples in
+    let count = c.in_ok-corners.ensures.length ∙ ap length c.points.ensures.value in
+    record {
+      known = record {
+        fine = c.in_ok-corners.ensures.fine;
+        whole = c.in_ok-corners.ensures.whole;
+        accepted = subst (λ n. IsAccepted n twins.triples) (sym count) (subst (IsAccepted (length c.args.mesh.now.points)) (sym triples) c.twins.ensures.accepted);
+        twinned = subst (λ (t : Twins). IsTwinned t.triples t.twins) (sym same) (subst (λ l. IsTwinned l c.twins.result.now.twins) (sym c.twins.ensures.triples) c.twins.ensures.twins);
+      };
+      over = c.in_ok-tree.ensures ∙ ap (λ (cs : List Corner). map (λ t. box_of (face_of cs t)) (triples_of c.triples.result.now)) c.deref-2.ensures.value
+          ∙ ap (map (λ t. box_of (face_of corners t))) (c.triples.ensures.value ∙ sym triples);
+    }
