@@ -1,53 +1,28 @@
 -- The last digits of a number without trailing zeros.
-use Rattle.std.proofs.Common.{◌≡◌, ℕ, zero, suc, ◌+◌, ◌*◌, ◌/◌, ◌%◌, ◌^◌, ◌<◌, ◌≤◌, ◌&&◌, ◌==◌, if◌then◌else◌, Bool, List, [], ◌∷◌, ◌++◌, true, false, length, refl, sym, ap, ◌∙◌, arith, length-append, ◌-◌, append_assoc}
-use Rattle.std.proofs.Math.Nat.{div-div-eq-div-mul, div-one, pow-suc, pow-succ', mod-one, mul-div_cancel, mul-mod_left, mul_assoc, mod-eq_of_lt, mul-lt-mul_of_pos_right}
-use Rattle.std.proofs.Math.Arith.{mod-mul}
-use Rattle.std.proofs.lemmas.Nat.{div-mul-add, mod-mul-add, mod_below, div_below, pow-add}
+use Rattle.std.proofs.Common.{◌≡◌, ◌≢◌, ℕ, zero, suc, ◌+◌, ◌*◌, ◌/◌, ◌%◌, ◌^◌, ◌-◌, ◌<◌, ◌≤◌, ◌&&◌, ◌==◌, if◌then◌else◌, Bool, List, [], ◌∷◌, ◌++◌, true, false, length, decimal, refl, sym, ap, ◌∙◌, arith, length-append}
+use Rattle.std.proofs.Math.Nat.{pow-suc, pow-succ', mul-div_cancel, mul-mod_left, pow-le-pow_right}
+use Rattle.std.proofs.lemmas.Fmt.{decimal_digit, decimal_step}
 use Rattle.text_terms.specs.Written.{last_digits, without_zeros, is_empty}
 
 -- the last k digits of n without the zeros at their end
 unfoldable pub kept_digits : ℕ → ℕ → List ℕ
 kept_digits k n = without_zeros (last_digits k n)
 
+-- what they are, where the name does not unfold
+pub kept_digits-is : (k n : ℕ) → kept_digits k n ≡ without_zeros (last_digits k n)
+unfolding kept_digits
+kept_digits-is k n = refl
+
+-- a power of ten is not 0
 pub ten_pow_pos : (k : ℕ) → 0 < 10 ^ k
 ten_pow_pos zero = omega arith
 ten_pow_pos (suc k) = omega (arith, pow-suc 10 k, ten_pow_pos k)
-
--- the first of the last k + 1 digits, in front of the last k
-pub last_digits-front : (k n : ℕ) → last_digits (suc k) n ≡ (48 + n / 10 ^ k % 10) ∷ last_digits k n
-last_digits-front zero n = ap (λ (q : ℕ). (48 + q % 10) ∷ []) (sym (div-one n))
-last_digits-front (suc k) n =
-    let e : n / 10 / 10 ^ k ≡ n / 10 ^ suc k = div-div-eq-div-mul n 10 (10 ^ k)
-    ∙ ap (λ (m : ℕ). n / m) (sym (pow-succ' 10 k)) in
-    ap (λ (ds : List ℕ). ds ++ (48 + n % 10) ∷ []) (last_digits-front k (n / 10))
-    ∙ ap (λ (q : ℕ). (48 + q % 10) ∷ last_digits (suc k) n) e
-
--- a number and its part below 10 ^ k have the same last k digits
-pub last_digits-mod : (k n : ℕ) → last_digits k (n % 10 ^ k) ≡ last_digits k n
-last_digits-mod zero n = refl
-last_digits-mod (suc k) n =
-    let below : n % 10 < 10 = mod_below n 10 (omega arith) in
-    let e : n % 10 ^ suc k ≡ (n / 10 % 10 ^ k) * 10 + n % 10 = ap (λ (m : ℕ). n % m) (pow-suc 10 k)
-    ∙ mod-mul n (ten_pow_pos k) (omega arith) in
-    let q : n % 10 ^ suc k / 10 ≡ n / 10 % 10 ^ k = ap (λ (m : ℕ). m / 10) e
-    ∙ div-mul-add (n / 10 % 10 ^ k) 10 (n % 10) below in
-    let r : n % 10 ^ suc k % 10 ≡ n % 10 = ap (λ (m : ℕ). m % 10) e
-    ∙ mod-mul-add (n / 10 % 10 ^ k) 10 (n % 10) below in
-    ap (λ (m : ℕ). last_digits k m ++ (48 + n % 10 ^ suc k % 10) ∷ []) q
-    ∙ ap (λ (ds : List ℕ). ds ++ (48 + n % 10 ^ suc k % 10) ∷ []) (last_digits-mod k (n / 10))
-    ∙ ap (λ (d : ℕ). last_digits k (n / 10) ++ (48 + d) ∷ []) r
 
 -- a zero at the end goes
 pub without_zeros-zero : (ds : List ℕ) → without_zeros (ds ++ 48 ∷ []) ≡ without_zeros ds
 without_zeros-zero [] = refl
 without_zeros-zero (c ∷ cs) = ap (λ (ds : List ℕ). if (c == 48) && is_empty ds then [] else c ∷ ds)
     (without_zeros-zero cs)
-
--- of 0 no digit is left
-pub kept_digits-zero : (k : ℕ) → kept_digits k 0 ≡ []
-unfolding kept_digits
-kept_digits-zero zero = refl
-kept_digits-zero (suc k) = without_zeros-zero (last_digits k 0) ∙ kept_digits-zero k
 
 -- a zero more at the end changes nothing
 pub kept_digits-shift : (k n : ℕ) → kept_digits (suc k) (n * 10) ≡ kept_digits k n
@@ -59,59 +34,67 @@ kept_digits-shift k n =
     ∙ ap (λ (d : ℕ). without_zeros (last_digits k n ++ (48 + d) ∷ [])) r
     ∙ without_zeros-zero (last_digits k n)
 
--- nor do j zeros
-pub kept_digits-pad : (j k n : ℕ) → kept_digits (k + j) (n * 10 ^ j) ≡ kept_digits k n
-kept_digits-pad zero k n = let a : k + 0 ≡ k = omega arith in let b : n * 10 ^ 0 ≡ n = omega arith in
-    ap (λ (m : ℕ). kept_digits m (n * 10 ^ 0)) a ∙ ap (λ (m : ℕ). kept_digits k m) b
-kept_digits-pad (suc j) k n =
-    let a : k + suc j ≡ suc (k + j) = omega arith in
-    let b : n * 10 ^ suc j ≡ n * 10 ^ j * 10 = ap (λ (m : ℕ). n * m) (pow-suc 10 j) ∙ sym (mul_assoc n (10 ^ j) 10) in
-    ap (λ (m : ℕ). kept_digits m (n * 10 ^ suc j)) a ∙ ap (λ (m : ℕ). kept_digits (suc (k + j)) m) b
-    ∙ kept_digits-shift (k + j) (n * 10 ^ j) ∙ kept_digits-pad j k n
+-- what is left without a 0 at the end
+pub record IsShorter (k n : ℕ) : Type 0 where
+  pub some : 0 < n / 10
+  pub below : n / 10 < 10 ^ (k - 1)
+  pub same : kept_digits (k - 1) (n / 10) ≡ kept_digits k n
 
--- a digit with something to its right that is kept, or that is not 0 itself
-kept_test : (d : ℕ) (none : Bool) → (d ≡ 0 → none ≡ false) → ((48 + d == 48) && none) ≡ false
-kept_test zero none h = h refl
-kept_test (suc d) none h = grind arith
+pub shorter : (k n : ℕ) → 0 < n → n < 10 ^ k → n % 10 ≡ 0 → IsShorter k n
+shorter zero n some small digit = absurd (omega arith)
+shorter (suc k) n some small digit =
+    let p : 10 ^ suc k ≡ 10 * 10 ^ k = pow-succ' 10 k in
+    let d : suc k - 1 ≡ k = omega arith in
+    let q : 10 ^ (suc k - 1) ≡ 10 ^ k = ap (λ (j : ℕ). 10 ^ j) d in
+    let e : n / 10 * 10 ≡ n = omega arith in
+    record {
+      some = omega arith;
+      below = omega (arith, p, q);
+      same = ap (λ (j : ℕ). kept_digits j (n / 10)) d ∙ sym (kept_digits-shift k (n / 10))
+          ∙ ap (λ (m : ℕ). kept_digits (suc k) m) e;
+    }
 
--- a digit that is kept stays in front of what is kept of the others
-front_kept : (c : ℕ) (ds : List ℕ) → ((c == 48) && is_empty (without_zeros ds)) ≡ false →
-    without_zeros (c ∷ ds) ≡ c ∷ without_zeros ds
-front_kept c ds h = ap (λ (b : Bool). if b then [] else c ∷ without_zeros ds) h
+-- a digit with others behind it that stay is not dropped
+dropped_not : (b : Bool) (d : ℕ) (ds : List ℕ) → (if b && false then [] else d ∷ ds) ≡ d ∷ ds
+dropped_not true d ds = refl
+dropped_not false d ds = refl
 
--- where the last k + 1 digits are not all 0, the first of them is kept
-kept_front : (k n : ℕ) → 0 < n % 10 ^ suc k → (0 < n % 10 ^ k → is_empty (kept_digits k n) ≡ false) →
-    ((48 + n / 10 ^ k % 10 == 48) && is_empty (kept_digits k n)) ≡ false
-kept_front k n some others =
-    let e : n % 10 ^ suc k ≡ (n / 10 ^ k % 10) * 10 ^ k + n % 10 ^ k = ap (λ (m : ℕ). n % m) (pow-succ' 10 k)
-    ∙ mod-mul n (omega arith) (ten_pow_pos k) in
-    kept_test (n / 10 ^ k % 10) (is_empty (kept_digits k n))
-    (λ z. others (omega (arith, e, ap (λ (d : ℕ). d * 10 ^ k) z)))
+-- a list with a last element is not empty
+keeps : (ds : List ℕ) (c : ℕ) → is_empty (ds ++ c ∷ []) ≡ false
+keeps [] c = refl
+keeps (d ∷ ds) c = refl
 
--- of digits that are not all 0 one is left
-kept_some : (k n : ℕ) → 0 < n % 10 ^ k → is_empty (kept_digits k n) ≡ false
+-- any other digit at the end stays, and all before it
+without_zeros-other : (ds : List ℕ) (c : ℕ) → (c == 48) ≡ false → without_zeros (ds ++ c ∷ []) ≡ ds ++ c ∷ []
+without_zeros-other [] c other = ap (λ (b : Bool). if b && true then [] else c ∷ []) other
+without_zeros-other (d ∷ ds) c other =
+    let rest = without_zeros-other ds c other in
+    let some : is_empty (without_zeros (ds ++ c ∷ [])) ≡ false = ap (λ (l : List ℕ). is_empty l) rest ∙ keeps ds c in
+    ap (λ (b : Bool). if (d == 48) && b then [] else d ∷ without_zeros (ds ++ c ∷ [])) some
+    ∙ dropped_not (d == 48) d (without_zeros (ds ++ c ∷ []))
+    ∙ ap (λ (l : List ℕ). d ∷ l) rest
+
+-- where the last digit is not 0, all are kept
+pub kept_digits-all : (k n : ℕ) → 0 < n → n < 10 ^ k → n % 10 ≢ 0 → kept_digits k n ≡ last_digits k n
 unfolding kept_digits
-kept_some zero n some = absurd (omega (arith, mod-one n))
-kept_some (suc k) n some =
-    ap (λ (ds : List ℕ). is_empty (without_zeros ds)) (last_digits-front k n)
-    ∙ ap (λ (ds : List ℕ). is_empty ds) (front_kept (48 + n / 10 ^ k % 10) (last_digits k n)
-    (kept_front k n some (λ h. kept_some k n h)))
+kept_digits-all zero n some small digit = absurd (omega arith)
+kept_digits-all (suc k) n some small digit = without_zeros-other (last_digits k (n / 10)) (48 + n % 10) (grind arith)
 
--- the first digit is kept where anything is left, and the next number has one digit less
-pub kept_digits-next : (k n : ℕ) → 0 < n → n < 10 ^ suc k → kept_digits (suc k) n ≡ (48 + n / 10 ^ k) ∷ kept_digits
-    (suc k) (n % 10 ^ k * 10)
-unfolding kept_digits
-kept_digits-next k n some small =
-    let whole : n % 10 ^ suc k ≡ n = mod-eq_of_lt small in
-    let below : n / 10 ^ k < 10 = div_below n (10 ^ k) 10 (ten_pow_pos k) (omega (arith, pow-succ' 10 k)) in
-    let first : n / 10 ^ k % 10 ≡ n / 10 ^ k = mod-eq_of_lt below in
-    let rest : kept_digits (suc k) (n % 10 ^ k * 10) ≡ without_zeros (last_digits k n) = kept_digits-shift k
-    (n % 10 ^ k) ∙ ap (λ (ds : List ℕ). without_zeros ds) (last_digits-mod k n) in
-    ap (λ (ds : List ℕ). without_zeros ds) (last_digits-front k n)
-    ∙ front_kept (48 + n / 10 ^ k % 10) (last_digits k n) (kept_front k n (omega (arith, whole))
-    (λ h. kept_some k n h))
-    ∙ ap (λ (d : ℕ). (48 + d) ∷ without_zeros (last_digits k n)) first
-    ∙ ap (λ (ds : List ℕ). (48 + n / 10 ^ k) ∷ ds) (sym rest)
+-- a number below 10 ^ k behind a 1 is that 1 and the number's last k digits
+pub decimal-behind_one : (k n : ℕ) → k ≤ 6 → n < 10 ^ k → decimal (10 ^ k + n) ≡ 49 ∷ last_digits k n
+decimal-behind_one zero n few small =
+    let e : 10 ^ 0 + n ≡ 1 = omega arith in
+    ap (λ (m : ℕ). decimal m) e ∙ decimal_digit 1 (omega arith)
+decimal-behind_one (suc k) n few small =
+    let p : 10 ^ suc k ≡ 10 * 10 ^ k = pow-succ' 10 k in
+    let most : 10 ^ suc k ≤ 10 ^ 6 = pow-le-pow_right (omega arith) few in
+    let some = ten_pow_pos k in
+    let q : (10 ^ suc k + n) / 10 ≡ 10 ^ k + n / 10 = omega (arith, p) in
+    let r : (10 ^ suc k + n) % 10 ≡ n % 10 = omega (arith, p) in
+    decimal_step (10 ^ suc k + n) (omega (arith, p, some)) (omega (arith, most))
+    ∙ ap (λ (m : ℕ). decimal m ++ (48 + (10 ^ suc k + n) % 10) ∷ []) q
+    ∙ ap (λ (d : ℕ). decimal (10 ^ k + n / 10) ++ (48 + d) ∷ []) r
+    ∙ ap (λ (ds : List ℕ). ds ++ (48 + n % 10) ∷ []) (decimal-behind_one k (n / 10) (omega arith) (omega (arith, p)))
 
 at_most : (b : Bool) (c : ℕ) (ds : List ℕ) (m : ℕ) → length ds ≤ m → length (if b then [] else c ∷ ds) ≤ suc m
 at_most true c ds m h = omega arith
@@ -133,34 +116,3 @@ length-last_digits (suc k) n = omega (
 pub length-kept_digits : (k n : ℕ) → length (kept_digits k n) ≤ k
 unfolding kept_digits
 length-kept_digits k n = omega (arith, length-without_zeros (last_digits k n), length-last_digits k n)
-
--- the parts of a million
-pub ten_pow_split : (k : ℕ) → k ≤ 6 → 10 ^ k * 10 ^ (6 - k) ≡ 10 ^ 6
-ten_pow_split k small = let e : k + (6 - k) ≡ 6 = omega arith in sym (pow-add 10 k (6 - k)) ∙ ap (λ (m : ℕ). 10 ^ m) e
-
--- a rest of a unit in millionths
-pub millionths-below : (k n : ℕ) → k ≤ 6 → n < 10 ^ k → n * 10 ^ (6 - k) < 10 ^ 6
-millionths-below k n small below = omega (
-  arith,
-  ten_pow_split k small,
-  mul-lt-mul_of_pos_right below
-      (ten_pow_pos (6 - k)),
-)
-
--- the same digits in millionths
-pub kept_digits-millionths : (k n : ℕ) → k ≤ 6 → kept_digits 6 (n * 10 ^ (6 - k)) ≡ kept_digits k n
-kept_digits-millionths k n small = let e : 6 ≡ k + (6 - k) = omega arith in ap
-    (λ (m : ℕ). kept_digits m (n * 10 ^ (6 - k))) e ∙ kept_digits-pad (6 - k) k n
-
--- a step of writing: the next digit, and what is left
-pub kept_digits-step : (xs ys zs : List ℕ) (n : ℕ) → 0 < n → n < 10 ^ 6 → xs ++ kept_digits 6 n ≡ ys →
-    zs ≡ xs ++ (48 + n / 100000) ∷ [] → zs ++ kept_digits 6 (n % 100000 * 10) ≡ ys
-kept_digits-step xs ys zs n some small same pushed =
-    ap (λ (l : List ℕ). l ++ kept_digits 6 (n % 100000 * 10)) pushed
-    ∙ append_assoc xs ((48 + n / 100000) ∷ []) (kept_digits 6 (n % 100000 * 10))
-    ∙ ap (λ (l : List ℕ). xs ++ l) (sym (kept_digits-next 5 n some small)) ∙ same
-
--- it leaves a digit less
-pub length-kept_digits-step : (n : ℕ) → 0 < n → n < 10 ^ 6 →
-    length (kept_digits 6 (n % 100000 * 10)) < length (kept_digits 6 n)
-length-kept_digits-step n some small = omega (arith, ap (λ (l : List ℕ). length l) (kept_digits-next 5 n some small))

@@ -10,7 +10,7 @@ mod read;
 mod write;
 
 pub use read::{NumberFault, read_grid};
-pub use write::write_grid;
+pub use write::{write_grid, write_grid_before};
 
 #[cfg(test)]
 mod tests;

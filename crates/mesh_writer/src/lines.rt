@@ -1,54 +1,65 @@
-// The lines of a mesh, put on a page.
-ghost use Rattle.std.specs.Prelude.{◌≡◌, ◌≤◌, ◌+◌, ◌++◌, IsTrue, decimal};
+// The lines of a mesh, put on a page. A line is made from its end to its front, since the last digits of a number are known first.
+ghost use Rattle.std.specs.Prelude.{◌≡◌, ◌≤◌, ◌+◌, ◌++◌, length, drop, decimal};
 ghost use Rattle.arrayvec.specs.ArrayVec.{array_vec_len};
-ghost use Rattle.text_terms.specs.Numbers.{is_on_grid};
-ghost use Rattle.text_terms.specs.Written.{three_numbers, written};
+ghost use Rattle.text_terms.specs.Written.{line_of, three_numbers};
 ghost use Rattle.mesh_terms.specs.Meshes.{triple_of};
 ghost use Rattle.obj_terms.specs.Written.{point_line, face_line};
 ghost use Rattle.stl_terms.specs.Written.{corner_text};
 
-use crate::page::{Page, put_text};
-use arrayvec::ArrayVec;
-use grid_number::write_grid;
-use itoa::Buffer;
+use crate::page::{LINE, Page, put_text};
+use grid_number::write_grid_before;
+use itoa::write_digits;
 use mb_base::Point;
 
-// Adds a coordinate.
-fn put_coordinate(page: &mut Page, coordinate: i32, digits: u8)
-    requires on_grid { IsTrue (is_on_grid coordinate) }
-    requires digits { digits ≤ 6 }
-    requires room { array_vec_len page.old ≤ 4084 }
-    ensures text { page.new.items ≡ page.old.items ++ written digits coordinate }
-    ensures len { array_vec_len page.new ≤ array_vec_len page.old + 12 }
+// Writes a word before the place `end` of a line, and answers where it starts.
+#[inline(always)]
+fn word_before(word: &[u8], line: &mut [u8; LINE], end: usize) -> usize
+    requires room { (length word.now ≤ end) × (end ≤ 128) }
+    ensures start { result + length word.now ≡ end }
+    ensures text { drop result line.new ≡ word.now ++ drop end line.old }
 {
-    let mut text = ArrayVec::<u8, 24>::new();
-    write_grid(coordinate, digits, &mut text);
-    put_text(page, text.as_slice());
+    let start = end - word.len();
+    line[start..end].copy_from_slice(word);
+    start
 }
 
-// Adds a vertex number, counted from 1.
-fn put_vertex(page: &mut Page, vertex: u32)
-    requires { array_vec_len page.old ≤ 4056 }
-    ensures text { page.new.items ≡ page.old.items ++ decimal (vertex + 1) }
-    ensures len { array_vec_len page.new ≤ array_vec_len page.old + 20 }
+// Writes a vertex number, counted from 1, in the same way.
+fn vertex_before(vertex: u32, line: &mut [u8; LINE], end: usize) -> usize
+    requires room { (10 ≤ end) × (end ≤ 128) }
+    ensures start { result + length (decimal (vertex + 1)) ≡ end }
+    ensures short { end ≤ result + 10 }
+    ensures text { drop result line.new ≡ decimal (vertex + 1) ++ drop end line.old }
 {
-    let mut buffer = Buffer::new();
-    put_text(page, buffer.format(u64::from(vertex) + 1).as_bytes());
+    write_digits(u64::from(vertex) + 1, line, end)
 }
 
-// Adds the coordinates of a point.
-fn put_numbers(page: &mut Page, point: &Point, digits: u8)
+// Writes the coordinates of a point in the same way.
+fn numbers_before(point: &Point, digits: u8, line: &mut [u8; LINE], end: usize) -> usize
     requires digits { digits ≤ 6 }
-    requires room { array_vec_len page.old ≤ 4000 }
-    ensures text { page.new.items ≡ page.old.items ++ three_numbers digits point.now }
-    ensures len { array_vec_len page.new ≤ array_vec_len page.old + 38 }
+    requires room { (38 ≤ end) × (end ≤ 128) }
+    ensures short { (result ≤ end) × (end ≤ result + 38) }
+    ensures text { drop result line.new ≡ three_numbers digits point.now ++ drop end line.old }
 {
-    let at = point.at();
-    put_coordinate(page, at[0], digits);
-    put_text(page, b" ");
-    put_coordinate(page, at[1], digits);
-    put_text(page, b" ");
-    put_coordinate(page, at[2], digits);
+    let [x, y, z] = point.at();
+    let end = write_grid_before(z, digits, line, end);
+    let end = word_before(b" ", line, end);
+    let end = write_grid_before(y, digits, line, end);
+    let end = word_before(b" ", line, end);
+    write_grid_before(x, digits, line, end)
+}
+
+// Adds a line of a word and the coordinates of a point.
+#[inline(always)]
+fn put_numbers(page: &mut Page, word: &[u8], point: &Point, digits: u8)
+    requires word { length word.now ≤ 8 }
+    requires digits { digits ≤ 6 }
+    requires room { array_vec_len page.old ≤ 3968 }
+    ensures { page.new.items ≡ page.old.items ++ line_of (word.now ++ three_numbers digits point.now) }
+{
+    let mut line = [b'\n'; LINE];
+    let end = numbers_before(point, digits, &mut line, LINE - 1);
+    let start = word_before(word, &mut line, end);
+    put_text(page, &line[start..]);
 }
 
 // Adds the line of a point.
@@ -57,9 +68,7 @@ pub fn put_point(page: &mut Page, point: &Point, digits: u8)
     requires room { array_vec_len page.old ≤ 3968 }
     ensures { page.new.items ≡ page.old.items ++ point_line digits point.now }
 {
-    put_text(page, b"v ");
-    put_numbers(page, point, digits);
-    put_text(page, b"\n");
+    put_numbers(page, b"v ", point, digits);
 }
 
 // Adds the line of a corner at a point.
@@ -68,9 +77,7 @@ pub fn put_corner(page: &mut Page, point: &Point, digits: u8)
     requires room { array_vec_len page.old ≤ 3968 }
     ensures { page.new.items ≡ page.old.items ++ corner_text digits point.now }
 {
-    put_text(page, b"vertex ");
-    put_numbers(page, point, digits);
-    put_text(page, b"\n");
+    put_numbers(page, b"vertex ", point, digits);
 }
 
 // Adds the line of a triangle.
@@ -79,11 +86,12 @@ pub fn put_face(page: &mut Page, triple: &[u32; 3])
     ensures { page.new.items ≡ page.old.items ++ face_line (triple_of triple.now) }
 {
     let [a, b, c] = *triple;
-    put_text(page, b"f ");
-    put_vertex(page, a);
-    put_text(page, b" ");
-    put_vertex(page, b);
-    put_text(page, b" ");
-    put_vertex(page, c);
-    put_text(page, b"\n");
+    let mut line = [b'\n'; LINE];
+    let end = vertex_before(c, &mut line, LINE - 1);
+    let end = word_before(b" ", &mut line, end);
+    let end = vertex_before(b, &mut line, end);
+    let end = word_before(b" ", &mut line, end);
+    let end = vertex_before(a, &mut line, end);
+    let start = word_before(b"f ", &mut line, end);
+    put_text(page, &line[start..]);
 }
