@@ -1,18 +1,21 @@
--- The runs of keys, one after the other.
+-- Keys of runs and of single boxes.
 use Rattle.std.specs.Prelude.{min}
 use Rattle.std.specs.List.{flat_map}
-use Rattle.std.proofs.Common.{◌≡◌, ◌∙◌, ℕ, ◌+◌, ◌-◌, ◌*◌, ◌<◌, ◌≤◌, List, [], ◌∷◌, ◌++◌, append-nil, length, get_or, map, take, zero-add, sym, ap, arith, subst}
-use Rattle.std.proofs.lemmas.List.{append_assoc, length_push, map-append, map_push, take_more}
+use Rattle.std.specs.List.Sorted.{IsPermutation}
+use Rattle.std.proofs.Common.{◌≡◌, ◌∙◌, ℕ, ◌+◌, ◌-◌, ◌<◌, ◌≤◌, List, [], ◌∷◌, ◌++◌, append-nil, length, get_or, map, take, zero-add, sym, ap, arith, subst}
+use Rattle.std.proofs.lemmas.List.{append_assoc, map-append, map_push, take_more}
 use Rattle.std.proofs.lemmas.List.Concat.{flat_map-append}
+use Rattle.std.proofs.lemmas.List.Sorted.{IsPermutation-trans, IsPermutation-append_left, IsPermutation-append_right, IsPermutation-append_comm}
 use Rattle.chain_terms.specs.Sums.{up_from, upto}
 use Rattle.chain_laws.proofs.Places.{up_from-append}
+use Rattle.box_tree.specs.declared.TheConstants.{BLOCK}
 use Rattle.box_tree.specs.declared.keys.Key.{Key}
 use Rattle.mb_base.specs.declared.point.Box3.{Box3}
 use Rattle.box_tree.specs.declared.bounds.Bounds.{Bounds}
 use Rattle.box_tree.specs.declared.nodes.Entry.{Entry}
 use Rattle.box_tree.specs.Coarse.{coarse_box}
 use Rattle.box_tree.specs.Touching.{box_at}
-use Rattle.box_tree.specs.Keys.{numbers_of_run, numbers_of_runs}
+use Rattle.box_tree.specs.Keys.{numbers_of_run, numbers_of_runs, numbers_of_keys}
 use Rattle.box_tree.specs.Nodes.{entry_of}
 
 -- a key that is not there
@@ -25,32 +28,66 @@ runs_push n run keys key =
     let numbers : Key → List ℕ = λ k. numbers_of_run n run k.first in
     flat_map-append numbers keys (key ∷ []) ∙ ap (λ l. flat_map numbers keys ++ l) (append-nil (numbers key))
 
--- the numbers below that of a key, and then those of its run
-pub run_more : (n run : ℕ) (keys more : List Key) (key : Key) (end : ℕ) → more ≡ keys ++ key ∷ [] → numbers_of_runs n run keys ≡ upto key.first → key.first ≤ n → end ≡ min n (key.first + run) →
-    numbers_of_runs n run more ≡ upto end
-run_more n run keys more key end push before within last =
-    let count = min run (n - key.first) in
-    let to : key.first + count ≡ end = omega (arith, within, last) in
-    ap (numbers_of_runs n run) push ∙ runs_push n run keys key ∙ ap (λ l. l ++ up_from key.first count) before ∙ ap (λ k. upto key.first ++ up_from k count) (sym (zero-add key.first)) ∙ sym (up_from-append 0 key.first count) ∙ ap upto to
+-- the numbers of single boxes, with one box more
+pub single_more : (n : ℕ) (keys more : List Key) (key : Key) (before : List ℕ) (first : ℕ) → more ≡ keys ++ key ∷ [] → key.first < n → first ≤ key.first → numbers_of_runs n 1 keys ≡ before ++ up_from first (key.first - first) →
+    numbers_of_runs n 1 more ≡ before ++ up_from first (key.first + 1 - first)
+single_more n keys more key before first push low from h =
+    let many = key.first - first in
+    let count = min 1 (n - key.first) in
+    let at : first + many ≡ key.first = omega arith in
+    let all : many + count ≡ key.first + 1 - first = omega arith in
+    ap (numbers_of_runs n 1) push ∙ runs_push n 1 keys key ∙ ap (λ l. l ++ up_from key.first count) h ∙ append_assoc before (up_from first many) (up_from key.first count)
+    ∙ ap (λ l. before ++ l) (ap (λ k. up_from first many ++ up_from k count) (sym at) ∙ sym (up_from-append first many count) ∙ ap (up_from first) all)
 
--- with one key more, there is room for the boxes up to the end of its run
-pub many_more : (run : ℕ) (keys more : List Key) (key : Key) (first end : ℕ) → more ≡ keys ++ key ∷ [] → first ≤ length keys * run → end ≤ first + run → end ≤ length more * run
-many_more run keys more key first end push before last =
-    let long : length more ≡ length keys + 1 = ap length push ∙ length_push keys key in
-    let room : (length keys + 1) * run ≡ length keys * run + run = omega arith in
-    let L : ℕ → Type 0 = λ m. end ≤ m * run in
-    subst L (sym long) (omega (arith, room, before, last))
+-- the numbers below that of a run, and then its own
+upto_more : (first end : ℕ) → first ≤ end → upto first ++ up_from first (end - first) ≡ upto end
+upto_more first end order =
+    let to : first + (end - first) ≡ end = omega arith in
+    ap (λ k. upto first ++ up_from k (end - first)) (sym (zero-add first)) ∙ sym (up_from-append 0 first (end - first)) ∙ ap upto to
+
+-- the numbers up to the end of a run whose boxes have keys of their own
+pub singles_keep : (n first end : ℕ) (runs singles more : List Key) → first ≤ end → IsPermutation (upto first) (numbers_of_keys n runs singles) → numbers_of_runs n 1 more ≡ numbers_of_runs n 1 singles ++ up_from first (end - first) →
+    IsPermutation (upto end) (numbers_of_keys n runs more)
+singles_keep n first end runs singles more order h added =
+    let rs = numbers_of_runs n BLOCK runs in
+    let ss = numbers_of_runs n 1 singles in
+    let own = up_from first (end - first) in
+    let P : List ℕ → Type 0 = λ l. IsPermutation l (rs ++ numbers_of_runs n 1 more) in
+    let Q : List ℕ → Type 0 = λ l. IsPermutation (upto first ++ own) (rs ++ l) in
+    let R : List ℕ → Type 0 = λ l. IsPermutation (upto first ++ own) l in
+    subst P (upto_more first end order) (subst Q (sym added) (subst R (append_assoc rs ss own) (IsPermutation-append_left own (upto first) (rs ++ ss) h)))
+
+-- the numbers up to the end of a run that has a key
+pub run_keeps : (n first end : ℕ) (runs singles more : List Key) (key : Key) → end ≡ first + BLOCK → end ≤ n → key.first ≡ first → more ≡ runs ++ key ∷ [] → IsPermutation (upto first) (numbers_of_keys n runs singles) →
+    IsPermutation (upto end) (numbers_of_keys n more singles)
+run_keeps n first end runs singles more key last within here push h =
+    let rs = numbers_of_runs n BLOCK runs in
+    let ss = numbers_of_runs n 1 singles in
+    let own = up_from first (end - first) in
+    let size : min BLOCK (n - first) ≡ end - first = omega arith in
+    let added : numbers_of_runs n BLOCK more ≡ rs ++ own = ap (numbers_of_runs n BLOCK) push ∙ runs_push n BLOCK runs key ∙ ap (λ l. rs ++ l) (ap (numbers_of_run n BLOCK) here ∙ ap (up_from first) size) in
+    let moved : IsPermutation ((rs ++ ss) ++ own) ((rs ++ own) ++ ss) =
+    let A : List ℕ → Type 0 = λ l. IsPermutation l ((rs ++ own) ++ ss) in
+    let B : List ℕ → Type 0 = λ l. IsPermutation (rs ++ (ss ++ own)) l in
+    subst A (sym (append_assoc rs ss own)) (subst B (sym (append_assoc rs own ss)) (IsPermutation-append_right rs (ss ++ own) (own ++ ss) (IsPermutation-append_comm ss own))) in
+    let P : List ℕ → Type 0 = λ l. IsPermutation l (numbers_of_keys n more singles) in
+    let Q : List ℕ → Type 0 = λ l. IsPermutation (upto first ++ own) (l ++ ss) in
+    subst P (upto_more first end (omega (arith, last))) (subst Q (sym added)
+    (IsPermutation-trans (upto first ++ own) ((rs ++ ss) ++ own) ((rs ++ own) ++ ss) (IsPermutation-append_left own (upto first) (rs ++ ss) h) moved))
 
 -- the entries of the runs of keys, with those of one key more
-pub entries_of_key : (shift : ℕ) (boxes : List Box3) (run : ℕ) (keys : List Key) (i : ℕ) (entries more : List Entry) → i < length keys →
-    entries ≡ map (entry_of shift boxes) (numbers_of_runs (length boxes) run (take i keys)) → more ≡ entries ++ map (entry_of shift boxes) (numbers_of_run (length boxes) run (get_or keys i no_key).first) →
-    more ≡ map (entry_of shift boxes) (numbers_of_runs (length boxes) run (take (i + 1) keys))
-entries_of_key shift boxes run keys i entries more low before added =
+pub entries_of_key : (shift : ℕ) (boxes : List Box3) (run : ℕ) (keys : List Key) (i : ℕ) (front entries more : List Entry) → i < length keys →
+    entries ≡ front ++ map (entry_of shift boxes) (numbers_of_runs (length boxes) run (take i keys)) → more ≡ entries ++ map (entry_of shift boxes) (numbers_of_run (length boxes) run (get_or keys i no_key).first) →
+    more ≡ front ++ map (entry_of shift boxes) (numbers_of_runs (length boxes) run (take (i + 1) keys))
+entries_of_key shift boxes run keys i front entries more low before added =
     let n = length boxes in
     let d = no_key in
-    added ∙ ap (λ l. l ++ map (entry_of shift boxes) (numbers_of_run n run (get_or keys i d).first)) before
-    ∙ sym (map-append (entry_of shift boxes) (numbers_of_runs n run (take i keys)) (numbers_of_run n run (get_or keys i d).first))
-    ∙ ap (map (entry_of shift boxes)) (sym (runs_push n run (take i keys) (get_or keys i d)) ∙ ap (numbers_of_runs n run) (sym (take_more keys i d low)))
+    let old = map (entry_of shift boxes) (numbers_of_runs n run (take i keys)) in
+    let own = map (entry_of shift boxes) (numbers_of_run n run (get_or keys i d).first) in
+    added ∙ ap (λ l. l ++ own) before ∙ append_assoc front old own
+    ∙ ap (λ l. front ++ l)
+    (sym (map-append (entry_of shift boxes) (numbers_of_runs n run (take i keys)) (numbers_of_run n run (get_or keys i d).first))
+    ∙ ap (map (entry_of shift boxes)) (sym (runs_push n run (take i keys) (get_or keys i d)) ∙ ap (numbers_of_runs n run) (sym (take_more keys i d low))))
 
 -- the entries of a run, with one box more
 pub entry_pushed : (shift : ℕ) (boxes : List Box3) (front : List Entry) (first number : ℕ) (entries pushed : List Entry) (bounds : Bounds) → first ≤ number →

@@ -10,16 +10,16 @@ use Rattle.std.proofs.lemmas.Bool.{and_parts, and_from}
 use Rattle.std.proofs.lemmas.Int.{ints, clamps}
 use Rattle.std.proofs.lemmas.List.{length-map}
 use Rattle.std.proofs.lemmas.List.Elements.{All-from_get_or, All-map, All-same, All-weaker}
-use Rattle.std.proofs.lemmas.List.Sorted.{All-permutation, length_permutation}
+use Rattle.std.proofs.lemmas.List.Sorted.{All-permutation, length_permutation, IsPermutation-append, IsPermutation-trans}
 use Rattle.chain_terms.specs.Sums.{upto}
 use Rattle.chain_laws.proofs.Places.{get_or-up_from, length-up_from}
 use Rattle.mb_base.specs.declared.point.Box3.{Box3}
-use Rattle.box_tree.specs.declared.TheConstants.{MOST_BOXES}
+use Rattle.box_tree.specs.declared.TheConstants.{BLOCK, MOST_BOXES}
 use Rattle.box_tree.specs.declared.nodes.Entry.{Entry}
 use Rattle.box_tree.specs.declared.keys.Key.{Key}
 use Rattle.box_tree.specs.Coarse.{coarse_step, coarse_range, coarse_box, ranges_meet, bounds_meet}
 use Rattle.box_tree.specs.Touching.{end_on, overlap_on, touches, box_at}
-use Rattle.box_tree.specs.Keys.{numbers_of_run, numbers_of_runs}
+use Rattle.box_tree.specs.Keys.{numbers_of_run, numbers_of_runs, numbers_of_keys}
 use Rattle.box_tree.specs.Nodes.{AreEntries, AreStored, entry_of, numbers_of, stored_box}
 use Rattle.box_tree.specs.Walks.{IsFair}
 use Rattle.box_tree.proofs.Orders.{flat_map_moved}
@@ -92,16 +92,19 @@ made_numbers : (shift : ℕ) (boxes : List Box3) (numbers : List ℕ) → number
 made_numbers shift boxes [] = refl
 made_numbers shift boxes (k ∷ ks) = ap (λ l. k ∷ l) (made_numbers shift boxes ks)
 
--- the entries that are made of the runs of keys in another order
-pub entries_made : (shift : ℕ) (boxes : List Box3) (run : ℕ) (keys sorted : List Key) (entries : List Entry) → length boxes ≤ MOST_BOXES → numbers_of_runs (length boxes) run keys ≡ upto (length boxes) →
-    IsPermutation keys sorted → entries ≡ map (entry_of shift boxes) (numbers_of_runs (length boxes) run sorted) → AreEntries shift boxes entries
-entries_made shift boxes run keys sorted entries few all moved made =
-    let runs = numbers_of_runs (length boxes) run sorted in
-    let numbers : numbers_of entries ≡ runs = ap numbers_of made ∙ made_numbers shift boxes runs in
-    let P : List ℕ → Type 0 = λ l. IsPermutation (upto (length boxes)) l in
-    let Q : List ℕ → Type 0 = λ l. IsPermutation l runs in
+-- the entries that are made of the numbers of keys in another order
+pub entries_made : (shift : ℕ) (boxes : List Box3) (runs singles runs' singles' : List Key) (entries : List Entry) → length boxes ≤ MOST_BOXES → IsPermutation (upto (length boxes)) (numbers_of_keys (length boxes) runs singles) →
+    IsPermutation runs runs' → IsPermutation singles singles' → entries ≡ map (entry_of shift boxes) (numbers_of_keys (length boxes) runs' singles') → AreEntries shift boxes entries
+entries_made shift boxes runs singles runs' singles' entries few all moved_runs moved_singles made =
+    let n = length boxes in
+    let now = numbers_of_keys n runs' singles' in
+    let numbers : numbers_of entries ≡ now = ap numbers_of made ∙ made_numbers shift boxes now in
+    let moved : IsPermutation (numbers_of_keys n runs singles) now =
+    IsPermutation-append (numbers_of_runs n BLOCK runs) (numbers_of_runs n BLOCK runs') (numbers_of_runs n 1 singles) (numbers_of_runs n 1 singles')
+    (flat_map_moved (λ k. numbers_of_run n BLOCK k.first) runs runs' moved_runs) (flat_map_moved (λ k. numbers_of_run n 1 k.first) singles singles' moved_singles) in
+    let P : List ℕ → Type 0 = λ l. IsPermutation (upto n) l in
     record {
       few = few;
-      order = subst P (sym numbers) (subst Q all (flat_map_moved (λ k. numbers_of_run (length boxes) run k.first) keys sorted moved));
+      order = subst P (sym numbers) (IsPermutation-trans (upto n) (numbers_of_keys n runs singles) now all moved);
       made = made ∙ ap (map (entry_of shift boxes)) (sym numbers);
     }

@@ -19,15 +19,6 @@ pub struct Bounds {
     pub z: Range,
 }
 
-const NO_RANGE: Range = Range { low: 0, high: 0 };
-
-/// Bounds that reach nowhere.
-pub const NO_BOUNDS: Bounds = Bounds {
-    x: NO_RANGE,
-    y: NO_RANGE,
-    z: NO_RANGE,
-};
-
 /// A coordinate in coarse steps of 2^shift fine steps, rounded down, and cut off at the ends of an i32.
 #[inline]
 fn coarse(at: i64, shift: u32) -> i32
@@ -113,10 +104,13 @@ impl Bounds {
         self.x.meets(other.x) && self.y.meets(other.y) && self.z.meets(other.z)
     }
 
-    /// How far they reach on all three axes together.
+    /// Half of their surface.
     #[inline]
-    pub fn reach(self) -> u64 {
-        self.x.reach() + self.y.reach() + self.z.reach()
+    pub fn surface(self) -> u128 {
+        let (x, y, z) = (self.x.reach(), self.y.reach(), self.z.reach());
+        u128::from(x.saturating_mul(y))
+            + u128::from(y.saturating_mul(z))
+            + u128::from(z.saturating_mul(x))
     }
 
     /// Bounds that take in both.

@@ -1,10 +1,11 @@
-// Keys, by which boxes are put in order. A key stands for a run of boxes whose numbers follow each other: a mesh lists triangles that
-// are near each other one after the other as a rule. Where it does not, each key stands for a single box.
-ghost use Rattle.std.specs.Prelude.{◌≡◌, ◌/◌, ◌<◌, ◌≤◌, IfOk, length};
-ghost use Rattle.chain_terms.specs.Sums.{upto};
-ghost use Rattle.box_tree.specs.Keys.{numbers_of_runs};
+// Keys, by which boxes are put in order. A mesh lists triangles that are near each other one after the other as a rule. So a key may stand
+// for a run of boxes whose numbers follow each other; where such a run reaches far, each of its boxes has a key of its own.
+ghost use Rattle.std.specs.Prelude.{◌≡◌, ◌+◌, ◌-◌, ◌++◌, ◌<◌, ◌≤◌, ◌^◌, IfOk, IfSome, OnOk, length};
+ghost use Rattle.std.specs.List.Sorted.{IsPermutation};
+ghost use Rattle.chain_terms.specs.Sums.{up_from, upto};
+ghost use Rattle.box_tree.specs.Keys.{numbers_of_keys, numbers_of_runs};
 
-use crate::bounds::{Bounds, NO_BOUNDS, Range};
+use crate::bounds::{Bounds, Range};
 use crate::boxes::Boxes;
 use crate::{BLOCK, MOST_BOXES};
 use mb_base::NoMemory;
@@ -17,75 +18,113 @@ pub struct Key {
     pub first: u32,
 }
 
+/// The keys of runs of as many boxes as a block has, and those of single boxes.
+#[derive(Drop)]
+pub struct Keys {
+    pub runs: Vec<Key>,
+    pub singles: Vec<Key>,
+}
+
 // The middle of a range, to within a step.
 #[inline]
 fn middle(range: Range) -> i32 {
     (range.low >> 1) + (range.high >> 1)
 }
 
-// Bounds round the boxes from one number to another.
-fn bounds_of_run<B: Boxes>(boxes: &B, shift: u32, first: usize, end: usize) -> Bounds
+// The key of boxes with these bounds round them.
+#[inline]
+fn key_of(bounds: Bounds, first: usize) -> Key
+    requires { first < 2 ^ 32 }
+    ensures { result.first ≡ first }
+{
+    Key {
+        at: [middle(bounds.x), middle(bounds.y), middle(bounds.z)],
+        first: first as u32,
+    }
+}
+
+// The bounds round a run of boxes, where their surface is at most four times that of the boxes; none where it is greater, or where the
+// run has fewer boxes than a block.
+fn bounds_of_run<B: Boxes>(boxes: &B, shift: u32, first: usize, end: usize) -> Option<Bounds>
     requires some { first < end }
     requires there { end ≤ length (B.boxes boxes.now) }
     requires small { shift < 64 }
+    ensures { IfSome result (λ _. end ≡ first + BLOCK) }
 {
+    if end - first != BLOCK {
+        return None;
+    }
     let mut bounds = Bounds::of(&boxes.box_at(first), shift);
+    let mut alone = bounds.surface();
     for number in first + 1..end {
-        bounds = bounds.joined(Bounds::of(&boxes.box_at(number), shift));
-    }
-    bounds
-}
-
-/// How many boxes a key stands for: as many as a block has, where the bounds round such runs reach no farther, all together, than the
-/// boxes themselves, and else one. Any number serves: no clause says which.
-pub fn run_over<B: Boxes>(boxes: &B, shift: u32) -> usize
-    requires { shift < 64 }
-    ensures some { 0 < result }
-    ensures few { result ≤ BLOCK }
-{
-    let (mut alone, mut joined): (u64, u64) = (0, 0);
-    let mut bounds = NO_BOUNDS;
-    for number in 0..boxes.count() {
         let one = Bounds::of(&boxes.box_at(number), shift);
-        alone = alone.saturating_add(one.reach());
-        if number % BLOCK == 0 {
-            joined = joined.saturating_add(bounds.reach());
-            bounds = one;
-        } else {
-            bounds = bounds.joined(one);
-        }
+        alone = alone.saturating_add(one.surface());
+        bounds = bounds.joined(one);
     }
-    if joined.saturating_add(bounds.reach()) <= alone {
-        BLOCK
+    if bounds.surface() / 4 <= alone {
+        Some(bounds)
     } else {
-        1
+        None
     }
 }
 
-/// A key for each run of boxes, in the order of their numbers. The last run may have fewer boxes than the others.
-pub fn keys_of<B: Boxes>(
-    alloc: Global,
+// Adds a key for each box from one number to another.
+fn push_singles<B: Boxes>(
+    singles: &mut Vec<Key>,
     boxes: &B,
     shift: u32,
-    run: usize,
-) -> Result<Vec<Key>, NoMemory>
+    first: usize,
+    end: usize,
+) -> Result<(), NoMemory>
+    requires few { length (B.boxes boxes.now) ≤ MOST_BOXES }
+    requires order { first ≤ end }
+    requires there { end ≤ length (B.boxes boxes.now) }
+    requires small { shift < 64 }
+    ensures { OnOk result (numbers_of_runs (length (B.boxes boxes.now)) 1 singles.new.items ≡ numbers_of_runs (length (B.boxes boxes.now)) 1 singles.old.items ++ up_from first (end - first)) }
+{
+    for number in first..end {
+        singles.push(key_of(Bounds::of(&boxes.box_at(number), shift), number))?;
+    }
+    Ok(())
+}
+
+// Adds the keys of a run of boxes: one where they keep together, and else one for each box.
+fn push_keys<B: Boxes>(
+    keys: &mut Keys,
+    boxes: &B,
+    shift: u32,
+    first: usize,
+    end: usize,
+) -> Result<(), NoMemory>
+    requires few { length (B.boxes boxes.now) ≤ MOST_BOXES }
+    requires some { first < end }
+    requires there { end ≤ length (B.boxes boxes.now) }
+    requires small { shift < 64 }
+    requires all { IsPermutation (upto first) (numbers_of_keys (length (B.boxes boxes.now)) keys.old.runs.items keys.old.singles.items) }
+    ensures { OnOk result (IsPermutation (upto end) (numbers_of_keys (length (B.boxes boxes.now)) keys.new.runs.items keys.new.singles.items)) }
+{
+    match bounds_of_run(boxes, shift, first, end) {
+        Some(bounds) => keys.runs.push(key_of(bounds, first))?,
+        None => push_singles(&mut keys.singles, boxes, shift, first, end)?,
+    }
+    Ok(())
+}
+
+/// A key for each run of boxes that keeps together, and one for each other box. A run keeps together where the box round it has at most
+/// four times the surface of its boxes. Each run is judged by itself, so that no part of a mesh makes up for another.
+pub fn keys_of<B: Boxes>(alloc: Global, boxes: &B, shift: u32) -> Result<Keys, NoMemory>
     requires few { length (B.boxes boxes.now) ≤ MOST_BOXES }
     requires small { shift < 64 }
-    requires some { 0 < run }
-    requires short { run ≤ BLOCK }
-    ensures all { IfOk result (λ keys. numbers_of_runs (length (B.boxes boxes.now)) run keys.items ≡ upto (length (B.boxes boxes.now))) }
-    ensures many { IfOk result (λ keys. length (B.boxes boxes.now) / run ≤ length keys.items) }
+    ensures { IfOk result (λ keys. IsPermutation (upto (length (B.boxes boxes.now))) (numbers_of_keys (length (B.boxes boxes.now)) keys.runs.items keys.singles.items)) }
 {
     let count = boxes.count();
-    let mut keys = Vec::with_capacity(alloc, count.div_ceil(run))?;
+    let runs = Vec::with_capacity(alloc, count / BLOCK)?;
+    let singles = Vec::new(alloc);
+    let mut keys = Keys { runs, singles };
     let mut first = 0;
     while first < count {
-        let end = count.min(first + run);
-        let bounds = bounds_of_run(boxes, shift, first, end);
-        keys.push(Key {
-            at: [middle(bounds.x), middle(bounds.y), middle(bounds.z)],
-            first: first as u32,
-        })?;
+        let end = count.min(first + BLOCK);
+        push_keys(&mut keys, boxes, shift, first, end)?;
         first = end;
     }
     Ok(keys)

@@ -25,5 +25,5 @@ pub const MOST_BOXES: usize = 300_000_000;
 /// The most entries in a block.
 const BLOCK: usize = 16;
 
-/// The places of a walk's stack. Each place has at most half as many blocks as the one below it, so some thirty are used.
+/// The places of a walk's stack. Each place has at most half as many blocks as the one below it, so fewer than thirty are used.
 const STACK: usize = 64;

@@ -2,7 +2,7 @@
 ghost use Rattle.std.specs.Prelude.{◌≡◌, ◌+◌, ◌-◌, ◌*◌, ◌^◌, ◌<◌, ◌≤◌, ◌⊎◌, ℕ, length, IfOk};
 ghost use Rattle.box_tree.specs.Nodes.{run_of, node_at, IsRound, HasRun, IsNode, AreNodes, IsRoot};
 
-use crate::bounds::{Bounds, NO_BOUNDS};
+use crate::bounds::{Bounds, Range};
 use crate::{BLOCK, MOST_BOXES};
 use mb_base::NoMemory;
 use std::alloc::Global;
@@ -22,8 +22,14 @@ pub struct Node {
     pub count: u32,
 }
 
+const NO_RANGE: Range = Range { low: 0, high: 0 };
+
 const NO_NODE: Node = Node {
-    bounds: NO_BOUNDS,
+    bounds: Bounds {
+        x: NO_RANGE,
+        y: NO_RANGE,
+        z: NO_RANGE,
+    },
     first: 0,
     count: 0,
 };

@@ -3,8 +3,8 @@ ghost use Rattle.std.specs.Prelude.{◌≤◌, length, IfOk};
 ghost use Rattle.std.specs.List.{All};
 ghost use Rattle.box_tree.specs.Touching.{IsBox};
 
-use crate::keys::run_over;
-use crate::{BLOCK, Tree};
+use crate::Tree;
+use crate::keys::keys_of;
 use mb_base::Box3;
 use std::alloc::Global;
 use std::test::Fail;
@@ -54,8 +54,8 @@ fn boxes_are_found_by_an_area(rt: HostRuntime) -> Result<(), Fail> {
     Ok(())
 }
 
-// Two blocks and a half.
-const COUNT: u32 = 40;
+// Ten blocks and a half.
+const COUNT: u32 = 168;
 
 // The box at a place of a line. Those at two places do not touch.
 fn box_at(place: u32) -> Box3
@@ -68,21 +68,30 @@ fn box_at(place: u32) -> Box3
     }
 }
 
-// Boxes on a line, each a stride of places after the one before, where places are counted round.
-fn line(alloc: Global, stride: u32) -> Result<Vec<Box3>, Fail>
-    ensures few { IfOk result (λ boxes. length boxes.items ≤ 40) }
+// The place of a box on a line: those before a number stand in order, and the others with far steps between them.
+fn place_of(number: u32, ordered: u32) -> u32 {
+    if number < ordered || COUNT <= ordered {
+        number
+    } else {
+        ordered + number.wrapping_mul(17) % (COUNT - ordered)
+    }
+}
+
+// Boxes on a line, those before a number in order.
+fn line(alloc: Global, ordered: u32) -> Result<Vec<Box3>, Fail>
+    ensures few { IfOk result (λ boxes. length boxes.items ≤ 168) }
     ensures boxes { IfOk result (λ boxes. All IsBox boxes.items) }
 {
     let mut boxes = Vec::new(alloc);
     for number in 0..COUNT {
-        boxes.push(box_at(number.wrapping_mul(stride) % COUNT))?;
+        boxes.push(box_at(place_of(number, ordered)))?;
     }
     Ok(boxes)
 }
 
 // Whether a tree over the boxes of a line finds all of them, and each by itself.
-fn all_are_found(alloc: Global, stride: u32) -> Result<bool, Fail> {
-    let boxes = line(alloc, stride)?;
+fn all_are_found(alloc: Global, ordered: u32) -> Result<bool, Fail> {
+    let boxes = line(alloc, ordered)?;
     let tree = Tree::build(alloc, &boxes)?;
     let mut each = Vec::new(alloc);
     for area in &boxes {
@@ -100,10 +109,11 @@ fn all_are_found(alloc: Global, stride: u32) -> Result<bool, Fail> {
 
 #[test]
 fn keys_stand_for_runs_or_single_boxes(rt: HostRuntime) -> Result<(), Fail> {
-    for (stride, run) in [(1, BLOCK), (17, 1)] {
-        let boxes = line(rt.alloc(), stride)?;
-        assert!(rt; run_over(&boxes.as_slice(), 0) == run);
-        assert!(rt; all_are_found(rt.alloc(), stride)?);
+    for (ordered, runs) in [(COUNT, 10), (80, 5), (0, 0)] {
+        let boxes = line(rt.alloc(), ordered)?;
+        let keys = keys_of(rt.alloc(), &boxes.as_slice(), 0)?;
+        assert!(rt; keys.runs.len() == runs);
+        assert!(rt; all_are_found(rt.alloc(), ordered)?);
     }
     Ok(())
 }

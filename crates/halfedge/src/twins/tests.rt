@@ -1,4 +1,4 @@
-// What clones and renamed twins share.
+// What clones share.
 use crate::Twins;
 use samples::TETRAHEDRON;
 use std::rc::Rc;

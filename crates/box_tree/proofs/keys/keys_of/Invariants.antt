@@ -1,13 +1,13 @@
-use Rattle.std.specs.Prelude.{◌≡◌, ◌*◌, ◌-◌, ◌≤◌, length}
+use Rattle.std.specs.Prelude.{◌-◌, ◌≤◌}
+use Rattle.std.specs.List.Sorted.{IsPermutation}
 use Rattle.chain_terms.specs.Sums.{upto}
-use Rattle.box_tree.specs.Keys.{numbers_of_runs}
+use Rattle.box_tree.specs.Keys.{numbers_of_keys}
 use Rattle.box_tree.proofs.keys.keys_of.Given as goal
 
 abbrev pub invariant-loop-first : goal.invariant-loop-first
 invariant-loop-first g l = record {
   within : l.first ≤ l.count;
-  all : numbers_of_runs l.count l.run l.keys.items ≡ upto l.first;
-  many : l.first ≤ length l.keys.items * l.run;
+  all : IsPermutation (upto l.first) (numbers_of_keys l.count l.keys.runs.items l.keys.singles.items);
 }
 
 abbrev pub decreases-loop-first : goal.decreases-loop-first
