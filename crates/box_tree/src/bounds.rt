@@ -104,10 +104,10 @@ impl Bounds {
         self.x.meets(other.x) && self.y.meets(other.y) && self.z.meets(other.z)
     }
 
-    /// Half of their surface.
+    /// Half of their surface, where each step has a width.
     #[inline]
     pub fn surface(self) -> u128 {
-        let (x, y, z) = (self.x.reach(), self.y.reach(), self.z.reach());
+        let (x, y, z) = (self.x.reach() + 1, self.y.reach() + 1, self.z.reach() + 1);
         u128::from(x.saturating_mul(y))
             + u128::from(y.saturating_mul(z))
             + u128::from(z.saturating_mul(x))

@@ -43,8 +43,7 @@ fn key_of(bounds: Bounds, first: usize) -> Key
     }
 }
 
-// The bounds round a run of boxes, where their surface is at most four times that of the boxes; none where it is greater, or where the
-// run has fewer boxes than a block.
+// The bounds round a run of boxes, where the run keeps together; none where it does not, or where it has fewer boxes than a block.
 fn bounds_of_run<B: Boxes>(boxes: &B, shift: u32, first: usize, end: usize) -> Option<Bounds>
     requires some { first < end }
     requires there { end ≤ length (B.boxes boxes.now) }
@@ -55,17 +54,26 @@ fn bounds_of_run<B: Boxes>(boxes: &B, shift: u32, first: usize, end: usize) -> O
         return None;
     }
     let mut bounds = Bounds::of(&boxes.box_at(first), shift);
-    let mut alone = bounds.surface();
+    let mut alone = [bounds.surface(); BLOCK];
     for number in first + 1..end {
         let one = Bounds::of(&boxes.box_at(number), shift);
-        alone = alone.saturating_add(one.surface());
+        alone[number - first] = one.surface();
         bounds = bounds.joined(one);
     }
-    if bounds.surface() / 4 <= alone {
+    if share_surface(&alone, bounds.surface()) {
         Some(bounds)
     } else {
         None
     }
+}
+
+// Whether all but four of the surfaces of a run's boxes are each a sixty-fourth of the surface round the run or more.
+fn share_surface(alone: &[u128; BLOCK], around: u128) -> bool {
+    let close = alone
+        .iter()
+        .filter(|one| around <= one.saturating_mul(64))
+        .count();
+    close >= BLOCK - 4
 }
 
 // Adds a key for each box from one number to another.
@@ -110,8 +118,9 @@ fn push_keys<B: Boxes>(
     Ok(())
 }
 
-/// A key for each run of boxes that keeps together, and one for each other box. A run keeps together where the box round it has at most
-/// four times the surface of its boxes. Each run is judged by itself, so that no part of a mesh makes up for another.
+/// A key for each run of boxes that keeps together, and one for each other box. A run keeps together where all but four of its boxes have each
+/// a sixty-fourth of the surface of the box round it or more. Each run is judged by itself, and so is each of its boxes, so that no part
+/// of a mesh makes up for another.
 pub fn keys_of<B: Boxes>(alloc: Global, boxes: &B, shift: u32) -> Result<Keys, NoMemory>
     requires few { length (B.boxes boxes.now) ≤ MOST_BOXES }
     requires small { shift < 64 }

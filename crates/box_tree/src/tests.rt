@@ -61,7 +61,7 @@ const COUNT: u32 = 168;
 fn box_at(place: u32) -> Box3
     ensures { IsBox result }
 {
-    let low = i64::from(place) * 3;
+    let low = i64::from(place) * 8;
     Box3 {
         low: [low, 0, 0],
         high: [low + 2, 2, 2],
@@ -101,7 +101,7 @@ fn all_are_found(alloc: Global, ordered: u32) -> Result<bool, Fail> {
     }
     let around = Box3 {
         low: [0, 0, 0],
-        high: [1_000, 2, 2],
+        high: [2_000, 2, 2],
     };
     let all = found(alloc, &tree, around)?;
     Ok(each.iter().copied().eq(0..COUNT) && all.iter().copied().eq(0..COUNT))
