@@ -53,15 +53,16 @@ fn reads_a_file_of_nothing(rt: HostRuntime) -> Result<(), Fail> {
     Ok(())
 }
 
+// The triangles of a polygon of five points.
+const FAN: [[u32; 3]; 3] = [[0, 1, 2], [0, 2, 3], [0, 3, 4]];
+
 #[test]
 fn makes_a_fan_of_a_polygon(rt: HostRuntime) -> Result<(), Fail> {
     let bytes = b"v 5 5 5\nv 0 0 0\nv 2.5 0 0\nv 2 2 0\nv 1 3 0\nv 0 2 0\nf -5 -4 -3 -2 6\n";
     let soup = read_obj(rt.alloc(), bytes, 0, &Limits::program())?;
-    let triples = [[0, 1, 2], [0, 2, 3], [0, 3, 4]];
-    assert_eq!(rt; soup.points().len(), 5);
+    assert_eq!(rt; (soup.points().len(), soup.unused()), (5, 1));
     assert_eq!(rt; soup.points()[1].at(), [3, 0, 0]);
-    assert_eq!(rt; soup.triples(), triples.as_slice());
-    assert_eq!(rt; soup.unused(), 1);
+    assert_eq!(rt; soup.triples(), FAN.as_slice());
     Ok(())
 }
 
@@ -117,20 +118,36 @@ fn refuses_the_first_faulty_line(rt: HostRuntime) -> Result<(), Fail> {
     Ok(())
 }
 
+// A text and what comes after it.
+fn joined(alloc: Global, front: &[u8], after: &[u8]) -> Result<Vec<u8>, Fail> {
+    let mut bytes = front.to_vec(alloc)?;
+    bytes.extend_from_slice(after)?;
+    Ok(bytes)
+}
+
+const MANY_POINTS: &[u8] =
+    b"v 0 0 0\nv 1 0 0\nv 2 0 0\nv 3 0 0\nv 4 0 0\nv 5 0 0\nv 6 0 0\nv 7 0 0\nv 8 0 0\nv 9 0 0\nv 10 0 0\nv 11 0 0\nv 12 0 0\nv 13 0 0\n";
+
 #[test]
-fn finds_a_repeat_among_many_vertices(rt: HostRuntime) -> Result<(), Fail> {
-    let points =
-        b"v 0 0 0\nv 1 0 0\nv 2 0 0\nv 3 0 0\nv 4 0 0\nv 5 0 0\nv 6 0 0\nv 7 0 0\nv 8 0 0\nv 9 0 0\nv 10 0 0\nv 11 0 0\nv 12 0 0\nv 13 0 0\n";
-    let mut bytes = points.to_vec(rt.alloc())?;
-    bytes.extend_from_slice(b"f 7 1 14 2 13 3 12 4 11 5 10 6 9 8\n")?;
+fn reads_a_face_of_many_vertices(rt: HostRuntime) -> Result<(), Fail> {
+    let face = b"f 7 1 14 2 13 3 12 4 11 5 10 6 9 8\n";
+    let bytes = joined(rt.alloc(), MANY_POINTS, face)?;
     let soup = read_obj(rt.alloc(), &bytes, 0, &Limits::program())?;
     assert_eq!(rt; soup.triples().len(), 12);
     assert_eq!(rt; soup.triples()[11], [6, 8, 7]);
-    bytes.extend_from_slice(b"f 7 1 14 2 13 3 12 4 11 5 10 6 9 8 4\n")?;
-    let kind = TextKind::FaceRepeatsVertex;
+    Ok(())
+}
+
+#[test]
+fn finds_a_repeat_among_many_vertices(rt: HostRuntime) -> Result<(), Fail> {
+    let faces = b"f 7 1 14 2 13 3 12 4 11 5 10 6 9 8\nf 7 1 14 2 13 3 12 4 11 5 10 6 9 8 4\n";
+    let bytes = joined(rt.alloc(), MANY_POINTS, faces)?;
     assert_eq!(rt;
         refusal(&rt, &bytes, 0, &Limits::program())?,
-        TextFault::Bad { line: 16, kind }
+        TextFault::Bad {
+            line: 16,
+            kind: TextKind::FaceRepeatsVertex
+        }
     );
     Ok(())
 }
@@ -163,8 +180,7 @@ const FRONT: &[u8] = b"v 0 0 0\nv 1 0 0\nv 0 1 0\nf 1 2 3\n";
 
 // How many triangles they and what comes after them give, where the last is this one, else 0.
 fn triangles_with(rt: &HostRuntime, after: &[u8], last: [u32; 3]) -> Result<usize, Fail> {
-    let mut bytes = FRONT.to_vec(rt.alloc())?;
-    bytes.extend_from_slice(after)?;
+    let bytes = joined(rt.alloc(), FRONT, after)?;
     let soup = read_obj(rt.alloc(), &bytes, 4, &Limits::program())?;
     match soup.triples().last() {
         Some(triple) if *triple == last => Ok(soup.triples().len()),
@@ -248,8 +264,7 @@ const REFUSED_LATER: [(&[u8], u64, TextKind); 29] = [
 
 // The fault of them and what comes after them.
 fn refusal_after(rt: &HostRuntime, after: &[u8]) -> Result<TextFault, Fail> {
-    let mut bytes = FRONT.to_vec(rt.alloc())?;
-    bytes.extend_from_slice(after)?;
+    let bytes = joined(rt.alloc(), FRONT, after)?;
     refusal(rt, &bytes, 4, &Limits::program())
 }
 
