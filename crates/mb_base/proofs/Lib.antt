@@ -1,2 +1,4 @@
 pub mod Spans
 pub mod Fits
+pub mod Widths
+pub mod AxisFolds

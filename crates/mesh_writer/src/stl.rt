@@ -7,6 +7,7 @@ ghost use Rattle.run_terms.specs.Files.{Counts};
 ghost use Rattle.mesh_terms.specs.Meshes.{IsBelow, triple_of};
 ghost use Rattle.stl_terms.specs.Written.{corner_line, facet_text, stl_text};
 ghost use Rattle.mb_outside.specs.Sinks.{AddsPart};
+ghost use Rattle.mesh_writer.specs.Corners.{corner_lines};
 ghost use Rattle.mesh_writer.specs.Passing.{Broke, Wrote};
 
 use crate::lines::put_corner;
@@ -46,6 +47,45 @@ fn write_corner<K: Sink>(
     send_full(page, sink)
 }
 
+// Writes two lines.
+fn write_two<K: Sink>(
+    first: &[u8],
+    second: &[u8],
+    page: &mut Page,
+    sink: &mut K,
+) -> Result<(), Failed>
+    requires first_short { length first.now ≤ 128 }
+    requires second_short { length second.now ≤ 128 }
+    requires free { array_vec_len page.old ≤ 3968 }
+    ensures wrote { OnOk result (Wrote K.Sink (first.now ++ second.now) (page.old.items, page.new.items) (sink.old, sink.new)) }
+    ensures broke { OnErr result (Broke K.Sink (first.now ++ second.now) page.old.items (sink.old, sink.new)) }
+    ensures free { OnOk result (array_vec_len page.new ≤ 3968) }
+{
+    write_line(first, page, sink)?;
+    write_line(second, page, sink)
+}
+
+// Writes the lines of the corners of a triangle.
+fn write_corners<K: Sink>(
+    points: &[Point],
+    triple: &[u32; 3],
+    digits: u8,
+    page: &mut Page,
+    sink: &mut K,
+) -> Result<(), Failed>
+    requires below { IsBelow (length points.now) (triple_of triple.now) }
+    requires digits { digits ≤ 6 }
+    requires free { array_vec_len page.old ≤ 3968 }
+    ensures wrote { OnOk result (Wrote K.Sink (corner_lines digits points.now (triple_of triple.now)) (page.old.items, page.new.items) (sink.old, sink.new)) }
+    ensures broke { OnErr result (Broke K.Sink (corner_lines digits points.now (triple_of triple.now)) page.old.items (sink.old, sink.new)) }
+    ensures free { OnOk result (array_vec_len page.new ≤ 3968) }
+{
+    let [a, b, c] = *triple;
+    write_corner(points, a, digits, page, sink)?;
+    write_corner(points, b, digits, page, sink)?;
+    write_corner(points, c, digits, page, sink)
+}
+
 // Writes the facet of a triangle.
 fn write_facet<K: Sink>(
     points: &[Point],
@@ -61,14 +101,9 @@ fn write_facet<K: Sink>(
     ensures broke { OnErr result (Broke K.Sink (facet_text digits points.now (triple_of triple.now)) page.old.items (sink.old, sink.new)) }
     ensures free { OnOk result (array_vec_len page.new ≤ 3968) }
 {
-    let [a, b, c] = *triple;
-    write_line(b"facet normal 0 0 0\n", page, sink)?;
-    write_line(b"outer loop\n", page, sink)?;
-    write_corner(points, a, digits, page, sink)?;
-    write_corner(points, b, digits, page, sink)?;
-    write_corner(points, c, digits, page, sink)?;
-    write_line(b"endloop\n", page, sink)?;
-    write_line(b"endfacet\n", page, sink)
+    write_two(b"facet normal 0 0 0\n", b"outer loop\n", page, sink)?;
+    write_corners(points, triple, digits, page, sink)?;
+    write_two(b"endloop\n", b"endfacet\n", page, sink)
 }
 
 // Writes the facets of the triangles.

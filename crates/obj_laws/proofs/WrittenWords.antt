@@ -12,7 +12,7 @@ use Rattle.grid_number.proofs.Bytes.{AreNumberBytes-written, length-written}
 use Rattle.grid_number.proofs.Cuts.{cut_at-only_digits}
 use Rattle.grid_number.proofs.ReadBack.{grid_number-written}
 use Rattle.obj_laws.proofs.Plain.{IsPlain, IsPlain-number, IsPlain-digits}
-use Rattle.obj_laws.proofs.Decimals.{IsSpelled-decimal, minus_first-spelled, sized, sized-spelled}
+use Rattle.obj_laws.proofs.Decimals.{IsSpelled, IsSpelled-decimal, minus_first-spelled, sized, sized-spelled}
 
 -- a plain word of at most 12 bytes that reads as the coordinate
 pub record IsTextOf (k : ℕ) (z : ℤ) (text : List ℕ) : Type 0 where
@@ -60,6 +60,13 @@ named_vertex-some count v below =
     let back : v + 1 - 1 ≡ v = omega arith in
     ap (λ (b : Bool). if b then Ok (v + 1 - 1) else Err 6) test ∙ ap (λ (i : ℕ). Ok i) back
 
+-- digits that spell it do, too
+pub item_vertex-spelled : (count v : ℕ) (text : List ℕ) → v < count → IsSpelled (v + 1) text → item_vertex count text ≡ Ok v
+item_vertex-spelled count v text below s =
+    item_vertex-digits count text s.digits
+    ∙ ap (λ (o : Option (Bool × ℕ)). named_vertex count o) (ap sized (minus_first-spelled (v + 1) text s) ∙ sized-spelled false (v + 1) text s)
+    ∙ named_vertex-some count v below
+
 -- the number of a vertex, counted from 1, is such a word
 pub IsItemOf-decimal : (count v : ℕ) → v < count → count ≤ 150000000 → IsItemOf count v (decimal (v + 1))
 IsItemOf-decimal count v below few =
@@ -67,9 +74,6 @@ IsItemOf-decimal count v below few =
     let s = IsSpelled-decimal (v + 1) (omega arith) in
     record {
       plain = IsPlain-digits text s.word.some s.digits;
-      reads =
-          item_vertex-digits count text s.digits
-          ∙ ap (λ (o : Option (Bool × ℕ)). named_vertex count o) (ap sized (minus_first-spelled (v + 1) text s) ∙ sized-spelled false (v + 1) text s)
-          ∙ named_vertex-some count v below;
+      reads = item_vertex-spelled count v text below s;
       short = length-decimal-le 9 (v + 1) (omega arith) (omega arith) (omega arith);
     }

@@ -1,5 +1,5 @@
 -- What a plain line gives.
-use Rattle.std.proofs.Common.{◌≡◌, ℕ, ◌+◌, ◌-◌, ◌<◌, ◌&&◌, if◌then◌else◌, Bool, true, false, List, [], ◌∷◌, ◌++◌, length, codes, ap, ◌∙◌, sym, arith, Option, Some, Result, Ok, Err, ℤ, nat_lt, nat_le}
+use Rattle.std.proofs.Common.{◌≡◌, ℕ, ◌+◌, ◌<◌, if◌then◌else◌, Bool, false, List, [], ◌∷◌, ◌++◌, length, codes, ap, ◌∙◌, sym, arith, Result, Ok, Err, ℤ, nat_lt}
 use Rattle.std.proofs.lemmas.Bool.Decides.{nat_tests}
 use Rattle.mesh_terms.specs.Faults.{Points, Triangles, Fault, Bad, Over}
 use Rattle.mesh_terms.specs.Limits.{Limits}
@@ -7,12 +7,11 @@ use Rattle.mesh_terms.specs.Meshes.{HasThree, IsBelow}
 use Rattle.text_terms.specs.Lines.{lines_of, joined_from}
 use Rattle.text_terms.specs.Coordinates.{coordinate}
 use Rattle.text_terms.specs.FirstFault.{then_read, put_read, each_read, on_line}
-use Rattle.text_terms.specs.Numbers.{is_digit, all_digits}
-use Rattle.obj_terms.specs.Faces.{is_slash, whole_number, item_tail, named_vertex, item_vertex, has_repeat, face_fan}
+use Rattle.obj_terms.specs.Faces.{item_vertex, has_repeat, face_fan}
 use Rattle.obj_terms.specs.Obj.{Gathered, with_point, with_triples, obj_triples, obj_line, obj_lines, word_lines}
-use Rattle.grid_number.proofs.Cuts.{cut_at-only_digits}
-use Rattle.obj_laws.proofs.Decimals.{IsSpelled, minus_first-spelled, sized, sized-spelled}
+use Rattle.obj_laws.proofs.Decimals.{IsSpelled}
 use Rattle.obj_laws.proofs.Plain.{IsPlain, IsPlain-digits}
+use Rattle.obj_laws.proofs.WrittenWords.{item_vertex-spelled}
 use Rattle.obj_text.specs.Plain.{IsIndexOf, BeginsCoordinate, line_end, EndsLine, with_line, BeginsFace, BeginsPoint, IsFaceFirst, IsPointFirst}
 use Rattle.obj_text.proofs.PlainLines.{IsPlain-word, words-first}
 
@@ -25,29 +24,11 @@ some_digits v (d ∷ ds) index = omega arith
 pub IsPlain-index : (v : ℕ) (word : List ℕ) → IsIndexOf v word → IsPlain word
 IsPlain-index v word index = IsPlain-digits word (some_digits v word index) index.digits
 
--- a digit is no slash
-digit_is_no_slash : (d : ℕ) → is_digit d ≡ true → is_slash d ≡ false
-digit_is_no_slash d digit = grind (arith, nat_tests)
-
--- digits alone are an item
-item_vertex-digits : (count : ℕ) (text : List ℕ) → all_digits text ≡ true → item_vertex count text ≡ named_vertex count (whole_number text)
-item_vertex-digits count text digits =
-    ap (λ (i : List ℕ × Option (List ℕ)). if item_tail i.1 then named_vertex count (whole_number i.0) else Err 5) (cut_at-only_digits is_slash digit_is_no_slash text digits)
-
--- a number from 1 names a point
-named_vertex-some : (count v : ℕ) → v < count → named_vertex count (Some (false, v + 1)) ≡ Ok v
-named_vertex-some count v below =
-    let test : (nat_lt 0 (v + 1) && nat_le (v + 1) count) ≡ true = grind (arith, nat_tests) in
-    let back : v + 1 - 1 ≡ v = omega arith in
-    ap (λ (b : Bool). if b then Ok (v + 1 - 1) else Err 6) test ∙ ap (λ (i : ℕ). Ok i) back
-
--- so do its digits
+-- the digits of a number from 1 name a point
 item_vertex-index : (count v : ℕ) (word : List ℕ) → v < count → IsIndexOf v word → item_vertex count word ≡ Ok v
 item_vertex-index count v word below index =
     let s : IsSpelled (v + 1) word = record { word = (IsPlain-index v word index).word; digits = index.digits; value = index.spelled } in
-    item_vertex-digits count word index.digits
-    ∙ ap (λ (o : Option (Bool × ℕ)). named_vertex count o) (ap sized (minus_first-spelled (v + 1) word s) ∙ sized-spelled false (v + 1) word s)
-    ∙ named_vertex-some count v below
+    item_vertex-spelled count v word below s
 
 -- three words that read
 each_read-three : {X Y E : Type 0} (f : X → Result Y E) (a b c : X) (x y z : Y) → f a ≡ Ok x → f b ≡ Ok y → f c ≡ Ok z → each_read f (a ∷ b ∷ c ∷ []) ≡ Ok (x ∷ y ∷ z ∷ [])

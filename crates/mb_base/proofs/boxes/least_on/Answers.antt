@@ -1,21 +1,9 @@
-use Rattle.std.proofs.Common.{◌<◌, ◌∙◌, [], pos, FitsSigned, w64, length, map, get_or, arith, rules, ap, sym}
+use Rattle.std.proofs.Common.{[], arith, rules}
 use Rattle.std.specs.Int.{int_min}
-use Rattle.std.proofs.lemmas.Int.{to_z-of_z}
-use Rattle.std.proofs.lemmas.List.{get_or-map, length-map}
-use Rattle.std.proofs.lemmas.List.Sums.{fold_more}
-use Rattle.mb_base.specs.Boxes.{axis}
+use Rattle.mb_base.proofs.AxisFolds.{axis_fold_more}
 use Rattle.mb_base.proofs.boxes.least_on.Goals as goal
 
 pub loop-corner-preserved : goal.loop-corner-preserved
 loop-corner-preserved c =
-    let zs = map (axis c.args.axis) c.args.corners.now in
-    let at = c.loop-corner.corner-index in
-    let corner = get_or c.args.corners.now at (record { at = []; up = [] }) in
-    let there : at < length zs = grind (arith, length-map) in
-    let fits : FitsSigned w64 c.min-least.result = search rules in
-    let z_fits : FitsSigned w64 (axis c.args.axis corner) = search rules in
-    let seen = get_or-map (axis c.args.axis) c.args.corners.now at (record { at = []; up = [] }) (pos 0) (omega arith) in
-    to_z-of_z w64 c.min-least.result fits ∙ c.min-least.ensures.value
-    ∙ ap (int_min _) (to_z-of_z w64 (axis c.args.axis corner) z_fits ∙ sym seen)
-    ∙ ap (λ z. int_min z (get_or zs at (pos 0))) c.loop-corner.invariant
-    ∙ sym (fold_more int_min (get_or zs 0 (pos 0)) zs at (pos 0) there)
+    axis_fold_more int_min c.args.axis c.args.corners.now c.loop-corner.corner-index (record { at = []; up = [] }) _ c.min-least.result
+    (omega arith) (search rules) (search rules) c.min-least.ensures.value c.loop-corner.invariant
