@@ -38,6 +38,13 @@ pub struct Spot {
     pub up: [bool; 3],
 }
 
+/// Whose an edge is: a vertex or a face that it meets is of the other side.
+#[derive(Clone, Copy, Drop)]
+pub enum Edge {
+    OfP,
+    OfQ,
+}
+
 /// How often the shadows of a pair meet, with its sign, whether P is beyond Q there, and where.
 #[derive(Clone, Copy, Debug, PartialEq, Eq, Drop)]
 pub struct Meet {

@@ -1,98 +1,46 @@
-//! The pairs whose answers are made from boundary pairs: two edges, a vertex and a face, a face and a vertex.
+//! The tallies of the boundary pairs from which answers are made: of two edges, and of a vertex and a face.
 
-ghost use Rattle.std.specs.Prelude.{◌≡◌};
-ghost use Rattle.side_terms.specs.Corners.{corner_at, AllFine};
-ghost use Rattle.shadow_kernels.specs.Shadows.{boundary02, boundary11, boundary20, vertex_face, face_vertex, edge_edge};
+ghost use Rattle.side_terms.specs.Corners.{corner_at, IsFineCorner, AllFine};
 ghost use Rattle.shadow_kernels.specs.Bounds.{IsTallyOf, IsFineTally};
+ghost use Rattle.shadow_kernels.specs.Levels.{rim};
+ghost use Rattle.shadow_kernels.specs.Shadows.{boundary11};
 
-use crate::Meet;
-use crate::edges::{edge_vertex, vertex_edge};
-use crate::tally::{Tally, joined, tally_of_four, tally_of_three};
+use crate::Edge;
+use crate::edges::edge_meet;
+use crate::tally::{Tally, tally_of_three, turned};
 use mb_base::Corner;
 use rounding::Rounding;
 
-/// The answer of a vertex and a face.
-pub(crate) fn vertex_face<R: Rounding>(
-    rounding: &R,
-    p: &[Corner; 1],
-    q: &[Corner; 3],
-) -> Option<Meet>
-    requires p_fine { AllFine p.now }
-    requires q_fine { AllFine q.now }
-    ensures { result ≡ vertex_face (R.between_of rounding.now) p.now q.now }
-{
-    joined(rounding, &vertex_face_tally(rounding, p, q))
-}
-
 /// The tally of a vertex with the three edges of a face.
-pub(crate) fn vertex_face_tally<R: Rounding>(
+pub(crate) fn face_tally<R: Rounding>(
     rounding: &R,
-    p: &[Corner; 1],
-    q: &[Corner; 3],
+    edge: Edge,
+    vertex: &Corner,
+    face: &[Corner; 3],
 ) -> Tally
-    requires p_fine { AllFine p.now }
-    requires q_fine { AllFine q.now }
-    ensures tally { IsTallyOf (boundary02 (R.between_of rounding.now) (corner_at p.now 0) (corner_at q.now 0) (corner_at q.now 1) (corner_at q.now 2)) result }
+    requires vertex_fine { IsFineCorner vertex.now }
+    requires face_fine { AllFine face.now }
+    ensures tally { IsTallyOf (rim edge (R.between_of rounding.now) vertex.now (corner_at face.now 0) (corner_at face.now 1) (corner_at face.now 2)) result }
     ensures fine { IsFineTally result }
 {
     tally_of_three(
-        &vertex_edge(rounding, &p[0], &q[0], &q[1]),
-        &vertex_edge(rounding, &p[0], &q[1], &q[2]),
-        &vertex_edge(rounding, &p[0], &q[2], &q[0]),
+        &edge_meet(rounding, edge, vertex, &face[0], &face[1]),
+        &edge_meet(rounding, edge, vertex, &face[1], &face[2]),
+        &edge_meet(rounding, edge, vertex, &face[2], &face[0]),
     )
 }
 
-/// The answer of a face and a vertex.
-pub(crate) fn face_vertex<R: Rounding>(
-    rounding: &R,
-    p: &[Corner; 3],
-    q: &[Corner; 1],
-) -> Option<Meet>
-    requires p_fine { AllFine p.now }
-    requires q_fine { AllFine q.now }
-    ensures { result ≡ face_vertex (R.between_of rounding.now) p.now q.now }
-{
-    joined(rounding, &face_vertex_tally(rounding, p, q))
-}
-
-/// The tally of the three edges of a face with a vertex.
-pub(crate) fn face_vertex_tally<R: Rounding>(
-    rounding: &R,
-    p: &[Corner; 3],
-    q: &[Corner; 1],
-) -> Tally
-    requires p_fine { AllFine p.now }
-    requires q_fine { AllFine q.now }
-    ensures tally { IsTallyOf (boundary20 (R.between_of rounding.now) (corner_at p.now 0) (corner_at p.now 1) (corner_at p.now 2) (corner_at q.now 0)) result }
-    ensures fine { IsFineTally result }
-{
-    tally_of_three(
-        &edge_vertex(rounding, &p[0], &p[1], &q[0]),
-        &edge_vertex(rounding, &p[1], &p[2], &q[0]),
-        &edge_vertex(rounding, &p[2], &p[0], &q[0]),
-    )
-}
-
-/// The answer of two edges.
-pub(crate) fn edge_edge<R: Rounding>(rounding: &R, p: &[Corner; 2], q: &[Corner; 2]) -> Option<Meet>
-    requires p_fine { AllFine p.now }
-    requires q_fine { AllFine q.now }
-    ensures { result ≡ edge_edge (R.between_of rounding.now) p.now q.now }
-{
-    joined(rounding, &edge_edge_tally(rounding, p, q))
-}
-
-/// The tally of the ends of two edges with the other edge.
+/// The tally of the ends of two edges with the other edge. The first pair goes last, since it is put before the others.
 pub(crate) fn edge_edge_tally<R: Rounding>(rounding: &R, p: &[Corner; 2], q: &[Corner; 2]) -> Tally
     requires p_fine { AllFine p.now }
     requires q_fine { AllFine q.now }
     ensures tally { IsTallyOf (boundary11 (R.between_of rounding.now) (corner_at p.now 0) (corner_at p.now 1) (corner_at q.now 0) (corner_at q.now 1)) result }
     ensures fine { IsFineTally result }
 {
-    tally_of_four(
-        &vertex_edge(rounding, &p[1], &q[0], &q[1]),
-        &vertex_edge(rounding, &p[0], &q[0], &q[1]),
-        &edge_vertex(rounding, &p[0], &p[1], &q[1]),
-        &edge_vertex(rounding, &p[0], &p[1], &q[0]),
-    )
+    let start = edge_meet(rounding, Edge::OfQ, &p[0], &q[0], &q[1]);
+    let to = edge_meet(rounding, Edge::OfP, &q[1], &p[0], &p[1]);
+    let from = edge_meet(rounding, Edge::OfP, &q[0], &p[0], &p[1]);
+    let mut tally = tally_of_three(&turned(&start), &to, &turned(&from));
+    tally.put(&edge_meet(rounding, Edge::OfQ, &p[1], &q[0], &q[1]));
+    tally
 }

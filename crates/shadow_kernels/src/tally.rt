@@ -6,7 +6,7 @@ ghost use Rattle.shadow_kernels.specs.Counts.{shadow_of, turned, chosen, joined}
 ghost use Rattle.shadow_kernels.specs.Bounds.{IsFinePair, IsTallyOf, IsFineTally};
 ghost use Rattle.shadow_kernels.specs.Sizes.{IsSized};
 
-use crate::spots::{exceeds, gap_of, mark_between, spot_between_spots, spot_of};
+use crate::spots::{exceeds, gap_in_y, mark_between, spot_between_spots, spot_of};
 use crate::{Meet, Spot};
 use rounding::Rounding;
 
@@ -32,7 +32,7 @@ impl Tally {
     }
 
     /// Puts a pair before the others.
-    fn put(&mut self, pair: &Option<Meet>)
+    pub(crate) fn put(&mut self, pair: &Option<Meet>)
         requires few { unsigned_abs self.old.count ≤ 3 }
         requires sized { IsSized pair.now }
         ensures count { self.new.count ≡ shadow_of pair.now +ℤ self.old.count }
@@ -51,7 +51,7 @@ impl Tally {
 }
 
 /// The answer with the sign of its count turned.
-fn turned(pair: &Option<Meet>) -> Option<Meet>
+pub(crate) fn turned(pair: &Option<Meet>) -> Option<Meet>
     requires { IsSized pair.now }
     ensures { result ≡ turned pair.now }
 {
@@ -85,25 +85,6 @@ pub(crate) fn tally_of_three(
     tally
 }
 
-/// The tally of four boundary pairs, of which the second and the fourth count with the other sign.
-pub(crate) fn tally_of_four(
-    first: &Option<Meet>,
-    second: &Option<Meet>,
-    third: &Option<Meet>,
-    fourth: &Option<Meet>,
-) -> Tally
-    requires first_fine { IsFinePair first.now }
-    requires second_fine { IsFinePair second.now }
-    requires third_fine { IsFinePair third.now }
-    requires fourth_fine { IsFinePair fourth.now }
-    ensures tally { IsTallyOf (first.now ∷ turned second.now ∷ third.now ∷ turned fourth.now ∷ []) result }
-    ensures fine { IsFineTally result }
-{
-    let mut tally = tally_of_three(&turned(second), third, &turned(fourth));
-    tally.put(first);
-    tally
-}
-
 /// The answer of boundary pairs: none where their shadows add up to nothing, else at the spot between the two spots.
 pub(crate) fn joined<R: Rounding>(rounding: &R, tally: &Tally) -> Option<Meet>
     requires { IsFineTally tally.now }
@@ -131,8 +112,8 @@ pub(crate) fn is_above_between<R: Rounding>(rounding: &R, tally: &Tally) -> bool
 {
     let below = &tally.below;
     let above = &tally.above;
-    let a = gap_of(below.py, below.qy);
-    let b = gap_of(above.py, above.qy);
+    let a = gap_in_y(below);
+    let b = gap_in_y(above);
     let pz = rounding.between(below.pz, above.pz, a, b);
     let qz = rounding.between(below.qz, above.qz, a, b);
     exceeds(pz, qz, mark_between(a, b, below.up[2], above.up[2]))

@@ -1,0 +1,30 @@
+use Rattle.std.proofs.Common.{rules, arith, ◌≡◌, ◌-ℤ◌, refl, sym, ap, ◌∙◌}
+use Rattle.std.proofs.lemmas.Int.{ints}
+use Rattle.std.specs.Int.{w64}
+use Rattle.side_terms.specs.Corners.{axis}
+use Rattle.shadow_kernels.specs.declared.Edge.{Edge}
+use Rattle.shadow_kernels.specs.Edges.{edge_spot}
+use Rattle.shadow_kernels.specs.Spots.{Between, spot01, spot10}
+use Rattle.shadow_kernels.proofs.Values.{seen, kept_value, same_marks, same_spot}
+use Rattle.shadow_kernels.proofs.spots.edge_spot.Goals as goal
+
+pub returns-in-OfP : goal.returns-in-OfP
+unfolding spot10
+returns-in-OfP g c =
+    let w : Between = g.R.Rounding.between_of c.args.rounding.now in
+    let l = c.args.left.now in
+    let r = c.args.right.now in
+    let x = axis 0 c.args.vertex.now in
+    let before : seen w64 (seen w64 x -ℤ seen w64 (axis 0 l)) ≡ x -ℤ axis 0 l = omega (arith, ints) in
+    let after : seen w64 (seen w64 (axis 0 r) -ℤ seen w64 x) ≡ axis 0 r -ℤ x = omega (arith, ints) in
+    same_spot (omega (arith, ints)) (kept_value w 1 l r x c.edge_value-edge_y.ensures c.requires.fine (search rules)) (omega (arith, ints)) (kept_value w 2 l r x c.edge_value-edge_z.ensures c.requires.fine (search rules)) (omega (arith, ints))
+    (same_marks l.up r.up c.marks_between.ensures before after)
+    ∙ ap (λ (e : Edge). edge_spot e w c.args.vertex.now l r) (sym c.in-OfP.is)
+
+pub returns-in-OfQ : goal.returns-in-OfQ
+unfolding spot01
+returns-in-OfQ g c =
+    let w : Between = g.R.Rounding.between_of c.args.rounding.now in
+    same_spot (omega (arith, ints)) (omega (arith, ints)) (kept_value w 1 c.args.left.now c.args.right.now (axis 0 c.args.vertex.now) c.edge_value-edge_y.ensures c.requires.fine (search rules)) (omega (arith, ints))
+    (kept_value w 2 c.args.left.now c.args.right.now (axis 0 c.args.vertex.now) c.edge_value-edge_z.ensures c.requires.fine (search rules)) refl
+    ∙ ap (λ (e : Edge). edge_spot e w c.args.vertex.now c.args.left.now c.args.right.now) (sym c.in-OfQ.is)
