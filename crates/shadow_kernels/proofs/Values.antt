@@ -1,5 +1,5 @@
 -- Values as they stand after they were kept at a width, and spots of equal values.
-use Rattle.std.proofs.Common.{arith, ◌≡◌, ℕ, ℤ, Bool, List, ap, sym, subst, ◌∙◌, FitsSigned}
+use Rattle.std.proofs.Common.{arith, ◌≡◌, ℕ, ℤ, ◌-ℤ◌, Bool, List, ap, sym, subst, ◌∙◌, FitsSigned}
 use Rattle.std.proofs.lemmas.Int.{ints}
 use Rattle.std.specs.Int.{Width, w8, w64, cast_signed, cast_unsigned}
 use Rattle.mb_base.specs.declared.point.Corner.{Corner}
@@ -55,6 +55,10 @@ kept_gap {r} {p} {q} e fp fq =
 pub spot_value : {r u v a b : ℤ} {d s : Spot} (f : Between) → r ≡ f (seen w64 u) (seen w64 v) (seen w64 a) (seen w64 b) → IsFine u → IsFine v → IsGapOf d a → IsGapOf s b → FitsSigned w64 r →
     seen w64 r ≡ f u v (gap d.py d.qy) (gap s.py s.qy)
 spot_value f e fu fv ga gb fits = kept_between f e fu fv ga.weight gb.weight ga.value gb.value fits
+
+-- a difference of fine values, all kept at their width
+pub kept_less : {u v : ℤ} → IsFine u → IsFine v → seen w64 (seen w64 u -ℤ seen w64 v) ≡ u -ℤ v
+kept_less h k = omega (arith, ints, h.low, h.high, k.low, k.high)
 
 -- a value of an edge at a place that was kept at its width
 pub kept_value : {y : ℤ} (w : Between) (i : ℕ) (l r : Corner) (x : ℤ) → y ≡ edge_value w i l r (seen w64 x) → IsFine x → FitsSigned w64 y → seen w64 y ≡ edge_value w i l r x

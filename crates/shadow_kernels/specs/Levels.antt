@@ -138,16 +138,25 @@ module _ (w : Between) (a b c d : Corner) where
   alternate (inl (h, k, l, m)) = no_alternation a b c d h k l m
   alternate (inr (h, k, l, m)) = no_alternation a b d c k h m l
 
+  -- the answers of each end with the other edge
+  abbrev at_a : Option Meet
+  at_a = meet01 w a c d
+
+  abbrev at_b : Option Meet
+  at_b = meet01 w b c d
+
+  abbrev at_c : Option Meet
+  at_c = meet10 w a b c
+
+  abbrev at_d : Option Meet
+  at_d = meet10 w a b d
+
   -- so the counts of the boundary pairs add up to nothing, and at most three are not 0
   square_balanced : IsBalanced (boundary11 w a b c d)
   square_balanced =
-      let x = meet01 w b c d in
-      let y = meet01 w a c d in
-      let z = meet10 w a b d in
-      let t = meet10 w a b c in
-      balanced_by (boundary11 w a b c d) (square (beyond a c) (beyond a d) (beyond b c) (beyond b d)) (edge_sized OfQ w b c d, (turned_sized y (edge_sized OfQ w a c d), (edge_sized OfP w d a b, (turned_sized t (edge_sized OfP w c a b), tt))))
-      (four (less (beyond b c) (beyond b d)) (neg_ℤ (less (beyond a c) (beyond a d))) (less (beyond b d) (beyond a d)) (neg_ℤ (less (beyond b c) (beyond a c))) (count_of x) (count_of (turned y)) (count_of z) (count_of (turned t))
-      (sym (edge_count OfQ w b c d)) (sym (turned_count y ∙ ap neg_ℤ (edge_count OfQ w a c d))) (sym (count10 w a b d)) (sym (turned_count t ∙ ap neg_ℤ (count10 w a b c))))
+      balanced_by (boundary11 w a b c d) (square (beyond a c) (beyond a d) (beyond b c) (beyond b d)) (edge_sized OfQ w b c d, (turned_sized at_a (edge_sized OfQ w a c d), (edge_sized OfP w d a b, (turned_sized at_c (edge_sized OfP w c a b), tt))))
+      (four (less (beyond b c) (beyond b d)) (neg_ℤ (less (beyond a c) (beyond a d))) (less (beyond b d) (beyond a d)) (neg_ℤ (less (beyond b c) (beyond a c))) (count_of at_b) (count_of (turned at_a)) (count_of at_d) (count_of (turned at_c))
+      (sym (edge_count OfQ w b c d)) (sym (turned_count at_a ∙ ap neg_ℤ (edge_count OfQ w a c d))) (sym (count10 w a b d)) (sym (turned_count at_c ∙ ap neg_ℤ (count10 w a b c))))
       (square_whole (beyond a c) (beyond a d) (beyond b c) (beyond b d)) (square_weight (beyond a c) (beyond a d) (beyond b c) (beyond b d) alternate)
 
   -- their answer is decided in z
@@ -166,23 +175,15 @@ module _ (w : Between) (a b c d : Corner) where
   pub edges_turned_p : meet11 w b a c d ≡ turned (meet11 w a b c d)
   unfolding meet11
   edges_turned_p =
-      let x = meet01 w b c d in
-      let y = meet01 w a c d in
-      let z = meet10 w a b d in
-      let t = meet10 w a b c in
       let s = square_balanced in
-      lifted_reverse w (boundary11 w a b c d) (turned y ∷ x ∷ z ∷ turned t ∷ []) (boundary11 w b a c d) s (s.sized.1.0, (s.sized.0, s.sized.1.1)) (flip x (turned y) (z ∷ turned t ∷ []))
-      (four y (turned x) (meet10 w b a d) (turned (meet10 w b a c)) (turned (turned y)) (turned x) (turned z) (turned (turned t)) (sym (turned_twice y)) refl (edge_reverse OfP w d a b) (ap turned (edge_reverse OfP w c a b)))
+      lifted_reverse w (boundary11 w a b c d) (turned at_a ∷ at_b ∷ at_d ∷ turned at_c ∷ []) (boundary11 w b a c d) s (s.sized.1.0, (s.sized.0, s.sized.1.1)) (flip at_b (turned at_a) (at_d ∷ turned at_c ∷ []))
+      (four at_a (turned at_b) (meet10 w b a d) (turned (meet10 w b a c)) (turned (turned at_a)) (turned at_b) (turned at_d) (turned (turned at_c)) (sym (turned_twice at_a)) refl (edge_reverse OfP w d a b) (ap turned (edge_reverse OfP w c a b)))
 
   -- exchanging those of Q's edge does so too
   pub edges_turned_q : meet11 w a b d c ≡ turned (meet11 w a b c d)
   unfolding meet11
   edges_turned_q =
-      let x = meet01 w b c d in
-      let y = meet01 w a c d in
-      let z = meet10 w a b d in
-      let t = meet10 w a b c in
       let s = square_balanced in
-      lifted_reverse w (boundary11 w a b c d) (x ∷ turned y ∷ turned t ∷ z ∷ []) (boundary11 w a b d c) s (s.sized.0, (s.sized.1.0, (s.sized.1.1.1.0, (s.sized.1.1.0, tt))))
-      (IsPermutation-cons x (turned y ∷ z ∷ turned t ∷ []) (turned y ∷ turned t ∷ z ∷ []) (IsPermutation-cons (turned y) (z ∷ turned t ∷ []) (turned t ∷ z ∷ []) (flip z (turned t) [])))
-      (four (meet01 w b d c) (turned (meet01 w a d c)) t (turned z) (turned x) (turned (turned y)) (turned (turned t)) (turned z) (edge_reverse OfQ w b c d) (ap turned (edge_reverse OfQ w a c d)) (sym (turned_twice t)) refl)
+      lifted_reverse w (boundary11 w a b c d) (at_b ∷ turned at_a ∷ turned at_c ∷ at_d ∷ []) (boundary11 w a b d c) s (s.sized.0, (s.sized.1.0, (s.sized.1.1.1.0, (s.sized.1.1.0, tt))))
+      (IsPermutation-cons at_b (turned at_a ∷ at_d ∷ turned at_c ∷ []) (turned at_a ∷ turned at_c ∷ at_d ∷ []) (IsPermutation-cons (turned at_a) (at_d ∷ turned at_c ∷ []) (turned at_c ∷ at_d ∷ []) (flip at_d (turned at_c) [])))
+      (four (meet01 w b d c) (turned (meet01 w a d c)) at_c (turned at_d) (turned at_b) (turned (turned at_a)) (turned (turned at_c)) (turned at_d) (edge_reverse OfQ w b c d) (ap turned (edge_reverse OfQ w a c d)) (sym (turned_twice at_c)) refl)

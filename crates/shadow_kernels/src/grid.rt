@@ -7,9 +7,8 @@ ghost use Rattle.shadow_kernels.specs.Shadows.{vertex_vertex, vertex_edge, edge_
 ghost use Rattle.shadow_kernels.specs.GridLaws.{laws00, laws01, laws10, laws11, laws02, laws20, lift01, lift10, lift11};
 
 use crate::edges::edge_meet;
-use crate::pairs::{edge_edge_tally, face_tally};
 use crate::spots::{is_beyond, vertex_vertex_spot};
-use crate::tally::joined;
+use crate::tally::{edge_edge_tally, face_tally, joined};
 use crate::{Edge, Flats, Meet, Meets, Spot};
 use mb_base::Corner;
 use rounding::Rounding;

@@ -21,7 +21,6 @@ pub use spots::{gap_of, spot_of};
 
 mod edges;
 mod grid;
-mod pairs;
 mod shadows;
 mod spots;
 mod tally;

@@ -11,8 +11,7 @@ ghost use Rattle.shadow_kernels.specs.Shadows.{meet01, meet10, edge_edge, vertex
 
 use crate::Edge;
 use crate::edges::edge_shadow;
-use crate::pairs::{edge_edge_tally, face_tally};
-use crate::tally::is_above_between;
+use crate::tally::{edge_edge_tally, face_tally, is_above_between};
 use mb_base::Corner;
 use rounding::Rounding;
 

@@ -1,4 +1,4 @@
-use Rattle.std.proofs.Common.{rules, arith, ◌≡◌, ◌-ℤ◌, not, refl, sym, ap, ◌∙◌}
+use Rattle.std.proofs.Common.{rules, arith, ◌≡◌, not, refl, sym, ap, ◌∙◌}
 use Rattle.std.proofs.lemmas.Int.{ints}
 use Rattle.std.specs.Int.{w64}
 use Rattle.side_terms.specs.Corners.{axis}
@@ -6,7 +6,7 @@ use Rattle.shadow_kernels.specs.declared.Edge.{Edge}
 use Rattle.shadow_kernels.specs.Edges.{edge_spot}
 use Rattle.shadow_kernels.specs.Spots.{Between, above_y, flag, spot01, spot10}
 use Rattle.shadow_kernels.proofs.Sights.{over_ends, under_ends, same_beats}
-use Rattle.shadow_kernels.proofs.Values.{seen, kept_value, same_mark}
+use Rattle.shadow_kernels.proofs.Values.{seen, kept_value, kept_less, same_mark}
 use Rattle.shadow_kernels.proofs.edges.is_above.Goals as goal
 
 pub returns-then-right-y : goal.returns-then-right-y
@@ -22,10 +22,8 @@ returns-in-OfP g c =
     let v = c.args.vertex.now in
     let l = c.args.left.now in
     let r = c.args.right.now in
-    let before : seen w64 (seen w64 (axis 0 v) -ℤ seen w64 (axis 0 l)) ≡ axis 0 v -ℤ axis 0 l = omega (arith, ints) in
-    let after : seen w64 (seen w64 (axis 0 r) -ℤ seen w64 (axis 0 v)) ≡ axis 0 r -ℤ axis 0 v = omega (arith, ints) in
     let y : seen w64 (axis 1 v) ≡ axis 1 v = omega (arith, ints) in
-    same_beats c.exceeds.ensures (kept_value w 1 l r (axis 0 v) c.edge_value-value.ensures c.requires.fine (search rules)) y (same_mark (flag l.up 1) (flag r.up 1) c.mark_between-up.ensures before after)
+    same_beats c.exceeds.ensures (kept_value w 1 l r (axis 0 v) c.edge_value-value.ensures c.requires.fine (search rules)) y (same_mark (flag l.up 1) (flag r.up 1) c.mark_between-up.ensures (kept_less c.requires.fine c.requires.left_fine.x) (kept_less c.requires.right_fine.x c.requires.fine))
     ∙ ap (λ (e : Edge). above_y (edge_spot e w v l r)) (sym c.in-OfP.is)
 
 pub returns-in-OfQ : goal.returns-in-OfQ

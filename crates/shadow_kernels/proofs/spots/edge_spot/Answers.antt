@@ -1,11 +1,10 @@
-use Rattle.std.proofs.Common.{rules, arith, ◌≡◌, ◌-ℤ◌, refl, sym, ap, ◌∙◌}
+use Rattle.std.proofs.Common.{rules, arith, refl, sym, ap, ◌∙◌}
 use Rattle.std.proofs.lemmas.Int.{ints}
-use Rattle.std.specs.Int.{w64}
 use Rattle.side_terms.specs.Corners.{axis}
 use Rattle.shadow_kernels.specs.declared.Edge.{Edge}
 use Rattle.shadow_kernels.specs.Edges.{edge_spot}
 use Rattle.shadow_kernels.specs.Spots.{Between, spot01, spot10}
-use Rattle.shadow_kernels.proofs.Values.{seen, kept_value, same_marks, same_spot}
+use Rattle.shadow_kernels.proofs.Values.{kept_value, kept_less, same_marks, same_spot}
 use Rattle.shadow_kernels.proofs.spots.edge_spot.Goals as goal
 
 pub returns-in-OfP : goal.returns-in-OfP
@@ -15,10 +14,8 @@ returns-in-OfP g c =
     let l = c.args.left.now in
     let r = c.args.right.now in
     let x = axis 0 c.args.vertex.now in
-    let before : seen w64 (seen w64 x -ℤ seen w64 (axis 0 l)) ≡ x -ℤ axis 0 l = omega (arith, ints) in
-    let after : seen w64 (seen w64 (axis 0 r) -ℤ seen w64 x) ≡ axis 0 r -ℤ x = omega (arith, ints) in
     same_spot (omega (arith, ints)) (kept_value w 1 l r x c.edge_value-edge_y.ensures c.requires.fine (search rules)) (omega (arith, ints)) (kept_value w 2 l r x c.edge_value-edge_z.ensures c.requires.fine (search rules)) (omega (arith, ints))
-    (same_marks l.up r.up c.marks_between.ensures before after)
+    (same_marks l.up r.up c.marks_between.ensures (kept_less c.requires.fine c.requires.left_fine.x) (kept_less c.requires.right_fine.x c.requires.fine))
     ∙ ap (λ (e : Edge). edge_spot e w c.args.vertex.now l r) (sym c.in-OfP.is)
 
 pub returns-in-OfQ : goal.returns-in-OfQ
