@@ -23,7 +23,7 @@ use Rattle.edge_face.specs.declared.pair.Pairs.{Pairs}
 use Rattle.edge_face.specs.Boundaries.{AreMet, signed_pairs, pairs_decided, spots_signed}
 use Rattle.edge_face.specs.Crossings.{edge_pairs, edge_number, crossed, crossing}
 use Rattle.edge_face.specs.Laws.{crossed_none}
-use Rattle.edge_face.specs.Pairs.{IsPairOf, ArePairsOf, pair_shadow, pair_on, pairs_number, first_place, spot_at, number_at, AreCounts, vertex_rim, edge_corners}
+use Rattle.edge_face.specs.Pairs.{IsKnown, IsPairOf, ArePairsOf, pair_shadow, pair_on, pairs_number, first_place, spot_at, number_at, AreCounts, vertex_rim, edge_corners}
 use Rattle.shadow_kernels.proofs.Values.{seen}
 use Rattle.edge_face.specs.Parts.{start_of, end_of, first_edge, second_edge, third_edge}
 
@@ -83,16 +83,16 @@ module _ (s f x y z : Option Meet) (ps : Pairs) (h : ArePairsOf (s ∷ f ∷ x �
       ∙ chosen_pair want s ps.start (if on ps.end then spot_of f else (if on ps.first then spot_of x else (if on ps.second then spot_of y else (if on ps.third then spot_of z else no_spot)))) sized.0 h.0)
 
 -- a number known to be the count of a sized answer stays it at eight bits
-kept_count : (m : Option Meet) (n : ℤ) → IsSized m → n ≡ count_of m → seen w8 n ≡ count_of m
-kept_count m n h e = let b = sized_bounds m h in omega (arith, ints, b.0, b.1, e)
+kept_count : (m : Option Meet) (n : ℤ) → IsSized m → n ≡ count_of m → IsKnown m (seen w8 n)
+kept_count m n h e = let b = sized_bounds m h in record { sized = h; count = omega (arith, ints, b.0, b.1, e) }
 
 -- the counts of five answers, as they are handed on
 pub record AreKnown (counts : List ℤ) (ms : List (Option Meet)) : Type 0 where
-  pub start : seen w8 (number_at counts 0) ≡ count_of (get_or ms 0 None)
-  pub end : seen w8 (number_at counts 1) ≡ count_of (get_or ms 1 None)
-  pub first : seen w8 (number_at counts 2) ≡ count_of (get_or ms 2 None)
-  pub second : seen w8 (number_at counts 3) ≡ count_of (get_or ms 3 None)
-  pub third : seen w8 (number_at counts 4) ≡ count_of (get_or ms 4 None)
+  pub start : IsKnown (get_or ms 0 None) (seen w8 (number_at counts 0))
+  pub end : IsKnown (get_or ms 1 None) (seen w8 (number_at counts 1))
+  pub first : IsKnown (get_or ms 2 None) (seen w8 (number_at counts 2))
+  pub second : IsKnown (get_or ms 3 None) (seen w8 (number_at counts 3))
+  pub third : IsKnown (get_or ms 4 None) (seen w8 (number_at counts 4))
 
 -- the number of answers, as the code reads it from their pairs, and the first spots
 pub record AreRead (ms : List (Option Meet)) (n : ℤ) (ps : Pairs) : Type 0 where

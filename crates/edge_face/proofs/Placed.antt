@@ -5,8 +5,10 @@ use Rattle.std.specs.Int.{w32, w64}
 use Rattle.mb_base.specs.declared.TheConstants.{UNIT}
 use Rattle.mesh_terms.specs.Points.{IsOnGrid}
 use Rattle.side_terms.specs.Fine.{IsFine, IsWeight}
-use Rattle.shadow_kernels.specs.Spots.{Between}
-use Rattle.edge_face.specs.Crossings.{Settle}
+use Rattle.shadow_kernels.specs.declared.Spot.{Spot}
+use Rattle.shadow_kernels.specs.Spots.{Between, gap}
+use Rattle.edge_face.specs.Crossings.{Settle, p_point, q_point}
+use Rattle.edge_face.specs.Sides.{mirrored}
 use Rattle.edge_face.specs.CrossLaws.{IsSettling}
 use Rattle.shadow_kernels.proofs.Values.{seen}
 
@@ -47,3 +49,12 @@ made_point (Some p) {x} {y} {z} {a} {b} {c} s h e f g =
     ∙ ap (λ (n : ℤ). Some (n ∷ y ∷ z ∷ [])) e
     ∙ ap (λ (n : ℤ). Some (a ∷ n ∷ z ∷ [])) f
     ∙ ap (λ (n : ℤ). Some (a ∷ b ∷ n ∷ [])) g
+
+-- the point by Q's values is that by P's of the spots with both exchanged
+pub other_point : (w : Between) (settle : Settle) (d u : Spot) → p_point w settle (mirrored d) (mirrored u) ≡ q_point w settle d u
+unfolding p_point q_point
+other_point w settle d u =
+    let g : gap d.qz d.pz ≡ gap d.pz d.qz = omega (arith, ints) in
+    let h : gap u.qz u.pz ≡ gap u.pz u.qz = omega (arith, ints) in
+    let by : ℤ → ℤ → List ℤ = λ a b. settle (w d.x u.x a b) ∷ settle (w d.qy u.qy a b) ∷ settle (w d.qz u.qz a b) ∷ [] in
+    ap (λ (z : ℤ). by z (gap u.qz u.pz)) g ∙ ap (λ (z : ℤ). by (gap d.pz d.qz) z) h

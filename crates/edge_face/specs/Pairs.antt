@@ -6,11 +6,17 @@ use Rattle.side_terms.specs.Corners.{corner_at}
 use Rattle.shadow_kernels.specs.declared.Spot.{Spot}
 use Rattle.shadow_kernels.specs.declared.Meet.{Meet}
 use Rattle.shadow_kernels.specs.Counts.{count_of}
+use Rattle.shadow_kernels.specs.Sizes.{IsSized}
 use Rattle.shadow_kernels.specs.Entries.{spot_of}
 use Rattle.shadow_kernels.specs.ShadowLaws.{ShadowTest}
 use Rattle.edge_face.specs.declared.pair.Pair.{Pair}
 use Rattle.edge_face.specs.declared.pair.Pairs.{Pairs}
 use Rattle.edge_face.specs.Crossings.{face_edges}
+
+-- a number known to be the count of a sized answer
+pub record IsKnown (m : Option Meet) (n : ℤ) : Type 0 where
+  pub sized : IsSized m
+  pub count : n ≡ count_of m
 
 -- the count of an answer, and whether it is above, where there is one
 pub record IsPairOf (m : Option Meet) (s : Pair) : Type 0 where

@@ -4,102 +4,114 @@ ghost use Rattle.std.specs.Prelude.{◌≡◌};
 ghost use Rattle.side_terms.specs.Corners.{AllFine};
 ghost use Rattle.shadow_kernels.specs.GridLaws.{lift02, lift20};
 ghost use Rattle.shadow_kernels.specs.Shadows.{edge_edge, vertex_face, face_vertex};
-ghost use Rattle.edge_face.specs.Crossings.{mirror, p_point, q_point, edge_face_pairs, face_edge_pairs, edge_face_crossing, face_edge_crossing};
+ghost use Rattle.edge_face.specs.Crossings.{mirror, p_point, q_point, edge_face_crossing, face_edge_crossing};
 ghost use Rattle.edge_face.specs.Laws.{lift, edge_face_laws, face_edge_laws};
 ghost use Rattle.edge_face.specs.Pairs.{spot_at};
+ghost use Rattle.edge_face.specs.Sides.{ends_on, edges_on, pairs_on, crossing_on};
+ghost use Rattle.shadow_kernels.specs.Entries.{spot_of};
 
-use crate::pairs::{edge_face_pairs, face_edge_pairs};
-use crate::points::{p_point, q_point};
+use crate::pairs::pairs_of;
+use crate::points::edge_point;
 use crate::{Cross, Crosses, Kernels};
 use mb_base::Corner;
 use rounding::Rounding;
-use shadow_kernels::{Grid, Meets, Spot, spot_of};
+use shadow_kernels::{Edge, Grid, Meets, Spot, spot_of};
 
 impl<R: Rounding> Crosses<2, 3> for Grid<R> {
     ghost cross_of = { λ k. edge_face_crossing (R.between_of k.rounding) (R.settle_of k.rounding) };
 
-    ghost laws = { λ k. edge_face_laws (R.between_of k.rounding) (record { within = R.within k.rounding })
-        (R.settle_of k.rounding) (record { monotone = R.monotone k.rounding; units = R.units k.rounding }) };
+    ghost laws = { λ k. edge_face_laws (R.between_of k.rounding) (record { within = R.within k.rounding }) (R.settle_of k.rounding) (record { monotone = R.monotone k.rounding; units = R.units k.rounding }) };
 
-    fn cross(&self, p: &[Corner; 2], q: &[Corner; 3]) -> Option<Cross>
-        requires p_fine { AllFine p.now }
-        requires q_fine { AllFine q.now }
-        ensures value { result ≡ edge_face_crossing (R.between_of self.now.rounding) (R.settle_of self.now.rounding) p.now q.now }
-    {
-        let pairs = edge_face_pairs(&self.rounding, p, q);
-        let number = pairs.number();
-        if number == 0 {
-            return None;
-        }
-        let below = edge_face_spot(self, p, q, pairs.first_on(false));
-        let above = edge_face_spot(self, p, q, pairs.first_on(true));
-        let at = p_point(&self.rounding, &below, &above)?;
-        Some(Cross { number, at })
+    fn cross(&self, p: &[Corner; 2], q: &[Corner; 3]) -> Option<Cross> {
+        crossing(self, Edge::OfP, p, q)
     }
 }
 
 impl<R: Rounding> Crosses<3, 2> for Grid<R> {
     ghost cross_of = { λ k. face_edge_crossing (R.between_of k.rounding) (R.settle_of k.rounding) };
 
-    ghost laws = { λ k. face_edge_laws (R.between_of k.rounding) (record { within = R.within k.rounding })
-        (R.settle_of k.rounding) (record { monotone = R.monotone k.rounding; units = R.units k.rounding }) };
+    ghost laws = { λ k. face_edge_laws (R.between_of k.rounding) (record { within = R.within k.rounding }) (R.settle_of k.rounding) (record { monotone = R.monotone k.rounding; units = R.units k.rounding }) };
 
-    fn cross(&self, p: &[Corner; 3], q: &[Corner; 2]) -> Option<Cross>
-        requires p_fine { AllFine p.now }
-        requires q_fine { AllFine q.now }
-        ensures value { result ≡ face_edge_crossing (R.between_of self.now.rounding) (R.settle_of self.now.rounding) p.now q.now }
-    {
-        let pairs = face_edge_pairs(&self.rounding, p, q);
-        let number = pairs.number();
-        if number == 0 {
-            return None;
-        }
-        let below = face_edge_spot(self, p, q, pairs.first_on(false));
-        let above = face_edge_spot(self, p, q, pairs.first_on(true));
-        let at = q_point(&self.rounding, &below, &above)?;
-        Some(Cross { number, at })
+    fn cross(&self, p: &[Corner; 3], q: &[Corner; 2]) -> Option<Cross> {
+        crossing(self, Edge::OfQ, q, p)
     }
 }
 
-/// The spot of the pair of an edge and a face that has this place: start, end, first, second and third edge of the face.
-fn edge_face_spot<R: Rounding>(
+/// The crossing of an edge and a face of the other side.
+fn crossing<R: Rounding>(
     grid: &Grid<R>,
-    p: &[Corner; 2],
-    q: &[Corner; 3],
+    of: Edge,
+    edge: &[Corner; 2],
+    face: &[Corner; 3],
+) -> Option<Cross>
+    requires edge_fine { AllFine edge.now }
+    requires face_fine { AllFine face.now }
+    ensures value { result ≡ crossing_on of (R.between_of grid.now.rounding) (R.settle_of grid.now.rounding) edge.now face.now }
+{
+    let pairs = pairs_of(&grid.rounding, of, edge, face);
+    let number = pairs.number();
+    if number == 0 {
+        return None;
+    }
+    let below = spot_on(grid, of, edge, face, pairs.first_on(false));
+    let above = spot_on(grid, of, edge, face, pairs.first_on(true));
+    let at = edge_point(&grid.rounding, of, &below, &above)?;
+    Some(Cross { number, at })
+}
+
+/// The spot of the pair that has this place: start, end, first, second and third edge of the face.
+fn spot_on<R: Rounding>(
+    grid: &Grid<R>,
+    of: Edge,
+    edge: &[Corner; 2],
+    face: &[Corner; 3],
     place: usize,
 ) -> Spot
-    requires p_fine { AllFine p.now }
-    requires q_fine { AllFine q.now }
-    ensures { result ≡ spot_at (edge_face_pairs (R.between_of grid.now.rounding) p.now q.now) place }
+    requires edge_fine { AllFine edge.now }
+    requires face_fine { AllFine face.now }
+    ensures { result ≡ spot_at (pairs_on of (R.between_of grid.now.rounding) edge.now face.now) place }
 {
     match place {
-        0 => spot_of(&grid.meet(&[p[0]], q)),
-        1 => spot_of(&grid.meet(&[p[1]], q)),
-        2 => spot_of(&grid.meet(p, &[q[0], q[1]])),
-        3 => spot_of(&grid.meet(p, &[q[1], q[2]])),
-        4 => spot_of(&grid.meet(p, &[q[2], q[0]])),
+        0 => face_spot(grid, of, &[edge[0]], face),
+        1 => face_spot(grid, of, &[edge[1]], face),
+        2 => edges_spot(grid, of, edge, &[face[0], face[1]]),
+        3 => edges_spot(grid, of, edge, &[face[1], face[2]]),
+        4 => edges_spot(grid, of, edge, &[face[2], face[0]]),
         _ => spot_of(&None),
     }
 }
 
-/// Likewise of a face and an edge.
-fn face_edge_spot<R: Rounding>(
+/// The spot of a vertex of the edge's side and the face.
+fn face_spot<R: Rounding>(
     grid: &Grid<R>,
-    p: &[Corner; 3],
-    q: &[Corner; 2],
-    place: usize,
+    of: Edge,
+    vertex: &[Corner; 1],
+    face: &[Corner; 3],
 ) -> Spot
-    requires p_fine { AllFine p.now }
-    requires q_fine { AllFine q.now }
-    ensures { result ≡ spot_at (face_edge_pairs (R.between_of grid.now.rounding) p.now q.now) place }
+    requires vertex_fine { AllFine vertex.now }
+    requires face_fine { AllFine face.now }
+    ensures { result ≡ spot_of (ends_on of (R.between_of grid.now.rounding) vertex.now face.now) }
 {
-    match place {
-        0 => spot_of(&grid.meet(p, &[q[0]])),
-        1 => spot_of(&grid.meet(p, &[q[1]])),
-        2 => spot_of(&grid.meet(&[p[0], p[1]], q)),
-        3 => spot_of(&grid.meet(&[p[1], p[2]], q)),
-        4 => spot_of(&grid.meet(&[p[2], p[0]], q)),
-        _ => spot_of(&None),
+    match of {
+        Edge::OfP => spot_of(&grid.meet(vertex, face)),
+        Edge::OfQ => spot_of(&grid.meet(face, vertex)),
+    }
+}
+
+/// The spot of the edge and an edge of the face.
+fn edges_spot<R: Rounding>(
+    grid: &Grid<R>,
+    of: Edge,
+    edge: &[Corner; 2],
+    other: &[Corner; 2],
+) -> Spot
+    requires edge_fine { AllFine edge.now }
+    requires other_fine { AllFine other.now }
+    ensures { result ≡ spot_of (edges_on of (R.between_of grid.now.rounding) edge.now other.now) }
+{
+    match of {
+        Edge::OfP => spot_of(&grid.meet(edge, other)),
+        Edge::OfQ => spot_of(&grid.meet(other, edge)),
     }
 }
 

@@ -2,18 +2,17 @@
 //! no spot is placed but where the boxes leave it open whether a pair is above.
 
 ghost use Rattle.std.specs.Prelude.{◌≡◌, ◌+◌, ◌≤◌, ◌+ℤ◌, ◌-ℤ◌, unsigned_abs, map};
-ghost use Rattle.side_terms.specs.Corners.{corner_at, IsFineCorner, AllFine};
-ghost use Rattle.shadow_kernels.specs.Counts.{count_of, shadow_of};
-ghost use Rattle.shadow_kernels.specs.Shadows.{vertex_edge, edge_vertex, edge_edge, vertex_face, face_vertex};
-ghost use Rattle.edge_face.specs.Crossings.{mirror, edge_face_pairs, face_edge_pairs};
-ghost use Rattle.edge_face.specs.Pairs.{IsPairOf, ArePairsOf, pair_shadow, pair_on, pairs_number, first_place};
+ghost use Rattle.side_terms.specs.Corners.{IsFineCorner, AllFine};
+ghost use Rattle.shadow_kernels.specs.Counts.{shadow_of};
+ghost use Rattle.edge_face.specs.Sides.{ends_on, edges_on, one_on, other_on, pairs_on};
+ghost use Rattle.edge_face.specs.Pairs.{IsKnown, IsPairOf, ArePairsOf, pair_shadow, pair_on, pairs_number, first_place};
 ghost use Rattle.edge_face.specs.Pairs.{number_at, AreSmall, AreCounts, vertex_rim, edge_corners};
 
 use crate::pair::{Pair, Pairs};
 use mb_base::Corner;
 use rounding::Rounding;
 use shadow_kernels::{
-    edge_vertex_shadow, is_edge_above_edge, is_face_above_vertex, is_vertex_above_face,
+    Edge, edge_vertex_shadow, is_edge_above_edge, is_face_above_vertex, is_vertex_above_face,
     vertex_edge_shadow,
 };
 
@@ -72,41 +71,27 @@ impl Pairs {
     }
 }
 
-/// The pairs of an edge of P and a face of Q.
-pub(crate) fn edge_face_pairs<R: Rounding>(rounding: &R, p: &[Corner; 2], q: &[Corner; 3]) -> Pairs
-    requires p_fine { AllFine p.now }
-    requires q_fine { AllFine q.now }
-    ensures { ArePairsOf (edge_face_pairs (R.between_of rounding.now) p.now q.now) result }
+/// The pairs of an edge and a face of the other side.
+pub(crate) fn pairs_of<R: Rounding>(
+    rounding: &R,
+    of: Edge,
+    edge: &[Corner; 2],
+    face: &[Corner; 3],
+) -> Pairs
+    requires edge_fine { AllFine edge.now }
+    requires face_fine { AllFine face.now }
+    ensures { ArePairsOf (pairs_on of (R.between_of rounding.now) edge.now face.now) result }
 {
-    let start = vertex_edges(rounding, &p[0], q);
-    let end = vertex_edges(rounding, &p[1], q);
-    let at = edge_vertices(rounding, p, q);
+    let start = vertex_edges(rounding, of, &edge[0], face);
+    let end = vertex_edges(rounding, of, &edge[1], face);
+    let at = edge_vertices(rounding, of, edge, face);
     let counts = counts(&start, &end, &at);
     Pairs {
-        start: vertex_face_pair(rounding, counts[0], &[p[0]], q),
-        end: vertex_face_pair(rounding, counts[1], &[p[1]], q),
-        first: edge_edge_pair(rounding, counts[2], p, &[q[0], q[1]]),
-        second: edge_edge_pair(rounding, counts[3], p, &[q[1], q[2]]),
-        third: edge_edge_pair(rounding, counts[4], p, &[q[2], q[0]]),
-    }
-}
-
-/// The pairs of a face of P and an edge of Q.
-pub(crate) fn face_edge_pairs<R: Rounding>(rounding: &R, p: &[Corner; 3], q: &[Corner; 2]) -> Pairs
-    requires p_fine { AllFine p.now }
-    requires q_fine { AllFine q.now }
-    ensures { ArePairsOf (face_edge_pairs (R.between_of rounding.now) p.now q.now) result }
-{
-    let start = edges_vertex(rounding, p, &q[0]);
-    let end = edges_vertex(rounding, p, &q[1]);
-    let at = vertices_edge(rounding, p, q);
-    let counts = counts(&start, &end, &at);
-    Pairs {
-        start: face_vertex_pair(rounding, counts[0], p, &[q[0]]),
-        end: face_vertex_pair(rounding, counts[1], p, &[q[1]]),
-        first: edge_edge_pair(rounding, counts[2], &[p[0], p[1]], q),
-        second: edge_edge_pair(rounding, counts[3], &[p[1], p[2]], q),
-        third: edge_edge_pair(rounding, counts[4], &[p[2], p[0]], q),
+        start: face_pair(rounding, of, counts[0], &[edge[0]], face),
+        end: face_pair(rounding, of, counts[1], &[edge[1]], face),
+        first: edge_pair(rounding, of, counts[2], edge, &[face[0], face[1]]),
+        second: edge_pair(rounding, of, counts[3], edge, &[face[1], face[2]]),
+        third: edge_pair(rounding, of, counts[4], edge, &[face[2], face[0]]),
     }
 }
 
@@ -158,74 +143,68 @@ fn lifted(start: i8, end: i8, from: i8, to: i8) -> i8
     less(less(end, start), less(from, to))
 }
 
-/// The shadows of a vertex with the three edges of a face.
-fn vertex_edges<R: Rounding>(rounding: &R, p: &Corner, q: &[Corner; 3]) -> [i8; 3]
-    requires p_fine { IsFineCorner p.now }
-    requires q_fine { AllFine q.now }
-    ensures value { result ≡ map shadow_of (vertex_rim (vertex_edge (R.between_of rounding.now)) p.now q.now) }
+/// The shadows of a vertex of the edge's side with the three edges of a face.
+fn vertex_edges<R: Rounding>(rounding: &R, of: Edge, vertex: &Corner, face: &[Corner; 3]) -> [i8; 3]
+    requires vertex_fine { IsFineCorner vertex.now }
+    requires face_fine { AllFine face.now }
+    ensures value { result ≡ map shadow_of (vertex_rim (one_on of (R.between_of rounding.now)) vertex.now face.now) }
     ensures small { AreSmall result }
 {
-    let [u, v, w] = q;
-    [
-        vertex_edge_shadow(rounding, p, u, v),
-        vertex_edge_shadow(rounding, p, v, w),
-        vertex_edge_shadow(rounding, p, w, u),
-    ]
+    let [u, v, w] = face;
+    match of {
+        Edge::OfP => [
+            vertex_edge_shadow(rounding, vertex, u, v),
+            vertex_edge_shadow(rounding, vertex, v, w),
+            vertex_edge_shadow(rounding, vertex, w, u),
+        ],
+        Edge::OfQ => [
+            edge_vertex_shadow(rounding, u, v, vertex),
+            edge_vertex_shadow(rounding, v, w, vertex),
+            edge_vertex_shadow(rounding, w, u, vertex),
+        ],
+    }
 }
 
 /// The shadows of an edge with the three corners of a face.
-fn edge_vertices<R: Rounding>(rounding: &R, p: &[Corner; 2], q: &[Corner; 3]) -> [i8; 3]
-    requires p_fine { AllFine p.now }
-    requires q_fine { AllFine q.now }
-    ensures value { result ≡ map shadow_of (edge_corners (edge_vertex (R.between_of rounding.now)) p.now q.now) }
+fn edge_vertices<R: Rounding>(
+    rounding: &R,
+    of: Edge,
+    edge: &[Corner; 2],
+    face: &[Corner; 3],
+) -> [i8; 3]
+    requires edge_fine { AllFine edge.now }
+    requires face_fine { AllFine face.now }
+    ensures value { result ≡ map shadow_of (edge_corners (other_on of (R.between_of rounding.now)) edge.now face.now) }
     ensures small { AreSmall result }
 {
-    let [a, b] = p;
-    let [u, v, w] = q;
-    [
-        edge_vertex_shadow(rounding, a, b, u),
-        edge_vertex_shadow(rounding, a, b, v),
-        edge_vertex_shadow(rounding, a, b, w),
-    ]
+    let [a, b] = edge;
+    let [u, v, w] = face;
+    match of {
+        Edge::OfP => [
+            edge_vertex_shadow(rounding, a, b, u),
+            edge_vertex_shadow(rounding, a, b, v),
+            edge_vertex_shadow(rounding, a, b, w),
+        ],
+        Edge::OfQ => [
+            vertex_edge_shadow(rounding, u, a, b),
+            vertex_edge_shadow(rounding, v, a, b),
+            vertex_edge_shadow(rounding, w, a, b),
+        ],
+    }
 }
 
-/// The shadows of the three edges of a face with a vertex.
-fn edges_vertex<R: Rounding>(rounding: &R, p: &[Corner; 3], q: &Corner) -> [i8; 3]
-    requires p_fine { AllFine p.now }
-    requires q_fine { IsFineCorner q.now }
-    ensures value { result ≡ map shadow_of (vertex_rim (mirror (edge_vertex (R.between_of rounding.now))) q.now p.now) }
-    ensures small { AreSmall result }
-{
-    let [u, v, w] = p;
-    [
-        edge_vertex_shadow(rounding, u, v, q),
-        edge_vertex_shadow(rounding, v, w, q),
-        edge_vertex_shadow(rounding, w, u, q),
-    ]
-}
-
-/// The shadows of the three corners of a face with an edge.
-fn vertices_edge<R: Rounding>(rounding: &R, p: &[Corner; 3], q: &[Corner; 2]) -> [i8; 3]
-    requires p_fine { AllFine p.now }
-    requires q_fine { AllFine q.now }
-    ensures value { result ≡ map shadow_of (edge_corners (mirror (vertex_edge (R.between_of rounding.now))) q.now p.now) }
-    ensures small { AreSmall result }
-{
-    let [u, v, w] = p;
-    let [c, d] = q;
-    [
-        vertex_edge_shadow(rounding, u, c, d),
-        vertex_edge_shadow(rounding, v, c, d),
-        vertex_edge_shadow(rounding, w, c, d),
-    ]
-}
-
-/// The pair of a vertex and a face, of which the count is known.
-fn vertex_face_pair<R: Rounding>(rounding: &R, count: i8, p: &[Corner; 1], q: &[Corner; 3]) -> Pair
-    requires known { count ≡ count_of (vertex_face (R.between_of rounding.now) p.now q.now) }
-    requires p_fine { AllFine p.now }
-    requires q_fine { AllFine q.now }
-    ensures { IsPairOf (vertex_face (R.between_of rounding.now) p.now q.now) result }
+/// The pair of a vertex of the edge's side and a face, of which the count is known.
+fn face_pair<R: Rounding>(
+    rounding: &R,
+    of: Edge,
+    count: i8,
+    vertex: &[Corner; 1],
+    face: &[Corner; 3],
+) -> Pair
+    requires known { IsKnown (ends_on of (R.between_of rounding.now) vertex.now face.now) count }
+    requires vertex_fine { AllFine vertex.now }
+    requires face_fine { AllFine face.now }
+    ensures { IsPairOf (ends_on of (R.between_of rounding.now) vertex.now face.now) result }
 {
     if count == 0 {
         return Pair {
@@ -233,16 +212,25 @@ fn vertex_face_pair<R: Rounding>(rounding: &R, count: i8, p: &[Corner; 1], q: &[
             above: false,
         };
     }
-    let above = is_vertex_above_face(rounding, p, q);
+    let above = match of {
+        Edge::OfP => is_vertex_above_face(rounding, vertex, face),
+        Edge::OfQ => is_face_above_vertex(rounding, face, vertex),
+    };
     Pair { count, above }
 }
 
-/// The pair of a face and a vertex, of which the count is known.
-fn face_vertex_pair<R: Rounding>(rounding: &R, count: i8, p: &[Corner; 3], q: &[Corner; 1]) -> Pair
-    requires known { count ≡ count_of (face_vertex (R.between_of rounding.now) p.now q.now) }
-    requires p_fine { AllFine p.now }
-    requires q_fine { AllFine q.now }
-    ensures { IsPairOf (face_vertex (R.between_of rounding.now) p.now q.now) result }
+/// The pair of two edges, the second one of the face, of which the count is known.
+fn edge_pair<R: Rounding>(
+    rounding: &R,
+    of: Edge,
+    count: i8,
+    edge: &[Corner; 2],
+    other: &[Corner; 2],
+) -> Pair
+    requires known { IsKnown (edges_on of (R.between_of rounding.now) edge.now other.now) count }
+    requires edge_fine { AllFine edge.now }
+    requires other_fine { AllFine other.now }
+    ensures { IsPairOf (edges_on of (R.between_of rounding.now) edge.now other.now) result }
 {
     if count == 0 {
         return Pair {
@@ -250,23 +238,9 @@ fn face_vertex_pair<R: Rounding>(rounding: &R, count: i8, p: &[Corner; 3], q: &[
             above: false,
         };
     }
-    let above = is_face_above_vertex(rounding, p, q);
-    Pair { count, above }
-}
-
-/// The pair of two edges, of which the count is known.
-fn edge_edge_pair<R: Rounding>(rounding: &R, count: i8, p: &[Corner; 2], q: &[Corner; 2]) -> Pair
-    requires known { count ≡ count_of (edge_edge (R.between_of rounding.now) p.now q.now) }
-    requires p_fine { AllFine p.now }
-    requires q_fine { AllFine q.now }
-    ensures { IsPairOf (edge_edge (R.between_of rounding.now) p.now q.now) result }
-{
-    if count == 0 {
-        return Pair {
-            count,
-            above: false,
-        };
-    }
-    let above = is_edge_above_edge(rounding, p, q);
+    let above = match of {
+        Edge::OfP => is_edge_above_edge(rounding, edge, other),
+        Edge::OfQ => is_edge_above_edge(rounding, other, edge),
+    };
     Pair { count, above }
 }

@@ -5,14 +5,15 @@ ghost use Rattle.mesh_terms.specs.Points.{IsOnGrid};
 ghost use Rattle.side_terms.specs.Fine.{IsFine, IsWeight};
 ghost use Rattle.shadow_kernels.specs.Spots.{gap};
 ghost use Rattle.shadow_kernels.specs.Bounds.{IsFineSpot};
-ghost use Rattle.edge_face.specs.Crossings.{p_point, q_point};
+ghost use Rattle.edge_face.specs.Crossings.{p_point};
+ghost use Rattle.edge_face.specs.Sides.{place_on, mirrored};
 
 use mb_base::Point;
 use rounding::Rounding;
-use shadow_kernels::{Spot, gap_of};
+use shadow_kernels::{Edge, Spot, gap_of};
 
 /// The point of an edge of P: P's values between a spot that is not above and one that is, weighted by their gaps in z.
-pub(crate) fn p_point<R: Rounding>(rounding: &R, below: &Spot, above: &Spot) -> Option<Point>
+fn p_point<R: Rounding>(rounding: &R, below: &Spot, above: &Spot) -> Option<Point>
     requires below_fine { IsFineSpot below.now }
     requires above_fine { IsFineSpot above.now }
     ensures { result ≡ Some (p_point (R.between_of rounding.now) (R.settle_of rounding.now) below.now above.now) }
@@ -26,19 +27,35 @@ pub(crate) fn p_point<R: Rounding>(rounding: &R, below: &Spot, above: &Spot) -> 
     )
 }
 
-/// The point of an edge of Q: Q's values, likewise.
-pub(crate) fn q_point<R: Rounding>(rounding: &R, below: &Spot, above: &Spot) -> Option<Point>
+/// The point of an edge of either side: of an edge of Q by Q's values, likewise.
+pub(crate) fn edge_point<R: Rounding>(
+    rounding: &R,
+    of: Edge,
+    below: &Spot,
+    above: &Spot,
+) -> Option<Point>
     requires below_fine { IsFineSpot below.now }
     requires above_fine { IsFineSpot above.now }
-    ensures { result ≡ Some (q_point (R.between_of rounding.now) (R.settle_of rounding.now) below.now above.now) }
+    ensures { result ≡ Some (place_on of (R.between_of rounding.now) (R.settle_of rounding.now) below.now above.now) }
 {
-    let a = gap_in_z(below);
-    let b = gap_in_z(above);
-    Point::of(
-        settled(rounding, below.x, above.x, a, b),
-        settled(rounding, below.qy, above.qy, a, b),
-        settled(rounding, below.qz, above.qz, a, b),
-    )
+    match of {
+        Edge::OfP => p_point(rounding, below, above),
+        Edge::OfQ => p_point(rounding, &mirrored(below), &mirrored(above)),
+    }
+}
+
+/// The spot with the values of P and of Q exchanged.
+fn mirrored(spot: &Spot) -> Spot
+    ensures { result ≡ mirrored spot.now }
+{
+    Spot {
+        x: spot.x,
+        py: spot.qy,
+        qy: spot.py,
+        pz: spot.qz,
+        qz: spot.pz,
+        up: spot.up,
+    }
 }
 
 /// The difference of P's z and Q's z at a spot, without its sign.

@@ -3,8 +3,11 @@ use Rattle.std.proofs.Common.{◌≡◌, ℤ, Bool, true, false, not, pos, negsu
 use mathlib.Core.Bool.{beq}
 use Rattle.shadow_kernels.specs.declared.Spot.{Spot}
 use Rattle.shadow_kernels.specs.declared.Meet.{Meet}
-use Rattle.shadow_kernels.specs.Spots.{above_y, above_z}
-use Rattle.shadow_kernels.specs.Counts.{shadow_of, by_ends}
+use Rattle.shadow_kernels.specs.Spots.{Between, above_y, above_z}
+use Rattle.mb_base.specs.declared.point.Corner.{Corner}
+use Rattle.shadow_kernels.specs.declared.Edge.{Edge}
+use Rattle.shadow_kernels.specs.Edges.{past, edge_meet, edge_spot, edge_ends}
+use Rattle.shadow_kernels.specs.Counts.{shadow_of}
 use Rattle.shadow_kernels.specs.Ends.{ends_same, ends_first, ends_second}
 
 -- tests that were found equal are
@@ -21,39 +24,36 @@ beq_other true false e = refl
 beq_other false true e = refl
 beq_other false false e = absurd (cc)
 
--- the tests at both ends answer alike
-pub at_neither : {a b s t : Bool} (x y : Spot) → a ≡ s → b ≡ t → beq a b ≡ true → None ≡ by_ends s t x y
-at_neither {a} {b} {s} {t} x y e f h = let k = beq_same a b h in sym (ends_same s t x y (cc))
+-- of two ends whose tests were found different the vertex is past one and not past the other
+pub first_alone : {a b s t : Bool} → a ≡ s → b ≡ t → beq a b ≡ false → a ≡ true → (s ≡ true) × (t ≡ false)
+first_alone {a} {b} e f h is = let k = beq_other a b h in (sym e ∙ is, sym f ∙ k ∙ ap not is)
 
--- the test at the first end alone holds
-pub at_first : {a b s t : Bool} {x z : Spot} {m : Meet} (y : Spot) → a ≡ s → b ≡ t → beq a b ≡ false → a ≡ true → z ≡ x → m ≡ record { count = pos 1; above = above_y z; spot = z } → Some m ≡ by_ends s t x y
-at_first {a} {b} {s} {t} {x} y e f h is same made =
-    let k = beq_other a b h in
-    let other : not true ≡ t = ap not (sym is) ∙ sym k ∙ f in
-    let spot : Spot → Meet = λ z. record { count = pos 1; above = above_y z; spot = z } in
-    ap (λ (n : Meet). Some n) (made ∙ ap spot same) ∙ sym (ends_first s t x y (sym e ∙ is) (sym other))
+pub second_alone : {a b s t : Bool} → a ≡ s → b ≡ t → beq a b ≡ false → a ≡ false → (t ≡ true) × (s ≡ false)
+second_alone {a} {b} e f h is = let k = beq_other a b h in (sym f ∙ k ∙ ap not is, sym e ∙ is)
 
--- the test at the second end alone holds
-pub at_second : {a b s t : Bool} {y z : Spot} {m : Meet} (x : Spot) → a ≡ s → b ≡ t → beq a b ≡ false → a ≡ false → z ≡ y → m ≡ record { count = negsuc 0; above = above_y z; spot = z } → Some m ≡ by_ends s t x y
-at_second {a} {b} {s} {t} {y} x e f h is same made =
-    let k = beq_other a b h in
-    let other : not false ≡ t = ap not (sym is) ∙ sym k ∙ f in
-    let spot : Spot → Meet = λ z. record { count = negsuc 0; above = above_y z; spot = z } in
-    ap (λ (n : Meet). Some n) (made ∙ ap spot same) ∙ sym (ends_second s t x y (sym e ∙ is) (sym other))
+-- an answer of a count where y decides, at a spot
+abbrev pub met_at : ℤ → Spot → Meet
+met_at n s = record { count = n; above = above_y s; spot = s }
 
--- where the tests at both ends answer alike there is no shadow
-pub shadow_neither : {a b s t : Bool} (x y : Spot) → a ≡ s → b ≡ t → beq a b ≡ true → pos 0 ≡ shadow_of (by_ends s t x y)
-shadow_neither x y e f h = ap shadow_of (at_neither x y e f h)
+module _ (e : Edge) (w : Between) (v c d : Corner) where
+  -- the tests at both ends answer alike
+  pub at_neither : {a b : Bool} → a ≡ past e v c → b ≡ past e v d → beq a b ≡ true → None ≡ edge_meet e w v c d
+  at_neither {a} {b} f g h = let k = beq_same a b h in sym (edge_ends e w v c d ∙ ends_same (past e v c) (past e v d) (edge_spot e w v c d) (edge_spot e w v d c) (cc))
 
--- the shadow where the test at the first end alone holds
-pub shadow_first : {a b s t : Bool} {r : ℤ} {above : Bool} (x y : Spot) → a ≡ s → b ≡ t → beq a b ≡ false → a ≡ true → above ≡ above_y x → r ≡ (if above then pos 1 else pos 0) → r ≡ shadow_of (by_ends s t x y)
-shadow_first x y e f h is same made =
-    made ∙ ap (λ (u : Bool). if u then pos 1 else pos 0) same ∙ ap shadow_of (at_first {x = x} {z = x} {m = record { count = pos 1; above = above_y x; spot = x }} y e f h is refl refl)
+  -- the vertex is past the first end alone, or past the second
+  pub at_first : (past e v c ≡ true) × (past e v d ≡ false) → edge_meet e w v c d ≡ Some (met_at (pos 1) (edge_spot e w v c d))
+  at_first h = edge_ends e w v c d ∙ ends_first (past e v c) (past e v d) (edge_spot e w v c d) (edge_spot e w v d c) h.0 h.1
 
--- the shadow where the test at the second end alone holds
-pub shadow_second : {a b s t : Bool} {r : ℤ} {above : Bool} (x y : Spot) → a ≡ s → b ≡ t → beq a b ≡ false → a ≡ false → above ≡ above_y y → r ≡ (if above then negsuc 0 else pos 0) → r ≡ shadow_of (by_ends s t x y)
-shadow_second x y e f h is same made =
-    made ∙ ap (λ (u : Bool). if u then negsuc 0 else pos 0) same ∙ ap shadow_of (at_second {y = y} {z = y} {m = record { count = negsuc 0; above = above_y y; spot = y }} x e f h is refl refl)
+  pub at_second : (past e v d ≡ true) × (past e v c ≡ false) → edge_meet e w v c d ≡ Some (met_at (negsuc 0) (edge_spot e w v d c))
+  at_second h = edge_ends e w v c d ∙ ends_second (past e v c) (past e v d) (edge_spot e w v c d) (edge_spot e w v d c) h.1 h.0
+
+-- such an answer as the code makes it
+pub made_at : {n : ℤ} {s z : Spot} {m : Meet} {o : Option Meet} → o ≡ Some (met_at n s) → z ≡ s → m ≡ met_at n z → Some m ≡ o
+made_at {n} h same made = ap (λ (x : Meet). Some x) (made ∙ ap (met_at n) same) ∙ sym h
+
+-- and its shadow
+pub shadow_at : {n r : ℤ} {above : Bool} {o : Option Meet} (s : Spot) → o ≡ Some (met_at n s) → above ≡ above_y s → r ≡ (if above then n else pos 0) → r ≡ shadow_of o
+shadow_at {n} s h same made = made ∙ ap (λ (u : Bool). if u then n else pos 0) same ∙ sym (ap shadow_of h)
 
 -- an answer of equal count at an equal spot
 pub at_spot : (n k : ℤ) (s z : Spot) (m : Meet) → k ≡ n → z ≡ s → m ≡ record { count = k; above = above_z z; spot = z } →

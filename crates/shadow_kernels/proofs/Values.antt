@@ -1,11 +1,13 @@
 -- Values as they stand after they were kept at a width, and spots of equal values.
-use Rattle.std.proofs.Common.{arith, ◌≡◌, ℕ, ℤ, Bool, List, ap, ◌∙◌, FitsSigned}
+use Rattle.std.proofs.Common.{arith, ◌≡◌, ℕ, ℤ, ◌-ℤ◌, Bool, List, ap, sym, subst, ◌∙◌, FitsSigned}
 use Rattle.std.proofs.lemmas.Int.{ints}
 use Rattle.std.specs.Int.{Width, w8, w64, cast_signed, cast_unsigned}
 use Rattle.mb_base.specs.declared.point.Corner.{Corner}
 use Rattle.side_terms.specs.Fine.{IsFine, IsWeight}
 use Rattle.shadow_kernels.specs.declared.Spot.{Spot}
 use Rattle.shadow_kernels.specs.Spots.{Between, edge_value, mark, marks, gap}
+use Rattle.shadow_kernels.specs.Bounds.{IsGapOf}
+use Rattle.shadow_kernels.specs.Lifted.{gap_weight}
 
 -- a number as it stands after it was kept at a width
 abbrev pub seen : Width → ℤ → ℤ
@@ -41,12 +43,22 @@ kept_between {r} {u} {v} {a} {b} {g} {h} f e fu fv wa wb x y fits =
 pub kept_weight : {a g : ℤ} → IsWeight a → a ≡ g → seen w64 a ≡ g
 kept_weight h e = omega (arith, ints, h.low, h.high)
 
--- a gap of fine values that were kept at their width
-pub kept_gap : {r p q : ℤ} → r ≡ gap (seen w64 p) (seen w64 q) → IsFine p → IsFine q → r ≡ gap p q
+-- a gap of fine values, all kept at their width
+pub kept_gap : {r p q : ℤ} → r ≡ gap (seen w64 p) (seen w64 q) → IsFine p → IsFine q → seen w64 r ≡ gap p q
 kept_gap {r} {p} {q} e fp fq =
     let p_kept : seen w64 p ≡ p = omega (arith, ints, fp.low, fp.high) in
     let q_kept : seen w64 q ≡ q = omega (arith, ints, fq.low, fq.high) in
-    e ∙ ap (λ (z : ℤ). gap z (seen w64 q)) p_kept ∙ ap (λ (z : ℤ). gap p z) q_kept
+    let same : r ≡ gap p q = e ∙ ap (λ (z : ℤ). gap z (seen w64 q)) p_kept ∙ ap (λ (z : ℤ). gap p z) q_kept in
+    kept_weight (subst IsWeight (sym same) (gap_weight p q fp fq)) same
+
+-- a value between those of two spots, by the spots' gaps in y
+pub spot_value : {r u v a b : ℤ} {d s : Spot} (f : Between) → r ≡ f (seen w64 u) (seen w64 v) (seen w64 a) (seen w64 b) → IsFine u → IsFine v → IsGapOf d a → IsGapOf s b → FitsSigned w64 r →
+    seen w64 r ≡ f u v (gap d.py d.qy) (gap s.py s.qy)
+spot_value f e fu fv ga gb fits = kept_between f e fu fv ga.weight gb.weight ga.value gb.value fits
+
+-- a difference of fine values, all kept at their width
+pub kept_less : {u v : ℤ} → IsFine u → IsFine v → seen w64 (seen w64 u -ℤ seen w64 v) ≡ u -ℤ v
+kept_less h k = omega (arith, ints, h.low, h.high, k.low, k.high)
 
 -- a value of an edge at a place that was kept at its width
 pub kept_value : {y : ℤ} (w : Between) (i : ℕ) (l r : Corner) (x : ℤ) → y ≡ edge_value w i l r (seen w64 x) → IsFine x → FitsSigned w64 y → seen w64 y ≡ edge_value w i l r x

@@ -4,12 +4,13 @@ use Rattle.std.specs.List.{All}
 use Rattle.std.proofs.Common.{arith, inl, inr}
 use Rattle.std.proofs.lemmas.Int.{ints}
 use Rattle.mb_base.specs.declared.point.Corner.{Corner}
-use Rattle.side_terms.specs.Fine.{fine_edge, IsFine, LiesBetween}
+use Rattle.side_terms.specs.Fine.{fine_edge, IsFine, IsWeight, LiesBetween}
 use Rattle.side_terms.specs.Corners.{axis, corner_at, blank_corner, AllFine}
 use Rattle.shadow_kernels.specs.ShadowLaws.{IsInHull}
 use Rattle.shadow_kernels.specs.declared.Spot.{Spot}
 use Rattle.shadow_kernels.specs.declared.Meet.{Meet}
 use Rattle.shadow_kernels.specs.declared.tally.Tally.{Tally}
+use Rattle.shadow_kernels.specs.Spots.{gap}
 use Rattle.shadow_kernels.specs.Counts.{first_spot, lifted_count}
 use Rattle.side_terms.specs.Boxes.{IsInBox, IsBelow}
 use Rattle.shadow_kernels.specs.Sizes.{IsSized}
@@ -55,6 +56,11 @@ pub record IsFineSpot (s : Spot) : Type 0 where
   pub qy : IsFine s.qy
   pub pz : IsFine s.pz
   pub qz : IsFine s.qz
+
+-- the gap of a spot in y
+pub record IsGapOf (s : Spot) (a : ℤ) : Type 0 where
+  pub value : a ≡ gap s.py s.qy
+  pub weight : IsWeight a
 
 -- a spot in the hull of fine corners is fine
 pub hull_fine : (ps qs : List Corner) (s : Spot) → AllFine ps → AllFine qs → IsInHull ps qs s → IsFineSpot s

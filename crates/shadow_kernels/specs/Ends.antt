@@ -59,6 +59,14 @@ ends_hold P true false x y f g = f refl refl
 ends_hold P false true x y f g = g refl refl
 ends_hold P false false x y f g = tt
 
+-- tests that fail where these hold, the other way round
+pub ends_not : (s t : Bool) (x y : Spot) → by_ends (not s) (not t) x y ≡ by_ends t s x y
+unfolding by_ends met
+ends_not true true x y = refl
+ends_not true false x y = refl
+ends_not false true x y = refl
+ends_not false false x y = refl
+
 -- the difference of two tests that fail where these hold, the other way round
 pub less_not : (s t : Bool) → less s t ≡ less (not t) (not s)
 less_not true true = refl

@@ -7,11 +7,13 @@ use Rattle.side_terms.specs.Corners.{IsFineCorner, AllFine}
 use Rattle.shadow_kernels.specs.ShadowLaws.{IsInHull}
 use Rattle.shadow_kernels.specs.declared.Meet.{Meet}
 use Rattle.shadow_kernels.specs.Spots.{Between}
-use Rattle.shadow_kernels.specs.Shadows.{meet01, meet10}
 use Rattle.shadow_kernels.specs.Bounds.{IsFineSpot, IsFinePair, hull_fine}
-use Rattle.shadow_kernels.specs.Hulls.{StaysBetween}
-use Rattle.shadow_kernels.specs.Levels.{sized01, sized10}
-use Rattle.shadow_kernels.specs.GridLaws.{laws01, laws10}
+use Rattle.shadow_kernels.specs.Hulls.{StaysBetween, placed}
+use Rattle.shadow_kernels.specs.declared.Edge.{Edge}
+use Rattle.shadow_kernels.specs.declared.Edge.TheVariants.{OfP, OfQ}
+use Rattle.shadow_kernels.specs.Edges.{edge_meet}
+use Rattle.shadow_kernels.specs.Decided.{IsDecided}
+use Rattle.shadow_kernels.specs.Levels.{edge_decided}
 
 -- one fine corner
 pub fine_one : (p : Corner) → IsFineCorner p → AllFine (p ∷ [])
@@ -30,16 +32,17 @@ pub fine_spot : (ps qs : List Corner) → AllFine ps → AllFine qs → (m : Opt
 fine_spot ps qs fp fq None h = tt
 fine_spot ps qs fp fq (Some m) h = hull_fine ps qs m.spot fp fq h
 
--- the answers of a vertex and an edge, and of an edge and a vertex, are sized and have fine spots
-module _ {r : Option Meet} (w : Between) (stays : StaysBetween w) (a b c : Corner) (ha : IsFineCorner a) (hb : IsFineCorner b) (hc : IsFineCorner c) where
-  pub fine01 : r ≡ meet01 w a b c → IsFinePair r
-  fine01 e =
-      let fp = fine_one a ha in
-      let fq = fine_two b c hb hc in
-      subst IsFinePair (sym e) (record { sized = sized01 w a b c; fine = fine_spot (a ∷ []) (b ∷ c ∷ []) fp fq (meet01 w a b c) ((laws01 w stays).hull (a ∷ []) (b ∷ c ∷ []) (omega arith) refl refl fp fq) })
+-- and is sized, where it is decided in the boxes
+pub fine_pair : (ps qs : List Corner) → AllFine ps → AllFine qs → (m : Option Meet) → IsDecided 1 ps qs m → IsFinePair m
+fine_pair ps qs fp fq m h = record { sized = h.sized; fine = fine_spot ps qs fp fq m (h.hull (omega arith)) }
 
-  pub fine10 : r ≡ meet10 w a b c → IsFinePair r
-  fine10 e =
-      let fp = fine_two a b ha hb in
-      let fq = fine_one c hc in
-      subst IsFinePair (sym e) (record { sized = sized10 w a b c; fine = fine_spot (a ∷ b ∷ []) (c ∷ []) fp fq (meet10 w a b c) ((laws10 w stays).hull (a ∷ b ∷ []) (c ∷ []) (omega arith) refl refl fp fq) })
+-- so the answer of an edge and a vertex is sized and has a fine spot
+pub edge_fine : (e : Edge) (w : Between) → StaysBetween w → (v c d : Corner) → IsFineCorner v → IsFineCorner c → IsFineCorner d → IsFinePair (edge_meet e w v c d)
+edge_fine OfP w stays v c d hv hc hd =
+    let fe = fine_two c d hc hd in
+    let fv = fine_one v hv in
+    fine_pair (c ∷ d ∷ []) (v ∷ []) fe fv (edge_meet OfP w v c d) (edge_decided OfP w stays (c ∷ d ∷ []) (v ∷ []) v c d (placed (v ∷ []) 0 fv (omega arith)) (placed (c ∷ d ∷ []) 0 fe (omega arith)) (placed (c ∷ d ∷ []) 1 fe (omega arith)))
+edge_fine OfQ w stays v c d hv hc hd =
+    let fe = fine_two c d hc hd in
+    let fv = fine_one v hv in
+    fine_pair (v ∷ []) (c ∷ d ∷ []) fv fe (edge_meet OfQ w v c d) (edge_decided OfQ w stays (v ∷ []) (c ∷ d ∷ []) v c d (placed (v ∷ []) 0 fv (omega arith)) (placed (c ∷ d ∷ []) 0 fe (omega arith)) (placed (c ∷ d ∷ []) 1 fe (omega arith)))

@@ -13,7 +13,9 @@ use Rattle.shadow_kernels.specs.Sizes.{turned_shadow}
 use Rattle.shadow_kernels.specs.Hulls.{StaysBetween, placed, beats_boxes}
 use Rattle.shadow_kernels.specs.Decided.{laws_of}
 use Rattle.shadow_kernels.specs.Lifted.{lifted_is}
-use Rattle.shadow_kernels.specs.Levels.{IsEdgewise, count01, count10, reverse01, reverse10, edgewise01, edgewise10, behind, face_decided, face_turned, edge_turned, edges_decided, edges_turned_p, edges_turned_q}
+use Rattle.shadow_kernels.specs.declared.Edge.TheVariants.{OfP, OfQ}
+use Rattle.shadow_kernels.specs.Edges.{edge_meet}
+use Rattle.shadow_kernels.specs.Levels.{edge_count, count10, edge_reverse, edge_decided, face_decided, face_turned, edge_turned, edges_decided, edges_turned_p, edges_turned_q}
 
 -- of one corner no two can be exchanged
 no_two : {A : Type 0} (i j : ℕ) → i < j → j < 1 → A
@@ -39,13 +41,15 @@ differ false false = refl
 module _ (w : Between) (stays : StaysBetween w) where
   -- a vertex and an edge
   pub laws01 : ShadowLaws 1 2 (vertex_edge w)
-  laws01 = laws_of 1 2 1 (vertex_edge w) refl (λ p q i j l m x y fp fq. no_two i j l m) (λ p q i j l m x y fp fq. edge_turned (meet01 w (corner_at p 0)) (reverse01 w (corner_at p 0)) q i j l m y)
-      (λ p q x y fp fq. (edgewise01 w stays p q (corner_at p 0) (placed p 0 fp (omega (arith, x)))).decided (corner_at q 0) (corner_at q 1) (placed q 0 fq (omega (arith, y))) (placed q 1 fq (omega (arith, y))))
+  laws01 = laws_of 1 2 1 (vertex_edge w) refl (λ p q i j l m x y fp fq. no_two i j l m)
+      (λ p q i j l m x y fp fq. edge_turned (edge_meet OfQ w (corner_at p 0)) (edge_reverse OfQ w (corner_at p 0)) q i j l m y)
+      (λ p q x y fp fq. edge_decided OfQ w stays p q (corner_at p 0) (corner_at q 0) (corner_at q 1) (placed p 0 fp (omega (arith, x))) (placed q 0 fq (omega (arith, y))) (placed q 1 fq (omega (arith, y))))
 
   -- an edge and a vertex
   pub laws10 : ShadowLaws 2 1 (edge_vertex w)
-  laws10 = laws_of 2 1 1 (edge_vertex w) refl (λ p q i j l m x y fp fq. edge_turned (λ a b. meet10 w a b (corner_at q 0)) (λ a b. reverse10 w a b (corner_at q 0)) p i j l m x) (λ p q i j l m x y fp fq. no_two i j l m)
-      (λ p q x y fp fq. (edgewise10 w stays p q (corner_at q 0) (placed q 0 fq (omega (arith, y)))).decided (corner_at p 0) (corner_at p 1) (placed p 0 fp (omega (arith, x))) (placed p 1 fp (omega (arith, x))))
+  laws10 = laws_of 2 1 1 (edge_vertex w) refl
+      (λ p q i j l m x y fp fq. edge_turned (edge_meet OfP w (corner_at q 0)) (edge_reverse OfP w (corner_at q 0)) p i j l m x) (λ p q i j l m x y fp fq. no_two i j l m)
+      (λ p q x y fp fq. edge_decided OfP w stays p q (corner_at q 0) (corner_at p 0) (corner_at p 1) (placed q 0 fq (omega (arith, y))) (placed p 0 fp (omega (arith, x))) (placed p 1 fp (omega (arith, x))))
 
   -- two edges
   pub laws11 : ShadowLaws 2 2 (edge_edge w)
@@ -55,32 +59,23 @@ module _ (w : Between) (stays : StaysBetween w) where
       (λ p q x y fp fq. edges_decided w (corner_at p 0) (corner_at p 1) (corner_at q 0) (corner_at q 1) stays p q fp fq
       (placed p 0 fp (omega (arith, x))) (placed p 1 fp (omega (arith, x))) (placed q 0 fq (omega (arith, y))) (placed q 1 fq (omega (arith, y))))
 
-  -- the edges of a face of Q with a vertex of P, and of a face of P with a vertex of Q
-  edges02 : (p q : List Corner) → length p ≡ 1 → AllFine p → IsEdgewise p q q (meet01 w (corner_at p 0)) (beyond (corner_at p 0))
-  edges02 p q x fp = edgewise01 w stays p q (corner_at p 0) (placed p 0 fp (omega (arith, x)))
-
-  edges20 : (p q : List Corner) → length q ≡ 1 → AllFine q → IsEdgewise p q p (λ a b. meet10 w a b (corner_at q 0)) (behind (corner_at q 0))
-  edges20 p q y fq = edgewise10 w stays p q (corner_at q 0) (placed q 0 fq (omega (arith, y)))
-
   -- a vertex and a face
   pub laws02 : ShadowLaws 1 3 (vertex_face w)
   unfolding meet02
   laws02 = laws_of 1 3 2 (vertex_face w) refl (λ p q i j l m x y fp fq. no_two i j l m)
-      (λ p q i j l m x y fp fq. face_turned w p q q (meet01 w (corner_at p 0)) (beyond (corner_at p 0)) (edges02 p q x fp) q i j l m y)
-      (λ p q x y fp fq. face_decided w p q q (meet01 w (corner_at p 0)) (beyond (corner_at p 0)) (edges02 p q x fp) stays fp fq y fq)
+      (λ p q i j l m x y fp fq. face_turned OfQ w (corner_at p 0) q i j l m y) (λ p q x y fp fq. face_decided OfQ w (corner_at p 0) stays p q fp fq (placed p 0 fp (omega (arith, x))) y fq)
 
   -- a face and a vertex
   pub laws20 : ShadowLaws 3 1 (face_vertex w)
   unfolding meet20
   laws20 = laws_of 3 1 2 (face_vertex w) refl
-      (λ p q i j l m x y fp fq. face_turned w p q p (λ a b. meet10 w a b (corner_at q 0)) (behind (corner_at q 0)) (edges20 p q y fq) p i j l m x) (λ p q i j l m x y fp fq. no_two i j l m)
-      (λ p q x y fp fq. face_decided w p q p (λ a b. meet10 w a b (corner_at q 0)) (behind (corner_at q 0)) (edges20 p q y fq) stays fp fq x fp)
+      (λ p q i j l m x y fp fq. face_turned OfP w (corner_at q 0) p i j l m x) (λ p q i j l m x y fp fq. no_two i j l m) (λ p q x y fp fq. face_decided OfP w (corner_at q 0) stays p q fp fq (placed q 0 fq (omega (arith, y))) x fp)
 
 -- the counts, which a rounding leaves alone but for the shadows
 module _ (w : Between) where
   -- a vertex and an edge: the count is the difference of the shadows of the ends
   pub lift01 : (p c d : Corner) → count_of (meet01 w p c d) ≡ shadow_of (meet00 p c) -ℤ shadow_of (meet00 p d)
-  lift01 p c d = count01 w p c d ∙ differ (beyond p c) (beyond p d)
+  lift01 p c d = edge_count OfQ w p c d ∙ differ (beyond p c) (beyond p d)
 
   -- an edge and a vertex
   pub lift10 : (a b q : Corner) → count_of (meet10 w a b q) ≡ shadow_of (meet00 b q) -ℤ shadow_of (meet00 a q)

@@ -4,13 +4,16 @@ use Rattle.std.proofs.Common.{arith, inl, inr}
 use Rattle.std.proofs.lemmas.Int.{ints}
 use Rattle.mb_base.specs.declared.point.Corner.{Corner}
 use Rattle.side_terms.specs.Fine.{IsFine, IsWeight, LiesBetween}
-use Rattle.side_terms.specs.Corners.{axis, up_on, corner_at, blank_corner, IsFineCorner, AllFine}
+use Rattle.side_terms.specs.Corners.{axis, corner_at, blank_corner, IsFineCorner, AllFine}
 use Rattle.side_terms.specs.Boxes.{IsInBox, IsBelow, AreApart}
 use Rattle.shadow_kernels.specs.ShadowLaws.{IsInHull}
 use Rattle.shadow_kernels.specs.declared.Spot.{Spot}
 use Rattle.shadow_kernels.specs.declared.Meet.{Meet}
-use Rattle.shadow_kernels.specs.Spots.{Between, beyond, beats, flag, above_y, above_z, edge_value, spot01, spot10}
-use Rattle.shadow_kernels.specs.Order.{beats_greater, beats_smaller, beats_le, not_beats_le}
+use Rattle.shadow_kernels.specs.Spots.{Between, beats, flag, above_y, above_z, edge_value, spot01, spot10}
+use Rattle.shadow_kernels.specs.Order.{beats_greater, beats_smaller}
+use Rattle.shadow_kernels.specs.declared.Edge.{Edge}
+use Rattle.shadow_kernels.specs.declared.Edge.TheVariants.{OfP, OfQ}
+use Rattle.shadow_kernels.specs.Edges.{own, other, past, edge_spot, past_le, not_past_le}
 use Rattle.shadow_kernels.specs.Bounds.{corner_in_box, box_between, box_below}
 
 -- the values between two stay between them
@@ -53,39 +56,29 @@ module _ (w : Between) (stays : StaysBetween w) (l r : Corner) (x : ℤ) (h : Is
   value_between i less = stays.within (axis i l) (axis i r) (x -ℤ axis 0 l) (axis 0 r -ℤ x) (fine_on i l less h.left_fine) (fine_on i r less h.right_fine)
       (distance_weight (axis 0 l) x h.left_fine.x h.fine h.after) (distance_weight x (axis 0 r) h.fine h.right_fine.x h.before)
 
--- the spot of a vertex p that is beyond l and not beyond r lies in the boxes of the vertex and the edge
-pub spot01_hull : (w : Between) → StaysBetween w → (ps qs : List Corner) (p l r : Corner) → IsPlaced ps p → IsPlaced qs l → IsPlaced qs r →
-    beyond p l ≡ true → beyond p r ≡ false → IsInHull ps qs (spot01 w p l r)
-unfolding spot01
-spot01_hull w stays ps qs p l r hp hl hr e f =
-    let left = beats_le (axis 0 p) (axis 0 l) (up_on 0 p) e in
-    let right = not_beats_le (axis 0 p) (axis 0 r) (up_on 0 p) f in
-    let at : IsAlong l r (axis 0 p) = record { left_fine = hl.fine; right_fine = hr.fine; fine = hp.fine.x; after = left; before = right } in
-    record {
-      px = hp.x;
-      py = hp.y;
-      pz = hp.z;
-      qx = box_between 0 qs (axis 0 l) (axis 0 r) (axis 0 p) hl.x hr.x (inl (left, right));
-      qy = box_between 1 qs (axis 1 l) (axis 1 r) (edge_value w 1 l r (axis 0 p)) hl.y hr.y (value_between w stays l r (axis 0 p) at 1 (omega arith));
-      qz = box_between 2 qs (axis 2 l) (axis 2 r) (edge_value w 2 l r (axis 0 p)) hl.z hr.z (value_between w stays l r (axis 0 p) at 2 (omega arith));
-    }
+-- a vertex past an end of an edge and not past the other is at a place of the edge
+pub past_along : (e : Edge) (v l r : Corner) → IsFineCorner v → IsFineCorner l → IsFineCorner r → past e v l ≡ true → past e v r ≡ false → IsAlong l r (axis 0 v)
+past_along e v l r hv hl hr h k = record { left_fine = hl; right_fine = hr; fine = hv.x; after = past_le e v l h; before = not_past_le e v r k }
 
--- likewise that of an edge whose end r is beyond q and whose end l is not
-pub spot10_hull : (w : Between) → StaysBetween w → (ps qs : List Corner) (l r q : Corner) → IsPlaced ps l → IsPlaced ps r → IsPlaced qs q →
-    beyond r q ≡ true → beyond l q ≡ false → IsInHull ps qs (spot10 w l r q)
-unfolding spot10
-spot10_hull w stays ps qs l r q hl hr hq e f =
-    let left = not_beats_le (axis 0 l) (axis 0 q) (up_on 0 l) f in
-    let right = beats_le (axis 0 r) (axis 0 q) (up_on 0 r) e in
-    let at : IsAlong l r (axis 0 q) = record { left_fine = hl.fine; right_fine = hr.fine; fine = hq.fine.x; after = left; before = right } in
-    record {
-      px = box_between 0 ps (axis 0 l) (axis 0 r) (axis 0 q) hl.x hr.x (inl (left, right));
-      py = box_between 1 ps (axis 1 l) (axis 1 r) (edge_value w 1 l r (axis 0 q)) hl.y hr.y (value_between w stays l r (axis 0 q) at 1 (omega arith));
-      pz = box_between 2 ps (axis 2 l) (axis 2 r) (edge_value w 2 l r (axis 0 q)) hl.z hr.z (value_between w stays l r (axis 0 q) at 2 (omega arith));
-      qx = hq.x;
-      qy = hq.y;
-      qz = hq.z;
-    }
+-- there the edge's values lie in its box
+in_edge : (w : Between) → StaysBetween w → (cs : List Corner) (l r : Corner) (x : ℤ) → IsPlaced cs l → IsPlaced cs r → IsAlong l r x →
+    IsInBox 0 cs x × IsInBox 1 cs (edge_value w 1 l r x) × IsInBox 2 cs (edge_value w 2 l r x)
+in_edge w stays cs l r x hl hr at = (
+  box_between 0 cs (axis 0 l) (axis 0 r) x hl.x hr.x (inl (at.after, at.before)),
+  box_between 1 cs (axis 1 l) (axis 1 r) (edge_value w 1 l r x) hl.y hr.y (value_between w stays l r x at 1 (omega arith)),
+  box_between 2 cs (axis 2 l) (axis 2 r) (edge_value w 2 l r x) hl.z hr.z (value_between w stays l r x at 2 (omega arith)),
+)
+
+-- so the spot lies in the boxes of both
+pub edge_hull : (e : Edge) (w : Between) → StaysBetween w → (ps qs : List Corner) (v l r : Corner) → IsPlaced (other e ps qs) v → IsPlaced (own e ps qs) l → IsPlaced (own e ps qs) r →
+    past e v l ≡ true → past e v r ≡ false → IsInHull ps qs (edge_spot e w v l r)
+unfolding spot01 spot10
+edge_hull OfP w stays ps qs v l r hv hl hr h k =
+    let on = in_edge w stays ps l r (axis 0 v) hl hr (past_along OfP v l r hv.fine hl.fine hr.fine h k) in
+    record { px = on.0; py = on.1; pz = on.2; qx = hv.x; qy = hv.y; qz = hv.z }
+edge_hull OfQ w stays ps qs v l r hv hl hr h k =
+    let on = in_edge w stays qs l r (axis 0 v) hl hr (past_along OfQ v l r hv.fine hl.fine hr.fine h k) in
+    record { px = hv.x; py = hv.y; pz = hv.z; qx = on.0; qy = on.1; qz = on.2 }
 
 -- on axis i one of the boxes is strictly the greater one, P's where the mark says so
 abbrev pub IsBeyond : ℕ → List Corner → List Corner → Bool → Type 0

@@ -5,6 +5,7 @@ pub mod Shadows
 pub mod Order
 pub mod Sizes
 pub mod Ends
+pub mod Edges
 pub mod Entries
 pub mod Bounds
 pub mod Hulls

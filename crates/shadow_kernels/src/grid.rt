@@ -6,10 +6,10 @@ ghost use Rattle.shadow_kernels.specs.Counts.{count_of, shadow_of};
 ghost use Rattle.shadow_kernels.specs.Shadows.{vertex_vertex, vertex_edge, edge_vertex, edge_edge, vertex_face, face_vertex};
 ghost use Rattle.shadow_kernels.specs.GridLaws.{laws00, laws01, laws10, laws11, laws02, laws20, lift01, lift10, lift11};
 
-use crate::edges::{edge_vertex, vertex_edge};
-use crate::pairs::{edge_edge, face_vertex, vertex_face};
+use crate::edges::edge_meet;
 use crate::spots::{is_beyond, vertex_vertex_spot};
-use crate::{Flats, Meet, Meets, Spot};
+use crate::tally::{edge_edge_tally, face_tally, joined};
+use crate::{Edge, Flats, Meet, Meets, Spot};
 use mb_base::Corner;
 use rounding::Rounding;
 
@@ -41,12 +41,8 @@ impl<R: Rounding> Meets<1, 2> for Grid<R> {
 
     ghost laws = { λ k. laws01 (R.between_of k.rounding) (record { within = R.within k.rounding }) };
 
-    fn meet(&self, p: &[Corner; 1], q: &[Corner; 2]) -> Option<Meet>
-        requires p_fine { AllFine p.now }
-        requires q_fine { AllFine q.now }
-        ensures value { result ≡ vertex_edge (R.between_of self.now.rounding) p.now q.now }
-    {
-        vertex_edge(&self.rounding, &p[0], &q[0], &q[1])
+    fn meet(&self, p: &[Corner; 1], q: &[Corner; 2]) -> Option<Meet> {
+        edge_meet(&self.rounding, Edge::OfQ, &p[0], &q[0], &q[1])
     }
 }
 
@@ -55,12 +51,8 @@ impl<R: Rounding> Meets<2, 1> for Grid<R> {
 
     ghost laws = { λ k. laws10 (R.between_of k.rounding) (record { within = R.within k.rounding }) };
 
-    fn meet(&self, p: &[Corner; 2], q: &[Corner; 1]) -> Option<Meet>
-        requires p_fine { AllFine p.now }
-        requires q_fine { AllFine q.now }
-        ensures value { result ≡ edge_vertex (R.between_of self.now.rounding) p.now q.now }
-    {
-        edge_vertex(&self.rounding, &p[0], &p[1], &q[0])
+    fn meet(&self, p: &[Corner; 2], q: &[Corner; 1]) -> Option<Meet> {
+        edge_meet(&self.rounding, Edge::OfP, &q[0], &p[0], &p[1])
     }
 }
 
@@ -69,12 +61,8 @@ impl<R: Rounding> Meets<2, 2> for Grid<R> {
 
     ghost laws = { λ k. laws11 (R.between_of k.rounding) (record { within = R.within k.rounding }) };
 
-    fn meet(&self, p: &[Corner; 2], q: &[Corner; 2]) -> Option<Meet>
-        requires p_fine { AllFine p.now }
-        requires q_fine { AllFine q.now }
-        ensures value { result ≡ edge_edge (R.between_of self.now.rounding) p.now q.now }
-    {
-        edge_edge(&self.rounding, p, q)
+    fn meet(&self, p: &[Corner; 2], q: &[Corner; 2]) -> Option<Meet> {
+        joined(&self.rounding, &edge_edge_tally(&self.rounding, p, q))
     }
 }
 
@@ -93,7 +81,10 @@ impl<R: Rounding> Meets<1, 3> for Grid<R> {
             +ℤ (shadow_of (⟦<Grid<R> as Meets<1, 2>>⟧.meet_of self.now p.now (corner_at q.now 2 ∷ corner_at q.now 0 ∷ []))
             +ℤ pos 0)) }
     {
-        vertex_face(&self.rounding, p, q)
+        joined(
+            &self.rounding,
+            &face_tally(&self.rounding, Edge::OfQ, &p[0], q),
+        )
     }
 }
 
@@ -112,7 +103,10 @@ impl<R: Rounding> Meets<3, 1> for Grid<R> {
             +ℤ (shadow_of (⟦<Grid<R> as Meets<2, 1>>⟧.meet_of self.now (corner_at p.now 2 ∷ corner_at p.now 0 ∷ []) q.now)
             +ℤ pos 0)) }
     {
-        face_vertex(&self.rounding, p, q)
+        joined(
+            &self.rounding,
+            &face_tally(&self.rounding, Edge::OfP, &q[0], p),
+        )
     }
 }
 

@@ -21,7 +21,6 @@ pub use spots::{gap_of, spot_of};
 
 mod edges;
 mod grid;
-mod pairs;
 mod shadows;
 mod spots;
 mod tally;
@@ -36,6 +35,13 @@ pub struct Spot {
     pub pz: i64,
     pub qz: i64,
     pub up: [bool; 3],
+}
+
+/// Whose an edge is: a vertex or a face that it meets is of the other side.
+#[derive(Clone, Copy, Drop)]
+pub enum Edge {
+    OfP,
+    OfQ,
 }
 
 /// How often the shadows of a pair meet, with its sign, whether P is beyond Q there, and where.

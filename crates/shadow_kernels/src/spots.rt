@@ -3,12 +3,13 @@
 ghost use Rattle.std.specs.Prelude.{◌≡◌, ◌<◌};
 ghost use Rattle.side_terms.specs.Fine.{IsFine, IsWeight};
 ghost use Rattle.side_terms.specs.Corners.{axis};
-ghost use Rattle.shadow_kernels.specs.Spots.{beats, beyond, mark, marks, gap, edge_value, spot00, spot01, spot10, spot_between};
-ghost use Rattle.shadow_kernels.specs.Bounds.{IsFineSpot};
+ghost use Rattle.shadow_kernels.specs.Spots.{beats, beyond, mark, marks, gap, edge_value, spot00, spot_between};
+ghost use Rattle.shadow_kernels.specs.Bounds.{IsFineSpot, IsGapOf};
+ghost use Rattle.shadow_kernels.specs.Edges.{edge_spot};
 ghost use Rattle.shadow_kernels.specs.Entries.{spot_of};
 ghost use Rattle.shadow_kernels.specs.Hulls.{IsAlong};
 
-use crate::{Meet, Spot};
+use crate::{Edge, Meet, Spot};
 use mb_base::Corner;
 use rounding::Rounding;
 
@@ -111,47 +112,47 @@ pub(crate) fn edge_value<R: Rounding>(
     )
 }
 
-/// The spot of a vertex and an edge, where left is the end of the edge with the smaller x.
-pub(crate) fn vertex_edge_spot<R: Rounding>(
+/// The spot of a vertex and an edge of the other side, where left is the end of the edge with the smaller x, or, where
+/// both ends have the same x, the one that counts as left.
+pub(crate) fn edge_spot<R: Rounding>(
     rounding: &R,
-    p: &Corner,
+    edge: Edge,
+    vertex: &Corner,
     left: &Corner,
     right: &Corner,
 ) -> Spot
-    requires { IsAlong left.now right.now (axis 0 p.now) }
-    ensures { result ≡ spot01 (R.between_of rounding.now) p.now left.now right.now }
+    requires { IsAlong left.now right.now (axis 0 vertex.now) }
+    ensures { result ≡ edge_spot edge (R.between_of rounding.now) vertex.now left.now right.now }
 {
-    Spot {
-        x: p.at[0],
-        py: p.at[1],
-        qy: edge_value(rounding, left, right, p.at[0], 1),
-        pz: p.at[2],
-        qz: edge_value(rounding, left, right, p.at[0], 2),
-        up: p.up,
+    let [x, y, z] = vertex.at;
+    let edge_y = edge_value(rounding, left, right, x, 1);
+    let edge_z = edge_value(rounding, left, right, x, 2);
+    match edge {
+        Edge::OfP => Spot {
+            x,
+            py: edge_y,
+            qy: y,
+            pz: edge_z,
+            qz: z,
+            up: marks_between(x - left.at[0], right.at[0] - x, &left.up, &right.up),
+        },
+        Edge::OfQ => Spot {
+            x,
+            py: y,
+            qy: edge_y,
+            pz: z,
+            qz: edge_z,
+            up: vertex.up,
+        },
     }
 }
 
-/// The spot of an edge and a vertex, where left is the end of the edge with the smaller x, or, where both have the same
-/// x, the one that is not up.
-pub(crate) fn edge_vertex_spot<R: Rounding>(
-    rounding: &R,
-    left: &Corner,
-    right: &Corner,
-    q: &Corner,
-) -> Spot
-    requires { IsAlong left.now right.now (axis 0 q.now) }
-    ensures { result ≡ spot10 (R.between_of rounding.now) left.now right.now q.now }
+/// The difference of P's y and Q's y at a spot, without its sign.
+pub(crate) fn gap_in_y(spot: &Spot) -> i64
+    requires { IsFineSpot spot.now }
+    ensures { IsGapOf spot.now result }
 {
-    let before = q.at[0] - left.at[0];
-    let after = right.at[0] - q.at[0];
-    Spot {
-        x: q.at[0],
-        py: edge_value(rounding, left, right, q.at[0], 1),
-        qy: q.at[1],
-        pz: edge_value(rounding, left, right, q.at[0], 2),
-        qz: q.at[2],
-        up: marks_between(before, after, &left.up, &right.up),
-    }
+    gap_of(spot.py, spot.qy)
 }
 
 /// The spot between one that is not above and one that is, weighted by their gaps in y.
@@ -160,8 +161,8 @@ pub(crate) fn spot_between_spots<R: Rounding>(rounding: &R, below: &Spot, above:
     requires above_fine { IsFineSpot above.now }
     ensures { result ≡ spot_between (R.between_of rounding.now) below.now above.now }
 {
-    let a = gap_of(below.py, below.qy);
-    let b = gap_of(above.py, above.qy);
+    let a = gap_in_y(below);
+    let b = gap_in_y(above);
     Spot {
         x: rounding.between(below.x, above.x, a, b),
         py: rounding.between(below.py, above.py, a, b),

@@ -1,13 +1,18 @@
 //! The tally of boundary pairs: the sum of their shadows, and the spots of those that are above and are not.
 
 ghost use Rattle.std.specs.Prelude.{◌≡◌, ◌≤◌, ◌∷◌, [], ◌+ℤ◌, pos, unsigned_abs, true, false};
+ghost use Rattle.side_terms.specs.Corners.{corner_at, IsFineCorner, AllFine};
 ghost use Rattle.shadow_kernels.specs.Spots.{no_spot, spot_between, above_z};
 ghost use Rattle.shadow_kernels.specs.Counts.{shadow_of, turned, chosen, joined};
 ghost use Rattle.shadow_kernels.specs.Bounds.{IsFinePair, IsTallyOf, IsFineTally};
+ghost use Rattle.shadow_kernels.specs.Levels.{rim};
+ghost use Rattle.shadow_kernels.specs.Shadows.{boundary11};
 ghost use Rattle.shadow_kernels.specs.Sizes.{IsSized};
 
-use crate::spots::{exceeds, gap_of, mark_between, spot_between_spots, spot_of};
-use crate::{Meet, Spot};
+use crate::edges::edge_meet;
+use crate::spots::{exceeds, gap_in_y, mark_between, spot_between_spots, spot_of};
+use crate::{Edge, Meet, Spot};
+use mb_base::Corner;
 use rounding::Rounding;
 
 /// The sum of the shadows of boundary pairs, and the spots of the first pair that is not above and of the first that is.
@@ -66,11 +71,7 @@ fn turned(pair: &Option<Meet>) -> Option<Meet>
 }
 
 /// The tally of three boundary pairs. The last goes first, since each is put before the others.
-pub(crate) fn tally_of_three(
-    first: &Option<Meet>,
-    second: &Option<Meet>,
-    third: &Option<Meet>,
-) -> Tally
+fn tally_of_three(first: &Option<Meet>, second: &Option<Meet>, third: &Option<Meet>) -> Tally
     requires first_fine { IsFinePair first.now }
     requires second_fine { IsFinePair second.now }
     requires third_fine { IsFinePair third.now }
@@ -85,22 +86,37 @@ pub(crate) fn tally_of_three(
     tally
 }
 
-/// The tally of four boundary pairs, of which the second and the fourth count with the other sign.
-pub(crate) fn tally_of_four(
-    first: &Option<Meet>,
-    second: &Option<Meet>,
-    third: &Option<Meet>,
-    fourth: &Option<Meet>,
+/// The tally of a vertex with the three edges of a face.
+pub(crate) fn face_tally<R: Rounding>(
+    rounding: &R,
+    edge: Edge,
+    vertex: &Corner,
+    face: &[Corner; 3],
 ) -> Tally
-    requires first_fine { IsFinePair first.now }
-    requires second_fine { IsFinePair second.now }
-    requires third_fine { IsFinePair third.now }
-    requires fourth_fine { IsFinePair fourth.now }
-    ensures tally { IsTallyOf (first.now ∷ turned second.now ∷ third.now ∷ turned fourth.now ∷ []) result }
+    requires vertex_fine { IsFineCorner vertex.now }
+    requires face_fine { AllFine face.now }
+    ensures tally { IsTallyOf (rim edge (R.between_of rounding.now) vertex.now (corner_at face.now 0) (corner_at face.now 1) (corner_at face.now 2)) result }
     ensures fine { IsFineTally result }
 {
-    let mut tally = tally_of_three(&turned(second), third, &turned(fourth));
-    tally.put(first);
+    tally_of_three(
+        &edge_meet(rounding, edge, vertex, &face[0], &face[1]),
+        &edge_meet(rounding, edge, vertex, &face[1], &face[2]),
+        &edge_meet(rounding, edge, vertex, &face[2], &face[0]),
+    )
+}
+
+/// The tally of the ends of two edges with the other edge. The first pair goes last, since it is put before the others.
+pub(crate) fn edge_edge_tally<R: Rounding>(rounding: &R, p: &[Corner; 2], q: &[Corner; 2]) -> Tally
+    requires p_fine { AllFine p.now }
+    requires q_fine { AllFine q.now }
+    ensures tally { IsTallyOf (boundary11 (R.between_of rounding.now) (corner_at p.now 0) (corner_at p.now 1) (corner_at q.now 0) (corner_at q.now 1)) result }
+    ensures fine { IsFineTally result }
+{
+    let start = edge_meet(rounding, Edge::OfQ, &p[0], &q[0], &q[1]);
+    let to = edge_meet(rounding, Edge::OfP, &q[1], &p[0], &p[1]);
+    let from = edge_meet(rounding, Edge::OfP, &q[0], &p[0], &p[1]);
+    let mut tally = tally_of_three(&turned(&start), &to, &turned(&from));
+    tally.put(&edge_meet(rounding, Edge::OfQ, &p[1], &q[0], &q[1]));
     tally
 }
 
@@ -131,8 +147,8 @@ pub(crate) fn is_above_between<R: Rounding>(rounding: &R, tally: &Tally) -> bool
 {
     let below = &tally.below;
     let above = &tally.above;
-    let a = gap_of(below.py, below.qy);
-    let b = gap_of(above.py, above.qy);
+    let a = gap_in_y(below);
+    let b = gap_in_y(above);
     let pz = rounding.between(below.pz, above.pz, a, b);
     let qz = rounding.between(below.qz, above.qz, a, b);
     exceeds(pz, qz, mark_between(a, b, below.up[2], above.up[2]))

@@ -16,35 +16,24 @@ fn edge_count<K: Flats>(kernels: &K, a: &Corner, b: &Corner, c: &Corner, d: &Cor
     requires d_fine { IsFineCorner d.now }
     ensures { result ≡ count_of (⟦<K as Meets<2, 2>>⟧.meet_of kernels.now (a.now ∷ b.now ∷ []) (c.now ∷ d.now ∷ [])) }
 {
-    let ends = vertex_shadow(kernels, a, d, c) - vertex_shadow(kernels, b, d, c);
-    ends + edge_shadow(kernels, a, b, d) - edge_shadow(kernels, a, b, c)
+    let edge = [*a, *b];
+    let ends = shadow(kernels, &[*a], &[*d, *c]) - shadow(kernels, &[*b], &[*d, *c]);
+    ends + shadow(kernels, &edge, &[*d]) - shadow(kernels, &edge, &[*c])
 }
 
-/// The shadow of a vertex and the edge from c to d.
-fn vertex_shadow<K: Meets<1, 2>>(kernels: &K, p: &Corner, c: &Corner, d: &Corner) -> i64
-    requires p_fine { IsFineCorner p.now }
-    requires c_fine { IsFineCorner c.now }
-    requires d_fine { IsFineCorner d.now }
-    ensures value { result ≡ shadow_of (K.meet_of kernels.now (p.now ∷ []) (c.now ∷ d.now ∷ [])) }
+/// The shadow of a simplex of P and one of Q.
+fn shadow<const M: usize, const N: usize, K: Meets<M, N>>(
+    kernels: &K,
+    p: &[Corner; M],
+    q: &[Corner; N],
+) -> i64
+    requires p_fine { AllFine p.now }
+    requires q_fine { AllFine q.now }
+    ensures value { result ≡ shadow_of (K.meet_of kernels.now p.now q.now) }
     ensures low { negsuc 0 ≤ℤ result }
     ensures high { result ≤ℤ pos 1 }
 {
-    match kernels.meet(&[*p], &[*c, *d]) {
-        None => 0,
-        Some(m) => m.shadow() as i64,
-    }
-}
-
-/// The shadow of the edge from a to b and a vertex.
-fn edge_shadow<K: Meets<2, 1>>(kernels: &K, a: &Corner, b: &Corner, q: &Corner) -> i64
-    requires a_fine { IsFineCorner a.now }
-    requires b_fine { IsFineCorner b.now }
-    requires q_fine { IsFineCorner q.now }
-    ensures value { result ≡ shadow_of (K.meet_of kernels.now (a.now ∷ b.now ∷ []) (q.now ∷ [])) }
-    ensures low { negsuc 0 ≤ℤ result }
-    ensures high { result ≤ℤ pos 1 }
-{
-    match kernels.meet(&[*a, *b], &[*q]) {
+    match kernels.meet(p, q) {
         None => 0,
         Some(m) => m.shadow() as i64,
     }

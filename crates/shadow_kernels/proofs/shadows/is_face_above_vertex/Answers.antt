@@ -1,23 +1,12 @@
 use Rattle.std.proofs.Common.{refl}
-use Rattle.side_terms.specs.Corners.{corner_at}
 use Rattle.shadow_kernels.specs.GridLaws.{laws20}
-use Rattle.shadow_kernels.specs.Shadows.{boundary20, meet20}
-use Rattle.shadow_kernels.specs.Spots.{Between}
-use Rattle.shadow_kernels.proofs.Sights.{when_below, when_above, mark_of_tally}
+use Rattle.shadow_kernels.specs.Shadows.{meet20}
+use Rattle.shadow_kernels.proofs.Sights.{when_beyond, mark_of_tally}
 use Rattle.shadow_kernels.proofs.shadows.is_face_above_vertex.Goals as goal
 
-pub returns-then-is_below : goal.returns-then-is_below
-returns-then-is_below g c =
-    let w : Between = g.R.Rounding.between_of c.args.rounding.now in
-    when_below (laws20 w (record { within = g.met.R.Rounding.within c.args.rounding.now })) refl c.args.p.now c.args.q.now c.told-p c.told-q c.requires.p_fine c.requires.q_fine (c.is_below.ensures c.if-is_below.true)
+pub returns-in-Some : goal.returns-in-Some
+returns-in-Some g c = when_beyond (laws20 _ (record { within = g.met.R.Rounding.within c.args.rounding.now })) refl _ _ c.told-p c.told-q c.requires.p_fine c.requires.q_fine _ c.in-Some.ensures
 
-pub returns-then-is_below-2 : goal.returns-then-is_below-2
-returns-then-is_below-2 g c =
-    let w : Between = g.R.Rounding.between_of c.args.rounding.now in
-    when_above (laws20 w (record { within = g.met.R.Rounding.within c.args.rounding.now })) refl c.args.p.now c.args.q.now c.told-p c.told-q c.requires.p_fine c.requires.q_fine (c.is_below-2.ensures c.if-is_below-2.true)
-
-pub returns : goal.returns
+pub returns-in-None : goal.returns-in-None
 unfolding meet20
-returns g c =
-    let w : Between = g.R.Rounding.between_of c.args.rounding.now in
-    mark_of_tally w (boundary20 w (corner_at c.args.p.now 0) (corner_at c.args.p.now 1) (corner_at c.args.p.now 2) (corner_at c.args.q.now 0)) c.face_vertex_tally.result c.is_above_between.result c.face_vertex_tally.ensures.tally c.is_above_between.ensures
+returns-in-None g c = mark_of_tally _ _ _ _ c.face_tally.ensures.tally c.is_above_between.ensures

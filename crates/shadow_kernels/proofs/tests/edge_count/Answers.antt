@@ -19,16 +19,16 @@ returns g c =
     let at_b = ap shadow_of ((g.met.K.Meets-2.laws k).reverse_q (b ∷ []) (d ∷ e ∷ []) 0 1 (omega arith) (omega arith) refl refl (fine_one b c.requires.b_fine) de) in
     let turn_a = turned_shadow (g.K.Meets-2.meet_of k (a ∷ []) (d ∷ e ∷ [])) in
     let turn_b = turned_shadow (g.K.Meets-2.meet_of k (b ∷ []) (d ∷ e ∷ [])) in
-    let w = c.vertex_shadow.ensures in
-    let x = c.vertex_shadow-2.ensures in
-    let y = c.edge_shadow.ensures in
-    let z = c.edge_shadow-2.ensures in
+    let w = c.shadow.ensures in
+    let x = c.shadow-2.ensures in
+    let y = c.shadow-3.ensures in
+    let z = c.shadow-4.ensures in
     omega (arith, ints, lift, at_a, at_b, turn_a, turn_b, w.value, w.low, w.high, x.value, x.low, x.high, y.value, y.low, y.high, z.value, z.low, z.high)
 
 pub overflow_sub-result : goal.overflow_sub-result
 overflow_sub-result g c =
-    let w = c.vertex_shadow.ensures in
-    let x = c.vertex_shadow-2.ensures in
-    let y = c.edge_shadow.ensures in
-    let z = c.edge_shadow-2.ensures in
+    let w = c.shadow.ensures in
+    let x = c.shadow-2.ensures in
+    let y = c.shadow-3.ensures in
+    let z = c.shadow-4.ensures in
     omega (arith, ints, w.low, w.high, x.low, x.high, y.low, y.high, z.low, z.high)

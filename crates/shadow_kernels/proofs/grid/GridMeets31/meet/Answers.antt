@@ -2,7 +2,12 @@ use Rattle.std.proofs.Common.{ap, ◌∙◌}
 use Rattle.side_terms.specs.Corners.{corner_at}
 use Rattle.shadow_kernels.specs.Counts.{count_of}
 use Rattle.shadow_kernels.specs.GridLaws.{lift20}
+use Rattle.shadow_kernels.specs.Shadows.{meet20}
+use Rattle.shadow_kernels.proofs.Steps.{from_tally}
 use Rattle.shadow_kernels.proofs.grid.GridMeets31.meet.Goals as goal
 
-pub returns-clause-lift : goal.returns-clause-lift
-returns-clause-lift g c = ap count_of c.face_vertex.ensures ∙ lift20 (g.R.Rounding.between_of c.args.self.now.rounding) (corner_at c.args.p.now 0) (corner_at c.args.p.now 1) (corner_at c.args.p.now 2) (corner_at c.args.q.now 0)
+pub returns : goal.returns
+unfolding meet20
+returns g c =
+    let value = from_tally _ _ _ _ c.face_tally.ensures.tally c.joined.ensures in
+    record { value = value; lift = ap count_of value ∙ lift20 _ (corner_at c.args.p.now 0) (corner_at c.args.p.now 1) (corner_at c.args.p.now 2) (corner_at c.args.q.now 0) }
