@@ -106,14 +106,12 @@ static IN_PIECES: [(Call, Answer); 10] = [
     (Call::Append("old", b"9"), Err(Failed)),
 ];
 
-// Whether the shelf has these files.
-fn holds(shelf: &MemoryShelf, files: &[(&str, Option<&[u8]>)]) -> bool {
-    for (name, bytes) in files {
-        if shelf.get(name) != *bytes {
-            return false;
-        }
+// Whether the shelf has a file of these bytes.
+fn holds(shelf: &MemoryShelf, name: &str, bytes: &[u8]) -> bool {
+    match shelf.get(name) {
+        Some(text) => *text == *bytes,
+        None => false,
     }
-    true
 }
 
 #[test]
@@ -121,9 +119,10 @@ fn a_file_in_memory_is_written_in_pieces(rt: HostRuntime) -> Result<(), Fail> {
     let fails = vec![in rt.alloc(); 3]?;
     let mut shelf = shelf_with(rt.alloc(), 1, 6, fails, "old", b"12345678")?;
     assert!(rt; answers(&mut shelf, &IN_PIECES, &mut [], b""));
-    assert!(rt; holds(&shelf, &[("new", Some(b"abcdef")), ("third", None)]));
+    assert!(rt; holds(&shelf, "new", b"abcdef"));
+    assert!(rt; shelf.get("third").is_none());
     shelf.put("old", b"now")?;
-    assert!(rt; holds(&shelf, &[("old", Some(b"now"))]));
+    assert!(rt; holds(&shelf, "old", b"now"));
     Ok(())
 }
 

@@ -152,14 +152,3 @@ kept_none_opposite ts none = kept_all_of ts 0 ts (All-weaker (Contains ts) (λ t
         by (suc n) is =
             let found = passing (opposite t) ts (omega (arith, is)) in
             absurd (false≢true (sym (none t found.member inside found.inside) ∙ found.passes))
-
--- where a half-edge starts, in the list of arrays
-pub start_at : (xs : List (List ℕ)) (h : ℕ) → h < 3 * length xs → start (all_edges (triples_of xs)) h ≡ get_or (get_or xs (h / 3) []) (h % 3) 0
-start_at [] h low = absurd (omega (arith, low))
-start_at (x ∷ xs) zero low = refl
-start_at (x ∷ xs) (suc zero) low = refl
-start_at (x ∷ xs) (suc (suc zero)) low = refl
-start_at (x ∷ xs) (suc (suc (suc h))) low =
-    let of : suc (h / 3) ≡ suc (suc (suc h)) / 3 = omega arith in
-    let in_it : h % 3 ≡ suc (suc (suc h)) % 3 = omega arith in
-    start_at xs h (omega (arith, low)) ∙ (λ i. get_or (get_or (x ∷ xs) (of i) []) (in_it i) 0)
