@@ -1,6 +1,7 @@
 // The files of the current folder as a shelf.
 ghost use Rattle.std.specs.Prelude.{◌≡◌, ◌≤◌, false, None, IfOk, drop, length};
 
+use crate::copying::copy_from;
 use crate::shelf::{Failed, Shelf};
 use std::fs::{self, OpenOptions};
 use std::io::{self, ErrorKind, Read, Seek, SeekFrom, Write};
@@ -142,8 +143,7 @@ fn read_over<R: Files>(
 {
     let want = into.len().min(piece.len());
     let count = read_piece(rt, name, at, &mut piece[..want])?;
-    into[..count].copy_from_slice(&piece[..count]);
-    Ok(count)
+    Ok(copy_from(&piece[..count], 0, PIECE, into))
 }
 
 /// Reads from a place of a file on.

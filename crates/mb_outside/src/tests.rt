@@ -106,23 +106,15 @@ static IN_PIECES: [(Call, Answer); 10] = [
     (Call::Append("old", b"9"), Err(Failed)),
 ];
 
-// Whether the shelf has a file of these bytes.
-fn holds(shelf: &MemoryShelf, name: &str, bytes: &[u8]) -> bool {
-    match shelf.get(name) {
-        Some(text) => *text == *bytes,
-        None => false,
-    }
-}
-
 #[test]
 fn a_file_in_memory_is_written_in_pieces(rt: HostRuntime) -> Result<(), Fail> {
     let fails = vec![in rt.alloc(); 3]?;
     let mut shelf = shelf_with(rt.alloc(), 1, 6, fails, "old", b"12345678")?;
     assert!(rt; answers(&mut shelf, &IN_PIECES, &mut [], b""));
-    assert!(rt; holds(&shelf, "new", b"abcdef"));
+    assert!(rt; shelf.get("new") == Some(b"abcdef".as_slice()));
     assert!(rt; shelf.get("third").is_none());
     shelf.put("old", b"now")?;
-    assert!(rt; holds(&shelf, "old", b"now"));
+    assert!(rt; shelf.get("old") == Some(b"now".as_slice()));
     Ok(())
 }
 
