@@ -1,5 +1,5 @@
 -- Where no two half-edges run the same way, a triangle's opposite lies across its first edge, with the same third vertex.
-use Rattle.std.proofs.Common.{◌≡◌, ◌≢◌, ◌<◌, ◌+◌, ◌*◌, ◌/◌, ◌%◌, inl, inr, ℕ, zero, suc, Bool, true, false, cond, List, [], ◌∷◌, ◌++◌, length, get_or, refl, sym, ◌∙◌, ap, subst, arith}
+use Rattle.std.proofs.Common.{◌≡◌, ◌≢◌, ◌<◌, ◌+◌, ◌*◌, inl, inr, ℕ, zero, suc, Bool, true, false, cond, List, [], ◌∷◌, ◌++◌, length, get_or, refl, sym, ◌∙◌, ap, subst, arith}
 use Rattle.std.specs.Prelude.{◌||◌, nat_le, take, count_by}
 use Rattle.std.specs.List.{All, Contains}
 use Rattle.std.proofs.lemmas.Bool.{cases_order, false≢true}
@@ -12,7 +12,7 @@ use Rattle.chain_laws.specs.Firsts.{passing}
 use Rattle.chain_terms.specs.Ranks.{start, finish, twin}
 use Rattle.chain_laws.proofs.Ranks.{rank_lower, rank_below}
 use Rattle.chain_laws.proofs.Twins.{twin_runs_back}
-use Rattle.mesh_terms.specs.Meshes.{Triple, triples_of}
+use Rattle.mesh_terms.specs.Meshes.{Triple}
 use Rattle.mesh_terms.specs.Halves.{next_half}
 use Rattle.halfedge.specs.Laws.{AreSingle}
 use Rattle.halfedge.proofs.Edges.{length-all_edges}
