@@ -1,6 +1,7 @@
 // The files of the current folder as a shelf.
 ghost use Rattle.std.specs.Prelude.{◌≡◌, ◌≤◌, false, None, IfOk, drop, length};
 
+use crate::copying::copy_from;
 use crate::shelf::{Failed, Shelf};
 use std::fs::{self, OpenOptions};
 use std::io::{self, ErrorKind, Read, Seek, SeekFrom, Write};
@@ -126,12 +127,32 @@ fn read_from<R: Files>(rt: &R, name: &str, at: u64, into: &mut [u8]) -> io::Resu
     ensures rest { IfOk result (λ count. drop count into.new ≡ drop count into.old) }
 {
     let mut piece = [0; PIECE];
-    let want = into.len().min(PIECE);
+    read_over(rt, name, at, &mut piece, into)
+}
+
+/// Reads into the piece, and copies its front to that of `into`.
+fn read_over<R: Files>(
+    rt: &R,
+    name: &str,
+    at: u64,
+    piece: &mut [u8],
+    into: &mut [u8],
+) -> io::Result<usize>
+    ensures within { IfOk result (λ count. count ≤ length into.old) }
+    ensures rest { IfOk result (λ count. drop count into.new ≡ drop count into.old) }
+{
+    let want = into.len().min(piece.len());
+    let count = read_piece(rt, name, at, &mut piece[..want])?;
+    Ok(copy_from(&piece[..count], 0, PIECE, into))
+}
+
+/// Reads from a place of a file on.
+fn read_piece<R: Files>(rt: &R, name: &str, at: u64, piece: &mut [u8]) -> io::Result<usize>
+    ensures { IfOk result (λ count. count ≤ length piece.old) }
+{
     let mut file = fs::open(rt, name)?;
     file.seek(SeekFrom::Start(at))?;
-    let count = file.read(&mut piece[..want])?;
-    into[..count].copy_from_slice(&piece[..count]);
-    Ok(count)
+    file.read(piece)
 }
 
 /// Writes at the end of a file, which is made where it doesn't exist.

@@ -1,22 +1,23 @@
 // Shelves and sinks call by call, and what they hold in the end.
 use crate::{Failed, FolderShelf, MemoryShelf, MemorySink, Shelf, Sink, StdSink, SureShelf};
+use std::alloc::Global;
 use std::fs;
 use std::io::{self, Write};
 use std::test::Fail;
 
 // A call of a shelf.
-#[derive(Drop)]
-enum Call<'a> {
-    Size(&'a str),
-    Read(&'a str, u64),
-    Begin(&'a str),
-    Append(&'a str, &'a [u8]),
+#[derive(Clone, Copy, Drop)]
+enum Call {
+    Size(&'static str),
+    Read(&'static str, u64),
+    Begin(&'static str),
+    Append(&'static str, &'static [u8]),
 }
 
 // What a call answers: a size, a count of bytes, or 0 where a file was begun.
 type Answer = Result<Option<u64>, Failed>;
 
-fn answer<S: Shelf>(shelf: &mut S, call: &Call<'_>, into: &mut [u8]) -> Answer {
+fn answer<S: Shelf>(shelf: &mut S, call: &Call, into: &mut [u8]) -> Answer {
     match call {
         Call::Size(name) => shelf.size(name),
         Call::Read(name, at) => match shelf.read_at(name, *at, into) {
@@ -34,15 +35,15 @@ fn answer<S: Shelf>(shelf: &mut S, call: &Call<'_>, into: &mut [u8]) -> Answer {
     }
 }
 
-// Whether the calls, one after the other, answer so.
-fn answers<S: Shelf>(shelf: &mut S, rows: &[(Call<'_>, Answer)], into: &mut [u8]) -> bool {
+// Whether the calls, one after the other, answer so, and leave these bytes in the buffer.
+fn answers<S: Shelf>(shelf: &mut S, rows: &[(Call, Answer)], into: &mut [u8], left: &[u8]) -> bool {
     let mut all = true;
     for (call, wanted) in rows {
         if answer(shelf, call, into) != *wanted {
             all = false;
         }
     }
-    all
+    all && *into == *left
 }
 
 // Whether the writes, one after the other, take so many bytes.
@@ -56,48 +57,60 @@ fn takes<K: Sink>(sink: &mut K, rows: &[(&[u8], Result<usize, Failed>)]) -> bool
     all
 }
 
+// A shelf with one file, and free places for so many bytes each, which takes and gives four bytes at a time.
+fn shelf_with(
+    alloc: Global,
+    places: usize,
+    room: usize,
+    fails: Vec<u64>,
+    name: &str,
+    bytes: &[u8],
+) -> Result<MemoryShelf, Fail> {
+    let mut shelf = MemoryShelf::of(alloc, places, room, 4, fails)?;
+    shelf.put(name, bytes)?;
+    Ok(shelf)
+}
+
+static FRONT: [(Call, Answer); 3] = [
+    (Call::Size("cube.obj"), Ok(Some(8))),
+    (Call::Size("cube"), Ok(None)),
+    (Call::Read("cube.obj", 0), Ok(Some(4))),
+];
+
+static END: [(Call, Answer); 3] = [
+    (Call::Read("cube.obj", 5), Ok(Some(3))),
+    (Call::Read("cube.obj", 8), Ok(Some(0))),
+    (Call::Read("cube", 0), Ok(Some(0))),
+];
+
 #[test]
 fn a_file_in_memory_is_read_in_pieces(rt: HostRuntime) -> Result<(), Fail> {
-    let alloc = rt.alloc();
-    let mut shelf = MemoryShelf::of(alloc, 2, 100, 4, Vec::new(alloc))?;
-    shelf.put("cube.obj", b"v 0 0 0\n")?;
+    let fails = Vec::new(rt.alloc());
+    let mut shelf = shelf_with(rt.alloc(), 2, 100, fails, "cube.obj", b"v 0 0 0\n")?;
     let mut into = *b"......";
-    let start = [
-        (Call::Size("cube.obj"), Ok(Some(8))),
-        (Call::Size("cube"), Ok(None)),
-        (Call::Read("cube.obj", 0), Ok(Some(4))),
-    ];
-    assert!(rt; answers(&mut shelf, &start, &mut into));
-    assert!(rt; into.as_slice() == b"v 0 ..".as_slice());
-    let end = [
-        (Call::Read("cube.obj", 5), Ok(Some(3))),
-        (Call::Read("cube.obj", 8), Ok(Some(0))),
-        (Call::Read("cube", 0), Ok(Some(0))),
-    ];
-    assert!(rt; answers(&mut shelf, &end, &mut into));
-    assert!(rt; into.as_slice() == b" 0\n ..".as_slice());
+    assert!(rt; answers(&mut shelf, &FRONT, &mut into, b"v 0 .."));
+    assert!(rt; answers(&mut shelf, &END, &mut into, b" 0\n .."));
     Ok(())
 }
 
+static IN_PIECES: [(Call, Answer); 10] = [
+    (Call::Begin("new"), Ok(Some(0))),
+    (Call::Append("new", b"abcdef"), Ok(Some(4))),
+    (Call::Append("new", b"ef"), Err(Failed)),
+    (Call::Append("new", b"ef"), Ok(Some(2))),
+    (Call::Append("new", b"g"), Err(Failed)),
+    (Call::Begin("third"), Err(Failed)),
+    (Call::Begin("old"), Ok(Some(0))),
+    (Call::Append("old", b"1234"), Ok(Some(4))),
+    (Call::Append("old", b"5678"), Ok(Some(4))),
+    (Call::Append("old", b"9"), Err(Failed)),
+];
+
 #[test]
 fn a_file_in_memory_is_written_in_pieces(rt: HostRuntime) -> Result<(), Fail> {
-    let alloc = rt.alloc();
-    let fails = vec![in alloc; 3]?;
-    let mut shelf = MemoryShelf::of(alloc, 1, 6, 4, fails)?;
-    shelf.put("old", b"12345678")?;
-    let rows = [
-        (Call::Begin("new"), Ok(Some(0))),
-        (Call::Append("new", b"abcdef"), Ok(Some(4))),
-        (Call::Append("new", b"ef"), Err(Failed)),
-        (Call::Append("new", b"ef"), Ok(Some(2))),
-        (Call::Append("new", b"g"), Err(Failed)),
-        (Call::Begin("third"), Err(Failed)),
-        (Call::Begin("old"), Ok(Some(0))),
-        (Call::Append("old", b"1234"), Ok(Some(4))),
-        (Call::Append("old", b"5678"), Ok(Some(4))),
-        (Call::Append("old", b"9"), Err(Failed)),
-    ];
-    assert!(rt; answers(&mut shelf, &rows, &mut []));
+    let fails = vec![in rt.alloc(); 3]?;
+    let mut shelf = shelf_with(rt.alloc(), 1, 6, fails, "old", b"12345678")?;
+    assert!(rt; answers(&mut shelf, &IN_PIECES, &mut [], b""));
     assert!(rt; shelf.get("new") == Some(b"abcdef".as_slice()));
     assert!(rt; shelf.get("third").is_none());
     shelf.put("old", b"now")?;
@@ -105,77 +118,78 @@ fn a_file_in_memory_is_written_in_pieces(rt: HostRuntime) -> Result<(), Fail> {
     Ok(())
 }
 
+static SURE: [(Call, Answer); 10] = [
+    (Call::Size("old"), Ok(Some(8))),
+    (Call::Size("new"), Ok(Some(0))),
+    (Call::Size("third"), Ok(None)),
+    (Call::Read("old", 6), Ok(Some(2))),
+    (Call::Begin("old"), Err(Failed)),
+    (Call::Begin("new"), Ok(Some(0))),
+    (Call::Append("new", b"abcd"), Ok(Some(4))),
+    (Call::Append("new", b"efg"), Err(Failed)),
+    (Call::Append("old", b"e"), Err(Failed)),
+    (Call::Append("new", b"ef"), Ok(Some(2))),
+];
+
+static SURE_AGAIN: [(Call, Answer); 4] = [
+    (Call::Begin("new"), Ok(Some(0))),
+    (Call::Append("new", b"g"), Err(Failed)),
+    (Call::Size("new"), Ok(Some(0))),
+    (Call::Size("old"), Ok(Some(8))),
+];
+
 #[test]
 fn a_sure_shelf_takes_what_its_spare_has_room_for(rt: HostRuntime) -> Result<(), Fail> {
     let mut shelf = SureShelf::of(rt.alloc(), "old", b"12345678", "new", 6)?;
     let mut into = *b"....";
-    let rows = [
-        (Call::Size("old"), Ok(Some(8))),
-        (Call::Size("new"), Ok(Some(0))),
-        (Call::Size("third"), Ok(None)),
-        (Call::Read("old", 6), Ok(Some(2))),
-        (Call::Begin("old"), Err(Failed)),
-        (Call::Begin("new"), Ok(Some(0))),
-        (Call::Append("new", b"abcd"), Ok(Some(4))),
-        (Call::Append("new", b"efg"), Err(Failed)),
-        (Call::Append("old", b"e"), Err(Failed)),
-        (Call::Append("new", b"ef"), Ok(Some(2))),
-    ];
-    assert!(rt; answers(&mut shelf, &rows, &mut into));
-    assert!(rt; into.as_slice() == b"78..".as_slice());
+    assert!(rt; answers(&mut shelf, &SURE, &mut into, b"78.."));
     assert!(rt; shelf.get("new") == Some(b"abcdef".as_slice()));
-    let again = [
-        (Call::Begin("new"), Ok(Some(0))),
-        (Call::Append("new", b"g"), Err(Failed)),
-        (Call::Size("new"), Ok(Some(0))),
-        (Call::Size("old"), Ok(Some(8))),
-    ];
-    assert!(rt; answers(&mut shelf, &again, &mut into));
+    assert!(rt; answers(&mut shelf, &SURE_AGAIN, &mut into, b"78.."));
     Ok(())
 }
 
+static TAKEN: [(&[u8], Result<usize, Failed>); 4] = [
+    (b"abcd", Ok(3)),
+    (b"d", Err(Failed)),
+    (b"def", Err(Failed)),
+    (b"de", Ok(2)),
+];
+
 #[test]
 fn a_sink_in_memory_takes_what_fits(rt: HostRuntime) -> Result<(), Fail> {
-    let alloc = rt.alloc();
-    let fails = vec![in alloc; 2]?;
-    let mut sink = MemorySink::of(alloc, 5, 3, fails)?;
-    let rows: [(&[u8], Result<usize, Failed>); 4] = [
-        (b"abcd", Ok(3)),
-        (b"d", Err(Failed)),
-        (b"def", Err(Failed)),
-        (b"de", Ok(2)),
-    ];
-    assert!(rt; takes(&mut sink, &rows));
+    let fails = vec![in rt.alloc(); 2]?;
+    let mut sink = MemorySink::of(rt.alloc(), 5, 3, fails)?;
+    assert!(rt; takes(&mut sink, &TAKEN));
     assert!(rt; sink.bytes() == b"abcde".as_slice());
     Ok(())
 }
+
+static KEPT: [(Call, Answer); 6] = [
+    (Call::Size("missing.txt"), Ok(None)),
+    (Call::Begin("kept.txt"), Ok(Some(0))),
+    (Call::Append("kept.txt", b"hello"), Ok(Some(5))),
+    (Call::Append("kept.txt", b", folder"), Ok(Some(8))),
+    (Call::Size("kept.txt"), Ok(Some(13))),
+    (Call::Read("kept.txt", 0), Ok(Some(13))),
+];
+
+static KEPT_AGAIN: [(Call, Answer); 8] = [
+    (Call::Read("kept.txt", 7), Ok(Some(6))),
+    (Call::Read("kept.txt", 13), Ok(Some(0))),
+    (Call::Begin("kept.txt"), Ok(Some(0))),
+    (Call::Size("kept.txt"), Ok(Some(0))),
+    (Call::Append("made.txt", b"x"), Ok(Some(1))),
+    (Call::Size("made.txt"), Ok(Some(1))),
+    (Call::Append("made.txt", b"yz"), Ok(Some(2))),
+    (Call::Read("made.txt", 0), Ok(Some(3))),
+];
 
 #[test]
 fn the_folder_keeps_what_was_written(rt: HostRuntime) -> Result<(), Fail> {
     let mut shelf = FolderShelf::of(&rt);
     let mut into = *b"...............";
-    let written = [
-        (Call::Size("missing.txt"), Ok(None)),
-        (Call::Begin("kept.txt"), Ok(Some(0))),
-        (Call::Append("kept.txt", b"hello"), Ok(Some(5))),
-        (Call::Append("kept.txt", b", folder"), Ok(Some(8))),
-        (Call::Size("kept.txt"), Ok(Some(13))),
-        (Call::Read("kept.txt", 0), Ok(Some(13))),
-    ];
-    assert!(rt; answers(&mut shelf, &written, &mut into));
-    assert!(rt; into.as_slice() == b"hello, folder..".as_slice());
-    let again = [
-        (Call::Read("kept.txt", 7), Ok(Some(6))),
-        (Call::Read("kept.txt", 13), Ok(Some(0))),
-        (Call::Begin("kept.txt"), Ok(Some(0))),
-        (Call::Size("kept.txt"), Ok(Some(0))),
-        (Call::Append("made.txt", b"x"), Ok(Some(1))),
-        (Call::Size("made.txt"), Ok(Some(1))),
-        (Call::Append("made.txt", b"yz"), Ok(Some(2))),
-        (Call::Read("made.txt", 0), Ok(Some(3))),
-    ];
-    assert!(rt; answers(&mut shelf, &again, &mut into));
-    assert!(rt; into.as_slice() == b"xyzder folder..".as_slice());
+    assert!(rt; answers(&mut shelf, &KEPT, &mut into, b"hello, folder.."));
+    assert!(rt; answers(&mut shelf, &KEPT_AGAIN, &mut into, b"xyzder folder.."));
     fs::remove_file(&rt, "kept.txt")?;
     fs::remove_file(&rt, "made.txt")?;
     Ok(())
@@ -185,36 +199,44 @@ fn the_folder_keeps_what_was_written(rt: HostRuntime) -> Result<(), Fail> {
 const LONG: &str =
     "a_name_that_is_longer_than_that_of_any_file_a_name_that_is_longer_than_that_of_any_file_a_name_that_is_longer_than_that_of_any_file_a_name_that_is_longer_than_that_of_any_file_a_name_that_is_longer_than_that_of_any_file_a_name_that_is_longer_than_that_of_any_file";
 
+static NO_PLACE: [(Call, Answer); 6] = [
+    (Call::Begin("plain.txt"), Ok(Some(0))),
+    (Call::Size("plain.txt/below.txt"), Err(Failed)),
+    (Call::Size(LONG), Err(Failed)),
+    (Call::Read("missing.txt", 0), Err(Failed)),
+    (Call::Begin("missing/folder.txt"), Err(Failed)),
+    (Call::Append("missing/folder.txt", b"x"), Err(Failed)),
+];
+
 #[test]
 fn what_the_folder_has_no_place_for_fails(rt: HostRuntime) -> Result<(), Fail> {
-    let mut shelf = FolderShelf::of(&rt);
     let mut into = *b"...";
-    let rows = [
-        (Call::Begin("plain.txt"), Ok(Some(0))),
-        (Call::Size("plain.txt/below.txt"), Err(Failed)),
-        (Call::Size(LONG), Err(Failed)),
-        (Call::Read("missing.txt", 0), Err(Failed)),
-        (Call::Begin("missing/folder.txt"), Err(Failed)),
-        (Call::Append("missing/folder.txt", b"x"), Err(Failed)),
-    ];
-    assert!(rt; answers(&mut shelf, &rows, &mut into));
+    assert!(rt; answers(&mut FolderShelf::of(&rt), &NO_PLACE, &mut into, b"..."));
     fs::remove_file(&rt, "plain.txt")?;
     Ok(())
 }
 
+static SAID: [(&[u8], Result<usize, Failed>); 3] = [
+    (b"said", Ok(4)),
+    (b"", Ok(0)),
+    (b", done\n", Ok(7)),
+];
+
+static READ_BACK: [(Call, Answer); 1] = [(Call::Read("out.txt", 0), Ok(Some(11)))];
+
 #[test]
 fn a_writer_of_std_gets_what_was_written(rt: HostRuntime) -> Result<(), Fail> {
     let mut sink = StdSink::over(fs::create(&rt, "out.txt")?);
-    let rows: [(&[u8], Result<usize, Failed>); 3] = [
-        (b"said", Ok(4)),
-        (b"", Ok(0)),
-        (b", done\n", Ok(7)),
-    ];
-    assert!(rt; takes(&mut sink, &rows));
+    assert!(rt; takes(&mut sink, &SAID));
     let mut into = *b"............";
-    let read = [(Call::Read("out.txt", 0), Ok(Some(11)))];
-    assert!(rt; answers(&mut FolderShelf::of(&rt), &read, &mut into));
-    assert!(rt; into.as_slice() == b"said, done\n.".as_slice());
+    assert!(rt;
+        answers(
+            &mut FolderShelf::of(&rt),
+            &READ_BACK,
+            &mut into,
+            b"said, done\n."
+        )
+    );
     let mut closed = StdSink::over(fs::open(&rt, "out.txt")?);
     assert!(rt; closed.write(b"more") == Err(Failed));
     fs::remove_file(&rt, "out.txt")?;

@@ -1,5 +1,5 @@
 -- Where no two half-edges run the same way, a triangle's opposite lies across its first edge, with the same third vertex.
-use Rattle.std.proofs.Common.{◌≡◌, ◌≢◌, ◌<◌, ◌+◌, ◌*◌, ◌/◌, ◌%◌, inl, inr, ℕ, zero, suc, Bool, true, false, cond, List, [], ◌∷◌, ◌++◌, length, get_or, refl, sym, ◌∙◌, ap, subst, arith}
+use Rattle.std.proofs.Common.{◌≡◌, ◌≢◌, ◌<◌, ◌+◌, ◌*◌, inl, inr, ℕ, zero, suc, Bool, true, false, cond, List, [], ◌∷◌, ◌++◌, length, get_or, refl, sym, ◌∙◌, ap, subst, arith}
 use Rattle.std.specs.Prelude.{◌||◌, nat_le, take, count_by}
 use Rattle.std.specs.List.{All, Contains}
 use Rattle.std.proofs.lemmas.Bool.{cases_order, false≢true}
@@ -12,7 +12,7 @@ use Rattle.chain_laws.specs.Firsts.{passing}
 use Rattle.chain_terms.specs.Ranks.{start, finish, twin}
 use Rattle.chain_laws.proofs.Ranks.{rank_lower, rank_below}
 use Rattle.chain_laws.proofs.Twins.{twin_runs_back}
-use Rattle.mesh_terms.specs.Meshes.{Triple, triples_of}
+use Rattle.mesh_terms.specs.Meshes.{Triple}
 use Rattle.mesh_terms.specs.Halves.{next_half}
 use Rattle.halfedge.specs.Laws.{AreSingle}
 use Rattle.halfedge.proofs.Edges.{length-all_edges}
@@ -152,14 +152,3 @@ kept_none_opposite ts none = kept_all_of ts 0 ts (All-weaker (Contains ts) (λ t
         by (suc n) is =
             let found = passing (opposite t) ts (omega (arith, is)) in
             absurd (false≢true (sym (none t found.member inside found.inside) ∙ found.passes))
-
--- where a half-edge starts, in the list of arrays
-pub start_at : (xs : List (List ℕ)) (h : ℕ) → h < 3 * length xs → start (all_edges (triples_of xs)) h ≡ get_or (get_or xs (h / 3) []) (h % 3) 0
-start_at [] h low = absurd (omega (arith, low))
-start_at (x ∷ xs) zero low = refl
-start_at (x ∷ xs) (suc zero) low = refl
-start_at (x ∷ xs) (suc (suc zero)) low = refl
-start_at (x ∷ xs) (suc (suc (suc h))) low =
-    let of : suc (h / 3) ≡ suc (suc (suc h)) / 3 = omega arith in
-    let in_it : h % 3 ≡ suc (suc (suc h)) % 3 = omega arith in
-    start_at xs h (omega (arith, low)) ∙ (λ i. get_or (get_or (x ∷ xs) (of i) []) (in_it i) 0)

@@ -2,6 +2,7 @@
 mod table;
 
 use crate::{Mesh, MeshFault, is_plainly_reduced, reduce};
+use mb_base::Point;
 use samples::{BOX, TETRAHEDRON, soup_of};
 use std::alloc::Global;
 use std::process::Abort;
@@ -26,12 +27,28 @@ fn fault_of(alloc: Global, count: i32, triples: &[[u32; 3]]) -> Result<Option<Me
     Ok(checked(alloc, count, triples)?.err())
 }
 
+// Whether these points lie at these places on the line.
+fn lie_at(points: &[Point], places: &[i32]) -> bool {
+    if points.len() != places.len() {
+        return false;
+    }
+    for (point, x) in points.iter().zip(places) {
+        if point.at() != [*x, 0, 0] {
+            return false;
+        }
+    }
+    true
+}
+
+// Whether a mesh has these points, by their places on the line, and these triangles.
+fn consists_of(mesh: &Mesh, places: &[i32], triples: &[[u32; 3]]) -> bool {
+    lie_at(mesh.points(), places) && mesh.triples() == triples
+}
+
 #[test]
 fn a_closed_mesh_keeps_its_lists(rt: HostRuntime) -> Result<(), Fail> {
     let mesh = checked(rt.alloc(), 4, &TETRAHEDRON)??;
-    assert_eq!(rt; mesh.points().len(), 4);
-    assert_eq!(rt; mesh.points()[3].at(), [3, 0, 0]);
-    assert_eq!(rt; mesh.triples(), TETRAHEDRON.as_slice());
+    assert!(rt; consists_of(&mesh, &[0, 1, 2, 3], &TETRAHEDRON));
     assert_eq!(rt;
         mesh.twins().twins(),
         [9, 6, 3, 2, 8, 10, 1, 11, 4, 0, 5, 7].as_slice()
@@ -39,21 +56,46 @@ fn a_closed_mesh_keeps_its_lists(rt: HostRuntime) -> Result<(), Fail> {
     Ok(())
 }
 
+// A tetrahedron twice over.
+const DOUBLED: [[u32; 3]; 8] = [
+    [0, 2, 1],
+    [0, 1, 3],
+    [1, 2, 3],
+    [2, 0, 3],
+    [0, 2, 1],
+    [0, 1, 3],
+    [1, 2, 3],
+    [2, 0, 3],
+];
+
+// How many points, the triangles over them, and the open edge that is named. The third row is a tetrahedron
+// without its last face, whose edges are missing, so that their reverses are open: 0 to 2, 3 to 0 and 2 to 3.
+// In the fourth three triangles share an edge, twice from 1 to 0 and once back; it comes after 0 to 2 and 0 to 4.
+static FAULTS: [(i32, &[[u32; 3]], Option<MeshFault>); 5] = [
+    (4, &DOUBLED, None),
+    (3, &[[0, 1, 2], [2, 1, 0]], None),
+    (
+        4,
+        &[[0, 2, 1], [0, 1, 3], [1, 2, 3]],
+        Some(MeshFault::OpenEdge { from: 0, to: 2 }),
+    ),
+    (
+        5,
+        &[[1, 0, 2], [0, 1, 3], [1, 0, 4]],
+        Some(MeshFault::OpenEdge { from: 0, to: 2 }),
+    ),
+    (
+        5,
+        &[[0, 1, 2], [1, 0, 3], [0, 1, 4]],
+        Some(MeshFault::OpenEdge { from: 0, to: 1 }),
+    ),
+];
+
 #[test]
 fn the_least_open_edge_is_named(rt: HostRuntime) -> Result<(), Fail> {
-    let [a, b, c, d] = TETRAHEDRON;
-    let twice = fault_of(rt.alloc(), 4, &[a, b, c, d, a, b, c, d])?;
-    assert!(rt; twice.is_none());
-    let two_sided = fault_of(rt.alloc(), 3, &[[0, 1, 2], [2, 1, 0]])?;
-    assert!(rt; two_sided.is_none());
-    // The last face's edges are missing, so their reverses are open: 0 to 2, 3 to 0 and 2 to 3.
-    let open = fault_of(rt.alloc(), 4, &TETRAHEDRON[..3])?;
-    assert_eq!(rt; open, Some(MeshFault::OpenEdge { from: 0, to: 2 }));
-    // Three triangles share an edge, twice from 1 to 0 and once back; it comes after 0 to 2 and 0 to 4.
-    let fan = fault_of(rt.alloc(), 5, &[[1, 0, 2], [0, 1, 3], [1, 0, 4]])?;
-    assert_eq!(rt; fan, Some(MeshFault::OpenEdge { from: 0, to: 2 }));
-    let turned = fault_of(rt.alloc(), 5, &[[0, 1, 2], [1, 0, 3], [0, 1, 4]])?;
-    assert_eq!(rt; turned, Some(MeshFault::OpenEdge { from: 0, to: 1 }));
+    for (count, triples, wanted) in &FAULTS {
+        assert_eq!(rt; fault_of(rt.alloc(), *count, triples)?, *wanted);
+    }
     Ok(())
 }
 
@@ -67,15 +109,7 @@ fn reduces_to(
 ) -> Result<bool, Fail> {
     let mesh = checked(alloc, count, triples)??;
     let reduced = reduce(alloc, &mesh)?;
-    if reduced.points().len() != stay.len() || reduced.triples() != left {
-        return Ok(false);
-    }
-    for (point, x) in reduced.points().iter().zip(stay) {
-        if point.at() != [*x, 0, 0] {
-            return Ok(false);
-        }
-    }
-    Ok(true)
+    Ok(consists_of(&reduced, stay, left))
 }
 
 // A two-sided triangle, and beside it a box, whose corners have the numbers 3 to 10.
@@ -114,19 +148,37 @@ const SHEETS_AND_TETRAHEDRON: [[u32; 3]; 14] = [
     [13, 14, 12],
 ];
 
+// The box first, which keeps its points.
+const BOX_AND_SHEET: [[u32; 3]; 14] = [
+    [0, 3, 1],
+    [0, 2, 3],
+    [4, 5, 7],
+    [4, 7, 6],
+    [0, 1, 4],
+    [1, 5, 4],
+    [1, 3, 7],
+    [1, 7, 5],
+    [3, 2, 6],
+    [3, 6, 7],
+    [0, 4, 6],
+    [0, 6, 2],
+    [8, 9, 10],
+    [8, 10, 9],
+];
+
+// How many points, the triangles, the points that stay and the triangles that stay. In the last row there are more
+// vertices than triangles.
+static SHEETS: [(i32, &[[u32; 3]], &[i32], &[[u32; 3]]); 3] = [
+    (11, &SHEET_AND_BOX, &[3, 4, 5, 6, 7, 8, 9, 10], &BOX),
+    (11, &BOX_AND_SHEET, &[0, 1, 2, 3, 4, 5, 6, 7], &BOX),
+    (19, &SHEETS_AND_TETRAHEDRON, &[15, 16, 17, 18], &TETRAHEDRON),
+];
+
 #[test]
 fn two_sided_triangles_go_with_their_points(rt: HostRuntime) -> Result<(), Fail> {
-    let stay = [3, 4, 5, 6, 7, 8, 9, 10];
-    assert!(rt; reduces_to(rt.alloc(), 11, &SHEET_AND_BOX, &stay, &BOX)?);
-    // The box first, which keeps its points.
-    let mut triples = BOX.to_vec(rt.alloc())?;
-    triples.push([8, 9, 10])?;
-    triples.push([8, 10, 9])?;
-    let stay = [0, 1, 2, 3, 4, 5, 6, 7];
-    assert!(rt; reduces_to(rt.alloc(), 11, &triples, &stay, &BOX)?);
-    // There are more vertices than triangles.
-    let stay = [15, 16, 17, 18];
-    assert!(rt; reduces_to(rt.alloc(), 19, &SHEETS_AND_TETRAHEDRON, &stay, &TETRAHEDRON)?);
+    for (count, triples, stay, left) in &SHEETS {
+        assert!(rt; reduces_to(rt.alloc(), *count, triples, stay, left)?);
+    }
     Ok(())
 }
 
@@ -141,8 +193,7 @@ fn a_box_is_plainly_reduced(rt: HostRuntime) -> Result<(), Fail> {
     assert!(rt; plainly_reduced(rt.alloc(), 8, &BOX)?);
     assert!(rt; !plainly_reduced(rt.alloc(), 11, &SHEET_AND_BOX)?);
     // Two half-edges run the same way along each edge. Nothing goes, but that is not plain.
-    let [a, b, c, d] = TETRAHEDRON;
-    assert!(rt; !plainly_reduced(rt.alloc(), 4, &[a, b, c, d, a, b, c, d])?);
+    assert!(rt; !plainly_reduced(rt.alloc(), 4, &DOUBLED)?);
     Ok(())
 }
 

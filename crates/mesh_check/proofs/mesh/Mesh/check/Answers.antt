@@ -9,3 +9,6 @@ returns-in-Err-Open-clause-accepts c closed =
     let found : open_pair (all_edges c.args.soup.triples) ≡ Some (c.in-Err-Open.from, c.in-Err-Open.to) = search rules in
     let none = open_pair_closed (all_edges c.args.soup.triples) closed in
     cc
+
+pub returns-in-Ok-clause-open : goal.returns-in-Ok-clause-open
+returns-in-Ok-clause-open c a b is = cc
