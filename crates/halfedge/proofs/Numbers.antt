@@ -1,6 +1,6 @@
 -- The numbered half-edges of triangles, one triangle more.
 use Rattle.std.proofs.Common.{◌≡◌, ◌<◌, ◌+◌, ◌*◌, ℕ, zero, suc, List, [], ◌∷◌, ◌++◌, length, get_or, take, map, sym, ◌∙◌, ap, arith}
-use Rattle.std.proofs.lemmas.List.{append_assoc, map-append}
+use Rattle.std.proofs.lemmas.List.{map-append}
 use Rattle.chain_terms.specs.Chains.{edges, all_edges}
 use Rattle.mesh_terms.specs.Meshes.{Triple, triple_of, triples_of}
 use Rattle.halfedge.specs.Numbering.{by_starts}
@@ -16,13 +16,9 @@ numbered_suc k (t ∷ ts) (suc i) below =
     ap (λ l. (u.0, u.1, k) ∷ (u.1, u.2, suc k) ∷ (u.2, u.0, suc (suc k)) ∷ l)
     (numbered_suc (suc (suc (suc k))) ts i (omega (arith, below)) ∙ ap (λ n. numbered (suc (suc (suc k))) (all_edges (triples_of (take i ts))) ++ numbered n (edges (triple_of (get_or ts i [])))) at)
 
--- three members are put on one after the other
-three_pushes : {X : Type 0} (xs : List X) (a b c : X) → xs ++ a ∷ b ∷ c ∷ [] ≡ ((xs ++ a ∷ []) ++ b ∷ []) ++ c ∷ []
-three_pushes xs a b c = sym (append_assoc (xs ++ a ∷ []) (b ∷ []) (c ∷ []) ∙ append_assoc xs (a ∷ []) (b ∷ c ∷ []))
-
--- one triangle more, as at a step of a loop
-pub numbered_more : (ts : List (List ℕ)) (i : ℕ) (a b c h : ℕ) → i < length ts → triple_of (get_or ts i []) ≡ (a, b, c) → h ≡ 3 * i →
-    numbered 0 (all_edges (triples_of (take (i + 1) ts))) ≡ ((numbered 0 (all_edges (triples_of (take i ts))) ++ (a, b, h) ∷ []) ++ (b, c, h + 1) ∷ []) ++ (c, a, h + 2) ∷ []
+-- one triangle more
+numbered_more : (ts : List (List ℕ)) (i : ℕ) (a b c h : ℕ) → i < length ts → triple_of (get_or ts i []) ≡ (a, b, c) → h ≡ 3 * i →
+    numbered 0 (all_edges (triples_of (take (i + 1) ts))) ≡ numbered 0 (all_edges (triples_of (take i ts))) ++ (a, b, h) ∷ (b, c, h + 1) ∷ (c, a, h + 2) ∷ []
 numbered_more ts i a b c h below is at =
     let one : i + 1 ≡ suc i = omega arith in
     let here : 0 + 3 * i ≡ h = omega (arith, at) in
@@ -31,21 +27,18 @@ numbered_more ts i a b c h below is at =
     let before = numbered 0 (all_edges (triples_of (take i ts))) in
     ap (λ n. numbered 0 (all_edges (triples_of (take n ts)))) one ∙ numbered_suc 0 ts i below
     ∙ ap (λ (u : Triple). before ++ numbered (0 + 3 * i) (edges u)) is ∙ ap (λ n. before ++ numbered n ((a, b) ∷ (b, c) ∷ (c, a) ∷ [])) here
-    ∙ ap (λ n. before ++ (a, b, h) ∷ (b, c, n) ∷ (c, a, suc (suc h)) ∷ []) second ∙ ap (λ n. before ++ (a, b, h) ∷ (b, c, h + 1) ∷ (c, a, n) ∷ []) third
-    ∙ three_pushes before (a, b, h) (b, c, h + 1) (c, a, h + 2)
+    ∙ (λ j. before ++ (a, b, h) ∷ (b, c, second j) ∷ (c, a, third j) ∷ [])
 
--- a list after three pushes
-pub three_more : {X : Type 0} (before p q r s : List X) (x y z : X) → p ≡ before → q ≡ p ++ x ∷ [] → r ≡ q ++ y ∷ [] → s ≡ r ++ z ∷ [] → s ≡ ((before ++ x ∷ []) ++ y ∷ []) ++ z ∷ []
-three_more before p q r s x y z first second third fourth =
-    fourth ∙ ap (λ l. l ++ z ∷ []) (third ∙ ap (λ l. l ++ y ∷ []) (second ∙ ap (λ l. l ++ x ∷ []) first))
+-- a step of a loop that lists them
+pub numbered_step : (ts : List (List ℕ)) (i : ℕ) (a b c h : ℕ) (old new : List Half) → i < length ts → triple_of (get_or ts i []) ≡ (a, b, c) → h ≡ 3 * i → old ≡ numbered 0 (all_edges (triples_of (take i ts))) →
+    new ≡ old ++ (a, b, h) ∷ (b, c, h + 1) ∷ (c, a, h + 2) ∷ [] → new ≡ numbered 0 (all_edges (triples_of (take (i + 1) ts)))
+numbered_step ts i a b c h old new below is at before after =
+    after ∙ ap (λ l. l ++ (a, b, h) ∷ (b, c, h + 1) ∷ (c, a, h + 2) ∷ []) before ∙ sym (numbered_more ts i a b c h below is at)
 
--- the half-edges behind their starts, one triangle more
-pub by_starts_more : (ts : List (List ℕ)) (i : ℕ) (a b c h : ℕ) → i < length ts → triple_of (get_or ts i []) ≡ (a, b, c) → h ≡ 3 * i →
-    by_starts (all_edges (triples_of (take (i + 1) ts))) ≡ ((by_starts (all_edges (triples_of (take i ts))) ++ (a, h) ∷ []) ++ (b, h + 1) ∷ []) ++ (c, h + 2) ∷ []
-by_starts_more ts i a b c h below is at =
+-- and of one that lists them behind their starts
+pub by_starts_step : (ts : List (List ℕ)) (i : ℕ) (a b c h : ℕ) (old new : List (ℕ × ℕ)) → i < length ts → triple_of (get_or ts i []) ≡ (a, b, c) → h ≡ 3 * i → old ≡ by_starts (all_edges (triples_of (take i ts))) →
+    new ≡ old ++ (a, h) ∷ (b, h + 1) ∷ (c, h + 2) ∷ [] → new ≡ by_starts (all_edges (triples_of (take (i + 1) ts)))
+by_starts_step ts i a b c h old new below is at before after =
     let known : List Half = numbered 0 (all_edges (triples_of (take i ts))) in
-    let two : List Half = (known ++ (a, b, h) ∷ []) ++ (b, c, h + 1) ∷ [] in
     let f : Half → ℕ × ℕ = λ e. (e.0, e.2) in
-    ap (map f) (numbered_more ts i a b c h below is at) ∙ map-append f two ((c, a, h + 2) ∷ [])
-    ∙ ap (λ (l : List (ℕ × ℕ)). l ++ (c, h + 2) ∷ []) (map-append f (known ++ (a, b, h) ∷ []) ((b, c, h + 1) ∷ []))
-    ∙ ap (λ (l : List (ℕ × ℕ)). (l ++ (b, h + 1) ∷ []) ++ (c, h + 2) ∷ []) (map-append f known ((a, b, h) ∷ []))
+    after ∙ ap (λ l. l ++ (a, h) ∷ (b, h + 1) ∷ (c, h + 2) ∷ []) before ∙ sym (map-append f known ((a, b, h) ∷ (b, c, h + 1) ∷ (c, a, h + 2) ∷ [])) ∙ ap (map f) (sym (numbered_more ts i a b c h below is at))

@@ -80,9 +80,7 @@ fn behind_starts(alloc: Global, triples: &[[u32; 3]]) -> Result<Vec<(u32, u32)>,
     let mut order = Vec::with_capacity(alloc, 3 * triples.len())?;
     let mut half = 0;
     for [a, b, c] in triples {
-        order.push((*a, half))?;
-        order.push((*b, half + 1))?;
-        order.push((*c, half + 2))?;
+        order.extend_from_slice(&[(*a, half), (*b, half + 1), (*c, half + 2)])?;
         half += 3;
     }
     Ok(order)

@@ -32,9 +32,7 @@ fn numbered_edges(alloc: Global, triples: &[[u32; 3]]) -> Result<Vec<Half>, NoMe
     let mut edges = Vec::with_capacity(alloc, 3 * triples.len())?;
     let mut half = 0;
     for [a, b, c] in triples {
-        edges.push((*a, *b, half))?;
-        edges.push((*b, *c, half + 1))?;
-        edges.push((*c, *a, half + 2))?;
+        edges.extend_from_slice(&[(*a, *b, half), (*b, *c, half + 1), (*c, *a, half + 2)])?;
         half += 3;
     }
     Ok(edges)

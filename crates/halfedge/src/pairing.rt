@@ -1,14 +1,15 @@
 // Twins, bucket by bucket.
-ghost use Rattle.std.specs.Prelude.{◌≡◌, ◌<◌, ◌≤◌, ◌↔◌, ℕ, List, IfOk, IsNone, IfSome, IsSorted, IsTrue, length, map};
+ghost use Rattle.std.specs.Prelude.{◌≡◌, ◌<◌, ◌≤◌, ◌↔◌, ◌+◌, ◌%◌, ℕ, List, IfOk, IsNone, IfSome, IsSorted, IsTrue, length, map};
 ghost use Rattle.std.specs.List.{All};
 ghost use Rattle.chain_terms.specs.Chains.{all_edges, IsClosed};
 ghost use Rattle.chain_terms.specs.Sums.{upto};
 ghost use Rattle.chain_terms.specs.Ranks.{twin};
 ghost use Rattle.mesh_terms.specs.Limits.{most_triangles};
 ghost use Rattle.mesh_terms.specs.Meshes.{HasThree, triples_of};
+ghost use Rattle.counting_sort.specs.Buckets.{places_of};
 ghost use Rattle.halfedge.specs.Laws.{AreSingle};
 ghost use Rattle.halfedge.specs.Pairing.{ends_of};
-ghost use Rattle.halfedge.specs.Ways.{ArePartners, AreWritten};
+ghost use Rattle.halfedge.specs.Ways.{bucket_of, ArePaired, ArePartners, AreWritten};
 
 use crate::ways::{Half, bucket_numbers, ways};
 use counting_sort::Buckets;
@@ -33,18 +34,56 @@ pub fn paired(alloc: Global, triples: &[[u32; 3]]) -> Result<Option<(Vec<u32>, b
     let buckets = Buckets::of(alloc, &numbers, count as usize)?;
     // The bucket numbers are no longer needed; each is written over by a twin.
     let mut twins = numbers;
+    match pair_buckets(alloc, triples, &buckets, &mut twins)? {
+        Some(single) => Ok(Some((twins, single))),
+        None => Ok(None),
+    }
+}
+
+// Pairs the half-edges of each bucket, and says whether no two run the same way; none where those of some bucket run more
+// often one way than back.
+fn pair_buckets(
+    alloc: Global,
+    triples: &[[u32; 3]],
+    buckets: &Buckets,
+    twins: &mut [u32],
+) -> Result<Option<bool>, NoMemory>
+    requires few { length triples.now ≤ most_triangles }
+    requires gathered { buckets.now ≡ map (places_of (map (bucket_of (length triples.now + 1)) (all_edges (triples_of triples.now)))) (upto (length triples.now + 1)) }
+    requires full { length twins.old ≡ length (all_edges (triples_of triples.now)) }
+    ensures none { IfOk result (λ r. IsNone r → IsClosed (all_edges (triples_of triples.now)) → ⊥) }
+    ensures paired { IfOk result (λ r. IfSome r (λ single. ArePaired (all_edges (triples_of triples.now)) (λ a. a % (length triples.now + 1)) (length triples.now + 1) twins.new single)) }
+{
     let mut lists = (Vec::new(alloc), Vec::new(alloc));
     let mut single = true;
-    for k in 0..count as usize {
+    for k in 0..triples.len() + 1 {
         let (ups, downs) = ways(triples, buckets.bucket(k), lists)?;
-        if !run_alike(&ups, &downs) {
-            return Ok(None);
+        match pair_ways(&ups, &downs, twins) {
+            Some(alone) => single &= alone,
+            None => return Ok(None),
         }
-        pair_up(&ups, &downs, &mut twins);
-        single &= are_single(&ups);
         lists = (ups, downs);
     }
-    Ok(Some((twins, single)))
+    Ok(Some(single))
+}
+
+// Makes the half-edges at each place of the two lists each other's twins, and says whether no two run the same way; none
+// where the lists do not run the same way, place by place.
+fn pair_ways(ups: &[Half], downs: &[Half], twins: &mut [u32]) -> Option<bool>
+    requires sorted { IsSorted ⟦<(u32, u32, u32) as Ord>⟧.cmp ups.now }
+    requires ups_within { All (λ e. e.2 < length twins.old) ups.now }
+    requires downs_within { All (λ e. e.2 < length twins.old) downs.now }
+    ensures none { IsNone result → (ends_of ups.now ≡ ends_of downs.now) → ⊥ }
+    ensures same { IfSome result (λ _. ends_of ups.now ≡ ends_of downs.now) }
+    ensures length { length twins.new ≡ length twins.old }
+    ensures written { IfSome result (λ _. (partner : ℕ → ℕ) → ArePartners partner ups.now downs.now → AreWritten partner ups.now downs.now twins.old twins.new) }
+    ensures single { IfSome result (λ alone. IsTrue alone ↔ AreSingle (ends_of ups.now)) }
+{
+    if !run_alike(ups, downs) {
+        return None;
+    }
+    pair_up(ups, downs, twins);
+    Some(are_single(ups))
 }
 
 // Whether both lists run the same way, place by place.

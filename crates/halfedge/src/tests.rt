@@ -1,19 +1,31 @@
 // Small meshes, with twins and fans known from outside.
 use crate::{TwinFault, Twins};
-use samples::{TETRAHEDRON, soup_of};
+use samples::{TETRAHEDRON, line_soup, two_boxes};
 use std::alloc::Global;
 use std::test::Fail;
 
 #[test]
-fn the_tetrahedron_has_one_fan_at_each_vertex(rt: HostRuntime) -> Result<(), Fail> {
+fn the_tetrahedron_has_its_twins(rt: HostRuntime) -> Result<(), Fail> {
     let twins = Twins::of(rt.alloc(), &TETRAHEDRON)?;
     assert_eq!(rt; twins.triples(), TETRAHEDRON.as_slice());
     assert_eq!(rt; twins.twin(0), 9);
     assert_eq!(rt; twins.next(2), 0);
     assert_eq!(rt; twins.next(0), 1);
+    Ok(())
+}
+
+#[test]
+fn a_copy_has_the_same_lists(rt: HostRuntime) -> Result<(), Fail> {
+    let twins = Twins::of(rt.alloc(), &TETRAHEDRON)?;
     let copy = twins.clone()?;
     assert_eq!(rt; copy.triples(), twins.triples());
     assert_eq!(rt; copy.twins(), twins.twins());
+    Ok(())
+}
+
+#[test]
+fn the_tetrahedron_has_one_fan_at_each_vertex(rt: HostRuntime) -> Result<(), Fail> {
+    let twins = Twins::of(rt.alloc(), &TETRAHEDRON)?;
     let fans = twins.fans(rt.alloc())?;
     assert_eq!(rt; fans.first.as_slice(), [0, 2, 1, 5].as_slice());
     assert_eq!(rt;
@@ -48,52 +60,26 @@ fn an_edge_that_is_used_four_times_is_paired_in_order(rt: HostRuntime) -> Result
     Ok(())
 }
 
-// Two cubes that share vertex 7 of the first as vertex 0 of the second.
-const CUBES: [[u32; 3]; 24] = [
-    [0, 3, 1],
-    [0, 2, 3],
-    [4, 5, 7],
-    [4, 7, 6],
-    [0, 1, 4],
-    [1, 5, 4],
-    [1, 3, 7],
-    [1, 7, 5],
-    [3, 2, 6],
-    [3, 6, 7],
-    [0, 4, 6],
-    [0, 6, 2],
-    [7, 10, 8],
-    [7, 9, 10],
-    [11, 12, 14],
-    [11, 14, 13],
-    [7, 8, 11],
-    [8, 12, 11],
-    [8, 10, 14],
-    [8, 14, 12],
-    [10, 9, 13],
-    [10, 13, 14],
-    [7, 11, 13],
-    [7, 13, 9],
-];
+// The twins of triangles over so many points on a line.
+fn line_twins(alloc: Global, count: u8, triples: &[[u32; 3]]) -> Result<Twins, Fail> {
+    let soup = line_soup(alloc, count, triples)?;
+    Ok(Twins::of(alloc, soup.triples())?)
+}
 
 #[test]
 fn a_shared_vertex_has_two_fans(rt: HostRuntime) -> Result<(), Fail> {
-    let twins = Twins::of(rt.alloc(), &CUBES)?;
+    let twins = line_twins(rt.alloc(), 15, &two_boxes(7))?;
     let fans = twins.fans(rt.alloc())?;
     assert_eq!(rt; fans.first.len(), 16);
-    // The first cube's half-edges at vertex 7 begin with 8, the second's with 36.
+    // The first box's half-edges at vertex 7 begin with 8, the second's with 36.
     assert_eq!(rt; fans.first[7], 8);
     assert_eq!(rt; fans.first[8], 36);
     Ok(())
 }
 
 // Whether each of so many vertices has one fan.
-fn is_clean(alloc: Global, count: i32, triples: &[[u32; 3]]) -> Result<bool, Fail> {
-    let mut rows = Vec::new(alloc);
-    for x in 0..count {
-        rows.push([x, 0, 0])?;
-    }
-    let soup = soup_of(alloc, &rows, triples)?;
+fn is_clean(alloc: Global, count: u8, triples: &[[u32; 3]]) -> Result<bool, Fail> {
+    let soup = line_soup(alloc, count, triples)?;
     let twins = Twins::of(alloc, soup.triples())?;
     Ok(twins.are_clean(alloc, soup.points().len())?)
 }
@@ -101,7 +87,7 @@ fn is_clean(alloc: Global, count: i32, triples: &[[u32; 3]]) -> Result<bool, Fai
 #[test]
 fn a_shared_vertex_is_found(rt: HostRuntime) -> Result<(), Fail> {
     assert!(rt; is_clean(rt.alloc(), 4, &TETRAHEDRON)?);
-    assert!(rt; !is_clean(rt.alloc(), 15, &CUBES)?);
+    assert!(rt; !is_clean(rt.alloc(), 15, &two_boxes(7))?);
     Ok(())
 }
 

@@ -7,7 +7,7 @@ ghost use Rattle.chain_terms.specs.Ranks.{start, finish};
 ghost use Rattle.mesh_terms.specs.Limits.{most_triangles};
 ghost use Rattle.mesh_terms.specs.Meshes.{triples_of};
 ghost use Rattle.halfedge.specs.Pairing.{turned, IsSortOf};
-ghost use Rattle.halfedge.specs.Ways.{half_of, bucket_of, runs_up};
+ghost use Rattle.halfedge.specs.Ways.{half_of, bucket_of, lesser_end, runs_up};
 
 use mb_base::NoMemory;
 use std::alloc::Global;
@@ -15,6 +15,9 @@ use std::alloc::Global;
 /// A half-edge: where it starts, where it ends, and its number. In a list of turned half-edges the
 /// end stands first and then the start.
 pub type Half = (u32, u32, u32);
+
+/// What runs up, and what runs down, turned.
+pub type Ways = (Vec<Half>, Vec<Half>);
 
 /// The bucket of each half-edge: its lesser end, modulo the number of buckets.
 pub fn bucket_numbers(alloc: Global, triples: &[[u32; 3]], count: u32) -> Result<Vec<u32>, NoMemory>
@@ -36,7 +39,7 @@ fn bucket_number(a: u32, b: u32, count: u32) -> u32
     requires { 0 < count }
     ensures { result ≡ bucket_of count (a, b) }
 {
-    let lesser = if a < b { a } else { b };
+    let lesser = lesser_end(a, b);
     if lesser < count {
         lesser
     } else {
@@ -44,14 +47,17 @@ fn bucket_number(a: u32, b: u32, count: u32) -> u32
     }
 }
 
+// The lesser end of the half-edge from a to b.
+fn lesser_end(a: u32, b: u32) -> u32
+    ensures { result ≡ lesser_end (a, b) }
+{
+    if a < b { a } else { b }
+}
+
 /// Of the half-edges of a bucket, given by their numbers, those that run up, each as its start, its end
 /// and its number, sorted; and those that run down, each as its end, its start and its number, sorted.
 /// The given lists are emptied and filled again, so that their memory serves all buckets.
-pub fn ways(
-    triples: &[[u32; 3]],
-    bucket: &[u32],
-    lists: (Vec<Half>, Vec<Half>),
-) -> Result<(Vec<Half>, Vec<Half>), NoMemory>
+pub fn ways(triples: &[[u32; 3]], bucket: &[u32], lists: Ways) -> Result<Ways, NoMemory>
     requires few { length triples.now ≤ most_triangles }
     requires within { All (λ h. h < 3 * length triples.now) bucket.now }
     ensures ups { IfOk result (λ r. IsSortOf (filter runs_up (map (half_of (all_edges (triples_of triples.now))) bucket.now)) r.0.items) }
@@ -64,11 +70,7 @@ pub fn ways(
 }
 
 // The same two lists, not sorted: each in the order of the bucket.
-fn split(
-    triples: &[[u32; 3]],
-    bucket: &[u32],
-    lists: (Vec<Half>, Vec<Half>),
-) -> Result<(Vec<Half>, Vec<Half>), NoMemory>
+fn split(triples: &[[u32; 3]], bucket: &[u32], lists: Ways) -> Result<Ways, NoMemory>
     requires few { length triples.now ≤ most_triangles }
     requires within { All (λ h. h < 3 * length triples.now) bucket.now }
     ensures ups { IfOk result (λ r. r.0.items ≡ filter runs_up (map (half_of (all_edges (triples_of triples.now))) bucket.now)) }

@@ -1,11 +1,13 @@
 -- Lists of triangles as the code holds them, and their half-edges.
 use Rattle.std.proofs.Common.{◌≡◌, ℕ, zero, suc, ◌+◌, ◌*◌, ◌/◌, ◌%◌, ◌<◌, List, [], ◌∷◌, ◌++◌, length, get_or, take, refl, arith, ap, ◌∙◌}
 use Rattle.std.specs.List.{All}
-use Rattle.std.proofs.lemmas.List.Elements.{All-head, All-tail}
 use Rattle.std.proofs.lemmas.List.{take_more, map_push, length-map, get_or-map}
 use Rattle.chain_terms.specs.Chains.{edges, all_edges}
 use Rattle.chain_terms.specs.Ranks.{start}
 use Rattle.mesh_terms.specs.Meshes.{Triple, IsBelow, triple_of, triples_of}
+use Rattle.halfedge.proofs.Edges.{length-all_edges}
+use Rattle.halfedge.proofs.Starts as starts
+use Rattle.halfedge.proofs.Starts.{start_read}
 
 -- what holds of all triangles holds of the one at a place
 pub triple_at : (P : Triple → Type 0) (ts : List Triple) (xs : List (List ℕ)) (i : ℕ) → triples_of xs ≡ ts → All P ts → i < length xs → P (triple_of (get_or xs i []))
@@ -24,14 +26,7 @@ triples_more xs i h = ap triples_of (take_more xs i [] h) ∙ map_push triple_of
 
 -- a half-edge starts at a vertex of its triangle
 pub start_listed : (xs : List (List ℕ)) (h : ℕ) → h < 3 * length xs → start (all_edges (triples_of xs)) h ≡ get_or (get_or xs (h / 3) []) (h % 3) 0
-start_listed [] h below = absurd (omega (arith, below))
-start_listed (x ∷ xs) zero below = refl
-start_listed (x ∷ xs) (suc zero) below = refl
-start_listed (x ∷ xs) (suc (suc zero)) below = refl
-start_listed (x ∷ xs) (suc (suc (suc h))) below =
-    let third : suc (suc (suc h)) / 3 ≡ suc (h / 3) = omega arith in
-    let rest : suc (suc (suc h)) % 3 ≡ h % 3 = omega arith in
-    rw (third, rest) (start_listed xs h (omega (arith, below)))
+start_listed xs h low = start_read xs h low
 
 -- the half-edges of triangle f are its edges
 pub half_of_face : (ts : List Triple) (f i : ℕ) → f < length ts → i < 3 → get_or (all_edges ts) (3 * f + i) (0, 0) ≡ get_or (edges (get_or ts f (0, 0, 0))) i (0, 0)
@@ -46,8 +41,4 @@ half_of_face (t ∷ ts) (suc f) i below three =
 
 -- and the vertex is one of so many
 pub start_below : (n : ℕ) (ts : List Triple) (h : ℕ) → All (IsBelow n) ts → h < 3 * length ts → start (all_edges ts) h < n
-start_below n [] h all below = absurd (omega (arith, below))
-start_below n (t ∷ ts) zero all below = (All-head (IsBelow n) t ts all).a
-start_below n (t ∷ ts) (suc zero) all below = (All-head (IsBelow n) t ts all).b
-start_below n (t ∷ ts) (suc (suc zero)) all below = (All-head (IsBelow n) t ts all).c
-start_below n (t ∷ ts) (suc (suc (suc h))) all below = start_below n ts h (All-tail (IsBelow n) t ts all) (omega (arith, below))
+start_below n ts h all low = starts.start_below n ts all h (omega (arith, low, length-all_edges ts))

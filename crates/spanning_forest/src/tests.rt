@@ -1,31 +1,13 @@
 // Forests of small meshes, worked out by hand.
 use crate::{Entrance, forest};
 use mesh_check::Mesh;
-use samples::{BOX, TETRAHEDRON, soup_of};
+use samples::{TETRAHEDRON, line_soup, two_boxes};
 use std::alloc::Global;
 use std::test::Fail;
 
 // The mesh of these triangles over so many points on a line.
-fn mesh_of(alloc: Global, count: i32, triples: &[[u32; 3]]) -> Result<Mesh, Fail> {
-    let mut rows = Vec::new(alloc);
-    for x in 0..count {
-        rows.push([x, 0, 0])?;
-    }
-    Ok(Mesh::check(alloc, soup_of(alloc, &rows, triples)?)?)
-}
-
-// Two boxes, the second over later points: its first is the point with this number.
-fn two_boxes(alloc: Global, first: u8) -> Result<Mesh, Fail> {
-    let mut triples = BOX.to_vec(alloc)?;
-    let shift = u32::from(first);
-    for [a, b, c] in &BOX {
-        triples.push([
-            a.wrapping_add(shift),
-            b.wrapping_add(shift),
-            c.wrapping_add(shift),
-        ])?;
-    }
-    mesh_of(alloc, i32::from(first) + 8, &triples)
+fn mesh_of(alloc: Global, count: u8, triples: &[[u32; 3]]) -> Result<Mesh, Fail> {
+    Ok(Mesh::check(alloc, line_soup(alloc, count, triples)?)?)
 }
 
 // The roots of a mesh's forest.
@@ -59,7 +41,7 @@ fn a_tetrahedron_is_entered_from_its_first_vertex(rt: HostRuntime) -> Result<(),
 
 #[test]
 fn each_box_has_a_root(rt: HostRuntime) -> Result<(), Fail> {
-    let mesh = two_boxes(rt.alloc(), 8)?;
+    let mesh = mesh_of(rt.alloc(), 16, &two_boxes(8))?;
     assert_eq!(rt; roots_of(rt.alloc(), &mesh)?.as_slice(), [0, 8].as_slice());
     Ok(())
 }
@@ -67,7 +49,7 @@ fn each_box_has_a_root(rt: HostRuntime) -> Result<(), Fail> {
 // The last vertex of the first box is the first of the second.
 #[test]
 fn boxes_that_share_a_vertex_have_one_root(rt: HostRuntime) -> Result<(), Fail> {
-    let mesh = two_boxes(rt.alloc(), 7)?;
+    let mesh = mesh_of(rt.alloc(), 15, &two_boxes(7))?;
     assert_eq!(rt; roots_of(rt.alloc(), &mesh)?.as_slice(), [0].as_slice());
     Ok(())
 }

@@ -1,12 +1,8 @@
-use Rattle.std.proofs.Common.{sym, refl, ◌∙◌, arith}
-use Rattle.halfedge.proofs.Numbers.{by_starts_more, three_more}
+use Rattle.std.proofs.Common.{refl, arith}
+use Rattle.halfedge.proofs.Numbers.{by_starts_step}
 use Rattle.halfedge.proofs.fans.behind_starts.Goals as goal
 
 pub loop-a-preserved : goal.loop-a-preserved
 loop-a-preserved c =
     let inv = c.loop-a.invariant in
-    record {
-      items = three_more _ _ _ _ _ _ _ _ inv.items c.in_ok-push.ensures.items c.in_ok-push-2.ensures.items c.in_ok-push-3.ensures.items
-          ∙ sym (by_starts_more c.args.triples.now c.loop-a.a-index _ _ _ c.loop-a.half c.loop-a-test.true refl inv.half);
-      half = omega (arith, inv.half);
-    }
+    record { items = by_starts_step c.args.triples.now c.loop-a.a-index _ _ _ _ _ _ c.loop-a-test.true refl inv.half inv.items c.in_ok-extend_from_slice.ensures.items; half = omega (arith, inv.half) }

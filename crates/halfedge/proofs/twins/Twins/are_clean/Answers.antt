@@ -39,15 +39,14 @@ start_is xs ts same h v is = is ∙ ap (λ l. start (all_edges l) h) same
 vertex_below : (n : ℕ) (ts : List (ℕ × ℕ × ℕ)) → All (IsBelow n) ts → (h v : ℕ) → h < length (all_edges ts) → v ≡ start (all_edges ts) h → v < n
 vertex_below n ts below h v low is = subst (λ u. u < n) (sym is) (start_below n ts below h low)
 
+-- so the vertex that was read off is a point
+vertex_low : (n : ℕ) (xs : List (List ℕ)) (ts : List (ℕ × ℕ × ℕ)) → triples_of xs ≡ ts → All (IsBelow n) ts → (h v : ℕ) → h < 3 * length xs → v ≡ start (all_edges (triples_of xs)) h → v < n
+vertex_low n xs ts same below h v low is = vertex_below n ts below h v (half_below xs ts same h low) (start_is xs ts same h v is)
+
 pub index-requires-then-index : goal.index-requires-then-index
 index-requires-then-index c =
-    let ts = c.args.self.now.triples in
-    let h = c.loop-half.half in
-    let below = half_below c.triples-triples.result.now ts c.triples-triples.ensures.value h c.loop-half-test.true in
-    let starts = start_is c.triples-triples.result.now ts c.triples-triples.ensures.value h c.start-vertex.result c.start-vertex.ensures in
-    let low = vertex_below c.args.points ts c.requires.below h c.start-vertex.result below starts in
-    let read = c.loop-half.seen.ok.0 in
-    omega (arith, low, read, c.loop-half.invariant.room)
+    let low = vertex_low c.args.points c.triples-triples.result.now c.args.self.now.triples c.triples-triples.ensures.value c.requires.below c.loop-half.half c.start-vertex.result c.loop-half-test.true c.start-vertex.ensures in
+    omega (arith, low, c.loop-half.seen.ok.0, c.loop-half.invariant.room)
 
 -- the vertex is not the number for none
 vertex_number : (n : ℕ) (v : ℕ) → v < n → n ≤ most_points → v < no_fan
@@ -75,21 +74,12 @@ returns-then-index-2 c =
 
 pub index_mut-requires : goal.index_mut-requires
 index_mut-requires c =
-    let ts = c.args.self.now.triples in
-    let h = c.loop-half.half in
-    let below = half_below c.triples-triples.result.now ts c.triples-triples.ensures.value h c.loop-half-test.true in
-    let starts = start_is c.triples-triples.result.now ts c.triples-triples.ensures.value h c.start-vertex.result c.start-vertex.ensures in
-    let low = vertex_below c.args.points ts c.requires.below h c.start-vertex.result below starts in
-    let read = c.loop-half.seen.ok.0 in
-    omega (arith, low, read, c.loop-half.invariant.room)
+    let low = vertex_low c.args.points c.triples-triples.result.now c.args.self.now.triples c.triples-triples.ensures.value c.requires.below c.loop-half.half c.start-vertex.result c.loop-half-test.true c.start-vertex.ensures in
+    omega (arith, low, c.loop-half.seen.ok.0, c.loop-half.invariant.room)
 
 pub number_fan-requires-clause-number : goal.number_fan-requires-clause-number
 number_fan-requires-clause-number c =
-    let ts = c.args.self.now.triples in
-    let h = c.loop-half.half in
-    let below = half_below c.triples-triples.result.now ts c.triples-triples.ensures.value h c.loop-half-test.true in
-    let starts = start_is c.triples-triples.result.now ts c.triples-triples.ensures.value h c.start-vertex.result c.start-vertex.ensures in
-    let low = vertex_below c.args.points ts c.requires.below h c.start-vertex.result below starts in
+    let low = vertex_low c.args.points c.triples-triples.result.now c.args.self.now.triples c.triples-triples.ensures.value c.requires.below c.loop-half.half c.start-vertex.result c.loop-half-test.true c.start-vertex.ensures in
     vertex_number c.args.points c.start-vertex.result low c.requires.few
 
 -- one half-edge more is marked
