@@ -8,9 +8,9 @@ use Rattle.play_terms.specs.Lines.{winding_line}
 use Rattle.mesh_files.specs.Stops.{soup_with}
 use Rattle.run_terms.specs.Meets.{Unsaid}
 use Rattle.play_laws.proofs.ReadingBack.{inside_keeps}
-use Rattle.manifold_tool.specs.Playing.{windings}
-use Rattle.manifold_tool.proofs.Stages.{inside_ended, inside_starved, inside_unread}
-use Rattle.manifold_tool.proofs.inside.inside.Goals as goal
+use Rattle.mesh_commands.specs.Windings.{windings}
+use Rattle.mesh_commands.proofs.Stages.{inside_ended, inside_starved, inside_unread}
+use Rattle.mesh_commands.proofs.points.inside.Goals as goal
 
 -- a winding number fits 64 bits, so that it is said as it is found
 as_found : (number : ℤ) (n : ℕ) → nat_abs number ≤ n → n ≤ 100000000 → to_z w64 (of_z w64 number) ≡ number

@@ -5,7 +5,7 @@ ghost use Rattle.play_terms.specs.ReadingBack.{WritesReadable};
 ghost use Rattle.run_terms.specs.Files.{Files};
 ghost use Rattle.mb_outside.specs.Seen.{MeetsOn};
 ghost use Rattle.report_lines.specs.Halts.{IsHaltOfInside, halted, is_unsaid};
-ghost use Rattle.manifold_tool.specs.Playing.{windings};
+ghost use Rattle.mesh_commands.specs.Windings.{windings};
 
 use mb_base::{Limits, Point};
 use mb_outside::{Shelf, Sink};

@@ -3,8 +3,8 @@ use Rattle.std.proofs.lemmas.Result.{err_from_is_err_and}
 use Rattle.mb_outside.specs.Seen.{on_output}
 use Rattle.mesh_files.specs.Stops.{soup_with}
 use Rattle.play_laws.proofs.ReadingBack.{copy_keeps, mesh_given}
-use Rattle.manifold_tool.proofs.Stages.{copy_ended, copy_unread, copy_unwritten}
-use Rattle.manifold_tool.proofs.copy.copy.Goals as goal
+use Rattle.mesh_commands.proofs.Stages.{copy_ended, copy_unread, copy_unwritten}
+use Rattle.mesh_commands.proofs.copying.copy.Goals as goal
 
 pub returns-in_err-read-clause-meets : goal.returns-in_err-read-clause-meets
 returns-in_err-read-clause-meets g c =
