@@ -1,11 +1,10 @@
 -- The rules of the grammar, as clap's builder makes them.
-use Rattle.std.proofs.Common.{◌≡◌, ◌∙◌, Some, ap, codes, true}
-use Rattle.clap.specs.Words.{App, Rule, new_app, new_rule, rule_of}
-use Rattle.clap.specs.Simple.{app_of_fields}
+use Rattle.std.proofs.Common.{◌≡◌, ◌∙◌, Some, ap, codes}
+use Rattle.clap.specs.Words.{Rule, new_rule, rule_of}
 use Rattle.clap.specs.declared.builder.action.ArgAction.{ArgAction}
 use Rattle.clap.specs.declared.builder.action.ArgAction.TheVariants.{Append, Set}
 use Rattle.clap.specs.declared.builder.arg.Arg.{Arg}
-use Rattle.command_words.specs.Grammar.{bare_app, digits_rule, operands_rule}
+use Rattle.command_words.specs.Grammar.{digits_rule, operands_rule}
 
 abbrev acting : ArgAction → Rule → Rule
 acting action r = record r { action = Some action }

@@ -71,3 +71,11 @@ pub returns-in_err-say_winding-clause-halts : goal.returns-in_err-say_winding-cl
 returns-in_err-say_winding-clause-halts g c =
     let p = err_from_is_err_and c.from_residual-in_err-say_winding.result c.from_residual-in_err-say_winding.ensures.1 in
     rw (p.1, p.2) (inr (inl refl))
+
+pub returns-clause-counted : goal.returns-clause-counted
+returns-clause-counted g c = c.in_ok-number.ensures.cost
+
+pub returns-in_err-say_winding-clause-stopped : goal.returns-in_err-say_winding-clause-stopped
+returns-in_err-say_winding-clause-stopped g c =
+    let p = err_from_is_err_and c.from_residual-in_err-say_winding.result c.from_residual-in_err-say_winding.ensures.1 in
+    rw (p.1, p.2) c.in_ok-number.ensures.cost
