@@ -1,4 +1,5 @@
 pub mod Given
+pub mod Grammars
 pub mod ReadByClap
 pub mod Reading
 pub mod Rows

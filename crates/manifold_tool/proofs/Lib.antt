@@ -1,4 +1,3 @@
 pub mod Counting
 pub mod Running
-pub mod Stages
 pub mod WritesBack

@@ -13,7 +13,8 @@ use Rattle.play_laws.proofs.ReadingBack.{copy_keeps, inside_keeps, mesh_given}
 use Rattle.operation_laws.specs.Laws.{OperationsAreReadable}
 use Rattle.program_terms.specs.Commands.{command_task}
 use Rattle.script_laws.proofs.ReadingBack.{script_keeps}
-use Rattle.manifold_tool.specs.Playing.{meanings, windings}
+use Rattle.mesh_commands.specs.Windings.{windings}
+use Rattle.manifold_tool.specs.Playing.{meanings}
 
 -- ---- the digits of words are at most 6
 

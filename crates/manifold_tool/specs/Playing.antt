@@ -3,27 +3,18 @@ use Rattle.std.specs.Prelude.{◌≡◌, ℕ, List, IsTrue, Result, Ok}
 use Rattle.mesh_terms.specs.Limits.{Limits}
 use Rattle.run_terms.specs.Files.{Bytes}
 use Rattle.run_terms.specs.Meets.{Why, Seen, Meets}
-use Rattle.play_terms.specs.Commands as commands
-use Rattle.play_terms.specs.Ends.{RiseWith, ended_line, ended_status}
+use Rattle.play_terms.specs.Ends.{RiseWith}
 use Rattle.mb_outside.specs.Seen.{OnOutput, on_output, seen_of}
 use Rattle.mb_outside.specs.declared.shelf.Shelf.{Ghosts as OfShelf}
 use Rattle.mb_outside.specs.declared.sink.Sink.{Ghosts as OfSink}
-use Rattle.report_lines.specs.Reports.{IsReported}
+use Rattle.mesh_commands.specs.Endings.{TellsAs}
+use Rattle.mesh_commands.specs.Windings.{windings}
 use Rattle.program_terms.specs.Commands.{Meanings, play}
 use Rattle.script_runs.specs.Operations as operations
-use Rattle.winding.specs.Windings.{winding_at}
 
--- the winding number is that under the kernels of the grid and rounding to the nearest
-abbrev pub windings : commands.Meanings
-windings = record { winding = λ point soup. winding_at point (record { points = soup.points; triples = soup.triples }) }
-
--- and an operation is that under the same
+-- the winding number and an operation are those under the kernels of the grid and rounding to the nearest
 abbrev pub meanings : Meanings
 meanings = record { points = windings; scripts = operations.meanings }
-
--- the status is that of this end, and its line was told on standard error
-abbrev pub TellsAs : Result (Unit {0}) Why → ℕ → OnOutput → OnOutput → Type 0
-TellsAs ended status before now = (status ≡ ended_status ended) × IsReported (ended_line ended) before now
 
 -- the run met the task of the words in some end, whose status it has and whose line it told on standard error
 abbrev pub MeetsPlay : Limits → List Bytes → Seen → Seen → ℕ → OnOutput → OnOutput → Type 0

@@ -14,23 +14,20 @@ ghost use Rattle.mb_outside.specs.Seen.{on_output};
 ghost use Rattle.mesh_files.specs.Stops.{why_of};
 ghost use Rattle.report_lines.specs.Reports.{IsReported};
 ghost use Rattle.manifold_tool.specs.Playing.{TellsEnd};
-ghost use Rattle.manifold_tool.specs.Statuses.{IsUsageOrStarved, status_number};
+ghost use Rattle.mesh_commands.specs.Statuses.{IsUsageOrStarved, status_number};
 
 mod back;
-mod copy;
-mod inside;
 mod run;
 mod start;
-mod status;
 #[cfg(test)]
 mod tests;
 
 use mb_base::ArgList;
 use mb_outside::{FolderShelf, Sink, StdSink};
+pub use mesh_commands::Status;
 pub use mesh_files::{Read, Stop, read_mesh, save_mesh};
 pub use run::run;
 use start::start;
-pub use status::Status;
 use std::alloc::Global;
 use std::io::{self, ErrorKind};
 use std::marker::Brand;

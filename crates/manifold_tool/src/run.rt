@@ -1,47 +1,27 @@
 // The top call.
 ghost use Rattle.std.specs.Prelude.{◌≡◌, ◌≤◌, ◌<◌, ◌+◌, ◌^◌, ◌-◌, All, IsTrue, None};
-ghost use Rattle.play_terms.specs.Ends.{ended_line, ended_status};
 ghost use Rattle.play_terms.specs.Lines.{usage};
 ghost use Rattle.play_terms.specs.ReadingBack.{CopiesReadable, WritesReadable, digits_in};
 ghost use Rattle.play_terms.specs.Words.{IsCopy, IsInside, IsRun, command};
 ghost use Rattle.program_terms.specs.Commands.{play};
 ghost use Rattle.run_terms.specs.Files.{Bytes, Files};
 ghost use Rattle.mb_outside.specs.Seen.{on_output};
-ghost use Rattle.report_lines.specs.Halts.{halted};
 ghost use Rattle.report_lines.specs.Reports.{IsReported};
 ghost use Rattle.manifold_tool.specs.Counting.{play_cost};
 ghost use Rattle.manifold_tool.specs.Playing.{IsUntroubled, RiseOn, RunMeets, meanings};
-ghost use Rattle.manifold_tool.specs.Statuses.{IsDoneOrStarved, IsUsageOrStarved, status_number};
+ghost use Rattle.mesh_commands.specs.Statuses.{IsDoneOrStarved, IsUsageOrStarved, status_number};
 
 use crate::back::plays_are_readable;
-use crate::copy::copy;
-use crate::inside::inside;
-use crate::status::{Status, status_of};
 use command_words::{Command, read_command};
 use mb_base::{ArgList, Limits, NoMemory};
 use mb_outside::{Shelf, Sink};
+use mesh_commands::{Status, concluded, copy, inside};
 use mesh_files::Stop;
-use report_lines::{Halt, tell_halt, tell_stop};
+use report_lines::tell_stop;
 use script_runs::run_script;
 use std::alloc::Global;
 use std::sync::ledger::Ledger;
 use steps::Steps;
-
-// The status of a command that ended well or stopped, with the line on `err` that tells a stop.
-fn concluded<E: Sink>(ended: Result<(), Halt<'_>>, err: &mut E) -> Status
-    requires { E.faults err.old < 2 ^ 64 - 1 }
-    ensures status { status_number result ≡ ended_status (halted ended.entry) }
-    ensures report { IsReported (ended_line (halted ended.entry)) (on_output E.Sink err.old) (on_output E.Sink err.new) }
-    ensures quiet { result ≡ Status.Done → err.new ≡ err.old }
-{
-    match ended {
-        Ok(()) => Status::Done,
-        Err(halt) => {
-            tell_halt(&halt, err);
-            status_of(&halt)
-        }
-    }
-}
 
 /// Runs the program on the words after its name.
 ///

@@ -11,12 +11,12 @@ ghost use Rattle.mesh_files.specs.Stops.{why_of};
 ghost use Rattle.report_lines.specs.Reports.{IsReported};
 ghost use Rattle.manifold_tool.specs.Counting.{play_cost};
 ghost use Rattle.manifold_tool.specs.Playing.{IsUntroubled, ProgramMeets, RiseOn, meanings, program_limits};
-ghost use Rattle.manifold_tool.specs.Statuses.{IsDoneOrStarved, IsUsageOrStarved, status_number};
+ghost use Rattle.mesh_commands.specs.Statuses.{IsDoneOrStarved, IsUsageOrStarved, status_number};
 
 use crate::run::run;
-use crate::status::{Status, status_at};
 use mb_base::{ArgList, Limits};
 use mb_outside::{Shelf, Sink};
+use mesh_commands::{Status, status_at};
 use mesh_files::Stop;
 use report_lines::tell_stop;
 use std::alloc::Global;

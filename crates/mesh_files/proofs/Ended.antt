@@ -5,7 +5,7 @@ use Rattle.mesh_terms.specs.Meshes.{Triple}
 use Rattle.run_terms.specs.Files.{Bytes, Files, Grew, put}
 use Rattle.run_terms.specs.Runs.{World, Write, Partial}
 use Rattle.run_terms.specs.Tasks.{Refusal, give}
-use Rattle.run_terms.specs.Meets.{Why, Unread, Unwritten, Starved, Seen, Meets}
+use Rattle.run_terms.specs.Meets.{Why, Refused, Unread, Unwritten, Starved, Seen, Meets}
 use Rattle.play_terms.specs.Commands.{ask_file, ask_mesh, bytes_in, checked, write_mesh}
 use Rattle.play_terms.specs.Formats.{mesh_soup, mesh_text}
 use Rattle.mb_outside.specs.Seen.{OnShelf, ShelfMeets, seen}
@@ -31,6 +31,18 @@ unread limits name before now tells files write rose told outs =
       tells = tells;
       faults = (rose, write, refl);
       does = λ t. record { whole = []; later = []; split = refl; part = ap (λ f. world_of f told) files };
+    }
+
+-- the file was refused
+pub refused : (limits : Limits) (name : Bytes) (why : Refusal) (before now : OnShelf)
+    → now.tells ≡ before.tells → now.files ≡ before.files → now.read ≡ before.read → now.short ≡ before.short → now.write ≡ before.write
+    → (IsTrue before.tells → bytes_in limits name (before.files name) ≡ Err why)
+    → ShelfMeets (ask_file limits name) before now (Err (Refused why))
+refused limits name why before now tells files read short write is told outs =
+    record {
+      tells = tells;
+      faults = rw (read, short, write) refl;
+      does = λ t. record { gives = is t; all_done = ap (λ f. world_of f told) files };
     }
 
 -- memory ran out

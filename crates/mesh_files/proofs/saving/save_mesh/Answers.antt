@@ -31,3 +31,14 @@ returns-clause-meets g c =
     let e = c.in-Ok-append_text.ensures in
     written_whole c.args.digits c.args.name.now c.args.mesh.now.points c.args.mesh.now.triples _ _ (e.told ∙ begun.told) (e.reads ∙ begun.reads) (e.short ∙ begun.short) (e.writes.ok refl ∙ begun.writes.ok refl)
     (λ told. let mid = subst P (sym begun.told) told in written_after c.args.name.now _ _ _ _ (e.text mid) (begun.others told) (e.others mid))
+
+pub append_text-requires : goal.append_text-requires
+append_text-requires g c =
+    let P : Bool → Type 0 = λ b. IsTrue b in
+    record { digits = c.requires; empty = λ told. c.in-Ok.ensures.empty (subst P c.in-Ok.ensures.told told) }
+
+pub returns-in_default-clause-sure : goal.returns-in_default-clause-sure
+returns-in_default-clause-sure g c has = c.in_default.ensures.sure has.0 has.1
+
+pub returns-in_default-append_text-clause-sure : goal.returns-in_default-append_text-clause-sure
+returns-in_default-append_text-clause-sure g c has = c.in_default-append_text.ensures.sure (has.0, c.in-Ok.ensures.spare ∙ has.1, has.2)

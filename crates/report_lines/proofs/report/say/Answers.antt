@@ -1,6 +1,6 @@
 use Rattle.std.proofs.Common.{◌++◌}
-use Rattle.std.proofs.lemmas.Result.{err_from_is_err_and, on_err_weaker}
-use Rattle.mb_outside.proofs.Adds.{part_after, part_longer}
+use Rattle.std.proofs.lemmas.Result.{err_from_is_err_and, on_err_weaker, on_ok_weaker}
+use Rattle.mb_outside.proofs.Adds.{added_twice, part_after, part_longer}
 use Rattle.report_lines.proofs.report.say.Goals as goal
 
 pub returns-in_err-write_all-clause-part : goal.returns-in_err-write_all-clause-part
@@ -21,3 +21,11 @@ returns-clause-part g c =
     on_err_weaker c.write_all-3.result
     (λ part. part_after _ _ _ c.args.head.now (name ++ tail) c.in_ok-write_all.ensures.added (part_after _ _ _ name tail c.in_ok-write_all-2.ensures.added part))
     c.write_all-3.ensures.part
+
+pub returns-clause-added : goal.returns-clause-added
+returns-clause-added g c =
+    let name = c.args.name.now in
+    let tail = c.args.tail.now in
+    on_ok_weaker c.write_all-3.result
+    (λ added. added_twice _ _ _ c.args.head.now (name ++ tail) c.in_ok-write_all.ensures.added (added_twice _ _ _ name tail c.in_ok-write_all-2.ensures.added added))
+    c.write_all-3.ensures.added
