@@ -6,4 +6,5 @@ pub mod Paired
 pub mod Products
 pub mod Spreading
 pub mod Spreads
+pub mod Ties
 pub mod Zips

@@ -1,12 +1,10 @@
 -- Vertices sorted by their keys.
-use Rattle.std.proofs.Common.{is_lt, ◌≡◌, ◌+◌, ◌<◌, ℕ, ℤ, true, false, List, length, map, get_or, refl, sym, ap, ◌∙◌, subst, arith}
+use Rattle.std.proofs.Common.{is_lt, ◌≡◌, ◌+◌, ◌<◌, ℕ, ℤ, true, List, length, map, get_or, refl, sym, ap, ◌∙◌, subst, arith}
 use Rattle.std.specs.Cmp.{IsTotalOrder, IsStrictWeakOrder}
 use Rattle.std.specs.List.{All}
 use Rattle.std.specs.List.Sorted.{IsPermutation, IsSorted, IsSortedBy}
-use Rattle.std.specs.Ordering.{int_cmp, nat_cmp, ordering_then, ordering_reverse}
+use Rattle.std.specs.Ordering.{int_cmp, nat_cmp, ordering_then}
 use Rattle.std.specs.declared.cmp.Ordering.{Ordering}
-use Rattle.std.specs.declared.cmp.Ordering.TheVariants.{Less, Equal, Greater}
-use Rattle.std.proofs.lemmas.Bool.Decides.{nat_tests}
 use Rattle.std.proofs.lemmas.Cmp.{then_total, on_total, nat_cmp_total, int_cmp_total}
 use Rattle.std.proofs.lemmas.List.{get_or-map, length-map, map-id}
 use Rattle.std.proofs.lemmas.List.Elements.{All-map}
@@ -18,6 +16,7 @@ use Rattle.chain_laws.proofs.Sorting.{tie, tie-parts, sort_is, sorted_by-permuta
 use Rattle.edge_pairing.specs.Keys.{keyed_by}
 use Rattle.edge_pairing.specs.Pairing.{comes_before}
 use Rattle.edge_pairing.specs.declared.pairs.Keyed.{Keyed}
+use Rattle.edge_pairing.proofs.Ties.{equal_both, second_equal, same_number}
 
 -- how two vertices compare
 abbrev by_key : (ℕ → ℤ) → ℕ → ℕ → Ordering
@@ -33,23 +32,6 @@ key_total key = then_total (on_total key int_cmp_total) nat_cmp_total
 -- the order of vertices is one
 key_order : (key : ℕ → ℤ) → IsStrictWeakOrder (comes_before key)
 key_order key = ranks_by (key_total key) (λ v. v)
-
--- where neither is less, they are equal
-equal_both : (o p : Ordering) → o ≡ ordering_reverse p → is_lt o ≡ false → is_lt p ≡ false → o ≡ Equal
-equal_both Less p e h k = absurd (cc)
-equal_both Equal p e h k = refl
-equal_both Greater Less e h k = absurd (cc)
-equal_both Greater Equal e h k = e
-equal_both Greater Greater e h k = absurd (cc)
-
--- the second of two comparisons
-second_equal : (o p : Ordering) → ordering_then o p ≡ Equal → p ≡ Equal
-second_equal Less p e = absurd (cc)
-second_equal Equal p e = e
-second_equal Greater p e = absurd (cc)
-
-same_number : (v w : ℕ) → nat_cmp v w ≡ Equal → v ≡ w
-same_number v w e = grind (arith, nat_tests, e)
 
 -- vertices that tie are one
 tied : (key : ℕ → ℤ) (v w : ℕ) → tie (comes_before key) v w ≡ true → v ≡ w

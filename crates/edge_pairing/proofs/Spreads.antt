@@ -9,14 +9,18 @@ use Rattle.std.proofs.lemmas.List.Sorted.{Contains-permutation, IsPermutation-ma
 use Rattle.mesh_terms.specs.Points.{coordinate_of}
 use Rattle.edge_pairing.specs.Pairing.{spread, spread_on, spread_axis}
 
+-- an order of numbers
+record Orders (R : ℤ → ℤ → Type 0) : Type 0 where
+  itself : (x : ℤ) → R x x
+  through : (x y z : ℤ) → R x y → R y z → R x z
+  both : (x y : ℤ) → R x y → R y x → x ≡ y
+
 -- a choice of one of two numbers by an order
 record Chooses (pick : ℤ → ℤ → ℤ) (R : ℤ → ℤ → Type 0) : Type 0 where
   one : (x y : ℤ) → (pick x y ≡ x) ⊎ (pick x y ≡ y)
   left : (x y : ℤ) → R (pick x y) x
   right : (x y : ℤ) → R (pick x y) y
-  itself : (x : ℤ) → R x x
-  through : (x y z : ℤ) → R x y → R y z → R x z
-  both : (x y : ℤ) → R x y → R y x → x ≡ y
+  order : Orders R
 
 -- a member that stands so to all
 record IsBest (R : ℤ → ℤ → Type 0) (xs : List ℤ) (m : ℤ) : Type 0 where
@@ -31,15 +35,15 @@ still_inside pick a x m xs one (suc k, l, same) = (suc (suc k), omega (arith, l)
 
 -- what is chosen of a number and a list is the best of them
 best_of : (pick : ℤ → ℤ → ℤ) (R : ℤ → ℤ → Type 0) → Chooses pick R → (a : ℤ) (xs : List ℤ) → IsBest R (a ∷ xs) (fold pick a xs)
-best_of pick R by a [] = record { inside = (0, omega arith, refl); best = All-cons (R a) a [] (by.itself a) (All-nil (R a)) }
+best_of pick R by a [] = record { inside = (0, omega arith, refl); best = All-cons (R a) a [] (by.order.itself a) (All-nil (R a)) }
 best_of pick R by a (x ∷ xs) =
     let m = fold pick (pick a x) xs in
     let t = best_of pick R by (pick a x) xs in
     let top : R m (pick a x) = All-head (R m) (pick a x) xs t.best in
     record {
       inside = still_inside pick a x m xs (by.one a x) t.inside;
-      best = All-cons (R m) a (x ∷ xs) (by.through m (pick a x) a top (by.left a x))
-          (All-cons (R m) x xs (by.through m (pick a x) x top (by.right a x)) (All-tail (R m) (pick a x) xs t.best));
+      best = All-cons (R m) a (x ∷ xs) (by.order.through m (pick a x) a top (by.left a x))
+          (All-cons (R m) x xs (by.order.through m (pick a x) x top (by.right a x)) (All-tail (R m) (pick a x) xs t.best));
     }
 
 -- so it is the same in every order
@@ -49,9 +53,21 @@ best_same pick R by x y xs ys moved =
     let n = fold pick y ys in
     let one = best_of pick R by x xs in
     let other = best_of pick R by y ys in
-    by.both m n
+    by.order.both m n
     (All-contains (R m) (x ∷ xs) n one.best (Contains-permutation (y ∷ ys) (x ∷ xs) n (IsPermutation-sym (x ∷ xs) (y ∷ ys) moved) other.inside))
     (All-contains (R n) (y ∷ ys) m other.best (Contains-permutation (x ∷ xs) (y ∷ ys) m moved one.inside))
+
+-- numbers from the lesser to the greater
+upward : Orders (λ m x. m ≤ℤ x)
+upward = record {
+  itself = λ x. omega (arith, ints);
+  through = λ x y z h k. omega (arith, ints, h, k);
+  both = λ x y h k. omega (arith, ints, h, k);
+}
+
+-- an order from its other end
+reversed : (R : ℤ → ℤ → Type 0) → Orders R → Orders (λ x y. R y x)
+reversed R up = record { itself = up.itself; through = λ x y z h k. up.through z y x k h; both = λ x y h k. up.both x y k h }
 
 -- the greater of two
 max_chooses : Chooses int_max (λ m x. x ≤ℤ m)
@@ -59,21 +75,12 @@ max_chooses = record {
   one = λ x y. grind (arith, ints, clamps);
   left = λ x y. omega (arith, ints, clamps);
   right = λ x y. omega (arith, ints, clamps);
-  itself = λ x. omega (arith, ints);
-  through = λ x y z h k. omega (arith, ints, h, k);
-  both = λ x y h k. omega (arith, ints, h, k);
+  order = reversed (λ m x. m ≤ℤ x) upward;
 }
 
 -- and the lesser
 min_chooses : Chooses int_min (λ m x. m ≤ℤ x)
-min_chooses = record {
-  one = λ x y. grind (arith, ints, clamps);
-  left = λ x y. omega (arith, ints, clamps);
-  right = λ x y. omega (arith, ints, clamps);
-  itself = λ x. omega (arith, ints);
-  through = λ x y z h k. omega (arith, ints, h, k);
-  both = λ x y h k. omega (arith, ints, h, k);
-}
+min_chooses = record { one = λ x y. grind (arith, ints, clamps); left = λ x y. omega (arith, ints, clamps); right = λ x y. omega (arith, ints, clamps); order = upward }
 
 -- the spread of a list in another order
 pub spread-permutation : (xs ys : List ℤ) → IsPermutation xs ys → spread xs ≡ spread ys

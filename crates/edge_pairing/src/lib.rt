@@ -17,7 +17,7 @@ mod tests;
 
 use direction::{axis_direction, direction};
 use mb_base::{Entry, NoMemory, Point, Segment};
-use pairs::{in_turn, only_segment};
+use pairs::in_turn;
 use smallvec::SmallVec;
 use spread::widest_axis;
 use std::alloc::Global;
@@ -42,9 +42,6 @@ pub fn segments_of_edge(
     ensures ends { IfOk result (λ s. IsPermutation (ends_of entries.now) (map (λ x. x.to) s.items)) }
     ensures two { length entries.now ≡ 2 → IsOk result }
 {
-    if entries.len() == 2 {
-        return Ok(only_segment(alloc, entries));
-    }
     in_turn(alloc, &direction(a, b), entries, points)
 }
 
@@ -67,9 +64,6 @@ pub fn segments_of_pair(
     ensures ends { IfOk result (λ s. IsPermutation (ends_of entries.now) (map (λ x. x.to) s.items)) }
     ensures two { length entries.now ≡ 2 → IsOk result }
 {
-    if entries.len() == 2 {
-        return Ok(only_segment(alloc, entries));
-    }
     in_turn(
         alloc,
         &axis_direction(widest_axis(entries, points)),

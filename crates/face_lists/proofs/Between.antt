@@ -14,23 +14,29 @@ between false u d = pos d -ℤ pos u
 abbrev pub IsEither : (c start : Bool) → (a x y : ℕ) → Type 0
 IsEither c start a x y = ((a ≡ x) × (start ≡ c)) ⊎ ((a ≡ y) × (start ≡ not c))
 
+-- what stands so is the one, and what stands the other way is the other
+no_first : (c : Bool) (u d : ℕ) → u ≡ 0 → StandsAs c (between c u d) → ⊥
+no_first true u d none h = omega (arith, ints, h, none)
+no_first false u d none h = omega (arith, ints, h, none)
+
+no_second : (c : Bool) (u d : ℕ) → d ≡ 0 → StandsAs (not c) (between c u d) → ⊥
+no_second true u d none h = omega (arith, ints, h, none)
+no_second false u d none h = omega (arith, ints, h, none)
+
+is_first : (c : Bool) (a x y : ℕ) → StandsAs c (between c (same a x) (same a y)) → a ≡ x
+is_first c a x y h = elim (cases_eq a x) as (λ _. a ≡ x) [
+  | inl e ↦ e
+  | inr n ↦ absurd (no_first c (same a x) (same a y) (same_no a x n) h)
+]
+
+is_second : (c : Bool) (a x y : ℕ) → StandsAs (not c) (between c (same a x) (same a y)) → a ≡ y
+is_second c a x y h = elim (cases_eq a y) as (λ _. a ≡ y) [ inl e ↦ e | inr n ↦ absurd (no_second c (same a x) (same a y) (same_no a y n) h) ]
+
 pub which : (c start : Bool) (a x y : ℕ) → StandsAs start (between c (same a x) (same a y)) → IsEither c start a x y
-which true true a x y h = elim (cases_eq a x) as (λ _. IsEither true true a x y) [
-  | inl e ↦ inl (e, refl)
-  | inr n ↦ absurd (omega (arith, ints, h, same_no a x n))
-]
-which true false a x y h = elim (cases_eq a y) as (λ _. IsEither true false a x y) [
-  | inl e ↦ inr (e, refl)
-  | inr n ↦ absurd (omega (arith, ints, h, same_no a y n))
-]
-which false true a x y h = elim (cases_eq a y) as (λ _. IsEither false true a x y) [
-  | inl e ↦ inr (e, refl)
-  | inr n ↦ absurd (omega (arith, ints, h, same_no a y n))
-]
-which false false a x y h = elim (cases_eq a x) as (λ _. IsEither false false a x y) [
-  | inl e ↦ inl (e, refl)
-  | inr n ↦ absurd (omega (arith, ints, h, same_no a x n))
-]
+which true true a x y h = inl (is_first true a x y h, refl)
+which true false a x y h = inr (is_second true a x y h, refl)
+which false true a x y h = inr (is_second false a x y h, refl)
+which false false a x y h = inl (is_first false a x y h, refl)
 
 -- each of the two stands so
 first_stands : (c : Bool) (x y : ℕ) → (x ≡ y → ⊥) → StandsAs c (between c (same x x) (same x y))

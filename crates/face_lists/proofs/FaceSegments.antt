@@ -6,65 +6,55 @@ use Rattle.std.proofs.lemmas.List.Folds.{flat_map-map}
 use Rattle.chain_terms.specs.Chains.{all_edges}
 use Rattle.chain_terms.specs.Sums.{upto}
 use Rattle.mb_base.specs.declared.results.Entry.{Entry}
-use Rattle.mb_base.specs.declared.results.Origin.{Origin}
-use Rattle.side_terms.specs.Sides.{Side}
 use Rattle.halfedge.proofs.Edges.{length-all_edges}
-use Rattle.assembly_terms.specs.Lists.{Copy, ListName, ends, no_copy, standing, starts}
+use Rattle.assembly_terms.specs.Lists.{ListName, ends, no_copy, standing, starts}
 use Rattle.edge_pairing.specs.Entries.{ends_of, starts_of}
 use Rattle.edge_pairing.specs.Pairing.{paired_across}
 use Rattle.segment_terms.specs.Segments.{paired_on_edge, place_of, segments_in, segments_of}
-use Rattle.face_lists.specs.declared.runs.Run.{Run}
 use Rattle.face_lists.specs.declared.stands.Stand.{Stand}
 use Rattle.face_lists.specs.Entries.{entry_of}
 use Rattle.face_lists.specs.Parts.{after, half_entries, half_part, half_segments, pair_segments, pairs_segments, segments_by}
 use Rattle.face_lists.proofs.FaceRecords.{AreRecords}
 use Rattle.face_lists.proofs.ListGroups.{of_list}
-use Rattle.face_lists.proofs.HalfLists.{HaveRuns, KnownHalf, half_tells, runs_between}
+use Rattle.face_lists.proofs.HalfLists.{KnownHalf, KnownSide, half_tells, runs_between}
 use Rattle.face_lists.proofs.ListKinds.{IsFace}
 use Rattle.face_lists.proofs.PairLists.{pair_tells}
 use Rattle.face_lists.proofs.Parts.{flat-nonempty, pairs_are, part_is}
 use Rattle.face_lists.proofs.Told.{Tell, told}
 
--- what is known of a face: its lists, the runs of its side, and its records
+-- what is known of a face: its lists, the copies and the runs of its side, and its records
 pub record KnownFace : Type 0 where
-  pub p : Side
-  pub q : Side
-  pub side : Side
-  pub origin : ℕ → Origin
-  pub copies : List Copy
-  pub later : ℕ
-  pub runs : List Run
+  pub of : KnownSide
   pub source : ℕ
   pub number : ℕ
   pub others : ℕ
   pub name : ℕ → ListName
   pub stands : List Stand
-  pub face : IsFace p q side origin source number others name
-  pub have : HaveRuns copies later side origin runs
-  pub records : AreRecords (all_edges p.triples) (all_edges q.triples) copies later name stands
+  pub face : IsFace of.p of.q of.side of.origin source number others name
+  pub records : AreRecords (all_edges of.p.triples) (all_edges of.q.triples) of.copies of.later name stands
   pub few : All (λ s. s.list < 3 + others) stands
 
 -- where its copies lie
 abbrev pub points_of : KnownFace → List (List ℤ)
-points_of k = map (λ c. c.point) k.copies
+points_of k = map (λ c. c.point) k.of.copies
 
 -- how each copy stands in a list
 abbrev pub number_in : KnownFace → ListName → ℕ → ℤ
-number_in k name v = standing (all_edges k.p.triples) (all_edges k.q.triples) name (get_or k.copies v no_copy)
+number_in k name v = standing (all_edges k.of.p.triples) (all_edges k.of.q.triples) name (get_or k.of.copies v no_copy)
 
 -- the starts and the ends of a list, and its segments
 abbrev starts_in : KnownFace → ListName → List ℕ
-starts_in k name = starts (all_edges k.p.triples) (all_edges k.q.triples) k.copies name
+starts_in k name = starts (all_edges k.of.p.triples) (all_edges k.of.q.triples) k.of.copies name
 
 abbrev ends_in : KnownFace → ListName → List ℕ
-ends_in k name = ends (all_edges k.p.triples) (all_edges k.q.triples) k.copies name
+ends_in k name = ends (all_edges k.of.p.triples) (all_edges k.of.q.triples) k.of.copies name
 
 abbrev segments : KnownFace → ListName → List (ℕ × ℕ)
-segments k name = segments_in k.p k.q k.copies (place_of k.copies) name
+segments k name = segments_in k.of.p k.of.q k.of.copies (place_of k.of.copies) name
 
 -- the entries of a half-edge, and of a pair
 abbrev pub half_list : KnownFace → ℕ → List Entry
-half_list k l = half_entries k.side k.runs (3 * k.number + l) (half_part l k.stands)
+half_list k l = half_entries k.of.side k.of.runs (3 * k.number + l) (half_part l k.stands)
 
 abbrev pub pair_records : KnownFace → ℕ → List Stand
 pair_records k j = of_list (3 + j) k.stands
@@ -73,55 +63,48 @@ abbrev pub pair_list : KnownFace → ℕ → List Entry
 pair_list k j = map entry_of (pair_records k j)
 
 -- both tell their lists
-pub half_told : (k : KnownFace) (l : ℕ) → l < 3 → Tell (length k.copies) (number_in k (k.name l)) (half_list k l)
+pub half_told : (k : KnownFace) (l : ℕ) → l < 3 → Tell (length k.of.copies) (number_in k (k.name l)) (half_list k l)
 half_told k l low =
     let h = 3 * k.number + l in
-    let inside : h < length (all_edges k.side.triples) = omega (arith, low, k.face.below, length-all_edges k.side.triples) in
+    let inside : h < length (all_edges k.of.side.triples) = omega (arith, low, k.face.below, length-all_edges k.of.side.triples) in
     let half : KnownHalf = record {
-      p = k.p;
-      q = k.q;
-      side = k.side;
-      origin = k.origin;
-      copies = k.copies;
-      later = k.later;
-      runs = k.runs;
+      of = k.of;
       half = h;
       name = k.name l;
       hits = map entry_of (of_list l k.stands);
-      have = k.have;
-      ends = runs_between k.side k.have.known h inside;
+      ends = runs_between k.of.side k.of.have.known h inside;
       is_half = k.face.halves l low;
       told = k.records.lists l;
     } in
-    subst (λ part. Tell (length k.copies) (number_in k (k.name l)) (half_entries k.side k.runs h part)) (sym (part_is l k.stands low k.records.steps)) (half_tells half)
+    subst (λ part. Tell (length k.of.copies) (number_in k (k.name l)) (half_entries k.of.side k.of.runs h part)) (sym (part_is l k.stands low k.records.steps)) (half_tells half)
 
-pub pair_told : (k : KnownFace) (j : ℕ) → Tell (length k.copies) (number_in k (k.name (3 + j))) (pair_list k j)
-pair_told k j = pair_tells k.p k.q k.copies k.later (k.name (3 + j)) (pair_list k j) (k.face.pairs j) (k.records.lists (3 + j))
+pub pair_told : (k : KnownFace) (j : ℕ) → Tell (length k.of.copies) (number_in k (k.name (3 + j))) (pair_list k j)
+pair_told k j = pair_tells k.of.p k.of.q k.of.copies k.of.later (k.name (3 + j)) (pair_list k j) (k.face.pairs j) (k.records.lists (3 + j))
 
 -- so their starts and ends are those of the lists
-from_told : (k : KnownFace) (name : ListName) (entries : List Entry) → Tell (length k.copies) (number_in k name) entries → starts_of entries ≡ starts_in k name
-from_told k name entries tell = told (length k.copies) (number_in k name) entries true tell
+from_told : (k : KnownFace) (name : ListName) (entries : List Entry) → Tell (length k.of.copies) (number_in k name) entries → starts_of entries ≡ starts_in k name
+from_told k name entries tell = told (length k.of.copies) (number_in k name) entries true tell
 
-to_told : (k : KnownFace) (name : ListName) (entries : List Entry) → Tell (length k.copies) (number_in k name) entries → ends_of entries ≡ ends_in k name
-to_told k name entries tell = told (length k.copies) (number_in k name) entries false tell
+to_told : (k : KnownFace) (name : ListName) (entries : List Entry) → Tell (length k.of.copies) (number_in k name) entries → ends_of entries ≡ ends_in k name
+to_told k name entries tell = told (length k.of.copies) (number_in k name) entries false tell
 
 -- and the segments are the same: of a half-edge
-half_same : (k : KnownFace) (l : ℕ) → l < 3 → half_segments k.side k.runs (points_of k) (3 * k.number + l) (half_part l k.stands) ≡ segments k (k.name l)
+half_same : (k : KnownFace) (l : ℕ) → l < 3 → half_segments k.of.side k.of.runs (points_of k) (3 * k.number + l) (half_part l k.stands) ≡ segments k (k.name l)
 half_same k l low =
     let name = k.name l in
     let tell = half_told k l low in
-    let along : List ℕ → List ℕ → List (ℕ × ℕ) = paired_on_edge k.side (3 * k.number + l) (place_of k.copies) in
+    let along : List ℕ → List ℕ → List (ℕ × ℕ) = paired_on_edge k.of.side (3 * k.number + l) (place_of k.of.copies) in
     ap (λ s. along s (ends_of (half_list k l))) (from_told k name (half_list k l) tell) ∙ ap (along (starts_in k name)) (to_told k name (half_list k l) tell)
-    ∙ sym ((k.face.halves l low).paired (place_of k.copies) (starts_in k name) (ends_in k name))
+    ∙ sym ((k.face.halves l low).paired (place_of k.of.copies) (starts_in k name) (ends_in k name))
 
 -- of a pair
 pair_same : (k : KnownFace) (j : ℕ) → pair_segments (points_of k) (pair_records k j) ≡ segments k (k.name (3 + j))
 pair_same k j =
     let name = k.name (3 + j) in
     let tell = pair_told k j in
-    let across : List ℕ → List ℕ → List (ℕ × ℕ) = paired_across (place_of k.copies) in
+    let across : List ℕ → List ℕ → List (ℕ × ℕ) = paired_across (place_of k.of.copies) in
     ap (λ s. across s (ends_of (pair_list k j))) (from_told k name (pair_list k j) tell) ∙ ap (across (starts_in k name)) (to_told k name (pair_list k j) tell)
-    ∙ sym ((k.face.pairs j).paired (place_of k.copies) (starts_in k name) (ends_in k name))
+    ∙ sym ((k.face.pairs j).paired (place_of k.of.copies) (starts_in k name) (ends_in k name))
 
 -- lists that are the same one by one
 flat_map-same : {X Y : Type 0} (g h : X → List Y) → ((x : X) → g x ≡ h x) → (xs : List X) → flat_map g xs ≡ flat_map h xs
@@ -141,11 +124,11 @@ four_lists : {Y : Type 0} (a b c d : List Y) → (a ++ (b ++ (c ++ []))) ++ d �
 four_lists a b c d = ap (λ l. (a ++ (b ++ l)) ++ d) (append-nil c) ∙ append_assoc a (b ++ c) d ∙ ap (λ l. a ++ l) (append_assoc b c d)
 
 -- of the face
-pub face_same : (k : KnownFace) → segments_by k.side k.runs (points_of k) k.number k.stands ≡ segments_of k.p k.q k.copies (place_of k.copies) k.source
+pub face_same : (k : KnownFace) → segments_by k.of.side k.of.runs (points_of k) k.number k.stands ≡ segments_of k.of.p k.of.q k.of.copies (place_of k.of.copies) k.source
 face_same k =
     let of = segments k in
     let pairs = map (λ j. k.name (3 + j)) (upto k.others) in
-    let half : ℕ → ℕ → List (ℕ × ℕ) = λ h l. half_segments k.side k.runs (points_of k) h (half_part l k.stands) in
+    let half : ℕ → ℕ → List (ℕ × ℕ) = λ h l. half_segments k.of.side k.of.runs (points_of k) h (half_part l k.stands) in
     let zeroth : 3 * k.number ≡ 3 * k.number + 0 = omega arith in
     let first : half (3 * k.number) 0 ≡ of (k.name 0) = ap (λ h. half h 0) zeroth ∙ half_same k 0 (omega arith) in
     let second = half_same k 1 (omega arith) in

@@ -3,6 +3,7 @@ use Rattle.std.proofs.Common.{◌≡◌, ℕ, ◌+◌, ◌<◌, ◌==◌, List, 
 use Rattle.std.specs.List.{All}
 use Rattle.std.proofs.lemmas.Bool.{eqb-true}
 use Rattle.std.proofs.lemmas.List.Elements.{All-filter, filter_passes}
+use Rattle.chain_terms.specs.Chains.{all_edges}
 use Rattle.mb_base.specs.declared.results.Origin.TheVariants.{PVertex, QVertex}
 use Rattle.side_terms.specs.Sides.{Side}
 use Rattle.assembly_terms.specs.Lists.{Copy, IsListOf}
@@ -13,9 +14,10 @@ use Rattle.face_lists.specs.declared.stands.Stand.{Stand}
 use Rattle.face_lists.specs.Agreement.{HaveLists, list_name, records_of}
 use Rattle.face_lists.specs.Parts.{CanBeSegments, segments_by}
 use Rattle.face_lists.proofs.CanPair.{face_can}
-use Rattle.face_lists.proofs.FaceRecords.{face_records}
+use Rattle.face_lists.proofs.FaceRecords.{AreRecords, face_records}
 use Rattle.face_lists.proofs.FaceSegments.{KnownFace, face_same}
-use Rattle.face_lists.proofs.ListKinds.{face_of_p, face_of_q}
+use Rattle.face_lists.proofs.HalfLists.{HaveRuns, KnownSide}
+use Rattle.face_lists.proofs.ListKinds.{IsFace, face_of_p, face_of_q}
 use Rattle.face_lists.proofs.SideLists.{AreListed}
 
 -- the lists of a face's records are its own
@@ -27,51 +29,34 @@ own_lists p q stands listed x i d l =
     let here : s.face ≡ x = eqb-true s.face x (filter_passes (λ (t : Stand). t.face == x) stands i d l) in
     subst Known here (All-filter (λ (t : Stand). t.face == x) (λ t. IsListOf (length p.triples) (length q.triples) (list_name (length p.triples) t.face t.list)) stands listed i d l)
 
--- what is known of a face of P, and of a face of Q
+-- what is known of a face of a side
+abbrev known_of : (of : KnownSide) (stands : List Stand) → AreListed of.p of.q stands → (x f others : ℕ) → IsFace of.p of.q of.side of.origin x f others (list_name (length of.p.triples) x) →
+    AreRecords (all_edges of.p.triples) (all_edges of.q.triples) of.copies of.later (list_name (length of.p.triples) x) (records_of stands x) → KnownFace
+known_of of stands listed x f others face records = record {
+  of = of;
+  source = x;
+  number = f;
+  others = others;
+  name = list_name (length of.p.triples) x;
+  stands = records_of stands x;
+  face = face;
+  records = records;
+  few = λ i d l. face.few (get_or (records_of stands x) i d).list (own_lists of.p of.q stands listed x i d l);
+}
+
+-- of one of P, and of one of Q
 abbrev known_p : (p q : Side) (cs : List Copy) (k : ℕ) (p_runs q_runs : List Run) (stands : List Stand) → HaveLists p q cs k p_runs q_runs stands → AreListed p q stands → (f : ℕ) → f < length p.triples → KnownFace
 known_p p q cs k p_runs q_runs stands lists listed f low =
-    let face = face_of_p p q f low in
-    record {
-      p = p;
-      q = q;
-      side = p;
-      origin = PVertex;
-      copies = cs;
-      later = k;
-      runs = p_runs;
-      source = f;
-      number = f;
-      others = length q.triples;
-      name = list_name (length p.triples) f;
-      stands = records_of stands f;
-      face = face;
-      have = record { known = lists.p_side; copies = lists.p_copies; order = lists.p_order };
-      records = face_records p q cs k p_runs q_runs stands lists f;
-      few = λ i d l. face.few (get_or (records_of stands f) i d).list (own_lists p q stands listed f i d l);
-    }
+    let runs : HaveRuns cs k p PVertex p_runs = record { known = lists.p_side; copies = lists.p_copies; order = lists.p_order } in
+    let of : KnownSide = record { p = p; q = q; side = p; origin = PVertex; copies = cs; later = k; runs = p_runs; have = runs } in
+    known_of of stands listed f f (length q.triples) (face_of_p p q f low) (face_records p q cs k p_runs q_runs stands lists f)
 
 abbrev known_q : (p q : Side) (cs : List Copy) (k : ℕ) (p_runs q_runs : List Run) (stands : List Stand) → HaveLists p q cs k p_runs q_runs stands → AreListed p q stands → (g : ℕ) → g < length q.triples → KnownFace
 known_q p q cs k p_runs q_runs stands lists listed g low =
     let x = length p.triples + g in
-    let face = face_of_q p q g low in
-    record {
-      p = p;
-      q = q;
-      side = q;
-      origin = QVertex;
-      copies = cs;
-      later = k;
-      runs = q_runs;
-      source = x;
-      number = g;
-      others = length p.triples;
-      name = list_name (length p.triples) x;
-      stands = records_of stands x;
-      face = face;
-      have = record { known = lists.q_side; copies = lists.q_copies; order = lists.q_order };
-      records = face_records p q cs k p_runs q_runs stands lists x;
-      few = λ i d l. face.few (get_or (records_of stands x) i d).list (own_lists p q stands listed x i d l);
-    }
+    let runs : HaveRuns cs k q QVertex q_runs = record { known = lists.q_side; copies = lists.q_copies; order = lists.q_order } in
+    let of : KnownSide = record { p = p; q = q; side = q; origin = QVertex; copies = cs; later = k; runs = q_runs; have = runs } in
+    known_of of stands listed x g (length p.triples) (face_of_q p q g low) (face_records p q cs k p_runs q_runs stands lists x)
 
 -- the segments of each
 pub segments_given : (p q : Side) (cs : List Copy) (k : ℕ) (p_runs q_runs : List Run) (stands : List Stand) → HaveLists p q cs k p_runs q_runs stands → AreListed p q stands →

@@ -46,23 +46,19 @@ half_q p q h = record { of_vertex = λ w. refl; kinds = kinds; paired = λ place
     kinds (PEdge e face) = inr (inl tt)
     kinds (QEdge e face) = inr (inl tt)
 
+-- of copies, those of hits alone stand in the list of a pair
+pair_kinds : (p q : Side) (name : ListName) → ((v : ℕ) → incidence (all_edges p.triples) (all_edges q.triples) name (PVertex v) ≡ pos 0) → ((v : ℕ) → incidence (all_edges p.triples) (all_edges q.triples) name (QVertex v) ≡ pos 0) →
+    (o : Origin) → IsHitCopy o ⊎ (incidence (all_edges p.triples) (all_edges q.triples) name o ≡ pos 0)
+pair_kinds p q name of_p of_q (PVertex v) = inr (of_p v)
+pair_kinds p q name of_p of_q (QVertex v) = inr (of_q v)
+pair_kinds p q name of_p of_q (PEdge e face) = inl tt
+pair_kinds p q name of_p of_q (QEdge e face) = inl tt
+
 pair_p : (p q : Side) (f g : ℕ) → IsPair p q (PairP f g)
-pair_p p q f g = record { kinds = kinds; paired = λ place from to. refl }
-  where
-    kinds : (o : Origin) → IsHitCopy o ⊎ (incidence (all_edges p.triples) (all_edges q.triples) (PairP f g) o ≡ pos 0)
-    kinds (PVertex v) = inr refl
-    kinds (QVertex v) = inr refl
-    kinds (PEdge e face) = inl tt
-    kinds (QEdge e face) = inl tt
+pair_p p q f g = record { kinds = pair_kinds p q (PairP f g) (λ v. refl) (λ v. refl); paired = λ place from to. refl }
 
 pair_q : (p q : Side) (g f : ℕ) → IsPair p q (PairQ g f)
-pair_q p q g f = record { kinds = kinds; paired = λ place from to. refl }
-  where
-    kinds : (o : Origin) → IsHitCopy o ⊎ (incidence (all_edges p.triples) (all_edges q.triples) (PairQ g f) o ≡ pos 0)
-    kinds (PVertex v) = inr refl
-    kinds (QVertex v) = inr refl
-    kinds (PEdge e face) = inl tt
-    kinds (QEdge e face) = inl tt
+pair_q p q g f = record { kinds = pair_kinds p q (PairQ g f) (λ v. refl) (λ v. refl); paired = λ place from to. refl }
 
 -- the name of a list by cases of the face and of the number
 abbrev name_of : (m x l : ℕ) (a b : Bool) → ListName

@@ -1,16 +1,16 @@
 -- Records sorted by face, list and copy.
-use Rattle.std.proofs.Common.{is_lt, ◌≡◌, ◌+◌, ℕ, true, false, Bool, List, get_or, refl, ap, ◌∙◌, arith}
+use Rattle.std.proofs.Common.{is_lt, ◌≡◌, ◌+◌, ℕ, true, false, Bool, List, get_or, refl, ap, ◌∙◌}
 use Rattle.std.specs.Cmp.{IsStrictWeakOrder, IsTotalOrder}
 use Rattle.std.specs.List.{Contains}
 use Rattle.std.specs.List.Sorted.{IsPermutation, IsSorted}
-use Rattle.std.specs.Ordering.{bool_cmp, nat_cmp, ordering_reverse, ordering_then}
+use Rattle.std.specs.Ordering.{bool_cmp, nat_cmp, ordering_then}
 use Rattle.std.specs.declared.cmp.Ordering.{Ordering}
 use Rattle.std.specs.declared.cmp.Ordering.TheVariants.{Equal, Greater, Less}
-use Rattle.std.proofs.lemmas.Bool.Decides.{nat_tests}
 use Rattle.std.proofs.lemmas.Cmp.{nat_cmp_total, on_total, then_total}
 use Rattle.std.proofs.lemmas.List.MinMax.{ranks_by}
 use Rattle.chain_laws.specs.Sorting.{sorted_by}
 use Rattle.chain_laws.proofs.Sorting.{sort_is, tie, tie-parts}
+use Rattle.edge_pairing.proofs.Ties.{equal_both, first_equal, same_number, second_equal}
 use Rattle.face_lists.specs.Stands.{stands_before}
 use Rattle.face_lists.specs.declared.stands.Stand.{Stand}
 use Rattle.face_lists.proofs.OneWay.{IsOneWay}
@@ -29,28 +29,6 @@ place_total = then_total (on_total (λ (s : Stand). s.face) nat_cmp_total) (then
 -- the order is one
 pub place_order : IsStrictWeakOrder stands_before
 place_order = ranks_by place_total (λ s. s)
-
--- where neither is less, they are equal
-equal_both : (o p : Ordering) → o ≡ ordering_reverse p → is_lt o ≡ false → is_lt p ≡ false → o ≡ Equal
-equal_both Less p e h k = absurd (cc)
-equal_both Equal p e h k = refl
-equal_both Greater Less e h k = absurd (cc)
-equal_both Greater Equal e h k = e
-equal_both Greater Greater e h k = absurd (cc)
-
--- the two of a comparison by one and then by another
-first_equal : (o p : Ordering) → ordering_then o p ≡ Equal → o ≡ Equal
-first_equal Less p e = absurd (cc)
-first_equal Equal p e = refl
-first_equal Greater p e = absurd (cc)
-
-second_equal : (o p : Ordering) → ordering_then o p ≡ Equal → p ≡ Equal
-second_equal Less p e = absurd (cc)
-second_equal Equal p e = e
-second_equal Greater p e = absurd (cc)
-
-same_number : (v w : ℕ) → nat_cmp v w ≡ Equal → v ≡ w
-same_number v w e = grind (arith, nat_tests, e)
 
 -- what is not less by more comparisons is not less by the first of them
 not_less : (o p q r : Ordering) → is_lt (ordering_then o (ordering_then p (ordering_then q r))) ≡ false → is_lt (ordering_then o (ordering_then p q)) ≡ false

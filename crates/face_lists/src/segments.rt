@@ -2,7 +2,6 @@
 ghost use Rattle.std.specs.Prelude.{◌≡◌, ◌+◌, ◌*◌, ◌<◌, ◌^◌, ◌++◌, IfOk, OnOk, length, map};
 ghost use Rattle.std.specs.List.{All};
 ghost use Rattle.chain_terms.specs.Chains.{all_edges};
-ghost use Rattle.chain_terms.specs.Ranks.{start};
 ghost use Rattle.mesh_terms.specs.Limits.{most_halfedges};
 ghost use Rattle.edge_pairing.specs.Entries.{edge_of};
 ghost use Rattle.face_lists.specs.Entries.{entry_of};
@@ -93,8 +92,8 @@ fn half_entries(
     requires runs { AreRuns side.now most_halfedges runs.now }
     ensures { IfOk result (λ entries. entries.items ≡ half_entries side.now runs.now half stands.now) }
 {
-    let a = vertex_at(side, half);
-    let b = vertex_at(side, side.twins().next(half));
+    let a = side.start(half);
+    let b = side.start(side.twins().next(half));
     let mut entries = Vec::new(alloc);
     if a < b {
         push_run(&mut entries, runs[a as usize], true)?;
@@ -105,15 +104,6 @@ fn half_entries(
     }
     push_stands(&mut entries, stands)?;
     Ok(entries)
-}
-
-// The vertex at which a half-edge starts.
-fn vertex_at(side: &Side, half: u32) -> u32
-    requires { half < 3 * length side.now.triples }
-    ensures value { result ≡ start (all_edges side.now.triples) half }
-    ensures below { result < length side.now.corners }
-{
-    side.triples()[half as usize / 3][half as usize % 3]
 }
 
 // Adds the segments of the pairs whose records these are.

@@ -1,5 +1,5 @@
 -- That numbers of two sides give vertices which can be assembled, and what then is assembled.
-use Rattle.std.proofs.Common.{◌≡◌, ◌≤◌, ◌∷◌, [], ℕ, List, map, length, sym, ◌∙◌, ap, subst, arith}
+use Rattle.std.proofs.Common.{◌≡◌, ◌≤◌, ℕ, List, length, sym, ◌∙◌, ap, subst, arith}
 use Rattle.std.proofs.lemmas.List.{length-map}
 use Rattle.mb_base.specs.declared.op.Op.{Op}
 use Rattle.mb_base.specs.declared.results.Hits.{Hits}
@@ -9,7 +9,6 @@ use Rattle.mesh_terms.specs.Limits.{IsLawful, Limits}
 use Rattle.mesh_terms.specs.Meshes.{IsAccepted, triple_of, triples_of}
 use Rattle.side_terms.specs.Sides.{IsSide, Side}
 use Rattle.assembly_terms.specs.Lists.{Copy}
-use Rattle.assembly_terms.specs.Prescribed.{crossing_count, p_kept, prescribed_halfedges, q_kept}
 use Rattle.assembly_terms.specs.Standing.{StandInLists, count_all_starts}
 use Rattle.retained_verts.specs.Handed.{AreBalanced, copies, numbers}
 use Rattle.retained_verts.specs.declared.list.Prescribed.{Prescribed}
@@ -19,6 +18,7 @@ use Rattle.filling_terms.specs.Filled.{all_filled, all_triples, forced_of, sourc
 use Rattle.filling_laws.specs.Laws.{FacesAreFilled, FillingsAreAccepted, FillingsAreFew}
 use Rattle.source_faces.specs.declared.triangles.SourceTriangles.{SourceTriangles}
 use Rattle.mesh_boolean.specs.Assembly.{AreNumbers, IsAssembled}
+use Rattle.mesh_boolean.specs.Results.{ArePrescribed}
 
 -- two sides without opposite triangles, with their numbers
 pub record AreReady (p q : Side) (windings : Windings) (hits : Hits) : Type 0 where
@@ -30,11 +30,7 @@ pub record AreReady (p q : Side) (windings : Windings) (hits : Hits) : Type 0 wh
 
 -- the vertices that the numbers prescribe, within lawful limits
 pub record ArePlaced (op : Op) (p q : Side) (windings : Windings) (hits : Hits) (l : Limits) (r : Prescribed) : Type 0 where
-  pub origins : r.origins.items ≡ map (λ c. c.origin) (copies op p q windings hits)
-  pub points : r.points.items ≡ map (λ c. c.point) (copies op p q windings hits)
-  pub kept : r.kept ≡ p_kept op (numbers windings hits) ∷ q_kept op (numbers windings hits) ∷ []
-  pub crossings : r.crossings ≡ crossing_count op (numbers windings hits)
-  pub halfedges : r.halfedges ≡ prescribed_halfedges op p q (numbers windings hits)
+  pub prescribed : ArePrescribed op p q (numbers windings hits) r
   pub few : length r.origins.items ≤ r.halfedges
   pub within : r.halfedges ≤ l.halfedges
   pub lawful : IsLawful l
@@ -48,7 +44,7 @@ few_halfedges l n lawful within = omega (arith, within, lawful.triangles_enough,
 
 -- as many points as copies
 pub length-points : (op : Op) (p q : Side) (windings : Windings) (hits : Hits) (l : Limits) (r : Prescribed) → ArePlaced op p q windings hits l r → length r.points.items ≡ length (copies op p q windings hits)
-length-points op p q windings hits l r placed = ap length placed.points ∙ length-map (copies op p q windings hits) (λ c. c.point)
+length-points op p q windings hits l r placed = ap length placed.prescribed.points ∙ length-map (copies op p q windings hits) (λ c. c.point)
 
 -- so they can be assembled
 pub can_be_assembled : (op : Op) (p q : Side) (windings : Windings) (hits : Hits) (l : Limits) (r : Prescribed) → AreReady p q windings hits → ArePlaced op p q windings hits l r → CanBeAssembled p q (copies op p q windings hits)
@@ -79,7 +75,7 @@ pub record AreTriangles (op : Op) (p q : Side) (windings : Windings) (hits : Hit
 pub is_assembled : (op : Op) (p q : Side) (windings : Windings) (hits : Hits) (l : Limits) (r : Prescribed) (all : SourceTriangles) → AreReady p q windings hits → ArePlaced op p q windings hits l r → AreLaws → AreTriangles op p q windings hits all →
     IsAssembled op p q (numbers windings hits) r all
 is_assembled op p q windings hits l r all ready placed laws made = record {
-  prescribed = record { origins = placed.origins; points = placed.points; kept = placed.kept; crossings = placed.crossings; halfedges = placed.halfedges };
+  prescribed = placed.prescribed;
   triples = made.triples;
   source = made.source;
   forced = made.forced;

@@ -1,5 +1,5 @@
 -- The segments of all source faces together cancel.
-use Rattle.std.proofs.Common.{◌≡◌, ℕ, zero, suc, ◌+◌, ◌*◌, ◌-◌, ◌<◌, ℤ, pos, neg_ℤ, ◌+ℤ◌, List, [], map, length, refl, arith, ap, sym, ◌∙◌}
+use Rattle.std.proofs.Common.{◌≡◌, ℕ, zero, suc, ◌+◌, ◌*◌, ◌-◌, ◌<◌, ℤ, pos, neg_ℤ, ◌+ℤ◌, List, [], ◌++◌, map, length, refl, arith, ap, sym, ◌∙◌}
 use Rattle.std.specs.Prelude.{nat_lt}
 use Rattle.std.proofs.lemmas.Int.{ints}
 use Rattle.std.proofs.lemmas.Bool.{cond-false, cond-true, le-ltb, lt-ltb}
@@ -43,51 +43,55 @@ turned_sum : (f : ℕ → ℤ) (t : ℕ → ℕ) (n : ℕ) → AreInverse t t n 
 turned_sum f t n inverse turns =
     let same = inverse_sum f t t n inverse ∙ total-upto_same (λ k. f (t k)) (λ k. neg_ℤ (f k)) n turns ∙ total-neg f (upto n) in omega (arith, ints, same)
 
--- the sum over the lists of a source face, of P and of Q
-face_of_p : (p q : Side) (w : ListName → ℤ) (x : ℕ) → x < length p.triples →
-    total w (lists_of p q x) ≡ total (λ i. w (HalfP (3 * x + i))) (upto 3) +ℤ total (λ g. w (PairP x g)) (upto (length q.triples))
+-- the sum over the lists of a source face: those of its half-edges and of its pairs
+abbrev face_sum : (ℕ → ListName) → (ℕ → ℕ → ListName) → (ListName → ℤ) → ℕ → ℕ → ℤ
+face_sum half pair w n x = total (λ i. w (half (3 * x + i))) (upto 3) +ℤ total (λ g. w (pair x g)) (upto n)
+
+one_face : (half : ℕ → ListName) (pair : ℕ → ℕ → ListName) (w : ListName → ℤ) (n x : ℕ) → total w (map (λ i. half (3 * x + i)) (upto 3) ++ map (pair x) (upto n)) ≡ face_sum half pair w n x
+one_face half pair w n x =
+    total-append w (map (λ i. half (3 * x + i)) (upto 3)) (map (pair x) (upto n))
+    ∙ ap (λ z. z +ℤ total w (map (pair x) (upto n))) (total-map w (λ i. half (3 * x + i)) (upto 3))
+    ∙ ap (λ z. total (λ i. w (half (3 * x + i))) (upto 3) +ℤ z) (total-map w (pair x) (upto n))
+
+-- and over those of all faces of a side
+side_sum : (half : ℕ → ListName) (pair : ℕ → ℕ → ListName) (w : ListName → ℤ) (m n : ℕ) →
+    total (face_sum half pair w n) (upto m) ≡ total (λ h. w (half h)) (upto (3 * m)) +ℤ total (λ x. total (λ g. w (pair x g)) (upto n)) (upto m)
+side_sum half pair w m n =
+    let halves : ℕ → ℤ = λ x. total (λ i. w (half (3 * x + i))) (upto 3) in
+    let pairs : ℕ → ℤ = λ x. total (λ g. w (pair x g)) (upto n) in total-add halves pairs (upto m) ∙ ap (λ z. z +ℤ total pairs (upto m)) (threes (λ h. w (half h)) m)
+
+-- of a face of P, and of a face of Q
+face_of_p : (p q : Side) (w : ListName → ℤ) (x : ℕ) → x < length p.triples → total w (lists_of p q x) ≡ face_sum HalfP PairP w (length q.triples) x
 face_of_p p q w x below =
     let m = length p.triples in
     let n = length q.triples in
-    ap (total w) (cond-true (nat_lt x m) (lists_of_p n x) (lists_of_q m (x - m)) (lt-ltb x m below))
-    ∙ total-append w (map (λ i. HalfP (3 * x + i)) (upto 3)) (map (PairP x) (upto n))
-    ∙ ap (λ z. z +ℤ total w (map (PairP x) (upto n))) (total-map w (λ i. HalfP (3 * x + i)) (upto 3))
-    ∙ ap (λ z. total (λ i. w (HalfP (3 * x + i))) (upto 3) +ℤ z) (total-map w (PairP x) (upto n))
+    ap (total w) (cond-true (nat_lt x m) (lists_of_p n x) (lists_of_q m (x - m)) (lt-ltb x m below)) ∙ one_face HalfP PairP w n x
 
-face_of_q : (p q : Side) (w : ListName → ℤ) (g : ℕ) →
-    total w (lists_of p q (length p.triples + g)) ≡ total (λ i. w (HalfQ (3 * g + i))) (upto 3) +ℤ total (λ f. w (PairQ g f)) (upto (length p.triples))
+face_of_q : (p q : Side) (w : ListName → ℤ) (g : ℕ) → total w (lists_of p q (length p.triples + g)) ≡ face_sum HalfQ PairQ w (length p.triples) g
 face_of_q p q w g =
     let m = length p.triples in
     let n = length q.triples in
     let back : (m + g) - m ≡ g = omega arith in
     ap (total w) (cond-false (nat_lt (m + g) m) (lists_of_p n (m + g)) (lists_of_q m ((m + g) - m)) (le-ltb (m + g) m (omega arith)))
     ∙ ap (λ i. total w (lists_of_q m i)) back
-    ∙ total-append w (map (λ i. HalfQ (3 * g + i)) (upto 3)) (map (PairQ g) (upto m))
-    ∙ ap (λ z. z +ℤ total w (map (PairQ g) (upto m))) (total-map w (λ i. HalfQ (3 * g + i)) (upto 3))
-    ∙ ap (λ z. total (λ i. w (HalfQ (3 * g + i))) (upto 3) +ℤ z) (total-map w (PairQ g) (upto m))
+    ∙ one_face HalfQ PairQ w m g
 
 -- all faces of P, and all of Q
 faces_of_p : (p q : Side) (w : ListName → ℤ) → total (λ x. total w (lists_of p q x)) (upto (length p.triples)) ≡
     total (λ h. w (HalfP h)) (upto (3 * length p.triples)) +ℤ total (λ f. total (λ g. w (PairP f g)) (upto (length q.triples))) (upto (length p.triples))
 faces_of_p p q w =
     let m = length p.triples in
-    let n = length q.triples in
-    let halves : ℕ → ℤ = λ x. total (λ i. w (HalfP (3 * x + i))) (upto 3) in
-    let pairs : ℕ → ℤ = λ x. total (λ g. w (PairP x g)) (upto n) in
-    total-upto_same (λ x. total w (lists_of p q x)) (λ x. halves x +ℤ pairs x) m (face_of_p p q w) ∙ total-add halves pairs (upto m)
-    ∙ ap (λ z. z +ℤ total pairs (upto m)) (threes (λ h. w (HalfP h)) m)
+    let n = length q.triples in total-upto_same (λ x. total w (lists_of p q x)) (face_sum HalfP PairP w n) m (face_of_p p q w) ∙ side_sum HalfP PairP w m n
 
 faces_of_q : (p q : Side) (w : ListName → ℤ) → total (λ x. total w (lists_of p q x)) (up_from (length p.triples) (length q.triples)) ≡
     total (λ h. w (HalfQ h)) (upto (3 * length q.triples)) +ℤ total (λ g. total (λ f. w (PairQ g f)) (upto (length p.triples))) (upto (length q.triples))
 faces_of_q p q w =
     let m = length p.triples in
     let n = length q.triples in
-    let halves : ℕ → ℤ = λ x. total (λ i. w (HalfQ (3 * x + i))) (upto 3) in
-    let pairs : ℕ → ℤ = λ x. total (λ f. w (PairQ x f)) (upto m) in
     let here : m ≡ m + 0 = omega arith in
     ap (λ k. total (λ x. total w (lists_of p q x)) (up_from k n)) here
-    ∙ shifted (λ x. total w (lists_of p q x)) (λ g. halves g +ℤ pairs g) m (face_of_q p q w) 0 n ∙ total-add halves pairs (upto n)
-    ∙ ap (λ z. z +ℤ total pairs (upto n)) (threes (λ h. w (HalfQ h)) n)
+    ∙ shifted (λ x. total w (lists_of p q x)) (face_sum HalfQ PairQ w m) m (face_of_q p q w) 0 n
+    ∙ side_sum HalfQ PairQ w n m
 
 -- the pairs seen from both faces
 pairs_cancel : (w : ℕ → ℕ → ℤ) (u : ℕ → ℕ → ℤ) (m n : ℕ) → ((f g : ℕ) → u g f ≡ neg_ℤ (w f g)) →

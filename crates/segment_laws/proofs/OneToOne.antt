@@ -43,6 +43,13 @@ pub list_ends : (p q : Side) (cs : List Copy) (place : ℕ → List ℤ) → IsB
 list_ends p q cs place balance name inside =
     paired_ends p q place name (starts (all_edges p.triples) (all_edges q.triples) cs name) (ends (all_edges p.triples) (all_edges q.triples) cs name) (balance.even name inside)
 
+-- whether a copy is a start, or an end, of a list
+abbrev starts_in : (p q : Side) → List Copy → ListName → ℕ → Bool
+starts_in p q cs name v = int_lt (pos 0) (standing (all_edges p.triples) (all_edges q.triples) name (get_or cs v no_copy))
+
+abbrev ends_in : (p q : Side) → List Copy → ListName → ℕ → Bool
+ends_in p q cs name v = int_lt (standing (all_edges p.triples) (all_edges q.triples) name (get_or cs v no_copy)) (pos 0)
+
 -- how often a copy starts and ends a segment of some lists
 pub record OccursAs (p q : Side) (cs : List Copy) (place : ℕ → List ℤ) (names : List ListName) (v : ℕ) : Type 0 where
   pub outs : out (flat_map (segments_in p q cs place) names) v ≡ start_count p q names (get_or cs v no_copy)
@@ -51,18 +58,14 @@ pub record OccursAs (p q : Side) (cs : List Copy) (place : ℕ → List ℤ) (na
 pub occurs : (p q : Side) (cs : List Copy) (place : ℕ → List ℤ) → IsBalanced p q cs → (names : List ListName) → All (IsListOf (length p.triples) (length q.triples)) names →
     (v : ℕ) → v < length cs → OccursAs p q cs place names v
 occurs p q cs place balance names known v below =
-    let P = all_edges p.triples in
-    let Q = all_edges q.triples in
     let here = segments_in p q cs place in
-    let up : ListName → ℕ → Bool = λ name w. int_lt (pos 0) (standing P Q name (get_or cs w no_copy)) in
-    let down : ListName → ℕ → Bool = λ name w. int_lt (standing P Q name (get_or cs w no_copy)) (pos 0) in
     record {
-      outs = count_lists (λ e. e.0 == v) here (λ name. up name v) names
-          (All-weaker (IsListOf (length p.triples) (length q.triples)) (λ name. out (here name) v ≡ one_if (up name v))
-          (λ name inside. (list_ends p q cs place balance name inside).outs v ∙ passing_times (up name) (length cs) v below) names known);
-      intos = count_lists (λ e. e.1 == v) here (λ name. down name v) names
-          (All-weaker (IsListOf (length p.triples) (length q.triples)) (λ name. into (here name) v ≡ one_if (down name v))
-          (λ name inside. (list_ends p q cs place balance name inside).intos v ∙ passing_times (down name) (length cs) v below) names known);
+      outs = count_lists (λ e. e.0 == v) here (λ name. starts_in p q cs name v) names
+          (All-weaker (IsListOf (length p.triples) (length q.triples)) (λ name. out (here name) v ≡ one_if (starts_in p q cs name v))
+          (λ name inside. (list_ends p q cs place balance name inside).outs v ∙ passing_times (starts_in p q cs name) (length cs) v below) names known);
+      intos = count_lists (λ e. e.1 == v) here (λ name. ends_in p q cs name v) names
+          (All-weaker (IsListOf (length p.triples) (length q.triples)) (λ name. into (here name) v ≡ one_if (ends_in p q cs name v))
+          (λ name inside. (list_ends p q cs place balance name inside).intos v ∙ passing_times (ends_in p q cs name) (length cs) v below) names known);
     }
 
 -- a number that is no copy's
@@ -73,18 +76,14 @@ record Absent (p q : Side) (cs : List Copy) (place : ℕ → List ℤ) (names : 
 absent : (p q : Side) (cs : List Copy) (place : ℕ → List ℤ) → IsBalanced p q cs → (names : List ListName) → All (IsListOf (length p.triples) (length q.triples)) names →
     (v : ℕ) → length cs ≤ v → Absent p q cs place names v
 absent p q cs place balance names known v past =
-    let P = all_edges p.triples in
-    let Q = all_edges q.triples in
     let here = segments_in p q cs place in
-    let up : ListName → ℕ → Bool = λ name w. int_lt (pos 0) (standing P Q name (get_or cs w no_copy)) in
-    let down : ListName → ℕ → Bool = λ name w. int_lt (standing P Q name (get_or cs w no_copy)) (pos 0) in
     record {
       outs = count_lists_none (λ e. e.0 == v) here names
           (All-weaker (IsListOf (length p.triples) (length q.triples)) (λ name. out (here name) v ≡ 0)
-          (λ name inside. (list_ends p q cs place balance name inside).outs v ∙ passing_none (up name) (length cs) v past) names known);
+          (λ name inside. (list_ends p q cs place balance name inside).outs v ∙ passing_none (starts_in p q cs name) (length cs) v past) names known);
       intos = count_lists_none (λ e. e.1 == v) here names
           (All-weaker (IsListOf (length p.triples) (length q.triples)) (λ name. into (here name) v ≡ 0)
-          (λ name inside. (list_ends p q cs place balance name inside).intos v ∙ passing_none (down name) (length cs) v past) names known);
+          (λ name inside. (list_ends p q cs place balance name inside).intos v ∙ passing_none (ends_in p q cs name) (length cs) v past) names known);
     }
 
 -- a copy is a start of as many lists of a face as it is an end of, and of one at most

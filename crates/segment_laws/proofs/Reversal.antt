@@ -170,35 +170,33 @@ on_edge_exchanged side known h below place from to =
     ap (λ l. paired_along (vertex_point side (start es l)) (vertex_point side (finish es l)) place to from) (same_lower es known h below)
     ∙ along_exchanged (vertex_point side (start es low)) (vertex_point side (finish es low)) place from to
 
+-- where one list is the reverse of another, and is paired as the other with starts and ends exchanged, its segments run the other way
+list_reverses : (P Q : List (ℕ × ℕ)) (cs : List Copy) (one other : ListName) → AreReversed P Q one other → (pair turned : List ℕ → List ℕ → List (ℕ × ℕ)) → ((from to : List ℕ) → turned to from ≡ backward (pair from to)) →
+    turned (starts P Q cs other) (ends P Q cs other) ≡ backward (pair (starts P Q cs one) (ends P Q cs one))
+list_reverses P Q cs one other reversed pair turned exchanged =
+    ap (λ from. turned from (ends P Q cs other)) (starts_exchanged P Q cs one other reversed)
+    ∙ ap (turned (ends P Q cs one)) (ends_exchanged P Q cs one other reversed)
+    ∙ exchanged (starts P Q cs one) (ends P Q cs one)
+
 -- the segments in the list of the twin
 pub twin_reverses_p : (p q : Side) → IsSide p → (cs : List Copy) (place : ℕ → List ℤ) (h : ℕ) → h < length (all_edges p.triples) →
     segments_in p q cs place (HalfP (twin (all_edges p.triples) h)) ≡ backward (segments_in p q cs place (HalfP h))
 twin_reverses_p p q p_known cs place h below =
     let P = all_edges p.triples in
-    let Q = all_edges q.triples in
     let twins = side_twins p p_known in
-    let reversed : AreReversed P Q (HalfP h) (HalfP (twin P h)) = record { turned = twin_incidence_p P Q twins h below } in
-    ap (λ from. paired_on_edge p (twin P h) place from (ends P Q cs (HalfP (twin P h)))) (starts_exchanged P Q cs (HalfP h) (HalfP (twin P h)) reversed)
-    ∙ ap (paired_on_edge p (twin P h) place (ends P Q cs (HalfP h))) (ends_exchanged P Q cs (HalfP h) (HalfP (twin P h)) reversed)
-    ∙ on_edge_exchanged p twins h below place (starts P Q cs (HalfP h)) (ends P Q cs (HalfP h))
+    let reversed : AreReversed P (all_edges q.triples) (HalfP h) (HalfP (twin P h)) = record { turned = twin_incidence_p P (all_edges q.triples) twins h below } in
+    list_reverses P (all_edges q.triples) cs (HalfP h) (HalfP (twin P h)) reversed (paired_on_edge p h place) (paired_on_edge p (twin P h) place) (on_edge_exchanged p twins h below place)
 
 pub twin_reverses_q : (p q : Side) → IsSide q → (cs : List Copy) (place : ℕ → List ℤ) (h : ℕ) → h < length (all_edges q.triples) →
     segments_in p q cs place (HalfQ (twin (all_edges q.triples) h)) ≡ backward (segments_in p q cs place (HalfQ h))
 twin_reverses_q p q q_known cs place h below =
-    let P = all_edges p.triples in
     let Q = all_edges q.triples in
     let twins = side_twins q q_known in
-    let reversed : AreReversed P Q (HalfQ h) (HalfQ (twin Q h)) = record { turned = twin_incidence_q P Q twins h below } in
-    ap (λ from. paired_on_edge q (twin Q h) place from (ends P Q cs (HalfQ (twin Q h)))) (starts_exchanged P Q cs (HalfQ h) (HalfQ (twin Q h)) reversed)
-    ∙ ap (paired_on_edge q (twin Q h) place (ends P Q cs (HalfQ h))) (ends_exchanged P Q cs (HalfQ h) (HalfQ (twin Q h)) reversed)
-    ∙ on_edge_exchanged q twins h below place (starts P Q cs (HalfQ h)) (ends P Q cs (HalfQ h))
+    let reversed : AreReversed (all_edges p.triples) Q (HalfQ h) (HalfQ (twin Q h)) = record { turned = twin_incidence_q (all_edges p.triples) Q twins h below } in
+    list_reverses (all_edges p.triples) Q cs (HalfQ h) (HalfQ (twin Q h)) reversed (paired_on_edge q h place) (paired_on_edge q (twin Q h) place) (on_edge_exchanged q twins h below place)
 
 -- and in the list of a pair seen from the face of Q
 pub pair_reverses : (p q : Side) (cs : List Copy) (place : ℕ → List ℤ) (f g : ℕ) → segments_in p q cs place (PairQ g f) ≡ backward (segments_in p q cs place (PairP f g))
 pair_reverses p q cs place f g =
-    let P = all_edges p.triples in
-    let Q = all_edges q.triples in
-    let reversed : AreReversed P Q (PairP f g) (PairQ g f) = record { turned = λ x. refl } in
-    ap (λ from. paired_across place from (ends P Q cs (PairQ g f))) (starts_exchanged P Q cs (PairP f g) (PairQ g f) reversed)
-    ∙ ap (paired_across place (ends P Q cs (PairP f g))) (ends_exchanged P Q cs (PairP f g) (PairQ g f) reversed)
-    ∙ across_exchanged place (starts P Q cs (PairP f g)) (ends P Q cs (PairP f g))
+    let reversed : AreReversed (all_edges p.triples) (all_edges q.triples) (PairP f g) (PairQ g f) = record { turned = λ x. refl } in
+    list_reverses (all_edges p.triples) (all_edges q.triples) cs (PairP f g) (PairQ g f) reversed (paired_across place) (paired_across place) (across_exchanged place)

@@ -8,11 +8,7 @@ returns-clause-assembled c =
     is_assembled c.args.op c.args.p.now c.args.q.now c.args.windings.now c.args.hits.now c.args.limits.now c.in_ok-prescribed.prescribed c.in_ok-all.all
     (record { p_side = c.twins.ensures.side; q_side = c.twins-2.ensures.side; p_apart = c.requires.p_apart; q_apart = c.requires.q_apart; known = c.requires.known })
     (record {
-      origins = r.origins;
-      points = r.points;
-      kept = r.kept;
-      crossings = r.crossings;
-      halfedges = r.halfedges;
+      prescribed = record { origins = r.origins; points = r.points; kept = r.kept; crossings = r.crossings; halfedges = r.halfedges };
       few = r.few;
       within = r.within;
       lawful = c.halfedges.ensures.lawful;
