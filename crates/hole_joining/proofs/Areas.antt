@@ -1,9 +1,9 @@
 -- Rings and holes told by the areas in the plane that is not exchanged.
-use Rattle.std.specs.Prelude.{◌≡◌, ℕ, ◌<◌, ℤ, pos, neg_ℤ, int_lt, int_le, List, [], Bool, true, false, cond, length, get_or, map}
+use Rattle.std.specs.Prelude.{◌≡◌, ℕ, ◌<◌, ℤ, pos, neg_ℤ, int_lt, int_le, List, [], Bool, true, false, cond, not, length, get_or, map}
 use Rattle.std.proofs.Common.{arith, refl, sym, ap, ◌∙◌}
 use Rattle.std.proofs.lemmas.Int.{ints}
 use Rattle.std.proofs.lemmas.List.{get_or-map}
-use Rattle.face_plane.specs.Planes.{area, face_plane}
+use Rattle.face_plane.specs.Planes.{Plane, area, face_plane}
 use Rattle.hole_joining.specs.declared.flat.FlatPoints.{FlatPoints}
 use Rattle.hole_joining.specs.Seen.{plane_at, straight_at}
 use Rattle.hole_joining.specs.Holes.{is_ring, is_hole}
@@ -30,8 +30,9 @@ ring_turned f l z turned is = over z (area (plane_at f) l) (negated f l turned �
     over : (y w : ℤ) → w ≡ neg_ℤ y → int_le y (pos 0) ≡ int_le (pos 0) w
     over y w e = grind (arith, ints)
 
-pub hole_turned : (f : FlatPoints) (l : List ℕ) (z : ℤ) → f.turned ≡ true → z ≡ area (straight_at f) l → int_lt (pos 0) z ≡ is_hole (plane_at f) l
-hole_turned f l z turned is = over z (area (plane_at f) l) (negated f l turned ∙ ap neg_ℤ (sym is))
+-- what is no ring is a hole
+pub no_ring : (at : Plane) (l : List ℕ) → not (is_ring at l) ≡ is_hole at l
+no_ring at l = other (area at l)
   where
-    over : (y w : ℤ) → w ≡ neg_ℤ y → int_lt (pos 0) y ≡ int_lt w (pos 0)
-    over y w e = grind (arith, ints)
+    other : (z : ℤ) → not (int_le (pos 0) z) ≡ int_lt z (pos 0)
+    other z = grind (arith, ints)

@@ -101,9 +101,5 @@ pub fn is_hole(flat: &FlatPoints, loops: &[Loop], areas: &[i128], i: usize) -> b
     requires within { i < length loops.now }
     ensures { result ≡ is_hole (plane_at flat.now) (get_or loops.now i []) }
 {
-    if flat.turned {
-        areas[i] > 0
-    } else {
-        areas[i] < 0
-    }
+    !is_ring(flat, loops, areas, i)
 }

@@ -15,13 +15,9 @@ mod flat;
 mod joined;
 mod joining;
 mod places;
-#[cfg(test)]
-mod rows;
 mod search;
 mod splice;
 mod start;
-#[cfg(test)]
-mod tests;
 mod vertices;
 
 pub use joined::{Joined, join_holes};

@@ -57,12 +57,28 @@ after_last ps i h =
 pub after_other : (ps : List Place) (i : ℕ) → i + 1 < length ps → get_or (vertices_of ps) (i + 1) 0 ≡ vertex_after (vertices_of ps) i
 after_other ps i h = sym (at_within (vertices_of ps) (i + 1) (omega (arith, length-vertices ps, h)))
 
+-- a place of a ring and its neighbours were read
+pub record AreRead (ps : List Place) (i : ℕ) (p x n : Place) : Type 0 where
+  pub before : IsRead ps (vertex_before (vertices_of ps) i) p
+  pub here : IsRead ps (vertex_at (vertices_of ps) i) x
+  pub after : IsRead ps (vertex_after (vertices_of ps) i) n
+
 -- a place blocks where its vertex does
-pub blocks_of : (at : Plane) (ps : List Place) (p x n : Place) (a b c : ℕ) → IsPlaced at ps → IsRead ps a p → IsRead ps b x → IsRead ps c n → list_any (place_blocks p x n) ps ≡ list_any (blocks at a b c) (vertices_of ps)
-blocks_of at ps p x n a b c placed rp rx rn = along ps placed
+pub blocks_of : (at : Plane) (ps : List Place) (i : ℕ) (p x n : Place) → IsPlaced at ps → AreRead ps i p x n →
+    list_any (place_blocks p x n) ps ≡ list_any (blocks at (vertex_before (vertices_of ps) i) (vertex_at (vertices_of ps) i) (vertex_after (vertices_of ps) i)) (vertices_of ps)
+blocks_of at ps i p x n placed read = along ps placed
   where
+    a : ℕ
+    a = vertex_before (vertices_of ps) i
+
+    b : ℕ
+    b = vertex_at (vertices_of ps) i
+
+    c : ℕ
+    c = vertex_after (vertices_of ps) i
+
     one : (w : Place) → w.at ≡ at w.vertex → place_blocks p x n w ≡ blocks at a b c w.vertex
-    one w e = rw (rp.vertex, rx.vertex, rn.vertex, rp.at at placed, rx.at at placed, rn.at at placed, e) refl
+    one w e = rw (read.before.vertex, read.here.vertex, read.after.vertex, read.before.at at placed, read.here.at at placed, read.after.at at placed, e) refl
 
     along : (qs : List Place) → IsPlaced at qs → list_any (place_blocks p x n) qs ≡ list_any (blocks at a b c) (vertices_of qs)
     along [] h = refl

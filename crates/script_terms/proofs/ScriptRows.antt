@@ -1,5 +1,5 @@
 -- The steps of small scripts, and their first faults, computed.
-use Rattle.std.specs.Prelude.{◌≡◌, ℕ, pos, neg_ℤ, List, [], ◌∷◌, ◌++◌, codes, replicate, Ok, Err}
+use Rattle.std.specs.Prelude.{◌≡◌, ℕ, pos, neg_ℤ, List, [], ◌∷◌, ◌++◌, codes, replicate, map, Ok, Err}
 use Rattle.std.proofs.Common.{refl}
 use Rattle.std.specs.Char.{encode_utf8}
 use Rattle.std.specs.Str.{chars, is_utf8}
@@ -12,9 +12,9 @@ use Rattle.script_terms.specs.Operands.{number_of, number_fault}
 use Rattle.script_terms.specs.Scripts.{script}
 use Rattle.script_terms.specs.Steps.{Line, Load, Save, Measure, Combine, Make, Move}
 
--- the script is refused on line n with this kind
-abbrev IsBad : ℕ → ℕ → Bytes → Type 0
-IsBad n kind text = script 0 text ≡ Err (Bad n kind)
+-- each of the scripts is refused on line n with this kind
+abbrev AreBad : ℕ → ℕ → List Bytes → Type 0
+AreBad n kind texts = map (script 0) texts ≡ map (λ text. Err (Bad n kind)) texts
 
 abbrev Gives : List Line → Bytes → Type 0
 Gives lines text = script 0 text ≡ Ok lines
@@ -71,117 +71,51 @@ are_made : AreMade
 unfolding chars is_utf8 encode_utf8 number_of number_fault
 are_made = record { measure = refl; box = refl; tetra = refl; prism = refl; lattice = refl; least = refl; shift = refl; scale = refl; mirror = refl; turn = refl; digits = refl }
 
--- operands that have no value, and what is asked before them
+-- operands that have no value, and what is asked before them: numbers, whole numbers, a factor, an axis
 record HaveNoValue : Type 0 where
-  number : IsBad 1 24 (codes "box a 0 0 0 1 1 1e")
-  text : IsBad 1 24 (codes "tetra t nan 0 0 6")
-  bytes : IsBad 1 24 (codes "tetra t 0 0 0 " ++ 255 ∷ [])
-  outside : IsBad 1 24 (codes "prism p 1073741825 0 0 4 5")
-  below : IsBad 2 24 (one (codes "shift s t 0 -1073741825 0"))
-  no_boxes : IsBad 1 24 (codes "lattice l 0 0")
-  many_boxes : IsBad 1 24 (codes "lattice l 61 0")
-  sign : IsBad 1 24 (codes "lattice l +1 0")
-  fraction : IsBad 1 24 (codes "lattice l 1. 0")
-  long : IsBad 1 24 (codes "lattice l 00000001 0")
-  seed : IsBad 1 24 (codes "lattice l 1 1000000")
-  no_factor : IsBad 2 24 (one (codes "scale s t 0"))
-  factor : IsBad 2 24 (one (codes "scale s t 1000001"))
-  axis : IsBad 2 24 (one (codes "mirror m t X"))
-  other_axis : IsBad 2 24 (one (codes "turn m t w"))
-  longer_axis : IsBad 2 24 (one (codes "turn m t xy"))
-  few : IsBad 1 21 (codes "box a 0 0 0 1 1")
-  many : IsBad 1 21 (codes "tetra t 0 0 0 6 6")
-  none : IsBad 1 21 (codes "measure")
-  name_first : IsBad 1 22 (codes "lattice 1 0 0")
-  old_first : IsBad 1 23 (codes "scale s t 0")
-  old_name_first : IsBad 2 22 (one (codes "mirror m 1 w"))
-  measured : IsBad 2 23 (one (codes "measure T"))
+  numbers : AreBad 1 24 (codes "box a 0 0 0 1 1 1e" ∷ codes "tetra t nan 0 0 6" ∷ (codes "tetra t 0 0 0 " ++ 255 ∷ []) ∷ codes "prism p 1073741825 0 0 4 5" ∷ [])
+  below : AreBad 2 24 (one (codes "shift s t 0 -1073741825 0") ∷ [])
+  whole : AreBad 1 24 (codes "lattice l 0 0" ∷ codes "lattice l 61 0" ∷ codes "lattice l +1 0" ∷ codes "lattice l 1. 0" ∷ codes "lattice l 00000001 0" ∷ codes "lattice l 1 1000000" ∷ [])
+  factors : AreBad 2 24 (one (codes "scale s t 0") ∷ one (codes "scale s t 1000001") ∷ [])
+  axes : AreBad 2 24 (one (codes "mirror m t X") ∷ one (codes "turn m t w") ∷ one (codes "turn m t xy") ∷ [])
+  counts : AreBad 1 21 (codes "box a 0 0 0 1 1" ∷ codes "tetra t 0 0 0 6 6" ∷ codes "measure" ∷ [])
+  name_first : AreBad 1 22 (codes "lattice 1 0 0" ∷ [])
+  old_first : AreBad 1 23 (codes "scale s t 0" ∷ [])
+  old_name_first : AreBad 2 22 (one (codes "mirror m 1 w") ∷ [])
+  measured : AreBad 2 23 (one (codes "measure T") ∷ [])
 
 have_no_value : HaveNoValue
 unfolding chars is_utf8 encode_utf8 number_of number_fault
-have_no_value = record {
-  number = refl;
-  text = refl;
-  bytes = refl;
-  outside = refl;
-  below = refl;
-  no_boxes = refl;
-  many_boxes = refl;
-  sign = refl;
-  fraction = refl;
-  long = refl;
-  seed = refl;
-  no_factor = refl;
-  factor = refl;
-  axis = refl;
-  other_axis = refl;
-  longer_axis = refl;
-  few = refl;
-  many = refl;
-  none = refl;
-  name_first = refl;
-  old_first = refl;
-  old_name_first = refl;
-  measured = refl;
-}
+have_no_value = record { numbers = refl; below = refl; whole = refl; factors = refl; axes = refl; counts = refl; name_first = refl; old_first = refl; old_name_first = refl; measured = refl }
 
-record AreBad : Type 0 where
-  case : IsBad 1 20 (codes "Load a c.obj")
-  longer : IsBad 1 20 (codes "loads a c.obj")
-  later_command : IsBad 1 20 (codes "measures a")
-  second_mark : IsBad 1 20 (239 ∷ 187 ∷ 191 ∷ 239 ∷ 187 ∷ 191 ∷ codes "load a c.obj")
-  cr_inside : IsBad 1 20 (codes "load\r a c.obj")
-  word_first : IsBad 1 20 (codes "cut")
-  few : IsBad 3 21 (two (codes "union u a"))
-  many : IsBad 3 21 (two (codes "union u a b_2 a"))
-  ended : IsBad 1 21 (codes "load a #c.obj")
-  count_first : IsBad 1 21 (codes "load 1 c.ply d")
-  digit : IsBad 1 22 (codes "load 1a c.obj")
-  low_line : IsBad 1 22 (codes "load _a c.obj")
-  dash : IsBad 1 22 (codes "load a-b c.obj")
-  long : IsBad 1 22 (codes "load " ++ replicate 33 65 ++ codes " c.obj")
-  name_first : IsBad 1 22 (codes "load a- c.ply")
-  old_is_no_name : IsBad 1 22 (codes "save 1 c.ply")
-  left_first : IsBad 3 23 (two (codes "union u c 1"))
-  right : IsBad 3 22 (two (codes "union u a 1"))
-  never : IsBad 3 23 (two (codes "union u a A"))
-  itself : IsBad 3 23 (two (codes "union u a u"))
-  later : IsBad 3 23 (two (codes "save c c.obj\nload c c.obj"))
-  saved : IsBad 4 23 (two (codes "save a c.obj\nsave c a.obj"))
-  old_first : IsBad 1 23 (codes "save c c.ply")
-  suffix : IsBad 1 25 (codes "load a c.off")
-  part : IsBad 1 25 (codes "load a obj")
-  bytes : IsBad 1 25 (codes "load a " ++ 255 ∷ codes ".obj")
-  first_line : IsBad 2 25 (codes "load a c.obj\nsave a c.ply\ncut")
+-- no command; too few words or too many; no name; a name that no line before gave a mesh; no file of a known kind
+record AreRefused : Type 0 where
+  words : AreBad 1 20 (codes "Load a c.obj" ∷ codes "loads a c.obj" ∷ codes "measures a" ∷ (239 ∷ 187 ∷ 191 ∷ 239 ∷ 187 ∷ 191 ∷ codes "load a c.obj") ∷ codes "load\r a c.obj" ∷ codes "cut" ∷ [])
+  counts : AreBad 3 21 (two (codes "union u a") ∷ two (codes "union u a b_2 a") ∷ [])
+  counts_first : AreBad 1 21 (codes "load a #c.obj" ∷ codes "load 1 c.ply d" ∷ [])
+  names : AreBad 1 22 (codes "load 1a c.obj" ∷ codes "load _a c.obj" ∷ codes "load a-b c.obj" ∷ (codes "load " ++ replicate 33 65 ++ codes " c.obj") ∷ [])
+  names_first : AreBad 1 22 (codes "load a- c.ply" ∷ codes "save 1 c.ply" ∷ [])
+  right : AreBad 3 22 (two (codes "union u a 1") ∷ [])
+  left_first : AreBad 3 23 (two (codes "union u c 1") ∷ [])
+  never : AreBad 3 23 (two (codes "union u a A") ∷ two (codes "union u a u") ∷ two (codes "save c c.obj\nload c c.obj") ∷ [])
+  saved : AreBad 4 23 (two (codes "save a c.obj\nsave c a.obj") ∷ [])
+  old_first : AreBad 1 23 (codes "save c c.ply" ∷ [])
+  files : AreBad 1 25 (codes "load a c.off" ∷ codes "load a obj" ∷ (codes "load a " ++ 255 ∷ codes ".obj") ∷ [])
+  first_line : AreBad 2 25 (codes "load a c.obj\nsave a c.ply\ncut" ∷ [])
 
-are_bad : AreBad
+are_refused : AreRefused
 unfolding chars is_utf8 encode_utf8
-are_bad = record {
-  case = refl;
-  longer = refl;
-  later_command = refl;
-  second_mark = refl;
-  cr_inside = refl;
-  word_first = refl;
-  few = refl;
-  many = refl;
-  ended = refl;
-  count_first = refl;
-  digit = refl;
-  low_line = refl;
-  dash = refl;
-  long = refl;
-  name_first = refl;
-  old_is_no_name = refl;
-  left_first = refl;
+are_refused = record {
+  words = refl;
+  counts = refl;
+  counts_first = refl;
+  names = refl;
+  names_first = refl;
   right = refl;
+  left_first = refl;
   never = refl;
-  itself = refl;
-  later = refl;
   saved = refl;
   old_first = refl;
-  suffix = refl;
-  part = refl;
-  bytes = refl;
+  files = refl;
   first_line = refl;
 }

@@ -5,6 +5,10 @@
 
 mod filling;
 #[cfg(test)]
+mod joined_rows;
+#[cfg(test)]
+mod joined_tests;
+#[cfg(test)]
 mod rows;
 #[cfg(test)]
 mod tests;

@@ -48,7 +48,7 @@ fn are_different(vertices: &[u32]) -> bool
 }
 
 // Whether the loops can be filled.
-fn can_fill(alloc: Global, loops: &[Loop], points: usize) -> Result<bool, NoMemory>
+pub(crate) fn can_fill(alloc: Global, loops: &[Loop], points: usize) -> Result<bool, NoMemory>
     ensures { IfOk result (λ can. IsTrue can → AreFillable loops.now points) }
 {
     let vertices = all_vertices(alloc, loops)?;
@@ -83,15 +83,17 @@ fn point_of(word: &str) -> Option<Point> {
     Point::of(x.parse().ok()?, y.parse().ok()?, z.parse().ok()?)
 }
 
-fn points_of(alloc: Global, text: &str) -> Result<Vec<Point>, Fail> {
+// The points of a text, with this sign between them.
+pub(crate) fn points_of(alloc: Global, text: &str, between: char) -> Result<Vec<Point>, Fail> {
     let mut points = Vec::new(alloc);
-    for word in text.split(";") {
+    for word in text.split(between) {
         points.push(point_of(word).ok_or("a point")?)?;
     }
     Ok(points)
 }
 
-fn vertices_of(alloc: Global, letters: &[u8]) -> Result<Vec<u32>, Fail> {
+// The vertices that letters stand for.
+fn lettered(alloc: Global, letters: &[u8]) -> Result<Vec<u32>, Fail> {
     let mut vertices = Vec::new(alloc);
     for letter in letters {
         vertices.push(vertex(*letter))?;
@@ -99,10 +101,27 @@ fn vertices_of(alloc: Global, letters: &[u8]) -> Result<Vec<u32>, Fail> {
     Ok(vertices)
 }
 
-fn loops_of(alloc: Global, text: &str) -> Result<Vec<Loop>, Fail> {
+// The vertices of numbers with spaces between.
+fn numbered(alloc: Global, text: &str) -> Result<Vec<u32>, Fail> {
+    let mut vertices = Vec::new(alloc);
+    for word in text.split_whitespace() {
+        vertices.push(word.parse::<u32>()?)?;
+    }
+    Ok(vertices)
+}
+
+// The vertices of letters without spaces between, or of numbers with spaces.
+fn vertices_of(alloc: Global, text: &str) -> Result<Vec<u32>, Fail> {
+    if text.contains(" ") {
+        return numbered(alloc, text);
+    }
+    lettered(alloc, text.as_bytes())
+}
+
+pub(crate) fn loops_of(alloc: Global, text: &str) -> Result<Vec<Loop>, Fail> {
     let mut loops = Vec::new(alloc);
     for part in text.split("/") {
-        loops.push(Loop::of(vertices_of(alloc, part.as_bytes())?))?;
+        loops.push(Loop::of(vertices_of(alloc, part)?))?;
     }
     Ok(loops)
 }
@@ -118,7 +137,7 @@ fn corners(alloc: Global, triples: &[[u32; 3]]) -> Result<Vec<u32>, Fail> {
 
 // Whether a filling has the triangles of the letters, and as many forced.
 fn is_filling(alloc: Global, filled: &Filled, letters: &str, forced: u64) -> Result<bool, Fail> {
-    let wanted = vertices_of(alloc, letters.as_bytes())?;
+    let wanted = lettered(alloc, letters.as_bytes())?;
     let corners = corners(alloc, &filled.triples)?;
     Ok(corners.as_slice() == wanted.as_slice() && filled.forced == forced)
 }
@@ -136,7 +155,7 @@ fn agrees(alloc: Global, line: &str) -> Result<bool, Fail> {
     let (drop, points, loops, triples, forced) = parts(line).ok_or("five parts")?;
     let drop = drop.parse::<u8>().ok().ok_or("an axis")?;
     let forced = forced.parse::<u64>().ok().ok_or("a count")?;
-    let points = points_of(alloc, points)?;
+    let points = points_of(alloc, points, ';')?;
     let loops = loops_of(alloc, loops)?;
     let filled = filled(alloc, drop, &loops, &points)?;
     is_filling(alloc, &filled, triples, forced)
@@ -161,7 +180,7 @@ fn random_loops_are_filled_by_the_rule(rt: HostRuntime) -> Result<(), Fail> {
 }
 
 // Whether a ring has these vertices, from its cursor on.
-fn is_ring(mut ring: Ring, wanted: &[u32]) -> bool {
+pub(crate) fn is_ring(mut ring: Ring, wanted: &[u32]) -> bool {
     for vertex in wanted {
         if ring.get() != *vertex {
             return false;
@@ -173,7 +192,7 @@ fn is_ring(mut ring: Ring, wanted: &[u32]) -> bool {
 
 // A triangle with a hole: its loops joined to one ring, and the ring cut.
 fn joined_and_cut(alloc: Global) -> Result<bool, Fail> {
-    let points = points_of(alloc, "0,0,0;10,0,0;10,10,0;520;640;720")?;
+    let points = points_of(alloc, "0,0,0;10,0,0;10,10,0;520;640;720", ';')?;
     let loops = loops_of(alloc, "abc/def")?;
     let plane = FacePlane { drop: 2 };
     if !can_fill(alloc, &loops, points.len())? {

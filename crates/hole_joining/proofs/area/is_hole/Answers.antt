@@ -1,15 +1,8 @@
-use Rattle.std.proofs.Common.{rules, tests, ◌≡◌, ℤ, pos, [], get_or, to_z, of_z, ap, ◌∙◌}
-use mir.Syntax.{w128}
-use Rattle.std.specs.Prelude.{int_lt}
-use Rattle.hole_joining.proofs.Areas.{read_area, hole_turned}
+use Rattle.std.proofs.Common.{[], get_or, ap, ◌∙◌}
+use Rattle.std.specs.Prelude.{not}
+use Rattle.hole_joining.specs.Seen.{plane_at}
+use Rattle.hole_joining.proofs.Areas.{no_ring}
 use Rattle.hole_joining.proofs.area.is_hole.Goals as goal
 
-pub returns-then-flat : goal.returns-then-flat
-returns-then-flat c =
-    let flat = c.args.flat.now in
-    let loops = c.args.loops.now in
-    let areas = c.args.areas.now in
-    let i = c.args.i in
-    let z : ℤ = get_or areas i (pos 0) in
-    let kept : to_z w128 (of_z w128 z) ≡ z = search (rules, tests) in
-    ap (λ (z : ℤ). int_lt (pos 0) z) kept ∙ hole_turned flat (get_or loops i []) z c.if-flat.true (read_area flat loops areas i c.requires.areas c.requires.within)
+pub returns : goal.returns
+returns c = ap not c.is_ring.ensures ∙ no_ring (plane_at c.args.flat.now) (get_or c.args.loops.now c.args.i [])

@@ -6,8 +6,8 @@ use Rattle.face_plane.specs.Rings.{vertex_at, vertex_before, vertex_after}
 use Rattle.ring_cutting.specs.declared.place.Place.{Place}
 use Rattle.ring_cutting.specs.Cuts.{is_allowed, is_ear, blocks}
 use Rattle.ring_cutting.specs.Placed.{vertices_of, IsPlaced}
-use Rattle.ring_cutting.proofs.Reading.{IsRead, blocks_of}
-use Rattle.ring_cutting.proofs.ears.is_ear.Goals.{then-turns_left, else-turns_left}
+use Rattle.ring_cutting.proofs.Reading.{AreRead, blocks_of}
+use Rattle.ring_cutting.proofs.ears.is_ear.Goals.{After-after-n, then-turns_left, else-turns_left}
 use Rattle.ring_cutting.proofs.ears.is_ear.Goals as goal
 
 -- whether a place and its neighbours turn left
@@ -26,27 +26,28 @@ other_fails true b c e = rw e refl
 other_fails false b c e = refl
 
 -- the turn of the points is that of the vertices
-left_read : (at : Plane) (ps : List Place) (i : ℕ) (p x n : Place) → IsPlaced at ps → IsRead ps (vertex_before (vertices_of ps) i) p → IsRead ps (vertex_at (vertices_of ps) i) x → IsRead ps (vertex_after (vertices_of ps) i) n →
-    int_lt (pos 0) (turn p.at x.at n.at) ≡ left_at at (vertices_of ps) i
-left_read at ps i p x n placed rp rx rn = rw (rp.at at placed, rx.at at placed, rn.at at placed) refl
+left_read : (at : Plane) (ps : List Place) (i : ℕ) (p x n : Place) → IsPlaced at ps → AreRead ps i p x n → int_lt (pos 0) (turn p.at x.at n.at) ≡ left_at at (vertices_of ps) i
+left_read at ps i p x n placed all = rw (all.before.at at placed, all.here.at at placed, all.after.at at placed) refl
+
+-- the place and its neighbours were read
+round : (c : After-after-n) → AreRead c.args.places.now c.args.i c.before-p.result c.here-x.result c.after-n.result
+round c = record {
+  before = record { vertex = c.before-p.ensures.vertex; at = c.before-p.ensures.at };
+  here = record { vertex = c.here-x.ensures.vertex; at = c.here-x.ensures.at };
+  after = record { vertex = c.after-n.ensures.vertex; at = c.after-n.ensures.at };
+}
 
 pub returns-then-is_allowed-clause-value : goal.returns-then-is_allowed-clause-value
 returns-then-is_allowed-clause-value c = λ at placed.
     let ps = c.args.places.now in
     let r = vertices_of ps in
     let i = c.args.i in
-    let p = c.before-p.result in
-    let x = c.here-x.result in
-    let n = c.after-n.result in
-    let rp : IsRead ps (vertex_before r i) p = record { vertex = c.before-p.ensures.vertex; at = c.before-p.ensures.at } in
-    let rx : IsRead ps (vertex_at r i) x = record { vertex = c.here-x.ensures.vertex; at = c.here-x.ensures.at } in
-    let rn : IsRead ps (vertex_after r i) n = record { vertex = c.after-n.ensures.vertex; at = c.after-n.ensures.at } in
-    let left = left_read at ps i p x n placed rp rx rn in
-    let blocked : c.is_blocked.result ≡ list_any (blocks at (vertex_before r i) (vertex_at r i) (vertex_after r i)) r = c.is_blocked.ensures ∙ blocks_of at ps p x n (vertex_before r i) (vertex_at r i) (vertex_after r i) placed rp rx rn in
+    let all = round (goal.at.returns-then-is_allowed-clause-value c).After-after-n in
+    let blocked : c.is_blocked.result ≡ list_any (blocks at (vertex_before r i) (vertex_at r i) (vertex_after r i)) r = c.is_blocked.ensures ∙ blocks_of at ps i c.before-p.result c.here-x.result c.after-n.result placed all in
     elim c.if-turns_left.branch as (λ _. not c.is_blocked.result ≡ is_ear at r i) [
       | then-turns_left w ↦
-          last_decides (is_allowed r i) (left_at at r i) c.is_blocked.result (list_any (blocks at (vertex_before r i) (vertex_at r i) (vertex_after r i)) r)
-          (sym w.is_allowed.ensures ∙ sym w.value-is ∙ c.if-is_allowed.true) (sym left ∙ sym c.turns_left.ensures ∙ w.if-turns_left.true) blocked
+          last_decides (is_allowed r i) (left_at at r i) c.is_blocked.result (list_any (blocks at (vertex_before r i) (vertex_at r i) (vertex_after r i)) r) (sym w.is_allowed.ensures ∙ sym w.value-is ∙ c.if-is_allowed.true)
+          (sym (left_read at ps i c.before-p.result c.here-x.result c.after-n.result placed all) ∙ sym c.turns_left.ensures ∙ w.if-turns_left.true) blocked
       | else-turns_left w ↦ absurd (cc)
     ]
 
@@ -55,13 +56,8 @@ returns-else-is_allowed-clause-value c = λ at placed.
     let ps = c.args.places.now in
     let r = vertices_of ps in
     let i = c.args.i in
-    let p = c.before-p.result in
-    let x = c.here-x.result in
-    let n = c.after-n.result in
-    let rp : IsRead ps (vertex_before r i) p = record { vertex = c.before-p.ensures.vertex; at = c.before-p.ensures.at } in
-    let rx : IsRead ps (vertex_at r i) x = record { vertex = c.here-x.ensures.vertex; at = c.here-x.ensures.at } in
-    let rn : IsRead ps (vertex_after r i) n = record { vertex = c.after-n.ensures.vertex; at = c.after-n.ensures.at } in
-    let left = left_read at ps i p x n placed rp rx rn in
+    let all = round (goal.at.returns-else-is_allowed-clause-value c).After-after-n in
+    let left = left_read at ps i c.before-p.result c.here-x.result c.after-n.result placed all in
     let blocked = list_any (blocks at (vertex_before r i) (vertex_at r i) (vertex_after r i)) r in
     elim c.if-turns_left.branch as (λ _. c.if-turns_left.value ≡ is_ear at r i) [
       | then-turns_left w ↦ c.if-is_allowed.false ∙ one_fails (is_allowed r i) (left_at at r i) (not blocked) (sym w.is_allowed.ensures ∙ sym w.value-is ∙ c.if-is_allowed.false)
