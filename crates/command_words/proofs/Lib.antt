@@ -1,5 +1,4 @@
 pub mod Given
-pub mod Grammars
 pub mod ReadByClap
 pub mod Reading
 pub mod Rows
