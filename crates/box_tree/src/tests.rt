@@ -107,6 +107,41 @@ fn all_are_found(alloc: Global, ordered: u32) -> Result<bool, Fail> {
     Ok(each.iter().copied().eq(0..COUNT) && all.iter().copied().eq(0..COUNT))
 }
 
+// The box at a place of a line, or its lowest corner.
+fn box_or_point(place: u32, is_point: bool) -> Box3
+    ensures { IsBox result }
+{
+    let Box3 { low, high } = box_at(place);
+    if is_point {
+        Box3 { low, high: low }
+    } else {
+        Box3 { low, high }
+    }
+}
+
+// Boxes on a line, as many as a block has, the first ones single points.
+fn run_with_points(alloc: Global, points: u32) -> Result<Vec<Box3>, Fail>
+    ensures few { IfOk result (λ boxes. length boxes.items ≤ 168) }
+    ensures boxes { IfOk result (λ boxes. All IsBox boxes.items) }
+{
+    let mut boxes = Vec::new(alloc);
+    for number in 0..16 {
+        boxes.push(box_or_point(number, number < points))?;
+    }
+    Ok(boxes)
+}
+
+// A run keeps together with four boxes that have too little of its surface, and not with five.
+#[test]
+fn a_run_keeps_together_with_four_points(rt: HostRuntime) -> Result<(), Fail> {
+    for (points, runs) in [(0, 1), (4, 1), (5, 0), (16, 0)] {
+        let boxes = run_with_points(rt.alloc(), points)?;
+        let keys = keys_of(rt.alloc(), &boxes.as_slice(), 0)?;
+        assert!(rt; keys.runs.len() == runs);
+    }
+    Ok(())
+}
+
 #[test]
 fn keys_stand_for_runs_or_single_boxes(rt: HostRuntime) -> Result<(), Fail> {
     for (ordered, runs) in [(COUNT, 10), (80, 5), (0, 0)] {
