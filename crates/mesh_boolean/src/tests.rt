@@ -1,32 +1,27 @@
 // Whole operations on pairs of small meshes.
 ghost use Rattle.std.specs.Prelude.{◌≡◌, ◌<◌};
 
-mod loose;
-mod low;
-mod solids;
+mod table;
 mod text;
 mod volume;
-mod worked;
 
 use crate::{Outcome, boolean};
 use edge_face::Kernels;
-use loose::LOOSE;
-use low::Low;
 use mb_base::{Limits, Op};
 use mesh_check::Mesh;
 use retained_verts::PrescribeFault;
 use rounding::{Nearest, Rounding};
+use sample_lines::{Low, read_pair};
 use shadow_kernels::Grid;
-use solids::SOLIDS;
 use std::alloc::Global;
 use std::marker::Brand;
 use std::process::Abort;
 use std::sync::ledger::{Blank, Ledger};
 use std::test::Fail;
 use steps::Steps;
-use text::{read_mesh, read_op, text_of};
+use table::{LOOSE, SOLIDS, WORKED};
+use text::text_of;
 use volume::volume6;
-use worked::WORKED;
 
 // What an operation gives.
 fn answer<K: Kernels, L: Ledger>(
@@ -79,10 +74,7 @@ fn expect_lines(
     nearest: &str,
     low: &str,
 ) -> Result<(), Fail> {
-    let mut words = meshes.split_whitespace();
-    let op = read_op(&mut words)?;
-    let p = read_mesh(alloc, &mut words)?;
-    let q = read_mesh(alloc, &mut words)?;
+    let (op, p, q) = read_pair(alloc, meshes)?;
     let text = written(alloc, op, &p, &q, Nearest)?;
     assert_eq!(rt; text.as_str(), nearest, "to the nearest: {meshes}");
     let text = written(alloc, op, &p, &q, Low)?;
@@ -121,10 +113,7 @@ fn numbers_of(alloc: Global, all: &Outcome) -> Result<String, Fail> {
 
 // Compares the numbers of a pair with the end of its line.
 fn expect_numbers(rt: &impl Abort, alloc: Global, line: &str) -> Result<(), Fail> {
-    let mut words = line.split_whitespace();
-    let op = read_op(&mut words)?;
-    let p = read_mesh(alloc, &mut words)?;
-    let q = read_mesh(alloc, &mut words)?;
+    let (op, p, q) = read_pair(alloc, line)?;
     let outcome = rounded(alloc, op, &p, &q, Nearest, &Limits::program())?;
     let numbers = numbers_of(alloc, &outcome)?;
     assert!(rt; line.ends_with(numbers.as_str()), "{line}: {numbers}");
@@ -142,10 +131,7 @@ fn has_the_numbers_worked_out(rt: HostRuntime) -> Result<(), Fail> {
 // How many half-edges are too many where so many are the limit, if any are, for a pin through a cube.
 fn too_many(alloc: Global, halfedges: u32) -> Result<Option<u64>, Fail> {
     let line = WORKED.lines().nth(7).ok_or("no line")?;
-    let mut words = line.split_whitespace();
-    let op = read_op(&mut words)?;
-    let p = read_mesh(alloc, &mut words)?;
-    let q = read_mesh(alloc, &mut words)?;
+    let (op, p, q) = read_pair(alloc, line)?;
     let limits = Limits::of(13_090, 210, 140, halfedges).ok_or("no limits")?;
     match rounded(alloc, op, &p, &q, Nearest, &limits) {
         Ok(_) => Ok(None),

@@ -6,7 +6,6 @@ pub mod Faces
 pub mod Fits
 pub mod Growth
 pub mod Halves
-mod HitLists
 pub mod Lengths
 pub mod Origins
 pub mod TwoLists

@@ -7,14 +7,16 @@ use crate::{PrescribeFault, Prescribed};
 use handed::prescribed;
 use lean::Side;
 use mb_base::{Limits, Op};
+use mesh_check::Mesh;
+use sample_lines::{plain_side, read_meshes, read_numbers, read_pair};
 use std::alloc::Global;
 use std::process::Abort;
 use std::test::Fail;
 use table::PAIRS;
-use text::{read_numbers, read_op, read_sides, text_of};
+use text::text_of;
 
 // What the numbers of a line prescribe for two sides.
-fn answer(
+fn answer_of_sides(
     alloc: Global,
     op: Op,
     p: &Side,
@@ -26,6 +28,20 @@ fn answer(
     prescribed(alloc, op, p, q, &windings, &hits, limits)
 }
 
+// What they prescribe for two meshes without marks.
+fn answer(
+    alloc: Global,
+    op: Op,
+    p: &Mesh,
+    q: &Mesh,
+    numbers: &str,
+    limits: &Limits,
+) -> Result<Result<Prescribed, PrescribeFault>, Fail> {
+    let p = plain_side(alloc, p)?;
+    let q = plain_side(alloc, q)?;
+    answer_of_sides(alloc, op, &p, &q, numbers, limits)
+}
+
 // Compares what a pair prescribes with the line of a table.
 fn expect_line(
     rt: &impl Abort,
@@ -34,9 +50,7 @@ fn expect_line(
     numbers: &str,
     expected: &str,
 ) -> Result<(), Fail> {
-    let (op, sides) = meshes.split_once(" ").ok_or("no word")?;
-    let op = read_op(op)?;
-    let (p, q) = read_sides(alloc, sides)?;
+    let (op, p, q) = read_pair(alloc, meshes)?;
     let all = answer(alloc, op, &p, &q, numbers, &Limits::program())??;
     let text = text_of(alloc, &all)?;
     assert_eq!(rt; text.as_str(), expected, "{meshes}");
@@ -67,7 +81,7 @@ const NUMBERS: &str =
 // they are too many.
 fn boxes(alloc: Global, op: Op, halfedges: u32) -> Result<Result<[u64; 4], u64>, Fail> {
     let limits = Limits::of(1 << 30, 15_000_000, 10_000_000, halfedges).ok_or("no limits")?;
-    let (p, q) = read_sides(alloc, BOXES)?;
+    let (p, q) = read_meshes(alloc, BOXES)?;
     match answer(alloc, op, &p, &q, NUMBERS, &limits)? {
         Ok(all) => Ok(Ok([all.kept[0], all.kept[1], all.crossings, all.halfedges])),
         Err(PrescribeFault::TooLarge { seen }) => Ok(Err(seen)),

@@ -2,7 +2,6 @@ mod Conserved
 mod Copies
 mod Flat
 mod Halves
-mod HitLists
 mod PlainFaces
 mod Rings
 pub mod Added

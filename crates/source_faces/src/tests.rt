@@ -1,4 +1,5 @@
 // The vertices, segments and loops of all source faces, on pairs of small meshes, as the crates below give them.
+ghost use Rattle.std.specs.Prelude.{IfOk};
 ghost use Rattle.mesh_check.specs.Reduced.{NoOpposite};
 
 mod conserved;
@@ -11,12 +12,14 @@ use faces::push_faces;
 use handed::are_numbers;
 use lean::Side;
 use mb_base::{Hits, Limits, Op, Windings};
+use mesh_check::{Mesh, reduce};
 use retained_verts::prescribe;
+use sample_lines::{marked_side, plain_side, read_numbers, read_pair};
 use std::alloc::Global;
 use std::process::Abort;
 use std::test::Fail;
 use table::PAIRS;
-use text::{first_side, push_prescribed, read_numbers, read_op, second_side};
+use text::push_prescribed;
 
 // What the numbers of two sides give, as the table writes it.
 fn written(
@@ -43,16 +46,40 @@ fn written(
     Ok(text)
 }
 
-// What the meshes of a line and the numbers of the next give.
-fn answer(alloc: Global, meshes: &str, numbers: &str) -> Result<String, Fail> {
-    let mut words = meshes.split_whitespace();
-    let op = read_op(words.next().ok_or("no operation")?)?;
-    let points = words.next().ok_or("no points")?;
-    let p = first_side(alloc, op, points, words.next().ok_or("no triangles")?)?;
-    let points = words.next().ok_or("no points")?;
-    let q = second_side(alloc, points, words.next().ok_or("no triangles")?)?;
+// The first side of an operation: its mesh reduced, with the marks for the operation.
+fn first_side(alloc: Global, mesh: &Mesh, op: Op) -> Result<Side, Fail>
+    ensures { IfOk result (λ side. NoOpposite side.triples) }
+{
+    let reduced = reduce(alloc, mesh)?;
+    marked_side(alloc, &reduced, op)
+}
+
+// The second side: its mesh reduced, without marks.
+fn second_side(alloc: Global, mesh: &Mesh) -> Result<Side, Fail>
+    ensures { IfOk result (λ side. NoOpposite side.triples) }
+{
+    let reduced = reduce(alloc, mesh)?;
+    plain_side(alloc, &reduced)
+}
+
+// What two meshes and the numbers of a line give.
+fn answer_of_meshes(
+    alloc: Global,
+    op: Op,
+    p: &Mesh,
+    q: &Mesh,
+    numbers: &str,
+) -> Result<String, Fail> {
+    let p = first_side(alloc, p, op)?;
+    let q = second_side(alloc, q)?;
     let (windings, hits) = read_numbers(alloc, numbers)?;
     written(alloc, op, &p, &q, &windings, &hits)
+}
+
+// What the meshes of a line and the numbers of the next give.
+fn answer(alloc: Global, meshes: &str, numbers: &str) -> Result<String, Fail> {
+    let (op, p, q) = read_pair(alloc, meshes)?;
+    answer_of_meshes(alloc, op, &p, &q, numbers)
 }
 
 // Compares that with the line of the table.

@@ -1,7 +1,6 @@
 // Winding numbers in cubes, worked out by hand.
 ghost use Rattle.std.specs.Prelude.{◌≡◌, ◌<◌};
 
-mod low;
 mod numbers;
 mod pairs;
 mod table;
@@ -12,6 +11,7 @@ use lean::{Side, corner_of};
 use mb_base::Point;
 use mesh_check::Mesh;
 use rounding::Nearest;
+use sample_lines::plain_side;
 use samples::{BOX, box_points, soup_of};
 use shadow_kernels::Grid;
 use std::alloc::Global;
@@ -125,7 +125,7 @@ fn sum_from<L: Ledger>(point: Point, q: &Side, blank: Blank) -> i64
 
 fn plain_cube(alloc: Global) -> Result<Side, Fail> {
     let mesh = cube(alloc)?;
-    text::second_side(alloc, &mesh)
+    plain_side(alloc, &mesh)
 }
 
 #[test]

@@ -1,78 +1,8 @@
-// The lines of the tables: pairs of meshes, and what operations give.
-ghost use Rattle.std.specs.Prelude.{◌≤◌, IfSome};
-
+// What operations give, as the tables write it.
 use crate::Outcome;
-use mb_base::{Op, Origin, Point, Soup};
-use mesh_check::Mesh;
+use mb_base::{Origin, Point};
 use std::alloc::Global;
-use std::str::SplitWhitespace;
 use std::test::Fail;
-
-// A digit, or a letter from a for 10 on.
-fn value_of(digit: u8) -> Option<u8>
-    ensures { IfSome result (λ v. v ≤ 35) }
-{
-    match digit {
-        b'0'..=b'9' => Some(digit - b'0'),
-        b'a'..=b'z' => Some(digit - b'a' + 10),
-        _ => None,
-    }
-}
-
-// The numbers of a word, a digit each; a point stands for no word.
-fn numbers_of(alloc: Global, word: &str) -> Result<Vec<u8>, Fail> {
-    let mut numbers = Vec::new(alloc);
-    for byte in word.as_bytes() {
-        if *byte != b'.' {
-            numbers.push(value_of(*byte).ok_or("no digit")?)?;
-        }
-    }
-    Ok(numbers)
-}
-
-fn read_points(alloc: Global, word: &str) -> Result<Vec<Point>, Fail> {
-    let numbers = numbers_of(alloc, word)?;
-    let mut points = Vec::new(alloc);
-    for at in numbers.chunks_exact(3) {
-        let point = Point::of(i32::from(at[0]), i32::from(at[1]), i32::from(at[2]));
-        points.push(point.ok_or("outside the grid")?)?;
-    }
-    Ok(points)
-}
-
-fn read_triples(alloc: Global, word: &str) -> Result<Vec<[u32; 3]>, Fail> {
-    let numbers = numbers_of(alloc, word)?;
-    let mut triples = Vec::new(alloc);
-    for at in numbers.chunks_exact(3) {
-        triples.push([u32::from(at[0]), u32::from(at[1]), u32::from(at[2])])?;
-    }
-    Ok(triples)
-}
-
-/// The mesh of the next two words, of which the first has its coordinates and the second its triangles.
-pub fn read_mesh(alloc: Global, words: &mut SplitWhitespace) -> Result<Mesh, Fail> {
-    let points = read_points(alloc, words.next().ok_or("no points")?)?;
-    let triples = read_triples(alloc, words.next().ok_or("no triangles")?)?;
-    if !Soup::fits(&points, &triples) {
-        return Err("no soup".into());
-    }
-    Ok(Mesh::check(alloc, Soup::of(points, triples, 0))?)
-}
-
-/// The operation of the next word.
-pub fn read_op(words: &mut SplitWhitespace) -> Result<Op, Fail> {
-    let word = words.next().ok_or("no operation")?;
-    if word == "union" {
-        return Ok(Op::Union);
-    }
-    if word == "intersect" {
-        return Ok(Op::Intersect);
-    }
-    if word == "subtract" {
-        return Ok(Op::Subtract);
-    }
-    Err("no operation".into())
-}
 
 const DIGITS: &[u8; 61] = b"0123456789abcdefghijklmnopqrstuvwxyzABCDEFGHIJKLMNOPQRSTUVWXY";
 

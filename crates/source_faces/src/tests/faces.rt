@@ -6,12 +6,12 @@ ghost use Rattle.source_faces.specs.Given.{AreGiven};
 ghost use Rattle.source_faces.specs.Parts.{CanBePart, HaveParts};
 
 use crate::given::given_have_parts;
-use crate::tests::text::push_digit;
 use face_lists::{Run, Stand, group_end, runs_of, segments_of_face, stands_of};
 use face_loops::loops;
 use lean::Side;
 use mb_base::{Hits, Op, Point, Windings};
 use retained_verts::{Operand, Prescribed};
+use sample_lines::push_digit;
 use std::alloc::Global;
 use std::test::Fail;
 

@@ -1,12 +1,12 @@
 // The hits and winding numbers of pairs of meshes, against those of an independent reference program.
-use super::low::Low;
 use super::numbers::numbers_of;
 use super::table::{FIRST_PAIRS, SECOND_PAIRS};
-use super::text::{first_side, read_first, read_second, second_side, text_of};
+use super::text::text_of;
 use lean::Side;
 use mb_base::Op;
 use mesh_check::Mesh;
 use rounding::{Nearest, Rounding};
+use sample_lines::{Low, marked_side, plain_side, read_pair};
 use samples::box_soup;
 use shadow_kernels::Grid;
 use std::alloc::Global;
@@ -21,7 +21,7 @@ fn answers_of<R: Rounding + Copy>(
     p: &Side,
     q: &Side,
     rounding: R,
-) -> Result<Vec<u8>, Fail> {
+) -> Result<String, Fail> {
     let kernels = Grid { rounding };
     let (hits, windings) = numbers_of::<Grid<R>, Brand>(alloc, p, q, &kernels, Blank::new(1))?;
     text_of(alloc, &hits, &windings)
@@ -29,22 +29,17 @@ fn answers_of<R: Rounding + Copy>(
 
 // Whether two sides have these answers, to the nearest and to the first.
 fn have_answers(alloc: Global, p: &Side, q: &Side, nearest: &str, low: &str) -> Result<bool, Fail> {
-    if answers_of(alloc, p, q, Nearest)?.as_slice() != nearest.as_bytes() {
+    if answers_of(alloc, p, q, Nearest)?.as_str() != nearest {
         return Ok(false);
     }
-    Ok(answers_of(alloc, p, q, Low)?.as_slice() == low.as_bytes())
+    Ok(answers_of(alloc, p, q, Low)?.as_str() == low)
 }
 
 // Whether the sides of a line have these answers.
 fn line_has_answers(alloc: Global, line: &str, nearest: &str, low: &str) -> Result<bool, Fail> {
-    let mut words = line.split_whitespace();
-    let op = words.next().ok_or("no word")?;
-    let points = words.next().ok_or("no word")?;
-    let triples = words.next().ok_or("no word")?;
-    let p = read_first(alloc, op, points, triples)?;
-    let points = words.next().ok_or("no word")?;
-    let triples = words.next().ok_or("no word")?;
-    let q = read_second(alloc, points, triples)?;
+    let (op, p, q) = read_pair(alloc, line)?;
+    let p = marked_side(alloc, &p, op)?;
+    let q = plain_side(alloc, &q)?;
     have_answers(alloc, &p, &q, nearest, low)
 }
 
@@ -69,12 +64,12 @@ fn agrees_with_the_table(rt: HostRuntime) -> Result<(), Fail> {
 
 fn cube(alloc: Global) -> Result<Side, Fail> {
     let mesh = Mesh::check(alloc, box_soup(alloc, [0; 3], [10; 3])?)?;
-    first_side(alloc, &mesh, Op::Union)
+    marked_side(alloc, &mesh, Op::Union)
 }
 
 fn post(alloc: Global) -> Result<Side, Fail> {
     let mesh = Mesh::check(alloc, box_soup(alloc, [3, 4, 5], [6, 7, 20])?)?;
-    second_side(alloc, &mesh)
+    plain_side(alloc, &mesh)
 }
 
 // The lower corners of the post lie in the cube.

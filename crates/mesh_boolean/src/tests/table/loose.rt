@@ -1,15 +1,8 @@
 //! A hundred pairs of meshes of loose parts.
 //!
-//! Three lines a pair. The first has the operation, then the points and the triangles of the first mesh, and those of the
-//! second: three digits a point, three a triangle; each number is one digit, a letter from a for 10 on, and a point stands for
-//! no word. The other two have what the operation gives, to the nearest and under the rounding of the tests, as `text_of`
-//! writes it.
-//!
 //! The meshes came from a random generator: sums of tetrahedra over few vertices, cones over loose triangles, triangles with
 //! their opposites, parts with a common vertex; some with triangles repeated or turned, within a few grid steps, so that edges
 //! are used many times, vertices pinched, points equal and faces flat. Some pairs are of equal meshes.
-//! The answers are those of an independent reference program, which was written from the definitions alone and goes over all
-//! pairs of an edge and a face. They hold where a fine step is one grid step.
 pub const LOOSE: &str = "\
 intersect 304000442143140101 140045205413315105035230325435 331300431340343 032301102402103043213312120342032023
 008oc|e80e82el1el2f07f08f22f27|442442342342342342442442|442442342342342342442442|016732247523531105745750067542376613|01234567|277888aaabcc|

@@ -1,15 +1,8 @@
 //! A hundred pairs of solids.
 //!
-//! Three lines a pair. The first has the operation, then the points and the triangles of the first mesh, and those of the
-//! second: three digits a point, three a triangle; each number is one digit, a letter from a for 10 on, and a point stands for
-//! no word. The other two have what the operation gives, to the nearest and under the rounding of the tests, as `text_of`
-//! writes it.
-//!
 //! The meshes came from a random generator: boxes, tetrahedra, prisms and octahedra, some with split and flipped edges, joined
 //! vertices and moved points, some with all points thrown anew, within a few grid steps, so that points are equal, faces flat
 //! and coordinates tie. Some pairs are of equal meshes.
-//! The answers are those of an independent reference program, which was written from the definitions alone and goes over all
-//! pairs of an edge and a face. They hold where a fine step is one grid step.
 pub const SOLIDS: &str = "\
 intersect 300103010123102101200 021345014125154203235046436306 233230263433430463 021341014043125153203235
 00000|||||||

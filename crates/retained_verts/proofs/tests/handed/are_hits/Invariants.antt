@@ -1,7 +1,0 @@
-use Rattle.std.proofs.Common.{length, take}
-use Rattle.chain_terms.specs.Chains.{all_edges}
-use Rattle.side_terms.specs.Hits.{AreHits}
-use Rattle.retained_verts.proofs.tests.handed.are_hits.Given as goal
-
-abbrev pub invariant-loop-i : goal.invariant-loop-i
-invariant-loop-i l = AreHits (all_edges l.edges.triples) (length l.faces.triples) (take l.i l.hits)

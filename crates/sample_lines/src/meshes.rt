@@ -1,0 +1,91 @@
+// Meshes of words, and their sides.
+ghost use Rattle.std.specs.Prelude.{◌≡◌, IfOk};
+
+use crate::digits::numbers_of;
+use lean::{Side, leans};
+use mb_base::{Op, Point, Soup};
+use mesh_check::Mesh;
+use std::alloc::Global;
+use std::str::SplitWhitespace;
+use std::test::Fail;
+
+// The operation of a word.
+fn read_op(word: &str) -> Result<Op, Fail> {
+    if word == "union" {
+        return Ok(Op::Union);
+    }
+    if word == "intersect" {
+        return Ok(Op::Intersect);
+    }
+    if word == "subtract" {
+        return Ok(Op::Subtract);
+    }
+    Err("no operation".into())
+}
+
+// The points of a word, three numbers each.
+fn read_points(alloc: Global, word: &str) -> Result<Vec<Point>, Fail> {
+    let numbers = numbers_of(alloc, word)?;
+    let mut points = Vec::new(alloc);
+    for at in numbers.chunks_exact(3) {
+        let point = Point::of(i32::from(at[0]), i32::from(at[1]), i32::from(at[2]));
+        points.push(point.ok_or("outside the grid")?)?;
+    }
+    Ok(points)
+}
+
+// The triangles of a word, three numbers each.
+fn read_triples(alloc: Global, word: &str) -> Result<Vec<[u32; 3]>, Fail> {
+    let numbers = numbers_of(alloc, word)?;
+    let mut triples = Vec::new(alloc);
+    for at in numbers.chunks_exact(3) {
+        triples.push([vertex_of(at[0]), vertex_of(at[1]), vertex_of(at[2])])?;
+    }
+    Ok(triples)
+}
+
+fn vertex_of(number: i8) -> u32 {
+    u32::from(number.unsigned_abs())
+}
+
+// The mesh of the next two words: its points, and its triangles.
+fn read_mesh(alloc: Global, words: &mut SplitWhitespace) -> Result<Mesh, Fail> {
+    let points = read_points(alloc, words.next().ok_or("no points")?)?;
+    let triples = read_triples(alloc, words.next().ok_or("no triangles")?)?;
+    if !Soup::fits(&points, &triples) {
+        return Err("no soup".into());
+    }
+    Ok(Mesh::check(alloc, Soup::of(points, triples, 0))?)
+}
+
+/// The meshes of a line's first four words: of each its points in grid steps and its triangles, three numbers each.
+pub fn read_meshes(alloc: Global, line: &str) -> Result<(Mesh, Mesh), Fail> {
+    let mut words = line.split_whitespace();
+    let p = read_mesh(alloc, &mut words)?;
+    let q = read_mesh(alloc, &mut words)?;
+    Ok((p, q))
+}
+
+/// The operation and the two meshes of a line's first five words.
+pub fn read_pair(alloc: Global, line: &str) -> Result<(Op, Mesh, Mesh), Fail> {
+    let (op, rest) = line.split_once(" ").ok_or("no operation")?;
+    let op = read_op(op)?;
+    let (p, q) = read_meshes(alloc, rest)?;
+    Ok((op, p, q))
+}
+
+/// The side of a mesh with the marks that an operation gives its first mesh.
+pub fn marked_side(alloc: Global, mesh: &Mesh, op: Op) -> Result<Side, Fail>
+    ensures { IfOk result (λ side. side.triples ≡ mesh.now.triples) }
+{
+    let ups = leans(alloc, mesh, op)?;
+    Ok(Side::of(alloc, mesh, ups)?)
+}
+
+/// The side of a mesh without marks.
+pub fn plain_side(alloc: Global, mesh: &Mesh) -> Result<Side, Fail>
+    ensures { IfOk result (λ side. side.triples ≡ mesh.now.triples) }
+{
+    let ups = vec![in alloc; [false; 3]; mesh.points().len()]?;
+    Ok(Side::of(alloc, mesh, ups)?)
+}

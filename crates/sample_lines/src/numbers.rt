@@ -1,0 +1,58 @@
+// Winding numbers and hits of words.
+use crate::digits::numbers_of;
+use mb_base::{Hit, Hits, Point, Windings};
+use std::alloc::Global;
+use std::test::Fail;
+
+fn read_windings(alloc: Global, word: &str) -> Result<Vec<i64>, Fail> {
+    let mut windings = Vec::new(alloc);
+    for number in &numbers_of(alloc, word)? {
+        windings.push(i64::from(*number))?;
+    }
+    Ok(windings)
+}
+
+// The hit of a word: edge, face, number, and the point.
+fn read_hit(alloc: Global, word: &str) -> Result<Hit, Fail> {
+    let numbers = numbers_of(alloc, word)?;
+    if numbers.len() != 6 {
+        return Err("no hit".into());
+    }
+    let point = Point::of(numbers[3] as i32, numbers[4] as i32, numbers[5] as i32);
+    Ok(Hit {
+        edge: u32::from(numbers[0].unsigned_abs()),
+        face: u32::from(numbers[1].unsigned_abs()),
+        number: numbers[2],
+        at: point.ok_or("outside the grid")?,
+    })
+}
+
+fn read_hits(alloc: Global, words: &str) -> Result<Vec<Hit>, Fail> {
+    let mut hits = Vec::new(alloc);
+    for word in words.split_whitespace() {
+        hits.push(read_hit(alloc, word)?)?;
+    }
+    Ok(hits)
+}
+
+fn windings_of(alloc: Global, p: &str, q: &str) -> Result<Windings, Fail> {
+    let w03 = read_windings(alloc, p)?;
+    let w30 = read_windings(alloc, q)?;
+    Ok(Windings { w03, w30 })
+}
+
+fn hits_of(alloc: Global, p: &str, q: &str) -> Result<Hits, Fail> {
+    let x12 = read_hits(alloc, p)?;
+    let x21 = read_hits(alloc, q)?;
+    Ok(Hits { x12, x21 })
+}
+
+/// The numbers of a line: a word of winding numbers for each mesh, then the hits of the first mesh's edges and, after a bar, of the second's, a word each.
+pub fn read_numbers(alloc: Global, line: &str) -> Result<(Windings, Hits), Fail> {
+    let (front, back) = line.split_once("|").ok_or("no bar")?;
+    let (w03, rest) = front.split_once(" ").ok_or("no windings")?;
+    let (w30, edges) = rest.split_once(" ").ok_or("no windings")?;
+    let windings = windings_of(alloc, w03, w30)?;
+    let hits = hits_of(alloc, edges, back)?;
+    Ok((windings, hits))
+}
