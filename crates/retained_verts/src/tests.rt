@@ -8,7 +8,7 @@ use handed::prescribed;
 use lean::Side;
 use mb_base::{Limits, Op};
 use mesh_check::Mesh;
-use sample_lines::{plain_side, read_meshes, read_numbers, read_pair};
+use sample_lines::{POST_IN_BOX, plain_side, read_meshes, read_numbers, read_pair};
 use std::alloc::Global;
 use std::process::Abort;
 use std::test::Fail;
@@ -70,10 +70,7 @@ fn agrees_with_the_table(rt: HostRuntime) -> Result<(), Fail> {
     Ok(())
 }
 
-// The boxes from (0,0,0) to (10,10,10) and from (3,4,5) to (6,7,20), and their numbers.
-const BOXES: &str =
-    "000a000a0aa000aa0a0aaaaa 031023457476014154137175326367046062 34564537567534k64k37k67k 031023457476014154137175326367046062";
-
+// The numbers of the box and the post.
 const NUMBERS: &str =
     "00000000 11110000 84144a 86-166a | d2154a e3-134a f2164a j3167a k2-165a p3137a q3-157a w3-135a";
 
@@ -81,7 +78,7 @@ const NUMBERS: &str =
 // they are too many.
 fn boxes(alloc: Global, op: Op, halfedges: u32) -> Result<Result<[u64; 4], u64>, Fail> {
     let limits = Limits::of(1 << 30, 15_000_000, 10_000_000, halfedges).ok_or("no limits")?;
-    let (p, q) = read_meshes(alloc, BOXES)?;
+    let (p, q) = read_meshes(alloc, POST_IN_BOX)?;
     match answer(alloc, op, &p, &q, NUMBERS, &limits)? {
         Ok(all) => Ok(Ok([all.kept[0], all.kept[1], all.crossings, all.halfedges])),
         Err(PrescribeFault::TooLarge { seen }) => Ok(Err(seen)),
@@ -114,7 +111,7 @@ const TWICE: &str =
 
 #[test]
 fn a_crossing_of_number_2_is_listed_twice(rt: HostRuntime) -> Result<(), Fail> {
-    let meshes = format!(in rt.alloc(); "union {BOXES}")?;
+    let meshes = format!(in rt.alloc(); "union {POST_IN_BOX}")?;
     let numbers = "00000000 00000000 002123 |";
     expect_line(&rt, rt.alloc(), meshes.as_str(), numbers, TWICE)
 }

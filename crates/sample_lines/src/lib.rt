@@ -9,9 +9,9 @@ mod meshes;
 mod numbers;
 mod vertices;
 
-pub use digits::{push_digit, push_signed};
+pub use digits::push_digit;
 pub use handed::{are_hits, are_windings};
 pub use low::Low;
-pub use meshes::{marked_side, plain_side, read_meshes, read_pair};
-pub use numbers::read_numbers;
+pub use meshes::{POST_IN_BOX, marked_side, plain_side, read_meshes, read_pair};
+pub use numbers::{read_numbers, write_numbers};
 pub use vertices::push_vertex;

@@ -9,6 +9,10 @@ use std::alloc::Global;
 use std::str::SplitWhitespace;
 use std::test::Fail;
 
+/// The box from (0,0,0) to (10,10,10), and the post from (3,4,5) to (6,7,20), whose lower corners lie in it.
+pub const POST_IN_BOX: &str =
+    "000a000a0aa000aa0a0aaaaa 031023457476014154137175326367046062 34564537567534k64k37k67k 031023457476014154137175326367046062";
+
 // The operation of a word.
 fn read_op(word: &str) -> Result<Op, Fail> {
     if word == "union" {
@@ -28,7 +32,7 @@ fn read_points(alloc: Global, word: &str) -> Result<Vec<Point>, Fail> {
     let numbers = numbers_of(alloc, word)?;
     let mut points = Vec::new(alloc);
     for at in numbers.chunks_exact(3) {
-        let point = Point::of(i32::from(at[0]), i32::from(at[1]), i32::from(at[2]));
+        let point = Point::of(at[0] as i32, at[1] as i32, at[2] as i32);
         points.push(point.ok_or("outside the grid")?)?;
     }
     Ok(points)

@@ -1,5 +1,5 @@
-// Winding numbers and hits of words.
-use crate::digits::numbers_of;
+// Winding numbers and hits in words.
+use crate::digits::{numbers_of, push_signed};
 use mb_base::{Hit, Hits, Point, Windings};
 use std::alloc::Global;
 use std::test::Fail;
@@ -7,7 +7,7 @@ use std::test::Fail;
 fn read_windings(alloc: Global, word: &str) -> Result<Vec<i64>, Fail> {
     let mut windings = Vec::new(alloc);
     for number in &numbers_of(alloc, word)? {
-        windings.push(i64::from(*number))?;
+        windings.push(*number as i64)?;
     }
     Ok(windings)
 }
@@ -55,4 +55,36 @@ pub fn read_numbers(alloc: Global, line: &str) -> Result<(Windings, Hits), Fail>
     let windings = windings_of(alloc, w03, w30)?;
     let hits = hits_of(alloc, edges, back)?;
     Ok((windings, hits))
+}
+
+fn push_windings(text: &mut String, windings: &[i64]) -> Result<(), Fail> {
+    for winding in windings {
+        push_signed(text, *winding)?;
+    }
+    Ok(())
+}
+
+fn push_hits(text: &mut String, hits: &[Hit]) -> Result<(), Fail> {
+    for hit in hits {
+        text.push(' ')?;
+        push_signed(text, hit.edge as i64)?;
+        push_signed(text, hit.face as i64)?;
+        push_signed(text, hit.number as i64)?;
+        for coordinate in hit.at.at() {
+            push_signed(text, coordinate as i64)?;
+        }
+    }
+    Ok(())
+}
+
+/// The line of these numbers, as `read_numbers` reads it.
+pub fn write_numbers(alloc: Global, windings: &Windings, hits: &Hits) -> Result<String, Fail> {
+    let mut text = String::new(alloc);
+    push_windings(&mut text, &windings.w03)?;
+    text.push(' ')?;
+    push_windings(&mut text, &windings.w30)?;
+    push_hits(&mut text, &hits.x12)?;
+    text.push_str(" |")?;
+    push_hits(&mut text, &hits.x21)?;
+    Ok(text)
 }

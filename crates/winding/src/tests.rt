@@ -4,7 +4,6 @@ ghost use Rattle.std.specs.Prelude.{◌≡◌, ◌<◌};
 mod numbers;
 mod pairs;
 mod table;
-mod text;
 
 use crate::{winding_at, winding_sum};
 use lean::{Side, corner_of};

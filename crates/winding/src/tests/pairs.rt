@@ -1,13 +1,11 @@
 // The hits and winding numbers of pairs of meshes, against those of an independent reference program.
 use super::numbers::numbers_of;
 use super::table::{FIRST_PAIRS, SECOND_PAIRS};
-use super::text::text_of;
 use lean::Side;
-use mb_base::Op;
+use mb_base::{Hits, Op, Windings};
 use mesh_check::Mesh;
 use rounding::{Nearest, Rounding};
-use sample_lines::{Low, marked_side, plain_side, read_pair};
-use samples::box_soup;
+use sample_lines::{Low, POST_IN_BOX, marked_side, plain_side, read_meshes, read_pair, write_numbers};
 use shadow_kernels::Grid;
 use std::alloc::Global;
 use std::marker::Brand;
@@ -24,7 +22,7 @@ fn answers_of<R: Rounding + Copy>(
 ) -> Result<String, Fail> {
     let kernels = Grid { rounding };
     let (hits, windings) = numbers_of::<Grid<R>, Brand>(alloc, p, q, &kernels, Blank::new(1))?;
-    text_of(alloc, &hits, &windings)
+    write_numbers(alloc, &windings, &hits)
 }
 
 // Whether two sides have these answers, to the nearest and to the first.
@@ -62,29 +60,23 @@ fn agrees_with_the_table(rt: HostRuntime) -> Result<(), Fail> {
     expect_answers(&rt, rt.alloc(), SECOND_PAIRS)
 }
 
-fn cube(alloc: Global) -> Result<Side, Fail> {
-    let mesh = Mesh::check(alloc, box_soup(alloc, [0; 3], [10; 3])?)?;
-    marked_side(alloc, &mesh, Op::Union)
-}
-
-fn post(alloc: Global) -> Result<Side, Fail> {
-    let mesh = Mesh::check(alloc, box_soup(alloc, [3, 4, 5], [6, 7, 20])?)?;
-    plain_side(alloc, &mesh)
-}
-
-// The lower corners of the post lie in the cube.
-#[test]
-fn a_post_begins_in_a_cube(rt: HostRuntime) -> Result<(), Fail> {
-    let p = cube(rt.alloc())?;
-    let q = post(rt.alloc())?;
+// The numbers of two meshes in a union, to the nearest.
+fn numbers_in_union(alloc: Global, p: &Mesh, q: &Mesh) -> Result<(Hits, Windings), Fail> {
+    let p = marked_side(alloc, p, Op::Union)?;
+    let q = plain_side(alloc, q)?;
     let kernels = Grid { rounding: Nearest };
-    let (hits, windings) = numbers_of::<Grid<Nearest>, Brand>(
-        rt.alloc(),
-        &p,
-        &q,
-        &kernels,
-        Blank::new(1),
-    )?;
+    numbers_of::<Grid<Nearest>, Brand>(alloc, &p, &q, &kernels, Blank::new(1))
+}
+
+fn post_in_box(alloc: Global) -> Result<(Hits, Windings), Fail> {
+    let (p, q) = read_meshes(alloc, POST_IN_BOX)?;
+    numbers_in_union(alloc, &p, &q)
+}
+
+// The lower corners of the post lie in the box.
+#[test]
+fn a_post_begins_in_a_box(rt: HostRuntime) -> Result<(), Fail> {
+    let (hits, windings) = post_in_box(rt.alloc())?;
     assert_eq!(rt; hits.x12.len(), 2);
     assert_eq!(rt; hits.x21.len(), 8);
     assert_eq!(rt; windings.w03.as_slice(), [0; 8].as_slice());

@@ -1,4 +1,0 @@
-use Rattle.winding.proofs.tests.pairs.a_post_begins_in_a_cube.Given as goal
-
-abbrev pub ghosts-numbers_of : goal.ghosts-numbers_of
-ghosts-numbers_of g a = record { name = a.blank.name; parts = a.blank.parts }

@@ -1,0 +1,4 @@
+use Rattle.winding.proofs.tests.pairs.numbers_in_union.Given as goal
+
+abbrev pub ghosts-numbers_of : goal.ghosts-numbers_of
+ghosts-numbers_of a = record { name = a.blank.name; parts = a.blank.parts }
