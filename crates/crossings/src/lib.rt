@@ -9,7 +9,5 @@ mod hits;
 mod near;
 mod pairs;
 mod runs;
-#[cfg(test)]
-mod tests;
 
 pub use both::crossings;

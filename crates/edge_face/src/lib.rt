@@ -20,10 +20,6 @@ mod grid;
 mod pair;
 mod pairs;
 mod points;
-#[cfg(test)]
-mod rows;
-#[cfg(test)]
-mod tests;
 
 /// How often an edge crosses a face, with its sign, and the point of the grid where it does.
 #[derive(Clone, Copy, Debug, PartialEq, Eq, Drop)]

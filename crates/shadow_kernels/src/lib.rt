@@ -102,9 +102,3 @@ pub trait Flats: Meets<1, 1> + Meets<1, 2> + Meets<2, 1> + Meets<2, 2> {
         -ℤ shadow_of (⟦<Self as Meets<2, 1>>⟧.meet_of k (a ∷ b ∷ []) (c ∷ [])) };
 }
 
-#[cfg(test)]
-mod more_rows;
-#[cfg(test)]
-mod rows;
-#[cfg(test)]
-mod tests;

@@ -12,8 +12,6 @@ mod along;
 mod point;
 mod shadows;
 mod sum;
-#[cfg(test)]
-mod tests;
 mod walk;
 
 pub use all::windings;

@@ -1,4 +1,4 @@
-use Rattle.winding.proofs.tests.pairs.answers_of.Given as goal
+use Rattle.kernel_tests.proofs.windings.pairs.answers_of.Given as goal
 
 abbrev pub ghosts-numbers_of : goal.ghosts-numbers_of
 ghosts-numbers_of g a = record { name = a.blank.name; parts = a.blank.parts }

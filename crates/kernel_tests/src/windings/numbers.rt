@@ -3,7 +3,6 @@ ghost use Rattle.std.specs.Prelude.{◌≡◌, ◌<◌, IfOk};
 ghost use Rattle.crossings.specs.Agreement.{PairsAgree};
 ghost use Rattle.winding.specs.Windings.{EdgesConserve};
 
-use crate::windings;
 use crossings::crossings;
 use edge_face::Kernels;
 use lean::Side;
@@ -12,6 +11,7 @@ use std::alloc::Global;
 use std::sync::ledger::{Blank, Ledger};
 use std::test::Fail;
 use steps::Steps;
+use winding::windings;
 
 /// The hits and winding numbers of two sides. For any lawful kernels they agree: a face of each side has one sum of
 /// crossings, round either, and along every half-edge the winding number changes by minus its numbers with all faces.

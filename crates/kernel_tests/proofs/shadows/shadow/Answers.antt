@@ -2,7 +2,7 @@ use Rattle.std.proofs.Common.{rules, arith, ap}
 use Rattle.std.proofs.lemmas.Int.{ints}
 use Rattle.shadow_kernels.specs.Counts.{shadow_of}
 use Rattle.shadow_kernels.specs.Sizes.{shadow_bounds, sized_from}
-use Rattle.shadow_kernels.proofs.tests.shadow.Goals as goal
+use Rattle.kernel_tests.proofs.shadows.shadow.Goals as goal
 
 pub returns-in-Some : goal.returns-in-Some
 returns-in-Some g c =

@@ -3,7 +3,7 @@ use Rattle.std.proofs.lemmas.Int.{ints}
 use Rattle.shadow_kernels.specs.Counts.{shadow_of}
 use Rattle.shadow_kernels.specs.FinePairs.{fine_one, fine_two}
 use Rattle.shadow_kernels.specs.Sizes.{turned_shadow}
-use Rattle.shadow_kernels.proofs.tests.edge_count.Goals as goal
+use Rattle.kernel_tests.proofs.shadows.edge_count.Goals as goal
 
 pub returns : goal.returns
 returns g c =

@@ -1,5 +1,5 @@
 use Rattle.shadow_kernels.specs.FinePairs.{fine_three}
-use Rattle.edge_face.proofs.tests.read_row.Goals as goal
+use Rattle.kernel_tests.proofs.edges_and_faces.read_row.Goals as goal
 
 pub invariant_of-result : goal.invariant_of-result
 invariant_of-result c = record {

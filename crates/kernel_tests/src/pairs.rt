@@ -1,5 +1,5 @@
 // Two boxes, worked out by a separate program in Python that was written from the definitions alone.
-use crate::crossings;
+use crossings::crossings;
 use lean::{Side, leans};
 use mb_base::{Hit, Op};
 use mesh_check::Mesh;

@@ -5,7 +5,6 @@ mod numbers;
 mod pairs;
 mod table;
 
-use crate::{winding_at, winding_sum};
 use lean::{Side, corner_of};
 use mb_base::Point;
 use mesh_check::Mesh;
@@ -18,6 +17,7 @@ use std::marker::Brand;
 use std::sync::ledger::{Blank, Ledger};
 use std::test::Fail;
 use steps::Steps;
+use winding::{winding_at, winding_sum};
 
 fn checked(alloc: Global, points: &[[i32; 3]], triples: &[[u32; 3]]) -> Result<Mesh, Fail> {
     Ok(Mesh::check(alloc, soup_of(alloc, points, triples)?)?)

@@ -4,7 +4,7 @@ use Rattle.std.specs.Int.{w8}
 use Rattle.shadow_kernels.specs.FinePairs.{fine_two}
 use Rattle.edge_face.specs.Crossings.{number_of}
 use Rattle.shadow_kernels.proofs.Values.{seen}
-use Rattle.edge_face.proofs.tests.number_back.Goals as goal
+use Rattle.kernel_tests.proofs.edges_and_faces.number_back.Goals as goal
 
 pub returns-in-None : goal.returns-in-None
 returns-in-None g c =

@@ -1,11 +1,16 @@
+// Shadow tests against a table, and counts by the laws alone.
 ghost use Rattle.std.specs.Prelude.{◌≡◌, ◌∷◌, [], ◌≤ℤ◌, pos, negsuc};
 ghost use Rattle.side_terms.specs.Corners.{IsFineCorner, AllFine};
 ghost use Rattle.shadow_kernels.specs.Counts.{count_of, shadow_of};
 
-use super::*;
-use crate::more_rows::{ROWS_5, ROWS_6, ROWS_7, ROWS_8, ROWS_9};
-use crate::rows::{ROWS_0, ROWS_1, ROWS_2, ROWS_3, ROWS_4};
+mod more_rows;
+mod rows;
+
+use mb_base::Corner;
+use more_rows::{ROWS_5, ROWS_6, ROWS_7, ROWS_8, ROWS_9};
 use rounding::Nearest;
+use rows::{ROWS_0, ROWS_1, ROWS_2, ROWS_3, ROWS_4};
+use shadow_kernels::{Flats, Grid, Meet, Meets, Spot};
 
 /// The count of the edges from a to b and from c to d, with Q's edge taken the other way round where it meets a vertex:
 /// right under any kernels, by the laws alone.

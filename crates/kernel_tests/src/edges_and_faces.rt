@@ -11,10 +11,12 @@ ghost use Rattle.rounding.specs.Lawful.{settle_monotone, settle_units};
 ghost use Rattle.side_terms.specs.Corners.{IsFineCorner, AllFine};
 ghost use Rattle.edge_face.specs.Crossings.{number_of};
 
-use super::*;
-use crate::rows::ROWS;
-use mb_base::UNIT;
+mod rows;
+
+use edge_face::{Cross, Crosses, Kernels};
+use mb_base::{Corner, Point, UNIT};
 use rounding::{Nearest, Rounding};
+use rows::ROWS;
 use shadow_kernels::Grid;
 
 /// What a line of the table says.
