@@ -12,8 +12,6 @@ ghost use Rattle.edge_pairing.specs.Laws.{ExchangeReversesAlong, ExchangeReverse
 mod direction;
 mod pairs;
 mod spread;
-#[cfg(test)]
-mod tests;
 
 use direction::{axis_direction, direction};
 use mb_base::{Entry, NoMemory, Point, Segment};

@@ -11,8 +11,6 @@ ghost use Rattle.face_loops.specs.Segments.{edges_of, IsOneToOne, AreDifferent, 
 ghost use Rattle.face_loops.specs.Starts.{IsIndex};
 
 mod starts;
-#[cfg(test)]
-mod tests;
 mod trail;
 mod vertex_loop;
 

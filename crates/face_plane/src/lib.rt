@@ -7,8 +7,6 @@
 
 mod flat_point;
 mod plane;
-#[cfg(test)]
-mod tests;
 
 pub use flat_point::FlatPoint;
 pub use plane::FacePlane;

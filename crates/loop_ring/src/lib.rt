@@ -4,7 +4,5 @@
 mod links;
 mod nodes;
 mod ring;
-#[cfg(test)]
-mod tests;
 
 pub use ring::Ring;

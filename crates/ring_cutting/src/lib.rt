@@ -7,8 +7,6 @@ mod cutting;
 mod ears;
 mod filled;
 mod place;
-#[cfg(test)]
-mod tests;
 mod triangle;
 
 pub use cutting::{cut_ring, some_place_may_be_cut};

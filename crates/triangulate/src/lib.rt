@@ -4,14 +4,6 @@
 #![tactic(auto)]
 
 mod filling;
-#[cfg(test)]
-mod joined_rows;
-#[cfg(test)]
-mod joined_tests;
-#[cfg(test)]
-mod rows;
-#[cfg(test)]
-mod tests;
 
 pub use face_plane::FacePlane;
 pub use filling::fill;

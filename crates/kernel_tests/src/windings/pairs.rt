@@ -1,6 +1,4 @@
 // The hits and winding numbers of pairs of meshes, against those of an independent reference program.
-use super::numbers::numbers_of;
-use super::table::{FIRST_PAIRS, SECOND_PAIRS};
 use lean::Side;
 use mb_base::{Hits, Op, Windings};
 use mesh_check::Mesh;
@@ -12,6 +10,8 @@ use std::marker::Brand;
 use std::process::Abort;
 use std::sync::ledger::Blank;
 use std::test::Fail;
+use super::numbers::numbers_of;
+use super::table::{FIRST_PAIRS, SECOND_PAIRS};
 
 // The answers of two sides, as the table writes them.
 fn answers_of<R: Rounding + Copy>(

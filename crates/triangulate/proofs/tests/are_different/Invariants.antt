@@ -1,5 +1,0 @@
-use Rattle.std.proofs.Common.{◌≢◌, ℕ, ◌<◌, get_or}
-use Rattle.triangulate.proofs.tests.are_different.Given as goal
-
-abbrev pub invariant-loop-place : goal.invariant-loop-place
-invariant-loop-place l = (i j : ℕ) → i < j → j < l.place → get_or l.vertices i 0 ≢ get_or l.vertices j 0
