@@ -12,8 +12,6 @@ mod op;
 mod point;
 mod results;
 mod soup;
-#[cfg(test)]
-mod tests;
 
 pub use arg_list::ArgList;
 pub use boxes::box_of;

@@ -1,8 +1,8 @@
 // Reading and writing against a table of values from outside.
 mod table;
 
-use crate::{read_grid, write_grid};
 use arrayvec::ArrayVec;
+use grid_number::{read_grid, write_grid};
 use std::process::Abort;
 use table::{READ_1, READ_2, READ_3, READ_4, Read, WRITTEN};
 

@@ -3,7 +3,7 @@
 // digits, exact halves, the ends of the grid, texts that are no numbers) under a fixed seed. Each row of
 // READ is a text, the digits of the grid and what it reads as; each row of WRITTEN is a value, the digits of
 // the grid and what is written of it. The texts stand in parts, since a proof has to read each part at once.
-use crate::NumberFault::{self, NotANumber, OutOfGrid};
+use grid_number::NumberFault::{self, NotANumber, OutOfGrid};
 
 pub type Read = (&'static str, u8, Result<i32, NumberFault>);
 

@@ -1,5 +1,5 @@
 // Keys whose buckets are known.
-use crate::Buckets;
+use counting_sort::Buckets;
 use mb_base::NoMemory;
 use std::alloc::Global;
 use std::test::Fail;

@@ -1,5 +1,5 @@
 // Rules at their edges, and each public call once with ample memory.
-use crate::{ArgList, Box3, Corner, Limits, Op, Point, Soup, box_of, cross};
+use mb_base::{ArgList, Box3, Corner, Limits, Op, Point, Soup, box_of, cross};
 use std::alloc::Global;
 use std::test::Fail;
 
