@@ -8,8 +8,6 @@ mod operate;
 mod outcome;
 mod sides;
 mod tested;
-#[cfg(test)]
-mod tests;
 
 pub use operate::boolean;
 pub use outcome::Outcome;

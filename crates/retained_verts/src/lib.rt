@@ -10,8 +10,6 @@ mod counts;
 mod list;
 mod operand;
 mod points;
-#[cfg(test)]
-mod tests;
 
 pub use list::{PrescribeFault, Prescribed, prescribe};
 pub use operand::{Operand, hit_number};

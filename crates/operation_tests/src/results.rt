@@ -5,9 +5,9 @@ mod table;
 mod text;
 mod volume;
 
-use crate::{Outcome, boolean};
 use edge_face::Kernels;
 use mb_base::{Limits, Op};
+use mesh_boolean::{Outcome, boolean};
 use mesh_check::Mesh;
 use retained_verts::PrescribeFault;
 use rounding::{Nearest, Rounding};

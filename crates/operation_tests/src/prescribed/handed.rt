@@ -1,7 +1,7 @@
 // Numbers that are handed in: whether they meet what `prescribe` asks for.
-use crate::{PrescribeFault, Prescribed, prescribe};
 use lean::Side;
 use mb_base::{Hits, Limits, Op, Windings};
+use retained_verts::{PrescribeFault, Prescribed, prescribe};
 use sample_lines::{are_hits, are_windings};
 use std::alloc::Global;
 use std::test::Fail;

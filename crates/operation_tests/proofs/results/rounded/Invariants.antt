@@ -1,4 +1,4 @@
-use Rattle.mesh_boolean.proofs.tests.rounded.Given as goal
+use Rattle.operation_tests.proofs.results.rounded.Given as goal
 
 -- the ledger is that of the blank
 abbrev pub ghosts-answer : goal.ghosts-answer

@@ -1,6 +1,6 @@
 // What operations give, as the tables write it.
-use crate::Outcome;
 use mb_base::{Origin, Point};
+use mesh_boolean::Outcome;
 use std::alloc::Global;
 use std::test::Fail;
 

@@ -1,5 +1,5 @@
 // What numbers prescribe, as the table writes it.
-use crate::Prescribed;
+use retained_verts::Prescribed;
 use sample_lines::push_vertex;
 use std::alloc::Global;
 use std::test::Fail;

@@ -3,11 +3,11 @@ mod handed;
 mod table;
 mod text;
 
-use crate::{PrescribeFault, Prescribed};
 use handed::prescribed;
 use lean::Side;
 use mb_base::{Limits, Op};
 use mesh_check::Mesh;
+use retained_verts::{PrescribeFault, Prescribed};
 use sample_lines::{POST_IN_BOX, plain_side, read_meshes, read_numbers, read_pair};
 use std::alloc::Global;
 use std::process::Abort;
