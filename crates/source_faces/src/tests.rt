@@ -51,7 +51,8 @@ fn first_side(alloc: Global, mesh: &Mesh, op: Op) -> Result<Side, Fail>
     ensures { IfOk result (λ side. NoOpposite side.triples) }
 {
     let reduced = reduce(alloc, mesh)?;
-    marked_side(alloc, &reduced, op)
+    let side = marked_side(alloc, &reduced, op)?;
+    Ok(side)
 }
 
 // The second side: its mesh reduced, without marks.
@@ -59,7 +60,8 @@ fn second_side(alloc: Global, mesh: &Mesh) -> Result<Side, Fail>
     ensures { IfOk result (λ side. NoOpposite side.triples) }
 {
     let reduced = reduce(alloc, mesh)?;
-    plain_side(alloc, &reduced)
+    let side = plain_side(alloc, &reduced)?;
+    Ok(side)
 }
 
 // What two meshes and the numbers of a line give.
