@@ -2,7 +2,7 @@
 // what a reference program in another language splits them into. A triangle a, b, c is a number, 10000 a + 100 b + c.
 
 /// The number of points, the triangles, the old vertex of each new one, and the new triangles.
-pub type Row = (i32, &'static [u32], &'static [u32], &'static [u32]);
+pub type Row = (u8, &'static [u32], &'static [u32], &'static [u32]);
 
 pub const FIRST_MESHES: [Row; 20] = [
     (
