@@ -7,7 +7,7 @@ use mesh_check::Mesh;
 use samples::{TETRAHEDRON, line_soup, two_boxes};
 use std::alloc::Global;
 use std::test::Fail;
-use table::{FIRST_MESHES, Row, SECOND_MESHES, THIRD_MESHES};
+use table::ROWS;
 
 // The split mesh of these triangles over so many points on a line.
 fn split_line(alloc: Global, count: u8, triples: &[[u32; 3]]) -> Result<Split, Fail> {
@@ -17,15 +17,9 @@ fn split_line(alloc: Global, count: u8, triples: &[[u32; 3]]) -> Result<Split, F
 
 // Whether these points lie at the places of these vertices on the line.
 fn lie_at(points: &[Point], vertices: &[u32]) -> bool {
-    if points.len() != vertices.len() {
-        return false;
-    }
-    for (point, vertex) in points.iter().zip(vertices) {
-        if i64::from(point.at()[0]) != i64::from(*vertex) {
-            return false;
-        }
-    }
-    true
+    points.len() == vertices.len()
+        && points.iter().zip(vertices).all(|(point, vertex)| i64::from(point.at()[0])
+            == i64::from(*vertex))
 }
 
 // Whether a split mesh has these vertices, by the places of their points on the line, and these triangles.
@@ -50,53 +44,48 @@ fn a_clean_mesh_stays(rt: HostRuntime) -> Result<(), Fail> {
     Ok(())
 }
 
-// The triangles of a row.
-fn triples_of(alloc: Global, codes: &[u32]) -> Result<Vec<[u32; 3]>, Fail> {
-    let mut triples = Vec::new(alloc);
-    for code in codes {
-        triples.push([code / 10000, code / 100 % 100, code % 100])?;
+// The vertices that letters stand for.
+fn vertices_of(alloc: Global, letters: &str) -> Result<Vec<u32>, Fail> {
+    let mut vertices = Vec::new(alloc);
+    for letter in letters.as_bytes() {
+        vertices.push(u32::from(letter.wrapping_sub(b'a')))?;
     }
-    Ok(triples)
+    Ok(vertices)
 }
 
-// Whether the mesh of a row is split as the row says.
-fn row_holds(alloc: Global, row: &Row) -> Result<bool, Fail> {
-    let (count, triples, from, wanted) = *row;
-    let split = split_line(alloc, count, &triples_of(alloc, triples)?)?;
-    Ok(consists_of(&split, from, &triples_of(alloc, wanted)?))
+// Whether the mesh of a line is split as the line says.
+fn agrees(alloc: Global, line: &str) -> Result<bool, Fail> {
+    let mut words = line.split_whitespace();
+    let count = words.next().ok_or("a count")?.parse::<u8>()?;
+    let triples = vertices_of(alloc, words.next().ok_or("triangles")?)?;
+    let from = vertices_of(alloc, words.next().ok_or("vertices")?)?;
+    let wanted = vertices_of(alloc, words.next().ok_or("new triangles")?)?;
+    let split = split_line(alloc, count, triples.as_chunks().0)?;
+    Ok(consists_of(&split, &from, wanted.as_chunks().0))
 }
 
-// The place of the first row that does not hold.
-fn first_wrong(alloc: Global, rows: &[Row]) -> Result<Option<usize>, Fail> {
-    for (at, row) in rows.iter().enumerate() {
-        if !row_holds(alloc, row)? {
-            return Ok(Some(at));
-        }
-    }
-    Ok(None)
+#[test]
+fn no_triangles_stay_none(rt: HostRuntime) -> Result<(), Fail> {
+    assert!(rt; consists_of(&split_line(rt.alloc(), 0, &[])?, &[], &[]));
+    Ok(())
 }
 
-// No points, and two tetrahedra that share the edge between 0 and 1, which is used four times: they come apart.
-static FEW: [Row; 2] = [
-    (0, &[], &[], &[]),
-    (
-        6,
-        &[00201, 00103, 10203, 20003, 00401, 00105, 10405, 40005],
-        &[0, 0, 1, 1, 2, 3, 4, 5],
-        &[00402, 00205, 20405, 40005, 10603, 10307, 30607, 60107],
-    ),
-];
+// Two tetrahedra that share the edge between the vertices 0 and 1, which is used four times, as a line of the table.
+const AT_AN_EDGE: &str = "6 acbabdbcdcadaebabfbefeaf aabbcdef aecacfcefeafbgdbdhdghgbh";
 
 #[test]
 fn a_shared_edge_comes_apart(rt: HostRuntime) -> Result<(), Fail> {
-    assert_eq!(rt; first_wrong(rt.alloc(), &FEW)?, None);
+    assert!(rt; agrees(rt.alloc(), AT_AN_EDGE)?);
     Ok(())
 }
 
 #[test]
 fn sixty_meshes_are_split(rt: HostRuntime) -> Result<(), Fail> {
-    assert_eq!(rt; first_wrong(rt.alloc(), &FIRST_MESHES)?, None);
-    assert_eq!(rt; first_wrong(rt.alloc(), &SECOND_MESHES)?, None);
-    assert_eq!(rt; first_wrong(rt.alloc(), &THIRD_MESHES)?, None);
+    let mut count = 0u32;
+    for line in ROWS.lines() {
+        assert!(rt; agrees(rt.alloc(), line)?, "{line}");
+        count = count.saturating_add(1);
+    }
+    assert_eq!(rt; count, 60);
     Ok(())
 }
