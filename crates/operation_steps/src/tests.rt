@@ -11,7 +11,7 @@ use mesh_check::{Mesh, reduce};
 use mesh_make::{make_box, make_lattice};
 use mesh_measures::measure;
 use rounding::Nearest;
-use samples::{box_points, soup_of};
+use samples::{box_points, soup_of, two_boxes};
 use shadow_kernels::Grid;
 use std::alloc::Global;
 use std::marker::Brand;
@@ -135,39 +135,12 @@ fn cut_lattice<L: Ledger>(alloc: Global, steps: &mut Steps<L>) -> Result<(usize,
     counted(alloc, Op::Subtract, &grid, &cut, steps)
 }
 
-// The triangles of two boxes: the last vertex of the first is the first of the second.
-const JOINED: [[u32; 3]; 24] = [
-    [0, 3, 1],
-    [0, 2, 3],
-    [4, 5, 7],
-    [4, 7, 6],
-    [0, 1, 4],
-    [1, 5, 4],
-    [1, 3, 7],
-    [1, 7, 5],
-    [3, 2, 6],
-    [3, 6, 7],
-    [0, 4, 6],
-    [0, 6, 2],
-    [7, 10, 8],
-    [7, 9, 10],
-    [11, 12, 14],
-    [11, 14, 13],
-    [7, 8, 11],
-    [8, 12, 11],
-    [8, 10, 14],
-    [8, 14, 12],
-    [10, 9, 13],
-    [10, 13, 14],
-    [7, 11, 13],
-    [7, 13, 9],
-];
-
+// Two boxes: the last vertex of the first is the first of the second.
 fn joined_boxes(alloc: Global) -> Result<Mesh, Fail> {
     let [a, b, c, d, e, f, g, h] = box_points([0; 3], [10; 3]);
     let [_, i, j, k, l, m, n, o] = box_points([10; 3], [20; 3]);
     let points = [a, b, c, d, e, f, g, h, i, j, k, l, m, n, o];
-    Ok(Mesh::check(alloc, soup_of(alloc, &points, &JOINED)?)?)
+    Ok(Mesh::check(alloc, soup_of(alloc, &points, &two_boxes(7))?)?)
 }
 
 // Two boxes that share a vertex, and a box apart from them.
