@@ -80,15 +80,19 @@ fn read_row(line: &str) -> Option<Row> {
     })
 }
 
-/// Whether the crossings of a line are those of its corners.
-fn agrees(line: &str) -> bool {
+/// Whether the crossings of a line are those that kernels find for its corners.
+fn agrees<K: Kernels>(kernels: &K, line: &str) -> bool {
     let Some(row) = read_row(line) else {
         return false;
     };
-    let grid = Grid { rounding: Nearest };
-    let edge_face = grid.cross(&[row.p[0], row.p[1]], &row.q);
-    let face_edge = grid.cross(&row.p, &[row.q[0], row.q[1]]);
+    let edge_face = kernels.cross(&[row.p[0], row.p[1]], &row.q);
+    let face_edge = kernels.cross(&row.p, &[row.q[0], row.q[1]]);
     edge_face == row.edge_face && face_edge == row.face_edge
+}
+
+/// Whether they are those of the nearest rounding.
+fn agrees_nearest(line: &str) -> bool {
+    agrees(&Grid { rounding: Nearest }, line)
 }
 
 /// The number of the edge from a to b and a face, asked of the edge from b to a: right for any lawful kernels, by their
@@ -121,7 +125,7 @@ fn turns(line: &str) -> bool {
 #[test]
 fn agrees_with_the_table(rt: HostRuntime) {
     assert_eq!(rt; ROWS.lines().count(), 200);
-    assert!(rt; ROWS.lines().all(agrees));
+    assert!(rt; ROWS.lines().all(agrees_nearest));
 }
 
 #[test]
@@ -210,43 +214,36 @@ impl Rounding for Far {
     }
 }
 
-// Answers of an independent reference program, in which the point depends on which pair stands first in the order start,
-// end, first, second and third edge of the face.
+/// Whether the crossings of a line are those of the far rounding.
+fn agrees_far(line: &str) -> bool {
+    agrees(&Grid { rounding: Far }, line)
+}
+
+// Lines as in the table: an edge of P and a face of Q, then a face of P and an edge of Q. The third corner of the other
+// triangle is its first once more, so that the other pair has no crossing. The answers are those of an independent
+// reference program, in which the point depends on which pair stands first in the order start, end, first, second and
+// third edge of the face.
+static FIRST_PAIRS: [&str; 2] = [
+    "212xy 122xz 212xy 012 424 101 1:212 .",
+    "001z 233y 431xy 111 304 111 . -1:111",
+];
+
 #[test]
 fn a_crossing_lies_between_the_first_pairs_on_each_side(rt: HostRuntime) {
-    let grid = Grid { rounding: Far };
-    let still = [false; 3];
-    let edge = [
-        at(2, 1, 2, [true, true, false]),
-        at(1, 2, 2, [true, false, true]),
-    ];
-    let face = [at(0, 1, 2, still), at(4, 2, 4, still), at(1, 0, 1, still)];
-    assert_eq!(rt; grid.cross(&edge, &face), cross_at(1, 2, 1, 2));
-    let face = [
-        at(0, 0, 1, [false, false, true]),
-        at(2, 3, 3, [false, true, false]),
-        at(4, 3, 1, [true, true, false]),
-    ];
-    let edge = [at(1, 1, 1, still), at(3, 0, 4, still)];
-    assert_eq!(rt; grid.cross(&face, &edge), cross_at(-1, 1, 1, 1));
+    for line in FIRST_PAIRS {
+        assert!(rt; agrees_far(line), "{line}");
+    }
 }
 
 // A straight edge crosses a flat face once at most; shadows that are rounded far away can count it twice.
+static TWICE: [&str; 2] = [
+    "220yz 133x 220yz 010 444 240 -2:220 .",
+    "420xyz 333z 104 434 213 434 . 2:313",
+];
+
 #[test]
 fn far_rounding_can_count_a_crossing_twice(rt: HostRuntime) {
-    let grid = Grid { rounding: Far };
-    let still = [false; 3];
-    let edge = [
-        at(2, 2, 0, [false, true, true]),
-        at(1, 3, 3, [true, false, false]),
-    ];
-    let face = [at(0, 1, 0, still), at(4, 4, 4, still), at(2, 4, 0, still)];
-    assert_eq!(rt; grid.cross(&edge, &face), cross_at(-2, 2, 2, 0));
-    let face = [
-        at(4, 2, 0, [true, true, true]),
-        at(3, 3, 3, [false, false, true]),
-        at(1, 0, 4, still),
-    ];
-    let edge = [at(4, 3, 4, still), at(2, 1, 3, still)];
-    assert_eq!(rt; grid.cross(&face, &edge), cross_at(2, 3, 1, 3));
+    for line in TWICE {
+        assert!(rt; agrees_far(line), "{line}");
+    }
 }

@@ -1,13 +1,25 @@
 // The marks and corners of small meshes.
 use crate::{Side, leans};
-use mb_base::{Box3, Op, UNIT};
+use mb_base::{Box3, Corner, Op, Soup, UNIT};
 use mesh_check::Mesh;
 use samples::{box_soup, soup_of};
 use std::alloc::Global;
+use std::process::Abort;
 use std::test::Fail;
 
-fn mesh_of(alloc: Global, points: &[[i32; 3]], triples: &[[u32; 3]]) -> Result<Mesh, Fail> {
-    Ok(Mesh::check(alloc, soup_of(alloc, points, triples)?)?)
+fn accepted(alloc: Global, soup: Soup) -> Result<Mesh, Fail> {
+    Ok(Mesh::check(alloc, soup)?)
+}
+
+// The box from the origin to (10, 10, 10).
+fn box_mesh(alloc: Global) -> Result<Mesh, Fail> {
+    accepted(alloc, box_soup(alloc, [0; 3], [10; 3])?)
+}
+
+// Its marks.
+fn box_leans(alloc: Global, op: Op) -> Result<Vec<[bool; 3]>, Fail> {
+    let mesh = box_mesh(alloc)?;
+    Ok(leans(alloc, &mesh, op)?)
 }
 
 // The sums at a box's corners point away from it on each axis.
@@ -22,36 +34,33 @@ const OUTWARD: [[bool; 3]; 8] = [
     [true, true, true],
 ];
 
-const INWARD: [[bool; 3]; 8] = [
-    [true, true, true],
-    [false, true, true],
-    [true, false, true],
-    [false, false, true],
-    [true, true, false],
-    [false, true, false],
-    [true, false, false],
-    [false, false, false],
-];
-
 #[test]
 fn a_box_grows_in_a_union_and_shrinks_in_the_others(rt: HostRuntime) -> Result<(), Fail> {
-    let soup = box_soup(rt.alloc(), [0; 3], [10; 3])?;
-    let mesh = Mesh::check(rt.alloc(), soup)?;
-    let union = leans(rt.alloc(), &mesh, Op::Union)?;
+    let union = box_leans(rt.alloc(), Op::Union)?;
     assert_eq!(rt; union.as_slice(), OUTWARD.as_slice());
-    let intersection = leans(rt.alloc(), &mesh, Op::Intersect)?;
-    assert_eq!(rt; intersection.as_slice(), INWARD.as_slice());
-    let difference = leans(rt.alloc(), &mesh, Op::Subtract)?;
-    assert_eq!(rt; difference.as_slice(), INWARD.as_slice());
+    // In reverse order each corner has the place of the one across the box.
+    let mut inward = OUTWARD;
+    inward.reverse();
+    for op in [Op::Intersect, Op::Subtract] {
+        assert_eq!(rt; box_leans(rt.alloc(), op)?.as_slice(), inward.as_slice());
+    }
     Ok(())
+}
+
+// Two triangles back to back.
+const SHEET: [[u32; 3]; 2] = [[0, 1, 2], [2, 1, 0]];
+
+// Their mesh over these points.
+fn sheet_mesh(alloc: Global, points: &[[i32; 3]]) -> Result<Mesh, Fail> {
+    accepted(alloc, soup_of(alloc, points, &SHEET)?)
 }
 
 #[test]
 fn a_sum_of_nothing_is_no_mark(rt: HostRuntime) -> Result<(), Fail> {
-    // Two triangles back to back, with corners at the bounds of the grid.
+    // Corners at the bounds of the grid.
     let end = 1 << 30;
     let points = [[-end, -end, end], [end, -end, end], [-end, end, -end]];
-    let mesh = mesh_of(rt.alloc(), &points, &[[0, 1, 2], [2, 1, 0]])?;
+    let mesh = sheet_mesh(rt.alloc(), &points)?;
     for op in [Op::Union, Op::Intersect, Op::Subtract] {
         assert_eq!(rt;
             leans(rt.alloc(), &mesh, op)?.as_slice(),
@@ -61,41 +70,64 @@ fn a_sum_of_nothing_is_no_mark(rt: HostRuntime) -> Result<(), Fail> {
     Ok(())
 }
 
-// Two triangles back to back.
-const SHEET: [[u32; 3]; 2] = [[0, 1, 2], [2, 1, 0]];
-
-fn sheet(alloc: Global) -> Result<Side, Fail> {
-    let points = [[0, 0, 0], [1 << 30, -5, 7], [3, -(1 << 30), 2]];
-    let mesh = mesh_of(alloc, &points, &SHEET)?;
-    let ups = vec![in alloc; [false; 3], [true, false, true], [false, true, false]]?;
-    if ups.len() != mesh.points().len() {
+// The side of a mesh with three points.
+fn side_of(alloc: Global, mesh: &Mesh, ups: [[bool; 3]; 3]) -> Result<Side, Fail> {
+    if mesh.points().len() != 3 {
         return Err("three marks for three points".into());
     }
-    Ok(Side::of(alloc, &mesh, ups)?)
+    Ok(Side::of(alloc, mesh, Vec::from_array(alloc, ups)?)?)
+}
+
+fn sheet(alloc: Global) -> Result<Side, Fail> {
+    let mesh = sheet_mesh(alloc, &[[0, 0, 0], [1 << 30, -5, 7], [3, -(1 << 30), 2]])?;
+    side_of(
+        alloc,
+        &mesh,
+        [[false; 3], [true, false, true], [false, true, false]],
+    )
+}
+
+fn expect_lists(rt: &impl Abort, side: &Side) {
+    assert_eq!(rt; side.triples(), SHEET.as_slice());
+    assert_eq!(rt; side.twins().twins(), [4, 3, 5, 1, 0, 2].as_slice());
+    let second = Corner {
+        at: [(1 << 30) * UNIT, -5 * UNIT, 7 * UNIT],
+        up: [true, false, true],
+    };
+    let third = Corner {
+        at: [3 * UNIT, -(1 << 30) * UNIT, 2 * UNIT],
+        up: [false, true, false],
+    };
+    let corners = side.corners();
+    assert_eq!(rt; corners.len(), 3);
+    let first = corners[0];
+    assert_eq!(rt; corners, [first, second, third].as_slice());
+}
+
+fn expect_faces(rt: &impl Abort, side: &Side) {
+    let corners = side.corners();
+    assert_eq!(rt; corners.len(), 3);
+    let [first, second, third] = [corners[0], corners[1], corners[2]];
+    assert_eq!(rt; side.triples().len(), 2);
+    assert_eq!(rt; side.face(1), [third, second, first]);
+    assert_eq!(rt; side.start(4), 1);
+    assert_eq!(rt;
+        [side.edge(2), side.edge(3)],
+        [[third, first], [third, second]]
+    );
 }
 
 #[test]
 fn corners_are_points_in_fine_steps(rt: HostRuntime) -> Result<(), Fail> {
     let side = sheet(rt.alloc())?;
-    assert_eq!(rt; side.triples(), SHEET.as_slice());
-    assert_eq!(rt; side.twins().twins(), [4, 3, 5, 1, 0, 2].as_slice());
-    let corners = side.corners();
-    assert_eq!(rt; corners.len(), 3);
-    assert_eq!(rt; corners[1].at, [(1 << 30) * UNIT, -5 * UNIT, 7 * UNIT]);
-    assert_eq!(rt; corners[1].up, [true, false, true]);
-    assert_eq!(rt; corners[2].at, [3 * UNIT, -(1 << 30) * UNIT, 2 * UNIT]);
-    assert_eq!(rt; corners[2].up, [false, true, false]);
-    assert_eq!(rt; side.triples().len(), 2);
-    assert_eq!(rt; side.face(1), [corners[2], corners[1], corners[0]]);
-    assert_eq!(rt; side.start(4), 1);
-    assert_eq!(rt; side.edge(2), [corners[2], corners[0]]);
-    assert_eq!(rt; side.edge(3), [corners[2], corners[1]]);
+    expect_lists(&rt, &side);
+    expect_faces(&rt, &side);
     Ok(())
 }
 
-// The box from the origin to (10, 10, 10).
+// The box with its marks in a union.
 fn box_side(alloc: Global) -> Result<Side, Fail> {
-    let mesh = Mesh::check(alloc, box_soup(alloc, [0; 3], [10; 3])?)?;
+    let mesh = box_mesh(alloc)?;
     let ups = leans(alloc, &mesh, Op::Union)?;
     Ok(Side::of(alloc, &mesh, ups)?)
 }

@@ -106,15 +106,25 @@ static IN_PIECES: [(Call, Answer); 10] = [
     (Call::Append("old", b"9"), Err(Failed)),
 ];
 
+// Whether a shelf holds these bytes under a name, or no file of the name.
+fn holds(shelf: &MemoryShelf, name: &str, wanted: Option<&[u8]>) -> bool {
+    shelf.get(name) == wanted
+}
+
+// Whether a shelf holds these bytes under a name once they are put there.
+fn is_put(shelf: &mut MemoryShelf, name: &str, bytes: &[u8]) -> Result<bool, Fail> {
+    shelf.put(name, bytes)?;
+    Ok(holds(shelf, name, Some(bytes)))
+}
+
 #[test]
 fn a_file_in_memory_is_written_in_pieces(rt: HostRuntime) -> Result<(), Fail> {
     let fails = vec![in rt.alloc(); 3]?;
     let mut shelf = shelf_with(rt.alloc(), 1, 6, fails, "old", b"12345678")?;
     assert!(rt; answers(&mut shelf, &IN_PIECES, &mut [], b""));
-    assert!(rt; shelf.get("new") == Some(b"abcdef".as_slice()));
-    assert!(rt; shelf.get("third").is_none());
-    shelf.put("old", b"now")?;
-    assert!(rt; shelf.get("old") == Some(b"now".as_slice()));
+    assert!(rt; holds(&shelf, "new", Some(b"abcdef")));
+    assert!(rt; holds(&shelf, "third", None));
+    assert!(rt; is_put(&mut shelf, "old", b"now")?);
     Ok(())
 }
 

@@ -11,7 +11,7 @@ use mesh_check::{Mesh, reduce};
 use mesh_make::{make_box, make_lattice};
 use mesh_measures::measure;
 use rounding::Nearest;
-use samples::{box_points, soup_of};
+use samples::{box_points, soup_of, two_boxes};
 use shadow_kernels::Grid;
 use std::alloc::Global;
 use std::marker::Brand;
@@ -135,39 +135,12 @@ fn cut_lattice<L: Ledger>(alloc: Global, steps: &mut Steps<L>) -> Result<(usize,
     counted(alloc, Op::Subtract, &grid, &cut, steps)
 }
 
-// The triangles of two boxes: the last vertex of the first is the first of the second.
-const JOINED: [[u32; 3]; 24] = [
-    [0, 3, 1],
-    [0, 2, 3],
-    [4, 5, 7],
-    [4, 7, 6],
-    [0, 1, 4],
-    [1, 5, 4],
-    [1, 3, 7],
-    [1, 7, 5],
-    [3, 2, 6],
-    [3, 6, 7],
-    [0, 4, 6],
-    [0, 6, 2],
-    [7, 10, 8],
-    [7, 9, 10],
-    [11, 12, 14],
-    [11, 14, 13],
-    [7, 8, 11],
-    [8, 12, 11],
-    [8, 10, 14],
-    [8, 14, 12],
-    [10, 9, 13],
-    [10, 13, 14],
-    [7, 11, 13],
-    [7, 13, 9],
-];
-
+// Two boxes: the last vertex of the first is the first of the second.
 fn joined_boxes(alloc: Global) -> Result<Mesh, Fail> {
     let [a, b, c, d, e, f, g, h] = box_points([0; 3], [10; 3]);
     let [_, i, j, k, l, m, n, o] = box_points([10; 3], [20; 3]);
     let points = [a, b, c, d, e, f, g, h, i, j, k, l, m, n, o];
-    Ok(Mesh::check(alloc, soup_of(alloc, &points, &JOINED)?)?)
+    Ok(Mesh::check(alloc, soup_of(alloc, &points, &two_boxes(7))?)?)
 }
 
 // Two boxes that share a vertex, and a box apart from them.
@@ -182,53 +155,47 @@ fn joined_boxes_and_one<L: Ledger>(
     counted(alloc, Op::Union, &joined, &other, steps)
 }
 
-fn three_operations_from<L: Ledger>(alloc: Global, blank: Blank) -> Result<([usize; 3], u64), Fail>
-    requires name { blank.name ≡ L.name }
-    requires parts { blank.parts ≡ L.parts }
-    requires some { 0 < blank.parts }
-{
-    let mut steps = Steps::<L>::over(blank);
-    post_through_a_box(alloc, &mut steps)
+// Which operations are done.
+#[derive(Clone, Copy, Drop)]
+enum Case {
+    PostThroughBox,
+    CutLattice,
+    JoinedBoxes,
 }
 
-fn cut_lattice_from<L: Ledger>(alloc: Global, blank: Blank) -> Result<(usize, u64), Fail>
+// The numbers of points that they give, 0 where fewer than three are done, and the most by which they raise a counter that
+// begins anew.
+fn done_from<L: Ledger>(alloc: Global, blank: Blank, case: Case) -> Result<([usize; 3], u64), Fail>
     requires name { blank.name ≡ L.name }
     requires parts { blank.parts ≡ L.parts }
     requires some { 0 < blank.parts }
 {
     let mut steps = Steps::<L>::over(blank);
-    cut_lattice(alloc, &mut steps)
-}
-
-fn joined_boxes_from<L: Ledger>(alloc: Global, blank: Blank) -> Result<(usize, u64), Fail>
-    requires name { blank.name ≡ L.name }
-    requires parts { blank.parts ≡ L.parts }
-    requires some { 0 < blank.parts }
-{
-    let mut steps = Steps::<L>::over(blank);
-    joined_boxes_and_one(alloc, &mut steps)
+    let (points, most) = match case {
+        Case::PostThroughBox => return post_through_a_box(alloc, &mut steps),
+        Case::CutLattice => cut_lattice(alloc, &mut steps)?,
+        Case::JoinedBoxes => joined_boxes_and_one(alloc, &mut steps)?,
+    };
+    Ok(([points, 0, 0], most))
 }
 
 #[test]
 fn three_operations_on_two_boxes_take_at_most_six_sums(rt: HostRuntime) -> Result<(), Fail> {
-    let (points, most) = three_operations_from::<Brand>(rt.alloc(), Blank::new(1))?;
-    assert_eq!(rt; points, [22, 14, 22]);
-    assert_eq!(rt; most, 6);
+    let done = done_from::<Brand>(rt.alloc(), Blank::new(1), Case::PostThroughBox)?;
+    assert_eq!(rt; done, ([22, 14, 22], 6));
     Ok(())
 }
 
 #[test]
 fn a_cut_of_a_lattice_takes_at_most_one_sum_for_each_box(rt: HostRuntime) -> Result<(), Fail> {
-    let (points, most) = cut_lattice_from::<Brand>(rt.alloc(), Blank::new(1))?;
-    assert_eq!(rt; points, 36_800);
-    assert_eq!(rt; most, 8001);
+    let done = done_from::<Brand>(rt.alloc(), Blank::new(1), Case::CutLattice)?;
+    assert_eq!(rt; done, ([36_800, 0, 0], 8001));
     Ok(())
 }
 
 #[test]
 fn boxes_that_share_a_vertex_count_as_one_component(rt: HostRuntime) -> Result<(), Fail> {
-    let (points, most) = joined_boxes_from::<Brand>(rt.alloc(), Blank::new(1))?;
-    assert_eq!(rt; points, 24);
-    assert_eq!(rt; most, 2);
+    let done = done_from::<Brand>(rt.alloc(), Blank::new(1), Case::JoinedBoxes)?;
+    assert_eq!(rt; done, ([24, 0, 0], 2));
     Ok(())
 }

@@ -1,424 +1,65 @@
-// Sixty closed meshes, made at random from tetrahedra, octahedra and two-sided triangles over few vertices, and
-// what a reference program in another language splits them into. A triangle a, b, c is a number, 10000 a + 100 b + c.
-
-/// The number of points, the triangles, the old vertex of each new one, and the new triangles.
-pub type Row = (i32, &'static [u32], &'static [u32], &'static [u32]);
-
-pub const FIRST_MESHES: [Row; 20] = [
-    (
-        4,
-        &[30002, 30201, 20001, 10003, 30200, 20300],
-        &[0, 0, 1, 2, 2, 3, 3],
-        &[50003, 50302, 30002, 20005, 60401, 40601],
-    ),
-    (
-        4,
-        &[30001, 30001, 102, 301, 10002, 301],
-        &[0, 0, 1, 1, 2, 3, 3],
-        &[50002, 60103, 10304, 502, 30104, 10603],
-    ),
-    (
-        5,
-        &[20103, 30400, 30004, 301, 103, 30001, 301, 20301],
-        &[0, 0, 0, 1, 2, 3, 3, 4],
-        &[40305, 60700, 60007, 10503, 10305, 50203, 20503, 40503],
-    ),
-    (
-        6,
-        &[
-            40300, 50402, 30400, 40302, 20301, 30201, 30502, 40003, 40500, 50300,
-        ],
-        &[0, 0, 1, 2, 3, 3, 4, 4, 5],
-        &[
-            60400, 80703, 40600, 70503, 30502, 50302, 50803, 70105, 70801, 80501,
-        ],
-    ),
-    (
-        3,
-        &[201, 102, 20001, 20100, 20100, 201, 102, 20001],
-        &[0, 0, 0, 0, 1, 1, 1, 1, 2, 2, 2, 2],
-        &[804, 408, 90105, 90501, 100602, 31107, 20610, 110307],
-    ),
-    (
-        5,
-        &[
-            301, 103, 30401, 204, 10403, 20104, 20400, 102, 402, 204, 401, 402,
-        ],
-        &[0, 0, 0, 1, 1, 1, 2, 2, 2, 3, 3, 4, 4, 4],
-        &[
-            903, 309, 101104, 10612, 41110, 60512, 71201, 10506, 11207, 20813, 11205, 21308,
-        ],
-    ),
-    (
-        6,
-        &[
-            30402, 10402, 30104, 50102, 50401, 50204, 102, 40002, 30201, 10204, 204, 402, 10004,
-            10402,
-        ],
-        &[0, 1, 1, 2, 2, 3, 4, 4, 5],
-        &[
-            50603, 10603, 50206, 80103, 80601, 80306, 203, 60003, 50302, 20406, 407, 604, 20007,
-            20704,
-        ],
-    ),
-    (
-        3,
-        &[201, 201, 10200, 102, 102, 201],
-        &[0, 0, 0, 1, 1, 1, 2, 2, 2],
-        &[603, 10704, 30600, 10407, 20508, 20805],
-    ),
-    (
-        4,
-        &[30200, 30002, 30102, 20103],
-        &[0, 1, 2, 2, 3, 3],
-        &[40200, 40002, 50103, 30105],
-    ),
-    (
-        4,
-        &[20300, 10200, 30100, 30201],
-        &[0, 1, 2, 3],
-        &[20300, 10200, 30100, 30201],
-    ),
-    (
-        6,
-        &[
-            20004, 20400, 50102, 20400, 20004, 40100, 30502, 30105, 50102, 20103, 104, 20103,
-            10004, 30502, 104, 30105,
-        ],
-        &[0, 0, 0, 0, 1, 1, 1, 1, 2, 2, 2, 2, 3, 3, 4, 4, 4, 4, 5, 5],
-        &[
-            80014, 81400, 180409, 101501, 100115, 160502, 121809, 120418, 190611, 90412, 20516,
-            110613, 70317, 131911, 30717, 130619,
-        ],
-    ),
-    (
-        4,
-        &[20301, 20001, 10002, 10302],
-        &[0, 1, 2, 3],
-        &[20301, 20001, 10002, 10302],
-    ),
-    (
-        6,
-        &[10302, 405, 40005, 30102, 10005, 105],
-        &[0, 0, 1, 1, 2, 3, 4, 5, 5],
-        &[20504, 607, 60007, 50204, 30108, 10308],
-    ),
-    (
-        7,
-        &[
-            20405, 60102, 60201, 402, 603, 60003, 60003, 50002, 50400, 60201, 60102, 603,
-        ],
-        &[0, 0, 0, 1, 1, 2, 2, 2, 3, 3, 4, 5, 6, 6, 6, 6],
-        &[
-            51011, 120306, 120603, 1005, 11308, 130108, 140209, 110005, 111000, 150704, 150407,
-            21409,
-        ],
-    ),
-    (3, &[10002, 102], &[0, 1, 2], &[10002, 102]),
-    (
-        5,
-        &[203, 10302, 302, 10203, 102, 30402, 30104, 20103, 201, 40102],
-        &[0, 0, 1, 1, 2, 2, 3, 3, 4],
-        &[
-            406, 20604, 604, 20406, 10305, 70805, 70308, 50307, 10503, 80305,
-        ],
-    ),
-    (
-        5,
-        &[40301, 401, 30001, 203, 304, 30200],
-        &[0, 0, 1, 2, 3, 3, 4],
-        &[60402, 602, 40002, 10305, 406, 50301],
-    ),
-    (3, &[20001, 20100], &[0, 1, 2], &[20001, 20100]),
-    (
-        3,
-        &[10200, 20100, 201, 20001],
-        &[0, 0, 1, 1, 2, 2],
-        &[20400, 40200, 10503, 50103],
-    ),
-    (
-        6,
-        &[50201, 20501, 30402, 40302, 30100, 40302, 103, 30402],
-        &[0, 1, 1, 2, 2, 2, 3, 3, 3, 4, 4, 5],
-        &[110301, 31101, 60904, 90604, 70200, 100805, 207, 81005],
-    ),
-];
-
-pub const SECOND_MESHES: [Row; 20] = [
-    (
-        5,
-        &[40200, 10300, 20300, 10400, 20400, 40100, 30100, 30200],
-        &[0, 1, 2, 3, 3, 4],
-        &[50200, 10300, 20400, 10500, 20500, 50100, 30100, 40200],
-    ),
-    (
-        8,
-        &[
-            60702, 104, 40305, 60702, 50300, 20700, 40500, 30004, 70200, 60207, 301, 10304, 60207,
-            30400,
-        ],
-        &[0, 0, 0, 1, 2, 3, 3, 4, 4, 5, 6, 6, 7],
-        &[
-            101204, 307, 70509, 111204, 90500, 41201, 70900, 60208, 120401, 100412, 503, 30507,
-            110412, 60802,
-        ],
-    ),
-    (
-        4,
-        &[30100, 30200, 10300, 30002],
-        &[0, 0, 1, 2, 3, 3],
-        &[40200, 50301, 20400, 50103],
-    ),
-    (
-        3,
-        &[10002, 10200, 102, 20100],
-        &[0, 0, 1, 1, 2, 2],
-        &[20004, 20400, 10305, 50301],
-    ),
-    (
-        3,
-        &[20100, 20100, 10200, 10200],
-        &[0, 0, 1, 1, 2, 2],
-        &[40200, 50301, 20400, 30501],
-    ),
-    (
-        6,
-        &[20103, 20403, 40200, 40003, 30102, 50300, 50003, 203],
-        &[0, 1, 2, 2, 3, 3, 4, 5],
-        &[20104, 30605, 60300, 60005, 40102, 70500, 70005, 305],
-    ),
-    (
-        3,
-        &[102, 102, 10002, 10002],
-        &[0, 0, 1, 1, 2, 2],
-        &[204, 10305, 20004, 30105],
-    ),
-    (
-        7,
-        &[
-            60502, 40001, 40502, 30605, 40002, 40205, 60200, 30605, 60205, 40100, 60305, 306,
-            40200, 60305, 30006, 60002,
-        ],
-        &[0, 0, 1, 2, 3, 3, 3, 4, 4, 4, 5, 5, 5, 6, 6, 6],
-        &[
-            131003, 70002, 81003, 41411, 90103, 80310, 130301, 51512, 130310, 70200, 140411, 10613,
-            90301, 150512, 60113, 130103,
-        ],
-    ),
-    (
-        3,
-        &[201, 102, 102, 201],
-        &[0, 0, 1, 1, 2, 2],
-        &[402, 204, 10305, 10503],
-    ),
-    (
-        7,
-        &[60204, 60403, 60304, 604, 60002, 50301, 30501, 20004],
-        &[0, 1, 2, 3, 3, 4, 5, 6],
-        &[70205, 70503, 70305, 705, 70002, 60401, 40601, 20005],
-    ),
-    (
-        6,
-        &[
-            401, 30002, 10300, 10200, 10002, 30501, 30200, 40001, 10003, 10503,
-        ],
-        &[0, 0, 1, 1, 1, 2, 3, 3, 3, 4, 5],
-        &[
-            902, 60105, 20700, 30501, 30105, 81004, 60501, 90002, 20007, 41008,
-        ],
-    ),
-    (
-        5,
-        &[20400, 30401, 10403, 40200],
-        &[0, 1, 2, 3, 4, 4],
-        &[20400, 30501, 10503, 40200],
-    ),
-    (
-        5,
-        &[40301, 30401, 20400, 20400, 20004, 20004],
-        &[0, 0, 1, 2, 2, 3, 4, 4, 4],
-        &[60502, 50602, 30700, 40801, 30007, 40108],
-    ),
-    (3, &[102, 20100], &[0, 1, 2], &[102, 20100]),
-    (3, &[201, 20001], &[0, 1, 2], &[201, 20001]),
-    (3, &[10002, 20001], &[0, 1, 2], &[10002, 20001]),
-    (
-        6,
-        &[10503, 30501, 20104, 10200, 204, 10004],
-        &[0, 1, 1, 2, 3, 4, 5],
-        &[10604, 40601, 30205, 20300, 305, 20005],
-    ),
-    (
-        7,
-        &[60004, 50302, 40006, 40001, 20305, 40100],
-        &[0, 0, 1, 2, 3, 4, 4, 5, 6],
-        &[80005, 70403, 50008, 60102, 30407, 60201],
-    ),
-    (
-        4,
-        &[
-            20100, 20100, 102, 10302, 10203, 10203, 30100, 30002, 103, 103, 30200, 30200,
-        ],
-        &[0, 0, 0, 1, 1, 1, 2, 2, 2, 3, 3, 3],
-        &[
-            60300, 70401, 306, 40907, 40709, 40710, 110502, 110208, 10410, 20511, 100701, 110802,
-        ],
-    ),
-    (
-        3,
-        &[20100, 20001, 201, 10002, 20001, 20100, 20001, 20001],
-        &[0, 0, 0, 0, 1, 1, 1, 1, 2, 2, 2, 2],
-        &[80400, 80004, 10905, 60210, 90105, 110703, 100206, 110307],
-    ),
-];
-
-pub const THIRD_MESHES: [Row; 20] = [
-    (
-        4,
-        &[30102, 20100, 203, 30200, 10300, 20003],
-        &[0, 1, 2, 2, 3],
-        &[40102, 20100, 304, 40200, 10400, 30004],
-    ),
-    (
-        4,
-        &[20103, 203, 10003, 10003, 20001, 20103, 20001, 203],
-        &[0, 0, 1, 1, 2, 2, 3, 3],
-        &[40206, 406, 20006, 30107, 40002, 50307, 50103, 10507],
-    ),
-    (
-        7,
-        &[
-            10504, 306, 60103, 20500, 60300, 20405, 10005, 20004, 10400, 60301,
-        ],
-        &[0, 0, 1, 1, 2, 3, 3, 4, 5, 6, 6],
-        &[
-            20807, 509, 100306, 40801, 90500, 40708, 20108, 40107, 20701, 100603,
-        ],
-    ),
-    (
-        5,
-        &[20301, 10400, 20103, 40100, 20103, 20301],
-        &[0, 1, 1, 1, 2, 2, 3, 3, 4],
-        &[40601, 20800, 40106, 80200, 50307, 50703],
-    ),
-    (
-        4,
-        &[30201, 302, 30002, 30201, 20301, 20301],
-        &[0, 1, 1, 2, 2, 3, 3],
-        &[50301, 503, 50003, 60402, 30501, 40602],
-    ),
-    (
-        6,
-        &[
-            40501, 40300, 30200, 30504, 30402, 30402, 40501, 50301, 40300, 30200, 50301, 30504,
-            30401, 40002, 40002, 30401,
-        ],
-        &[0, 0, 1, 1, 2, 2, 3, 3, 3, 4, 4, 4, 5, 5],
-        &[
-            91202, 100600, 60400, 71209, 61004, 70905, 111303, 120702, 90701, 70501, 130803, 81311,
-            70902, 100004, 90105, 81103,
-        ],
-    ),
-    (
-        3,
-        &[20001, 20001, 201, 201],
-        &[0, 0, 1, 1, 2, 2],
-        &[40002, 50103, 402, 10503],
-    ),
-    (
-        7,
-        &[60400, 30504, 50104, 30105, 10304, 50402, 406, 50204],
-        &[0, 1, 2, 3, 4, 4, 4, 5, 5, 6],
-        &[90400, 30705, 70105, 30107, 10305, 80602, 409, 80206],
-    ),
-    (
-        5,
-        &[10400, 30201, 10203, 10004],
-        &[0, 1, 1, 2, 3, 4],
-        &[10500, 40302, 20304, 10005],
-    ),
-    (
-        4,
-        &[10300, 20001, 201, 10003],
-        &[0, 1, 2, 3],
-        &[10300, 20001, 201, 10003],
-    ),
-    (
-        6,
-        &[40302, 105, 401, 10405, 30402, 40005],
-        &[0, 1, 2, 3, 4, 4, 5],
-        &[40302, 106, 501, 10506, 30402, 50006],
-    ),
-    (
-        3,
-        &[102, 102, 20100, 10002],
-        &[0, 0, 1, 1, 2, 2],
-        &[204, 10305, 40200, 30105],
-    ),
-    (
-        5,
-        &[30204, 20300, 20003, 10302, 203, 20004, 30102, 304],
-        &[0, 0, 1, 2, 2, 3, 3, 4],
-        &[50307, 30500, 30005, 20604, 10305, 30107, 60204, 10507],
-    ),
-    (
-        6,
-        &[
-            30005, 20405, 40500, 20405, 10205, 10205, 20104, 40203, 30200, 40002, 40305, 40105,
-            20104, 40105,
-        ],
-        &[0, 1, 1, 2, 2, 3, 4, 5, 5],
-        &[
-            50007, 30607, 60700, 40608, 10307, 20408, 30106, 60405, 50400, 60004, 60507, 60107,
-            40206, 60208,
-        ],
-    ),
-    (
-        3,
-        &[10200, 20100, 102, 10002],
-        &[0, 0, 1, 1, 2, 2],
-        &[20400, 40200, 10305, 30105],
-    ),
-    (
-        5,
-        &[
-            40102, 10403, 40103, 10300, 20100, 10002, 20301, 102, 10003, 30200, 103, 10402,
-        ],
-        &[0, 1, 1, 2, 2, 3, 3, 4],
-        &[
-            70103, 10705, 70105, 10600, 30100, 10004, 40601, 103, 20006, 60400, 206, 10703,
-        ],
-    ),
-    (
-        4,
-        &[102, 10002, 102, 302, 30002, 30002, 10002, 302],
-        &[0, 0, 1, 1, 2, 2, 3, 3],
-        &[204, 20004, 10305, 10605, 60105, 70105, 30105, 10705],
-    ),
-    (
-        5,
-        &[10300, 40200, 20400, 30402, 301, 40302],
-        &[0, 0, 1, 2, 2, 3, 3, 4, 4],
-        &[20500, 70301, 30701, 60804, 502, 80604],
-    ),
-    (
-        6,
-        &[
-            40005, 40503, 50003, 20105, 20501, 403, 403, 40503, 50003, 40005,
-        ],
-        &[0, 0, 1, 2, 3, 3, 4, 4, 5, 5, 5],
-        &[
-            60008, 60804, 80004, 30209, 30902, 604, 10705, 71005, 100105, 70110,
-        ],
-    ),
-    (
-        6,
-        &[
-            30001, 50001, 501, 30500, 20504, 20403, 50203, 40503, 501, 50301,
-        ],
-        &[0, 1, 2, 3, 4, 5, 5],
-        &[
-            30001, 50001, 501, 30600, 20604, 20403, 60203, 40603, 601, 60301,
-        ],
-    ),
-];
+/// Sixty closed meshes, made at random from tetrahedra, octahedra and two-sided triangles over few vertices, and what a
+/// reference program in another language splits them into. A line has the number of points, the triangles, the old
+/// vertex of each new one, and the new triangles. A vertex is a letter, from a for 0, and a triangle three of them.
+pub const ROWS: &str = "\
+4 dacdcbcabbaddcacda aabccdd fadfdcdaccafgebegb
+4 dabdababcadbbacadb aabbcdd facgbdbdeafcdbebgd
+5 cbddeadaeadbabddabadbcdb aaabcdde edfghagahbfdbdffcdcfdefd
+6 edafecdeaedccdbdcbdfceadefafda aabcddeef geaihdegahfddfcfdcfidhbfhibifb
+3 acbabccabcbacbaacbabccab aaaabbbbcccc aieaeijbfjfbkgcdlhcgkldh
+5 adbabddebacebedcbeceaabcaecaceaebaec aaabbbcccddeee ajdadjklebgmelkgfmhmbbfgbmhcinbmfcni
+6 decbecdbefbcfebfceabceacdcbbceaceaecbaebec abbccdeef fgdbgdfcgibdigbidgacdgadfdccegaehagecahche
+3 acbacbbcaabcabcacb aaabbbccc agdbhedgabehcficif
+4 dcadacdbccbd abccdd ecaeacfbddbf
+4 cdabcadbadcb abcd cdabcadbadcb
+6 caeceafbcceacaeebadfcdbffbccbdabecbdbaedfcabedbf aaaabbbbccccddeeeeff iaoioasejkpbkbpqfcmsjmestgljemcfqlgnhdrntldhrngt
+4 cdbcabbacbdc abcd cdbcabbacbdc
+6 bdcaefeafdbcbafabf aabbcdeff cfeaghgahfcedbibdi
+7 cefgbcgcbaecagdgadgadfacfeagcbgbcagd aaabbcccddefgggg fklmdgmgdakfbninbiocjlaflkaphepehcoj
+3 bacabc abc bacabc
+5 acdbdcadcbcdabcdecdbecbdacbebc aabbccdde aegcgeagecegbdfhifhdifdhbfdidf
+5 edbaebdabacdadedca aabcdde gecagceacbdfaegfdb
+3 cabcba abc cabcba
+3 bcacbaacbcab aabbcc ceaecabfdfbd
+6 fcbcfbdecedcdbaedcabddec abbcccdddeef ldbdlbgjejgehcakifachikf
+5 ecabdacdabeaceaebadbadca abcdde fcabdaceabfacfafbadbaeca
+8 ghcabeedfghcfdachaefadaehcagchadbbdegchdea aaabcddeefggh kmeadhhfjlmejfaembhjagcimebkemafddfhlemgic
+4 dbadcabdadac aabcdd ecafdbceafbd
+3 bacbcaabccba aabbcc caeceabdffdb
+3 cbacbabcabca aabbcc ecafdbceadfb
+6 cbdcedecaeaddbcfdafadacd abccddef cbedgfgdagafebchfahafadf
+3 abcabcbacbac aabbcc acebdfcaedbf
+7 gfceabefcdgfeacecfgcadgfgcfebagdfadgecagdfdaggac aabcdddeeefffggg nkdhacikdeoljbdidkndbfpmndkhcaoelbgnjdbpfmgbnnbd
+3 acbabcabcacb aabbcc aecacebdfbfd
+7 gcegedgdeagegacfdbdfbcae abcddefg hcfhfdhdfahfhacgebegbcaf
+6 aebdacbdabcabacdfbdcaeabbadbfd aabbbcdddef ajcgbfchadfbdbfikegfbjaccaheki
+5 ceadebbedeca abcdee ceadfbbfdeca
+5 edbdebceaceacaecae aabccdeee gfcfgcdhaeibdahebi
+3 abccba abc abccba
+3 acbcab abc acbcab
+3 baccab abc baccab
+6 bfddfbcbebcaacebae abbcdef bgeegbdcfcdaadfcaf
+7 gaefdceageabcdfeba aabcdeefg iafhedfaigbcdehgcb
+4 cbacbaabcbdcbcdbcddbadacabdabddcadca aaabbbcccddd gdahebadgejhehjehklfclcibekcflkhblic
+3 cbacabacbbaccabcbacabcab aaaabbbbcccc ieaiaebjfgckjbflhdkcgldh
+4 dbccbaacddcabdacad abccd ebccbaadeecabeadae
+4 cbdacdbadbadcabcbdcabacd aabbccdd ecgaegcagdbheacfdhfbdbfh
+7 bfeadggbdcfagdacefbafcaebeagdb aabbcddefgg cihafjkdgeibjfaehicbiebhchbkgd
+5 cdbbeacbdebacbdcdb abbbccdde egbciaebgicafdhfhd
+4 dcbadcdacdcbcdbcdb abbccdd fdbafdfadgecdfbegc
+6 efbedadcadfedecdecefbfdbedadcafdbdfedebeaceacdeb aabbccdddeeeff jmckgageahmjgkehjflndmhcjhbhfbnidinlhjckaejbfild
+3 cabcabacbacb aabbcc eacfbdaecbfd
+7 geadfefbedbfbdefecaegfce abcdeeeffg jeadhfhbfdbhbdfigcaejicg
+5 beadcbbcdbae abbcde bfaedccdebaf
+4 bdacabacbbad abcd bdacabacbbad
+6 edcabfaebbefdeceaf abcdeef edcabgafbbfgdecfag
+3 abcabccbabac aabbcc acebdfecadbf
+5 dcecdacadbdcacdcaedbcade aabccdde fdhdfadafcgebdfdbhgcebfh
+6 dafcefefacefbcfbcfcbeecddcaeacedfebfcbeebf abbccdeff fahdghghaegibdhceidbggeffeagaegfhgbhecggci
+3 bcacbaabcbac aabbcc ceaecabdfdbf
+5 ebcbedebdbdacbabaccdbabcbaddcaabdbec abbccdde hbdbhfhbfbgadbabaeegbabdcaggeaacgbhd
+4 abcbacabcadcdacdacbacadc aabbccdd acecaebdfbgfgbfhbfdbfbhf
+5 bdaecaceadecadbedc aabccddee cfahdbdhbgieafcige
+6 eafefdfadcbfcfbaedaedefdfadeaf aabcddeefff gaigieiaedcjdjcagebhfhkfkbfhbk
+6 dabfabafbdfacfecedfcdefdafbfdb abcdeff dabfabafbdgacgecedgcdegdagbgdb
+";
