@@ -3,7 +3,7 @@ ghost use Rattle.std.specs.Prelude.{◌≤◌};
 
 use crate::{PageSink, write_obj, write_stl};
 use mb_base::{NoMemory, Point, Soup};
-use mb_outside::{MemoryShelf, MemorySink, Shelf};
+use mb_outside::{Failed, MemoryShelf, MemorySink, Shelf, Sink};
 use mesh_check::Mesh;
 use std::alloc::Global;
 use std::test::Fail;
@@ -14,54 +14,68 @@ const TEXT: &[u8] =
 const SOLID: &[u8] =
     b"solid manifold\nfacet normal 0 0 0\nouter loop\nvertex 0 0 0\nvertex 0 -0.0001 0\nvertex 1.5 0 0\nendloop\nendfacet\nfacet normal 0 0 0\nouter loop\nvertex 0 0 0\nvertex 1.5 0 0\nvertex 0 0 107374.1824\nendloop\nendfacet\nfacet normal 0 0 0\nouter loop\nvertex 1.5 0 0\nvertex 0 -0.0001 0\nvertex 0 0 107374.1824\nendloop\nendfacet\nfacet normal 0 0 0\nouter loop\nvertex 0 -0.0001 0\nvertex 0 0 0\nvertex 0 0 107374.1824\nendloop\nendfacet\nendsolid manifold\n";
 
-// A tetrahedron with coordinates that have digits after the point.
-fn tetrahedron(alloc: Global) -> Result<Option<Mesh>, NoMemory> {
+// The closed mesh of some triangles, if it is one.
+fn mesh_of(alloc: Global, points: Vec<Point>, triples: Vec<[u32; 3]>) -> Option<Mesh> {
+    if !Soup::fits(&points, &triples) {
+        return None;
+    }
+    Mesh::check(alloc, Soup::of(points, triples, 0)).ok()
+}
+
+// Points with coordinates that have digits after the point.
+fn four_points(alloc: Global) -> Result<Vec<Point>, NoMemory> {
     let mut points = Vec::new(alloc);
     for [x, y, z] in [[0, 0, 0], [15_000, 0, 0], [0, -1, 0], [0, 0, 1_073_741_824]] {
         if let Some(point) = Point::of(x, y, z) {
             points.push(point)?;
         }
     }
-    let mut triples = Vec::new(alloc);
-    for triple in [[0, 2, 1], [0, 1, 3], [1, 2, 3], [2, 0, 3]] {
-        triples.push(triple)?;
+    Ok(points)
+}
+
+// A tetrahedron on these points.
+fn tetrahedron(alloc: Global) -> Result<Option<Mesh>, NoMemory> {
+    let triples = Vec::from_array(alloc, [[0, 2, 1], [0, 1, 3], [1, 2, 3], [2, 0, 3]])?;
+    Ok(mesh_of(alloc, four_points(alloc)?, triples))
+}
+
+// Writes a mesh as a solid of STL, or as OBJ.
+fn write<K: Sink>(mesh: &Mesh, solid: bool, sink: &mut K) -> Result<(), Failed> {
+    if solid {
+        write_stl(mesh, 4, sink)
+    } else {
+        write_obj(mesh, 4, sink)
     }
-    if !Soup::fits(&points, &triples) {
-        return Ok(None);
+}
+
+// Whether a sink gets this text of a mesh.
+fn goes_to_a_sink(alloc: Global, mesh: &Mesh, solid: bool, text: &[u8]) -> Result<bool, NoMemory> {
+    let mut sink = MemorySink::of(alloc, 1000, 7, Vec::new(alloc))?;
+    Ok(write(mesh, solid, &mut sink).is_ok() && sink.bytes() == text)
+}
+
+// Whether a file of a shelf gets this text of a mesh.
+fn goes_to_a_file(alloc: Global, mesh: &Mesh, solid: bool, text: &[u8]) -> Result<bool, NoMemory> {
+    let mut shelf = MemoryShelf::of(alloc, 1, 1000, 1000, Vec::new(alloc))?;
+    if shelf.begin("t").is_err() {
+        return Ok(false);
     }
-    Ok(Mesh::check(alloc, Soup::of(points, triples, 0)).ok())
+    let written = write(mesh, solid, &mut PageSink::of(&mut shelf, "t")).is_ok();
+    Ok(written && shelf.get("t") == Some(text))
 }
 
 #[test]
 fn the_text_goes_to_a_sink_and_to_a_file(rt: HostRuntime) -> Result<(), Fail> {
-    let alloc = rt.alloc();
-    let mesh = tetrahedron(alloc)?.ok_or("the tetrahedron is closed")?;
-    let mut sink = MemorySink::of(alloc, 1000, 7, Vec::new(alloc))?;
-    assert!(rt; write_obj(&mesh, 4, &mut sink).is_ok());
-    assert!(rt; sink.bytes() == TEXT);
-    let mut shelf = MemoryShelf::of(alloc, 1, 1000, 1000, Vec::new(alloc))?;
-    assert!(rt; shelf.begin("t.obj").is_ok());
-    assert!(rt; write_obj(&mesh, 4, &mut PageSink::of(&mut shelf, "t.obj")).is_ok());
-    assert!(rt; shelf.get("t.obj") == Some(TEXT));
+    let mesh = tetrahedron(rt.alloc())?.ok_or("the tetrahedron is closed")?;
+    for (solid, text) in [(false, TEXT), (true, SOLID)] {
+        assert!(rt; goes_to_a_sink(rt.alloc(), &mesh, solid, text)?);
+        assert!(rt; goes_to_a_file(rt.alloc(), &mesh, solid, text)?);
+    }
     Ok(())
 }
 
-#[test]
-fn the_solid_goes_to_a_sink_and_to_a_file(rt: HostRuntime) -> Result<(), Fail> {
-    let alloc = rt.alloc();
-    let mesh = tetrahedron(alloc)?.ok_or("the tetrahedron is closed")?;
-    let mut sink = MemorySink::of(alloc, 1000, 7, Vec::new(alloc))?;
-    assert!(rt; write_stl(&mesh, 4, &mut sink).is_ok());
-    assert!(rt; sink.bytes() == SOLID);
-    let mut shelf = MemoryShelf::of(alloc, 1, 1000, 1000, Vec::new(alloc))?;
-    assert!(rt; shelf.begin("t.stl").is_ok());
-    assert!(rt; write_stl(&mesh, 4, &mut PageSink::of(&mut shelf, "t.stl")).is_ok());
-    assert!(rt; shelf.get("t.stl") == Some(SOLID));
-    Ok(())
-}
-
-// Triangles from both sides on 300 points, whose lines have 16 bytes each, the first `wide` of them 17.
-fn flat_triangles(alloc: Global, wide: i32) -> Result<Option<Mesh>, NoMemory> {
+// Points whose lines have 16 bytes each, the first `wide` of them 17.
+fn many_points(alloc: Global, wide: i32) -> Result<Vec<Point>, NoMemory> {
     let mut points = Vec::new(alloc);
     for i in 0..300i32 {
         let z = if i < wide { 10 } else { 1 };
@@ -69,15 +83,23 @@ fn flat_triangles(alloc: Global, wide: i32) -> Result<Option<Mesh>, NoMemory> {
             points.push(point)?;
         }
     }
+    Ok(points)
+}
+
+// 100 triangles, each from both sides.
+fn flat_triples(alloc: Global) -> Result<Vec<[u32; 3]>, NoMemory> {
     let mut triples = Vec::new(alloc);
     for t in 0..100u32 {
         triples.push([3 * t, 3 * t + 1, 3 * t + 2])?;
         triples.push([3 * t, 3 * t + 2, 3 * t + 1])?;
     }
-    if !Soup::fits(&points, &triples) {
-        return Ok(None);
-    }
-    Ok(Mesh::check(alloc, Soup::of(points, triples, 0)).ok())
+    Ok(triples)
+}
+
+// These triangles on 300 points.
+fn flat_triangles(alloc: Global, wide: i32) -> Result<Option<Mesh>, NoMemory> {
+    let triples = flat_triples(alloc)?;
+    Ok(mesh_of(alloc, many_points(alloc, wide)?, triples))
 }
 
 // How many bytes a sink gets whose second write fails; None where no write fails.

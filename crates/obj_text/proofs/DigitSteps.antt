@@ -5,7 +5,7 @@ use Rattle.std.proofs.lemmas.List.{take_more}
 use Rattle.std.proofs.Math.Seq.{drop-cons}
 use Rattle.std.specs.Prelude.{Bool, true, ◌&&◌}
 use Rattle.text_laws.proofs.Digits.{value_from-append}
-use Rattle.std.proofs.Math.Nat.{pow-suc, pow-le-pow_right}
+use Rattle.std.proofs.Math.Nat.{pow-suc}
 use Rattle.text_terms.specs.Numbers.{is_digit, all_digits, value_from}
 
 -- more digits never make the number smaller
@@ -48,8 +48,3 @@ next_power i = ap (λ (m : ℕ). 10 ^ m) (add-one i) ∙ pow-suc 10 i
 -- a bound for it
 pub below-step : (value i d : ℕ) → value < 1073741825 * 10 ^ i → d < 10 → value * 10 + d < 1073741825 * 10 ^ (i + 1)
 below-step value i d below small = omega (arith, below, small, next_power i)
-
-pub below-nine : (value i : ℕ) → i < 9 → value < 1073741825 * 10 ^ i → value * 10 + 10 ≤ 1073741825 * 10 ^ 9
-below-nine value i few below =
-    let most : 10 ^ (i + 1) ≤ 10 ^ 9 = pow-le-pow_right {n = 10} (omega arith) {i = i + 1} {j = 9} (omega arith) in
-    omega (arith, below, most, next_power i)

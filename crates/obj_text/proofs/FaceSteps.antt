@@ -1,15 +1,15 @@
--- A reading with the triangles of one more face.
-use Rattle.std.proofs.Common.{◌≡◌, ℕ, ◌+◌, ◌-◌, ◌<◌, ◌≤◌, Bool, true, false, List, ◌++◌, length, Ok, Err, ap, ◌∙◌, arith, length-append}
+-- A reading with one more point, and with the triangles of one more face.
+use Rattle.std.proofs.Common.{◌≡◌, ℕ, ◌+◌, ◌-◌, ◌<◌, ◌≤◌, Bool, true, false, ℤ, List, [], ◌∷◌, ◌++◌, length, Ok, Err, ap, ◌∙◌, arith, length-append}
 use Rattle.std.specs.Prelude.{nat_lt, if◌then◌else◌}
 use Rattle.std.specs.List.{All}
 use Rattle.std.proofs.lemmas.Bool.Decides.{nat_tests}
 use Rattle.std.proofs.lemmas.List.Elements.{All-append}
-use Rattle.mesh_terms.specs.Faults.{Triangles, Over}
+use Rattle.mesh_terms.specs.Faults.{Points, Triangles, Over}
 use Rattle.mesh_terms.specs.Limits.{Limits}
 use Rattle.mesh_terms.specs.Meshes.{Triple, HasThree, IsBelow}
 use Rattle.unused_points.specs.Used.{IsSound}
 use Rattle.obj_terms.specs.Faces.{face_fan, has_repeat}
-use Rattle.obj_terms.specs.Obj.{Gathered, with_triples}
+use Rattle.obj_terms.specs.Obj.{Gathered, with_point, with_triples}
 use Rattle.obj_terms.proofs.Fans.{length-face_fan, face_three, face_below}
 
 -- a reading stays sound with the triangles of a face
@@ -20,6 +20,19 @@ IsSound-face n ts us vs sound is apart below few = rw is (record {
   few_points = sound.few_points;
   few_triples = omega (arith, few, length-append ts (face_fan vs), length-face_fan vs);
 })
+
+-- too many points
+pub with_point-over : (limits : Limits) (s : Gathered) (p : List ℤ) (n : ℕ) → length s.points + 1 ≡ n → limits.points < n → with_point limits s p ≡ Err (Over Points n)
+with_point-over limits s p n e over =
+    let test : nat_lt limits.points (length s.points + 1) ≡ true = grind (arith, nat_tests) in
+    ap (λ (b : Bool). if b then Err (Over Points (length s.points + 1)) else Ok (record { points = s.points ++ p ∷ []; triples = s.triples })) test
+    ∙ ap (λ (m : ℕ). Err (Over Points m)) e
+
+-- no more than the limit
+pub with_point-within : (limits : Limits) (s : Gathered) (p : List ℤ) → length s.points + 1 ≤ limits.points → with_point limits s p ≡ Ok (record { points = s.points ++ p ∷ []; triples = s.triples })
+with_point-within limits s p within =
+    let test : nat_lt limits.points (length s.points + 1) ≡ false = grind (arith, nat_tests) in
+    ap (λ (b : Bool). if b then Err (Over Points (length s.points + 1)) else Ok (record { points = s.points ++ p ∷ []; triples = s.triples })) test
 
 -- too many triangles
 pub with_triples-over : (limits : Limits) (s : Gathered) (ts : List Triple) (n : ℕ) → length s.triples + length ts ≡ n → limits.triangles < n → with_triples limits s ts ≡ Err (Over Triangles n)

@@ -1,5 +1,5 @@
 -- The words of a line that goes on, part after part.
-use Rattle.std.proofs.Common.{◌≡◌, ℕ, suc, ◌-◌, Bool, true, false, cond, not, List, [], ◌∷◌, ◌++◌, length, take, drop, get_or, refl, ap, ◌∙◌, sym, append-nil, append_assoc, ne_eqb}
+use Rattle.std.proofs.Common.{◌≡◌, ℕ, suc, ◌-◌, ◌<◌, Bool, true, false, cond, not, List, [], ◌∷◌, ◌++◌, length, take, drop, get_or, refl, ap, ◌∙◌, sym, append-nil, append_assoc, ne_eqb, arith}
 use Rattle.std.specs.Prelude.{◌==◌, ◌&&◌}
 use Rattle.std.specs.List.{position_or_len}
 use borrow.Author.Tests.{not-true}
@@ -60,6 +60,14 @@ words_left-alone line after e = rw e (append-nil (words_of line))
 -- a line that ends in another byte is at its end
 pub is_continued-end : (line front : List ℕ) (last : ℕ) → line ≡ front ++ last ∷ [] → is_continued line ≡ ((last == 92) && not (begins_comment (words_of line)))
 is_continued-end line front last e = ap (λ (b : Bool). b && not (begins_comment (words_of line))) (ap (last_is 92) e ∙ last_is-end 92 last front)
+
+-- a text that begins a word, or is empty, begins a comment where its first byte does
+pub begins_comment-first : (text : List ℕ) → (0 < length text → begins_word text ≡ true) → begins_comment (words_of text) ≡ is_comment text
+begins_comment-first [] begins = refl
+begins_comment-first (c ∷ cs) begins =
+    let word : begins_word (c ∷ cs) ≡ true = begins (omega arith) in
+    ap begins_comment (words_of-first (c ∷ cs) word)
+    ∙ ap (λ (n : ℕ). is_comment (take n (c ∷ cs))) (position_or_len-past is_blank c cs (not-true (is_blank c) word))
 
 -- a text that begins a word which begins no comment has that word first
 pub before_comment-first : (text later : List ℕ) → begins_word text ≡ true → (get_or text 0 0 ≡ 35 → ⊥) →

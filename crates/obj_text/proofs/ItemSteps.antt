@@ -1,5 +1,5 @@
 -- The items of a face, read one after the other.
-use Rattle.std.proofs.Common.{◌≡◌, ℕ, ◌<◌, ◌≤◌, Bool, true, false, List, [], ◌∷◌, ◌++◌, length, Option, Some, None, Result, Ok, Err, refl, ap, sym, ◌∙◌, arith, append_assoc, append-nil, length-append}
+use Rattle.std.proofs.Common.{◌≡◌, ℕ, ◌≤◌, Bool, false, List, [], ◌∷◌, ◌++◌, length, Option, Some, None, Result, Ok, Err, refl, ap, sym, ◌∙◌, arith, append_assoc, length-append}
 use Rattle.std.specs.Prelude.{nat_lt, IfSome, if◌then◌else◌}
 use Rattle.std.proofs.lemmas.Bool.Decides.{nat_tests}
 use Rattle.mesh_terms.specs.Faults.{Fault, Bad}
@@ -28,10 +28,6 @@ read_after-more f word words old new read =
     ∙ put_after old read.value (each_read f words)
     ∙ ap (λ (vs : List ℕ). read_after vs (each_read f words)) (sym read.added)
 
--- no word is left
-pub read_after-all : (f : List ℕ → Result ℕ ℕ) (old : List ℕ) → read_after old (each_read f []) ≡ Ok old
-read_after-all f old = ap (λ (vs : List ℕ). Ok vs) (append-nil old)
-
 -- a fault of the next word
 pub read_after-fault : (f : List ℕ → Result ℕ ℕ) (word : List ℕ) (words : List (List ℕ)) (old : List ℕ) (kind : ℕ) → f word ≡ Err kind → read_after old (each_read f (word ∷ words)) ≡ Err kind
 read_after-fault f word words old kind e = ap (λ (r : Result ℕ ℕ). read_after old (put_read r (each_read f words))) e
@@ -40,12 +36,6 @@ read_after-fault f word words old kind e = ap (λ (r : Result ℕ ℕ). read_aft
 pub face_vertices-three : (count n : ℕ) (words : List (List ℕ)) → 3 ≤ length words → face_vertices count n words ≡ on_line n (each_read (item_vertex count) words)
 face_vertices-three count n words three =
     let test : nat_lt (length words) 3 ≡ false = grind (arith, nat_tests) in
-    ap (λ (b : Bool). if b then Err (Bad n 5) else on_line n (each_read (item_vertex count) words)) test
-
--- fewer are
-pub face_vertices-few : (count n : ℕ) (words : List (List ℕ)) → length words < 3 → face_vertices count n words ≡ Err (Bad n 5)
-face_vertices-few count n words few =
-    let test : nat_lt (length words) 3 ≡ true = grind (arith, nat_tests) in
     ap (λ (b : Bool). if b then Err (Bad n 5) else on_line n (each_read (item_vertex count) words)) test
 
 -- the fault of one word is that of all where they have it
@@ -65,30 +55,36 @@ fault_at count n words word rest old e three left fault =
     IsFaultOf-all n (item_vertex count word) (each_read (item_vertex count) words) (face_vertices count n words) e (face_vertices-three count n words three)
     (λ kind h. left ∙ read_after-fault (item_vertex count) word rest old kind h) fault
 
--- what is left after each of the first three words
+-- what the first words read as comes before what the others do
+abbrev then_after : Result (List ℕ) ℕ → Result (List ℕ) ℕ → Result (List ℕ) ℕ
+then_after (Err kind) r = Err kind
+then_after (Ok values) r = read_after values r
+
+put_then : (v : Result ℕ ℕ) (r s : Result (List ℕ) ℕ) → put_read v (then_after r s) ≡ then_after (put_read v r) s
+put_then (Err kind) r s = refl
+put_then (Ok v) (Err kind) s = refl
+put_then (Ok v) (Ok values) (Err kind) = refl
+put_then (Ok v) (Ok values) (Ok more) = refl
+
+each_read-append : (f : List ℕ → Result ℕ ℕ) (front rest : List (List ℕ)) → each_read f (front ++ rest) ≡ then_after (each_read f front) (each_read f rest)
+each_read-append f [] rest = sym (read_after-none (each_read f rest))
+each_read-append f (word ∷ front) rest = ap (put_read (f word)) (each_read-append f front rest) ∙ put_then (f word) (each_read f front) (each_read f rest)
+
+-- where some words begin with three
 module _ (f : List ℕ → Result ℕ ℕ) (words : List (List ℕ)) (a b c : List ℕ) (rest : List (List ℕ)) (given : words ≡ a ∷ b ∷ c ∷ rest) where
   pub three_given : 3 ≤ length words
   three_given = omega (arith, ap (λ (ws : List (List ℕ)). length ws) given)
 
-  pub left_first : (none : List ℕ) → none ≡ [] → each_read f words ≡ read_after none (each_read f (a ∷ b ∷ c ∷ rest))
-  left_first none e =
-      ap (each_read f) given
-      ∙ sym (read_after-none (each_read f (a ∷ b ∷ c ∷ rest)))
-      ∙ ap (λ (vs : List ℕ). read_after vs (each_read f (a ∷ b ∷ c ∷ rest))) (sym e)
+  split : each_read f words ≡ then_after (each_read f (a ∷ b ∷ c ∷ [])) (each_read f rest)
+  split = ap (each_read f) given ∙ each_read-append f (a ∷ b ∷ c ∷ []) rest
 
-  pub left_second : (none one : List ℕ) → none ≡ [] → IsRead f a none one → each_read f words ≡ read_after one (each_read f (b ∷ c ∷ rest))
-  left_second none one e p = left_first none e ∙ read_after-more f a (b ∷ c ∷ rest) none one p
+  -- what these read as comes before what the others do
+  pub left_after_three : (values : List ℕ) → each_read f (a ∷ b ∷ c ∷ []) ≡ Ok values → each_read f words ≡ read_after values (each_read f rest)
+  left_after_three values e = split ∙ ap (λ (r : Result (List ℕ) ℕ). then_after r (each_read f rest)) e
 
-  pub left_third : (none one two : List ℕ) → none ≡ [] → IsRead f a none one → IsRead f b one two → each_read f words ≡ read_after two (each_read f (c ∷ rest))
-  left_third none one two e p q = left_second none one e p ∙ read_after-more f b (c ∷ rest) one two q
-
-  pub left_rest : (none one two three : List ℕ) → none ≡ [] → IsRead f a none one → IsRead f b one two → IsRead f c two three → each_read f words ≡ read_after three (each_read f rest)
-  left_rest none one two three e p q r = left_third none one two e p q ∙ read_after-more f c rest two three r
-
--- three values more
-pub length-three : (f : List ℕ → Result ℕ ℕ) (a b c : List ℕ) (none one two three : List ℕ) → IsRead f a none one → IsRead f b one two → IsRead f c two three → 3 ≤ length three
-length-three f a b c none one two three p q r =
-    omega (arith, ap (λ (vs : List ℕ). length vs) p.added, ap (λ (vs : List ℕ). length vs) q.added, ap (λ (vs : List ℕ). length vs) r.added, length-append none (p.value ∷ []), length-append one (q.value ∷ []), length-append two (r.value ∷ []))
+  -- a fault of theirs is that of all
+  pub fault_of_three : (kind : ℕ) → each_read f (a ∷ b ∷ c ∷ []) ≡ Err kind → each_read f words ≡ Err kind
+  fault_of_three kind e = split ∙ ap (λ (r : Result (List ℕ) ℕ). then_after r (each_read f rest)) e
 
 -- the next word was read
 pub read_after-next : (f : List ℕ → Result ℕ ℕ) (word : List ℕ) (words rest : List (List ℕ)) (old new : List ℕ) → words ≡ word ∷ rest → IsRead f word old new → read_after old (each_read f words) ≡ read_after new (each_read f rest)

@@ -1,7 +1,7 @@
 -- What a plain line gives.
-use Rattle.std.proofs.Common.{◌≡◌, ℕ, ◌+◌, ◌<◌, if◌then◌else◌, Bool, false, List, [], ◌∷◌, ◌++◌, length, codes, ap, ◌∙◌, sym, arith, Result, Ok, Err, ℤ, nat_lt}
+use Rattle.std.proofs.Common.{◌≡◌, ℕ, ◌+◌, ◌<◌, if◌then◌else◌, Bool, false, List, [], ◌∷◌, ◌++◌, length, codes, ap, ◌∙◌, sym, arith, Result, Ok, Err, ℤ}
 use Rattle.std.proofs.lemmas.Bool.Decides.{nat_tests}
-use Rattle.mesh_terms.specs.Faults.{Points, Triangles, Fault, Bad, Over}
+use Rattle.mesh_terms.specs.Faults.{Fault, Bad}
 use Rattle.mesh_terms.specs.Limits.{Limits}
 use Rattle.mesh_terms.specs.Meshes.{HasThree, IsBelow}
 use Rattle.text_terms.specs.Lines.{lines_of, joined_from}
@@ -13,6 +13,7 @@ use Rattle.obj_laws.proofs.Decimals.{IsSpelled}
 use Rattle.obj_laws.proofs.Plain.{IsPlain, IsPlain-digits}
 use Rattle.obj_laws.proofs.WrittenWords.{item_vertex-spelled}
 use Rattle.obj_text.specs.Plain.{IsIndexOf, BeginsCoordinate, line_end, EndsLine, with_line, BeginsFace, BeginsPoint, IsFaceFirst, IsPointFirst}
+use Rattle.obj_text.proofs.FaceSteps.{with_point-within, with_triples-within}
 use Rattle.obj_text.proofs.PlainLines.{IsPlain-word, words-first}
 
 -- the digits of a number are some
@@ -89,19 +90,16 @@ face-added : (k : ℕ) (limits : Limits) (n a b c : ℕ) (first second third : L
 face-added k limits n a b c first second third s p q r below three room =
     let count = length s.points in
     let vs = a ∷ b ∷ c ∷ [] in
-    let test : nat_lt limits.triangles (length s.triples + 1) ≡ false = grind (arith, nat_tests) in
     ap (λ (e : Result (List ℕ) ℕ). then_read (on_line n e) (obj_triples limits n s))
     (each_read-three (item_vertex count) first second third a b c (item_vertex-index count a first below.a p) (item_vertex-index count b second below.b q) (item_vertex-index count c third below.c r))
     ∙ ap (λ (e : Bool). if e then Err (Bad n 7) else with_triples limits s (face_fan vs)) (no_repeat a b c three)
-    ∙ ap (λ (e : Bool). if e then Err (Over Triangles (length s.triples + 1)) else Ok (record { points = s.points; triples = s.triples ++ (a, b, c) ∷ [] })) test
+    ∙ with_triples-within limits s (face_fan vs) (omega (arith, room))
 
 -- the line of a point adds it
 point-added : (k : ℕ) (limits : Limits) (n : ℕ) (first second third : List ℕ) (s : Gathered) (p : List ℤ) → each_read (coordinate k) (first ∷ second ∷ third ∷ []) ≡ Ok p → length s.points < limits.points →
     obj_line k limits n (codes "v" ∷ first ∷ second ∷ third ∷ []) s ≡ Ok (record { points = s.points ++ p ∷ []; triples = s.triples })
 point-added k limits n first second third s p reads room =
-    let test : nat_lt limits.points (length s.points + 1) ≡ false = grind (arith, nat_tests) in
-    ap (λ (r : Result (List ℤ) ℕ). then_read (on_line n r) (with_point limits s)) reads
-    ∙ ap (λ (b : Bool). if b then Err (Over Points (length s.points + 1)) else Ok (record { points = s.points ++ p ∷ []; triples = s.triples })) test
+    ap (λ (r : Result (List ℤ) ℕ). then_read (on_line n r) (with_point limits s)) reads ∙ with_point-within limits s p (omega (arith, room))
 
 -- after the first line the others decide
 first_read : (k : ℕ) (limits : Limits) (lines after : List (ℕ × List (List ℕ))) (n : ℕ) (words : List (List ℕ)) (s t : Gathered) → lines ≡ (n, words) ∷ after → obj_line k limits n words s ≡ Ok t →

@@ -62,14 +62,53 @@ pub fn read_vertices(
     let Some((first, second, third)) = words.three() else {
         return Err(bad(number, TextKind::BadFace));
     };
-    vertices.clear();
-    push_vertex(first, number, count, vertices)?;
-    push_vertex(second, number, count, vertices)?;
-    push_vertex(third, number, count, vertices)?;
+    read_three(first, second, third, number, count, vertices)?;
     for item in words {
         push_vertex(item, number, count, vertices)?;
     }
     Ok(())
+}
+
+// Puts the vertices that three items name in place of what `vertices` held.
+fn read_three(
+    first: &[u8],
+    second: &[u8],
+    third: &[u8],
+    number: u64,
+    count: u32,
+    vertices: &mut Vec<u32>,
+) -> Result<(), TextFault>
+    ensures read { OnOk result (each_read (item_vertex count) (first.now ∷ second.now ∷ third.now ∷ []) ≡ Ok vertices.new.items) }
+    ensures three { OnOk result (length vertices.new.items ≡ 3) }
+    ensures below { OnOk result (All (λ v. v < count) vertices.new.items) }
+    ensures fault { IfErr result (IsFaultOf (on_line number (each_read (item_vertex count) (first.now ∷ second.now ∷ third.now ∷ [])))) }
+{
+    match three_vertices(first, second, third, count) {
+        Ok(three) => {
+            vertices.clear();
+            vertices.extend_from_slice(&three)?;
+            Ok(())
+        }
+        Err(kind) => Err(bad(number, kind)),
+    }
+}
+
+// The vertices that three items name.
+fn three_vertices(
+    first: &[u8],
+    second: &[u8],
+    third: &[u8],
+    count: u32,
+) -> Result<[u32; 3], TextKind>
+    ensures value { IfOk result (λ vs. each_read (item_vertex count) (first.now ∷ second.now ∷ third.now ∷ []) ≡ Ok vs) }
+    ensures below { IfOk result (All (λ v. v < count)) }
+    ensures fault { IfErr result (λ kind. each_read (item_vertex count) (first.now ∷ second.now ∷ third.now ∷ []) ≡ Err (kind_number kind)) }
+{
+    Ok([
+        vertex(first, count)?,
+        vertex(second, count)?,
+        vertex(third, count)?,
+    ])
 }
 
 // Adds the vertex that an item names.

@@ -17,10 +17,10 @@ const SPACED: &[u8] =
 const DRESSED: &[u8] =
     b"mtllib a \\\nv\nv 0 0\\\n 0\ng \nv 1 0 0 1 1 1 1\nv 0 1 0\nvn 0 0 1\nv 9 9 9\nv 0 \\\n\\\n0 1\nf 1/1 3//-3 2/2/2\nf -5 -4 -1\\\n\nusemtl f\nf -4//1 -3//1 -1//1 \\\n#\nf 3 1 5\n";
 
-fn refusal(rt: &HostRuntime, bytes: &[u8], digits: u8, limits: &Limits) -> Result<TextFault, Fail>
+fn refusal(alloc: Global, bytes: &[u8], digits: u8, limits: &Limits) -> Result<TextFault, Fail>
     requires { digits ≤ 6 }
 {
-    match read_obj(rt.alloc(), bytes, digits, limits) {
+    match read_obj(alloc, bytes, digits, limits) {
         Ok(_) => Err(Fail::from("read")),
         Err(fault) => Ok(fault),
     }
@@ -104,25 +104,34 @@ const REFUSED: [(&[u8], u64, TextKind); 22] = [
     ),
 ];
 
-#[test]
-fn refuses_the_first_faulty_line(rt: HostRuntime) -> Result<(), Fail> {
-    for (bytes, line, kind) in &REFUSED {
-        assert_eq!(rt;
-            refusal(&rt, bytes, 4, &Limits::program())?,
-            TextFault::Bad {
-                line: *line,
-                kind: *kind
-            }
-        );
-    }
-    Ok(())
-}
-
 // A text and what comes after it.
 fn joined(alloc: Global, front: &[u8], after: &[u8]) -> Result<Vec<u8>, Fail> {
     let mut bytes = front.to_vec(alloc)?;
     bytes.extend_from_slice(after)?;
     Ok(bytes)
+}
+
+// Each text after this front is refused at its line, with its fault.
+fn refuses(
+    rt: &impl Abort,
+    alloc: Global,
+    front: &[u8],
+    rows: &[(&[u8], u64, TextKind)],
+) -> Result<(), Fail> {
+    for (after, line, kind) in rows {
+        let bytes = joined(alloc, front, after)?;
+        let bad = TextFault::Bad {
+            line: *line,
+            kind: *kind,
+        };
+        assert_eq!(rt; refusal(alloc, &bytes, 4, &Limits::program())?, bad);
+    }
+    Ok(())
+}
+
+#[test]
+fn refuses_the_first_faulty_line(rt: HostRuntime) -> Result<(), Fail> {
+    refuses(&rt, rt.alloc(), b"", &REFUSED)
 }
 
 const MANY_POINTS: &[u8] =
@@ -143,7 +152,7 @@ fn finds_a_repeat_among_many_vertices(rt: HostRuntime) -> Result<(), Fail> {
     let faces = b"f 7 1 14 2 13 3 12 4 11 5 10 6 9 8\nf 7 1 14 2 13 3 12 4 11 5 10 6 9 8 4\n";
     let bytes = joined(rt.alloc(), MANY_POINTS, faces)?;
     assert_eq!(rt;
-        refusal(&rt, &bytes, 0, &Limits::program())?,
+        refusal(rt.alloc(), &bytes, 0, &Limits::program())?,
         TextFault::Bad {
             line: 16,
             kind: TextKind::FaceRepeatsVertex
@@ -155,7 +164,7 @@ fn finds_a_repeat_among_many_vertices(rt: HostRuntime) -> Result<(), Fail> {
 // The fault of a file where so many points and two triangles are allowed.
 fn refusal_within(rt: &HostRuntime, bytes: &[u8], points: u32) -> Result<TextFault, Fail> {
     let limits = Limits::of(1000, points, 2, 1).ok_or("limits")?;
-    refusal(rt, bytes, 4, &limits)
+    refusal(rt.alloc(), bytes, 4, &limits)
 }
 
 #[test]
@@ -178,7 +187,7 @@ fn counts_to_the_limits(rt: HostRuntime) -> Result<(), Fail> {
 // Three points and a triangle in plain lines.
 const FRONT: &[u8] = b"v 0 0 0\nv 1 0 0\nv 0 1 0\nf 1 2 3\n";
 
-// How many triangles they and what comes after them give, where the last is this one, else 0.
+// How many triangles a file of FRONT and what stands after it gives, where the last is this one, else 0.
 fn triangles_with(rt: &HostRuntime, after: &[u8], last: [u32; 3]) -> Result<usize, Fail> {
     let bytes = joined(rt.alloc(), FRONT, after)?;
     let soup = read_obj(rt.alloc(), &bytes, 4, &Limits::program())?;
@@ -229,7 +238,7 @@ fn reads_plain_lines_among_others(rt: HostRuntime) -> Result<(), Fail> {
     Ok(())
 }
 
-// What comes after them, with the line and the fault that refuse the file.
+// What stands after FRONT, with the line and the fault that refuse the file.
 const REFUSED_LATER: [(&[u8], u64, TextKind); 29] = [
     (b"f 0 1 2\n", 5, TextKind::BadIndex),
     (b"f 1 2 4\n", 5, TextKind::BadIndex),
@@ -262,24 +271,9 @@ const REFUSED_LATER: [(&[u8], u64, TextKind); 29] = [
     (b"f 3 2 1\nv 1 2 3\nf 3 2 1 \nq\n", 8, TextKind::UnknownLine),
 ];
 
-// The fault of them and what comes after them.
-fn refusal_after(rt: &HostRuntime, after: &[u8]) -> Result<TextFault, Fail> {
-    let bytes = joined(rt.alloc(), FRONT, after)?;
-    refusal(rt, &bytes, 4, &Limits::program())
-}
-
 #[test]
 fn refuses_faults_after_plain_lines(rt: HostRuntime) -> Result<(), Fail> {
-    for (after, line, kind) in &REFUSED_LATER {
-        assert_eq!(rt;
-            refusal_after(&rt, after)?,
-            TextFault::Bad {
-                line: *line,
-                kind: *kind
-            }
-        );
-    }
-    Ok(())
+    refuses(&rt, rt.alloc(), FRONT, &REFUSED_LATER)
 }
 
 // Numbers, and what they are in hundredths by an independent reference program.

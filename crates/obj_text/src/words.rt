@@ -4,7 +4,7 @@ ghost use Rattle.text_terms.specs.Lines.{is_continued, begins_word, before_comme
 ghost use Rattle.obj_text.specs.Lines.{first_words, words_left};
 
 use std::marker::Model;
-use text_lines::{after_blanks, first_blank, first_line};
+use text_lines::{after_blanks, first_blank, first_line, is_comment};
 
 /// The words of a line from the first to the last: longest runs of bytes that are neither a space nor a
 /// tab. A word that begins with `#` ends the line.
@@ -93,8 +93,7 @@ pub fn is_continued(line: &[u8]) -> bool
 fn begins_comment(line: &[u8]) -> bool
     ensures { result ≡ begins_comment (words_of line.now) }
 {
-    let text = after_blanks(line);
-    !text.is_empty() && text[0] == b'#'
+    is_comment(after_blanks(line))
 }
 
 // What is to be read of a line for its words: the line itself, or the line up to its `\` and the text

@@ -32,7 +32,6 @@ ghost use Rattle.script_lang.specs.Faults.{IsFaultOf};
 
 mod commands;
 mod fault;
-mod lines;
 mod names;
 mod operands;
 mod reading;

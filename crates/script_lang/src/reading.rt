@@ -10,7 +10,6 @@ ghost use Rattle.script_lang.specs.Steps.{line_of, step_of};
 
 use crate::commands::{Command, Motion};
 use crate::fault::{BAD_WORD, NAME_NOT_DEFINED, ScriptFault, WRONG_COUNT};
-use crate::lines::Lines;
 use crate::names::Names;
 use crate::operands::{axis, file_text, name_text, taken, three, within};
 use crate::solids::solid_step;
@@ -18,6 +17,7 @@ use crate::steps::{Line, Script, Step, Word};
 use crate::words::Words;
 use std::alloc::Global;
 use std::marker::Model;
+use text_lines::{Lines, without_mark};
 
 /// The lines so far, and the names that they give meshes.
 #[derive(Drop)]
@@ -50,8 +50,8 @@ impl<'a> Reading<'a> {
             lines: Vec::new(alloc),
             names: Names::new(alloc),
         };
-        for (number, words) in Lines::of(bytes) {
-            reading.read_line(words, number, digits)?;
+        for (number, line) in Lines::of(without_mark(bytes)) {
+            reading.read_line(Words::of(line), number, digits)?;
         }
         Ok(reading)
     }

@@ -3,6 +3,7 @@ ghost use Rattle.std.specs.Prelude.{◌≤◌};
 
 use super::*;
 use mb_base::Op;
+use std::process::Abort;
 use std::test::Fail;
 
 // A name of 32 bytes.
@@ -94,12 +95,20 @@ fn gives(rt: &HostRuntime, bytes: &[u8], digits: u8, wanted: &[Row<'_>]) -> Resu
 }
 
 // How a script is refused.
-fn refusal(rt: &HostRuntime, bytes: &[u8]) -> Result<(u64, u8), Fail> {
-    match read_script(rt.alloc(), bytes, 0) {
+fn refusal(alloc: Global, bytes: &[u8]) -> Result<(u64, u8), Fail> {
+    match read_script(alloc, bytes, 0) {
         Ok(_) => Ok((0, 0)),
         Err(ScriptFault::Bad { line, kind }) => Ok((line, kind)),
         Err(ScriptFault::NoMemory) => Err(Fail::from("no memory")),
     }
+}
+
+// Each script is refused at this line, with this kind of fault.
+fn refuses(rt: &impl Abort, alloc: Global, rows: &[(&[u8], u64, u8)]) -> Result<(), Fail> {
+    for (bytes, line, kind) in rows {
+        assert_eq!(rt; refusal(alloc, bytes)?, (*line, *kind));
+    }
+    Ok(())
 }
 
 // No numbers.
@@ -169,40 +178,37 @@ fn solids_and_motions_have_their_numbers(rt: HostRuntime) -> Result<(), Fail> {
 
 #[test]
 fn the_first_fault_of_a_line_refuses_it(rt: HostRuntime) -> Result<(), Fail> {
-    let refused: [(&[u8], u8); 28] = [
-        (b"cut a b", 20),
-        (b"Load a c.obj", 20),
-        (b"measures a", 20),
-        (b"load\r a c.obj", 20),
-        (b"\xef\xbb\xbf\xef\xbb\xbfload a c.obj", 20),
-        (b"load a", 21),
-        (b"load a c.obj d", 21),
-        (b"load a #c.obj", 21),
-        (b"save", 21),
-        (b"box a 0 0 0 1 1", 21),
-        (b"box a 0 0 0 1 1 1 1 1", 21),
-        (b"union u 1 c.ply 2", 21),
-        (b"load 1a c.obj", 22),
-        (b"load _a c.obj", 22),
-        (b"load a-b c.ply", 22),
-        (b"load \xc3\xa9 c.ply", 22),
-        (b"load abcdefghijklmnopqrstuvwxyz_ABCD99 c.obj", 22),
-        (b"save 1 c.ply", 22),
-        (b"union 1 a b", 22),
-        (b"save a c.ply", 23),
-        (b"union u a 1", 23),
-        (b"union u u u", 23),
-        (b"load a c", 25),
-        (b"load a obj", 25),
-        (b"load a c.obj.ply", 25),
-        (b"load a c.obj\x0b", 25),
-        (b"load a \xff.obj", 25),
-        (b"load a \xc3.obj", 25),
+    let refused: [(&[u8], u64, u8); 28] = [
+        (b"cut a b", 1, 20),
+        (b"Load a c.obj", 1, 20),
+        (b"measures a", 1, 20),
+        (b"load\r a c.obj", 1, 20),
+        (b"\xef\xbb\xbf\xef\xbb\xbfload a c.obj", 1, 20),
+        (b"load a", 1, 21),
+        (b"load a c.obj d", 1, 21),
+        (b"load a #c.obj", 1, 21),
+        (b"save", 1, 21),
+        (b"box a 0 0 0 1 1", 1, 21),
+        (b"box a 0 0 0 1 1 1 1 1", 1, 21),
+        (b"union u 1 c.ply 2", 1, 21),
+        (b"load 1a c.obj", 1, 22),
+        (b"load _a c.obj", 1, 22),
+        (b"load a-b c.ply", 1, 22),
+        (b"load \xc3\xa9 c.ply", 1, 22),
+        (b"load abcdefghijklmnopqrstuvwxyz_ABCD99 c.obj", 1, 22),
+        (b"save 1 c.ply", 1, 22),
+        (b"union 1 a b", 1, 22),
+        (b"save a c.ply", 1, 23),
+        (b"union u a 1", 1, 23),
+        (b"union u u u", 1, 23),
+        (b"load a c", 1, 25),
+        (b"load a obj", 1, 25),
+        (b"load a c.obj.ply", 1, 25),
+        (b"load a c.obj\x0b", 1, 25),
+        (b"load a \xff.obj", 1, 25),
+        (b"load a \xc3.obj", 1, 25),
     ];
-    for (bytes, kind) in refused {
-        assert_eq!(rt; refusal(&rt, bytes)?, (1, kind));
-    }
-    Ok(())
+    refuses(&rt, rt.alloc(), &refused)
 }
 
 #[test]
@@ -231,10 +237,7 @@ fn operands_without_a_value_refuse_a_line(rt: HostRuntime) -> Result<(), Fail> {
         (b"tetra t 0 0 0 6\nturn 1 t 0", 2, 22),
         (b"tetra t 0 0 0 6\nmeasure T", 2, 23),
     ];
-    for (bytes, line, kind) in refused {
-        assert_eq!(rt; refusal(&rt, bytes)?, (line, kind));
-    }
-    Ok(())
+    refuses(&rt, rt.alloc(), &refused)
 }
 
 #[test]
@@ -249,8 +252,5 @@ fn the_first_faulty_line_refuses_the_script(rt: HostRuntime) -> Result<(), Fail>
         (b"\r\n#\n\r\nload a\n", 4, 21),
         (b"\xef\xbb\xbf\ncut", 2, 20),
     ];
-    for (bytes, line, kind) in refused {
-        assert_eq!(rt; refusal(&rt, bytes)?, (line, kind));
-    }
-    Ok(())
+    refuses(&rt, rt.alloc(), &refused)
 }

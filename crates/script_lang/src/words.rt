@@ -1,9 +1,9 @@
 // The words of a line.
 ghost use Rattle.std.specs.Prelude.{◌≡◌};
-ghost use Rattle.text_terms.specs.Lines.{before_comment, is_comment, words_of};
+ghost use Rattle.text_terms.specs.Lines.{before_comment, words_of};
 
 use std::marker::Model;
-use text_lines::first_word;
+use text_lines::{first_word, is_comment};
 
 /// The words of a line from the first to the last: longest runs of bytes that are neither a space nor a tab. A
 /// word that begins with `#` ends the line.
@@ -47,11 +47,4 @@ impl<'t> Iterator for Words<'t> {
         self.text = rest;
         Some(word)
     }
-}
-
-// Whether a word begins a comment.
-fn is_comment(word: &[u8]) -> bool
-    ensures { result ≡ is_comment word.now }
-{
-    !word.is_empty() && word[0] == b'#'
 }

@@ -10,13 +10,13 @@ ghost use Rattle.stl_terms.specs.Stl.{at_end, end_facet, last_line, nothing_gath
 ghost use Rattle.text_lines.specs.Faults.{IsFaultOf};
 
 use crate::grammar::{Place, after_turn, after_word};
-use crate::lines::{Lines, Words, last_line};
+use crate::lines::{Words, last_line};
 use crate::welded::Welded;
 use arrayvec::ArrayVec;
 use mb_base::{Counted, Limits, NoMemory, Point, Soup, TextFault, TextKind};
 use std::alloc::Global;
 use std::marker::Model;
-use text_lines::{bad, coordinate, without_mark};
+use text_lines::{Lines, bad, coordinate, without_mark};
 use unused_points::without_unused;
 
 /// The points and the triangles that the words so far gave, and of the present facet the corners so far and
@@ -72,8 +72,8 @@ impl Reading {
         ensures fault { IfErr result (IsFaultOf (stl_lines digits limits.now (word_lines (numbered 1 (lines_of (without_mark bytes.now)))) nothing_gathered)) }
     {
         let mut reading = Reading::new(alloc);
-        for (number, words) in Lines::of(without_mark(bytes)) {
-            reading.read_line(words, number, digits, limits)?;
+        for (number, line) in Lines::of(without_mark(bytes)) {
+            reading.read_line(Words::of(line), number, digits, limits)?;
         }
         Ok(reading)
     }

@@ -9,5 +9,5 @@ mod lines;
 mod words;
 
 pub use coordinates::{bad, coordinate};
-pub use lines::{first_line, without_mark};
-pub use words::{after_blanks, first_blank, first_word};
+pub use lines::{Lines, first_line, without_mark};
+pub use words::{after_blanks, first_blank, first_word, is_comment};

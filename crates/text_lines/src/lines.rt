@@ -1,8 +1,58 @@
 // The lines of a text.
-ghost use Rattle.std.specs.Prelude.{◌≡◌, ◌<◌, ◌∷◌, length};
-ghost use Rattle.text_terms.specs.Lines.{lines_of, raw_lines, without_cr, without_mark};
+ghost use Rattle.std.specs.Prelude.{◌≡◌, ◌+◌, ◌<◌, ◌∷◌, length};
+ghost use Rattle.text_terms.specs.Lines.{lines_of, numbered, raw_lines, without_cr, without_mark};
 
 use memchr::memchr;
+use std::marker::Model;
+
+/// The lines of a text from the first to the last, each with its number, from 1. A line ends at its LF or at the end
+/// of the text, and one CR at its end is dropped.
+#[derive(Drop)]
+pub struct Lines<'t> {
+    text: &'t [u8],
+    number: u64,
+}
+
+impl<'t> Model for Lines<'t> {
+    ghost use Rattle.std.specs.Prelude.{◌+◌, ◌≤◌, ◌^◌, ℕ, List, length};
+    ghost use Rattle.text_terms.specs.Lines.{lines_of, numbered};
+
+    ghost Value = { List (ℕ × List ℕ) };
+
+    ghost view = { λ l. numbered l.number (lines_of l.text.now) };
+
+    ghost invariant = { λ l. l.number + length l.text.now ≤ 2 ^ 63 };
+}
+
+impl<'t> Lines<'t> {
+    /// The lines of this text.
+    pub fn of(text: &'t [u8]) -> Lines<'t>
+        ensures { result ≡ numbered 1 (lines_of text.now) }
+    {
+        Lines { text, number: 1 }
+    }
+}
+
+impl<'t> Iterator for Lines<'t> {
+    type Item = (u64, &'t [u8]);
+
+    ghost use Rattle.std.specs.Iterator.{YieldsFirstBy, item_count};
+
+    ghost next_gives = { YieldsFirstBy (λ line. (line.0, line.1.now)) (λ lines. lines) };
+
+    ghost remaining = { item_count (λ lines. lines) };
+
+    fn next(&mut self) -> Option<(u64, &'t [u8])> {
+        if self.text.is_empty() {
+            return None;
+        }
+        let number = self.number;
+        let (line, after) = first_line(self.text);
+        self.text = after;
+        self.number = number + 1;
+        Some((number, line))
+    }
+}
 
 /// A text without the mark EF BB BF at its start, if there is one.
 pub fn without_mark(bytes: &[u8]) -> &[u8]

@@ -1,7 +1,7 @@
 // The words of a line.
 ghost use Rattle.std.specs.Prelude.{◌≡◌, ◌<◌, ◌∷◌, [], not, length, IsTrue, IfSome, IfNone};
 ghost use Rattle.std.specs.List.{position_or_len};
-ghost use Rattle.text_terms.specs.Lines.{is_blank, begins_word, words_of};
+ghost use Rattle.text_terms.specs.Lines.{is_blank, begins_word, is_comment, words_of};
 
 /// The first word of a line, and what comes after it. None where the line has no word.
 pub fn first_word(line: &[u8]) -> Option<(&[u8], &[u8])>
@@ -22,6 +22,13 @@ pub fn after_blanks(text: &[u8]) -> &[u8]
 {
     let (_, rest) = text.split_at(first_mark(text));
     rest
+}
+
+/// Whether a word begins a comment: its first byte is `#`.
+pub fn is_comment(word: &[u8]) -> bool
+    ensures { result ≡ is_comment word.now }
+{
+    !word.is_empty() && word[0] == b'#'
 }
 
 // Whether a byte separates words.

@@ -1,4 +1,4 @@
-use Rattle.std.proofs.Common.{◌≡◌, ℕ, ℤ, List, codes, length, sym, ap, ◌∙◌, subst, arith}
+use Rattle.std.proofs.Common.{◌≡◌, ℕ, ℤ, List, ◌++◌, codes, length, sym, ap, ◌∙◌, subst, arith}
 use Rattle.std.specs.List.{All, flat_map}
 use Rattle.std.proofs.lemmas.List.Folds.{flat_map-map}
 use Rattle.std.proofs.lemmas.List.{get_or-map, length-map}
@@ -59,26 +59,27 @@ returns-in_err-write_facets-clause-broke g c =
     let broke = subst P same c.in_err-write_facets.ensures.broke in
     rw p.1 (broke-longer k _ last h s u (broke-then k first _ h _ s _ u c.in_ok-write_line.ensures.wrote broke))
 
-pub returns-clause-wrote : goal.returns-clause-wrote
-returns-clause-wrote g c =
+-- the first line and the facets were written
+before_last : (g : _) (c : goal.After-write_line-2 g) →
+    Wrote g.K.Sink (first ++ flat_map (facet_text c.args.digits c.args.mesh.now.points) c.args.mesh.now.triples)
+    (c.args.page.now.items, c.write_facets.new.page.items) (c.args.sink.now, c.write_facets.new.sink)
+before_last g c =
     let k = g.K.Sink in
-    let h = c.args.page.now.items in
-    let s = c.args.sink.now in
     let t = c.write_facets.new.sink in
     let mesh = c.args.mesh.now in
     let same = facets_of_lists c.args.digits c.points.result.now mesh.points c.triples.result.now mesh.triples c.points.ensures.value c.triples.ensures.value in
     let P : List ℕ → Type 0 = λ facets. Wrote k facets (c.write_line.new.page.items, c.write_facets.new.page.items) (c.write_line.new.sink, t) in
-    let wrote = wrote-then k first _ h _ c.write_facets.new.page.items s _ t c.in_ok-write_line.ensures.wrote (subst P same c.in_ok-write_facets.ensures.wrote) in
-    on_ok_weaker c.write_line-2.result (λ w. wrote-then k _ last h _ c.write_line-2.new.page.items s _ c.write_line-2.new.sink wrote w) c.write_line-2.ensures.wrote
+    wrote-then k first _ c.args.page.now.items _ c.write_facets.new.page.items c.args.sink.now _ t
+    c.in_ok-write_line.ensures.wrote (subst P same c.in_ok-write_facets.ensures.wrote)
+
+pub returns-clause-wrote : goal.returns-clause-wrote
+returns-clause-wrote g c =
+    on_ok_weaker c.write_line-2.result
+    (λ w. wrote-then g.K.Sink _ last c.args.page.now.items _ c.write_line-2.new.page.items c.args.sink.now _ c.write_line-2.new.sink (before_last g c) w)
+    c.write_line-2.ensures.wrote
 
 pub returns-clause-broke : goal.returns-clause-broke
 returns-clause-broke g c =
-    let k = g.K.Sink in
-    let h = c.args.page.now.items in
-    let s = c.args.sink.now in
-    let t = c.write_facets.new.sink in
-    let mesh = c.args.mesh.now in
-    let same = facets_of_lists c.args.digits c.points.result.now mesh.points c.triples.result.now mesh.triples c.points.ensures.value c.triples.ensures.value in
-    let P : List ℕ → Type 0 = λ facets. Wrote k facets (c.write_line.new.page.items, c.write_facets.new.page.items) (c.write_line.new.sink, t) in
-    let wrote = wrote-then k first _ h _ c.write_facets.new.page.items s _ t c.in_ok-write_line.ensures.wrote (subst P same c.in_ok-write_facets.ensures.wrote) in
-    on_err_weaker c.write_line-2.result (λ b. broke-then k _ last h _ s _ c.write_line-2.new.sink wrote b) c.write_line-2.ensures.broke
+    on_err_weaker c.write_line-2.result
+    (λ b. broke-then g.K.Sink _ last c.args.page.now.items _ c.args.sink.now _ c.write_line-2.new.sink (before_last g c) b)
+    c.write_line-2.ensures.broke

@@ -1,7 +1,6 @@
-use Rattle.std.proofs.Common.{◌≡◌, ◌<◌, ℕ, false, List, [], ◌∷◌, length, take, drop, sym, ◌∙◌, refl, arith}
+use Rattle.std.proofs.Common.{◌≡◌, ◌<◌, ℕ, false, List, [], ◌∷◌, length, sym, ◌∙◌, refl, arith}
 use Rattle.std.specs.Prelude.{◌==◌}
-use Rattle.std.specs.List.{position_or_len}
-use Rattle.text_terms.specs.Lines.{is_blank, begins_word, words_of}
+use Rattle.text_terms.specs.Lines.{is_blank}
 use Rattle.text_lines.proofs.Positions.{position_or_len-le}
 use Rattle.text_lines.proofs.WordSteps.{words_of-first}
 use Rattle.text_lines.proofs.words.first_word.Goals as goal

@@ -6,4 +6,4 @@ use Rattle.stl_text.proofs.reading.Reading.of.Given as goal
 -- the lines that are left decide
 abbrev pub invariant-loop-number : goal.invariant-loop-number
 invariant-loop-number l =
-    stl_lines l.digits l.limits (word_lines (numbered 1 (lines_of (without_mark l.bytes)))) nothing_gathered ≡ stl_lines l.digits l.limits l.number-iterator l.reading
+    stl_lines l.digits l.limits (word_lines (numbered 1 (lines_of (without_mark l.bytes)))) nothing_gathered ≡ stl_lines l.digits l.limits (word_lines l.number-iterator) l.reading
