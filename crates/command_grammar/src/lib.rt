@@ -1,10 +1,12 @@
 //! How `clap` reads the words of a command line after the first: operands, and one option for the digits. There is no option for help.
 #![tactic(auto)]
 
-ghost use Rattle.std.specs.Prelude.{◌≡◌, IfOk};
+ghost use Rattle.std.specs.Prelude.{◌≡◌, ◌≢◌, IfOk, OnOk};
 ghost use Rattle.clap.specs.Words.{app_of, with_rule};
+ghost use Rattle.clap.specs.declared.error.kind.ErrorKind.TheVariants.{OutOfMemory};
 ghost use Rattle.command_grammar.specs.Grammar.{bare_app, digits_rule, grammar_app, operands_rule};
 
+use clap::error::ErrorKind;
 use clap::{Arg, ArgAction, Command};
 use std::alloc::{AllocError, Global};
 
@@ -41,4 +43,14 @@ pub fn grammar<'a>(alloc: Global) -> Result<Command<'a>, AllocError>
 {
     let command = with_digits(alloc, bare(alloc))?;
     with_operands(alloc, command)
+}
+
+/// Whether an error of this kind is a refusal of the words; `AllocError` where it is want of memory.
+pub fn refusal(kind: ErrorKind) -> Result<(), AllocError>
+    ensures { OnOk result (kind ≢ OutOfMemory) }
+{
+    match kind {
+        ErrorKind::OutOfMemory => Err(AllocError),
+        _ => Ok(()),
+    }
 }

@@ -4,8 +4,7 @@ ghost use Rattle.clap.specs.Words.{found_of};
 ghost use Rattle.command_words.specs.Grammar.{IsNoCommand, given_by, given_in};
 
 use clap::ArgMatches;
-use clap::error::ErrorKind;
-use command_grammar::grammar;
+use command_grammar::{grammar, refusal};
 use mb_base::NoMemory;
 use std::alloc::Global;
 
@@ -16,9 +15,9 @@ pub fn parse<'a>(alloc: Global, words: &'a [String]) -> Result<Option<ArgMatches
 {
     match grammar(alloc)?.try_get_matches_from(words) {
         Ok(matches) => Ok(Some(matches)),
-        Err(error) => match error.kind() {
-            ErrorKind::OutOfMemory => Err(NoMemory),
-            _ => Ok(None),
-        },
+        Err(error) => {
+            refusal(error.kind())?;
+            Ok(None)
+        }
     }
 }

@@ -10,5 +10,5 @@ returns-in-Ok-clause-given c =
 pub returns : goal.returns
 returns c =
     let lost = refusal_read (app_of c.in_ok-grammar.field-0) c.args.words.now (kind_of c.in-Err.error) c.in_ok-grammar.ensures c.in-Err.ensures.kinds
-    (λ memory. c.in_default.not-OutOfMemory (c.kind.ensures ∙ memory)) in
+    (λ memory. c.in_ok.ensures (c.kind.ensures ∙ memory)) in
     record { given = tt; refused = λ none. lost }

@@ -5,13 +5,14 @@ ghost use Rattle.arrayvec.specs.ArrayVec.{array_vec_len};
 ghost use Rattle.mb_base.specs.Faults.{counted_of, kind_number};
 ghost use Rattle.play_terms.specs.Ends.{why_line};
 ghost use Rattle.play_terms.specs.Lines.{counts_text, kind_name, limit_name};
-ghost use Rattle.mesh_files.specs.Stops.{why_of};
+ghost use Rattle.script_terms.specs.Lines.{step_kind_name};
+ghost use Rattle.file_stops.specs.Stops.{why_of};
 
 use crate::script_tail::{script_kind_text, step_kind_text};
 use arrayvec::ArrayVec;
+use file_stops::Stop;
 use itoa::{Buffer, Integer};
 use mb_base::{Counted, TextKind};
-use mesh_files::Stop;
 
 /// The end of a line.
 pub type Tail = ArrayVec<u8, 128>;
@@ -48,36 +49,21 @@ pub fn put_pair<I: Integer>(tail: &mut Tail, text: &[u8], number: I)
     put_number(tail, number);
 }
 
-// The name of a kind of fault.
-fn kind_text(kind: TextKind) -> &'static [u8]
-    ensures text { result.now ≡ kind_name (kind_number kind) }
-    ensures short { length result.now ≤ 17 }
+// The number and the name of a kind of fault.
+fn kind_text(kind: TextKind) -> (u64, &'static [u8])
+    ensures number { result.0 ≡ kind_number kind }
+    ensures text { result.1.now ≡ kind_name (kind_number kind) }
+    ensures short { length result.1.now ≤ 17 }
 {
     match kind {
-        TextKind::UnknownLine => b"UnknownLine",
-        TextKind::BadVertex => b"BadVertex",
-        TextKind::BadNumber => b"BadNumber",
-        TextKind::OutOfGrid => b"OutOfGrid",
-        TextKind::BadFace => b"BadFace",
-        TextKind::BadIndex => b"BadIndex",
-        TextKind::FaceRepeatsVertex => b"FaceRepeatsVertex",
-        TextKind::NotStl => b"NotStl",
-    }
-}
-
-// The number of a kind of fault.
-fn kind_code(kind: TextKind) -> u64
-    ensures { result ≡ kind_number kind }
-{
-    match kind {
-        TextKind::UnknownLine => 1,
-        TextKind::BadVertex => 2,
-        TextKind::BadNumber => 3,
-        TextKind::OutOfGrid => 4,
-        TextKind::BadFace => 5,
-        TextKind::BadIndex => 6,
-        TextKind::FaceRepeatsVertex => 7,
-        TextKind::NotStl => 10,
+        TextKind::UnknownLine => (1, b"UnknownLine"),
+        TextKind::BadVertex => (2, b"BadVertex"),
+        TextKind::BadNumber => (3, b"BadNumber"),
+        TextKind::OutOfGrid => (4, b"OutOfGrid"),
+        TextKind::BadFace => (5, b"BadFace"),
+        TextKind::BadIndex => (6, b"BadIndex"),
+        TextKind::FaceRepeatsVertex => (7, b"FaceRepeatsVertex"),
+        TextKind::NotStl => (10, b"NotStl"),
     }
 }
 
@@ -106,6 +92,13 @@ fn line_tail(line: u64, kind: u64, name: &[u8]) -> Tail
     put(&mut tail, name);
     put(&mut tail, b"\n");
     tail
+}
+
+// The end of the line that tells a faulty mesh which a line of a script makes.
+fn step_tail(line: u64, kind: u8) -> Tail
+    ensures { result.items ≡ codes ":" ++ decimal line ++ codes ": " ++ decimal kind ++ codes " " ++ step_kind_name kind ++ codes "\n" }
+{
+    line_tail(line, u64::from(kind), step_kind_text(kind))
 }
 
 // The end of the line of an open mesh.
@@ -157,14 +150,11 @@ pub fn stop_line<'a>(name: &'a str, stop: &Stop) -> (&'a [u8], Tail)
             let tail = line_tail(*line, u64::from(*kind), script_kind_text(*kind));
             (name, tail)
         }
-        Stop::BadStep { line, kind } => {
-            let tail = line_tail(*line, u64::from(*kind), step_kind_text(*kind));
-            (name, tail)
-        }
+        Stop::BadStep { line, kind } => (name, step_tail(*line, *kind)),
         Stop::Missing => (name, plain_tail(b": missing\n")),
         Stop::BadText { line, kind } => {
-            let tail = line_tail(*line, kind_code(*kind), kind_text(*kind));
-            (name, tail)
+            let (number, text) = kind_text(*kind);
+            (name, line_tail(*line, number, text))
         }
         Stop::BadEdge { from, to } => (name, edge_tail(*from, *to)),
         Stop::Over { what, seen } => (b"", limit_tail(*what, *seen)),

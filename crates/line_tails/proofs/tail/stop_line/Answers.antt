@@ -2,7 +2,7 @@ use Rattle.std.proofs.Common.{◌≡◌, ◌++◌, ◌∙◌, [], ◌∷◌, ap,
 use Rattle.std.specs.Fmt.{decimal}
 use Rattle.script_terms.specs.Lines.{step_kind_name}
 use Rattle.run_terms.specs.Files.{Bytes}
-use Rattle.report_lines.proofs.tail.stop_line.Goals as goal
+use Rattle.line_tails.proofs.tail.stop_line.Goals as goal
 
 pub returns-in-Missing : goal.returns-in-Missing
 returns-in-Missing c =
@@ -26,5 +26,5 @@ behind name a b c d e f g = sym (more name _ g _ (more name _ f _ (more name _ e
 
 pub returns-in-BadStep : goal.returns-in-BadStep
 returns-in-BadStep c =
-    rw (c.in-BadStep.is, c.as_bytes-name.ensures.value, c.line_tail-tail-in-BadStep.ensures, c.from-in-BadStep.ensures, c.step_kind_text.ensures.text)
+    rw (c.in-BadStep.is, c.as_bytes-name.ensures.value, c.step_tail.ensures)
     (behind c.args.name.now (codes ":") (decimal c.in-BadStep.line) (codes ": ") (decimal c.in-BadStep.kind) (codes " ") (step_kind_name c.in-BadStep.kind) (codes "\n"))

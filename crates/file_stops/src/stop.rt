@@ -23,7 +23,7 @@ pub enum Stop {
 }
 
 impl From<AllocError> for Stop {
-    ghost use Rattle.mesh_files.specs.declared.stop.Stop.TheVariants.{NoMemory};
+    ghost use Rattle.file_stops.specs.declared.stop.Stop.TheVariants.{NoMemory};
 
     ghost from_gives = { λ _ stop. stop ≡ NoMemory };
 
@@ -33,7 +33,7 @@ impl From<AllocError> for Stop {
 }
 
 impl From<TextFault> for Stop {
-    ghost use Rattle.mesh_files.specs.Faults.{stop_of_text};
+    ghost use Rattle.file_stops.specs.Faults.{stop_of_text};
 
     ghost from_gives = { λ fault stop. stop ≡ stop_of_text fault };
 
@@ -47,7 +47,7 @@ impl From<TextFault> for Stop {
 }
 
 impl From<MeshFault> for Stop {
-    ghost use Rattle.mesh_files.specs.Faults.{stop_of_mesh};
+    ghost use Rattle.file_stops.specs.Faults.{stop_of_mesh};
 
     ghost from_gives = { λ fault stop. stop ≡ stop_of_mesh fault };
 

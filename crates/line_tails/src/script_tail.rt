@@ -55,7 +55,8 @@ pub fn saved_tail(points: u64, triangles: u64) -> Tail
 
 /// The end of the line that reports the measures of a mesh, after the numbers of its points and triangles.
 pub fn measured_tail(components: u64, euler: i64, volume6: i128) -> Tail
-    ensures { result.items ≡ line_of (codes ", components " ++ decimal components ++ codes ", euler " ++ signed_decimal euler ++ codes ", volume6 " ++ signed_decimal volume6) }
+    ensures { result.items ≡
+        line_of (codes ", components " ++ decimal components ++ codes ", euler " ++ signed_decimal euler ++ codes ", volume6 " ++ signed_decimal volume6) }
 {
     let mut tail = Tail::new();
     put_pair(&mut tail, b", components ", components);
@@ -67,7 +68,9 @@ pub fn measured_tail(components: u64, euler: i64, volume6: i128) -> Tail
 
 /// The end of the line that reports an operation.
 pub fn combined_tail(kept: [u64; 2], crossings: u64, forced: u64) -> Tail
-    ensures { result.items ≡ line_of (codes ": kept " ++ decimal (slice_index kept 0) ++ codes " " ++ decimal (slice_index kept 1) ++ codes ", crossings " ++ decimal crossings ++ codes ", forced " ++ decimal forced) }
+    ensures { result.items ≡
+        line_of (codes ": kept " ++ decimal (slice_index kept 0) ++ codes " " ++ decimal (slice_index kept 1)
+        ++ codes ", crossings " ++ decimal crossings ++ codes ", forced " ++ decimal forced) }
 {
     let mut tail = Tail::new();
     put_pair(&mut tail, b": kept ", kept[0]);
