@@ -1,5 +1,5 @@
 -- What a word is worth.
-use Rattle.std.proofs.Common.{◌≡◌, ℕ, ℤ, ◌-◌, ◌≤◌, ◌<◌, List, [], ◌∷◌, Result, Ok, Err, Some, None, IfOk, IsTrue, ◌↔◌, Option, cond, get_or, length, ap, sym, refl, ◌∙◌, arith}
+use Rattle.std.proofs.Common.{◌≡◌, ℕ, ℤ, ◌-◌, ◌≤◌, ◌<◌, [], ◌∷◌, Result, Ok, Err, Some, None, IfOk, IsTrue, ◌↔◌, Option, cond, get_or, length, ap, sym, refl, ◌∙◌, arith}
 use Rattle.std.specs.Option.{option_and_then}
 use Rattle.std.specs.Result.{result_ok}
 use Rattle.std.proofs.lemmas.Bool.{le-leb}
