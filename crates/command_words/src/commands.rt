@@ -1,21 +1,17 @@
 // The words of a command line.
-ghost use Rattle.std.specs.Prelude.{◌≡◌, ◌≤◌, ◌∷◌, [], map, IfOk, IfSome};
+ghost use Rattle.std.specs.Prelude.{◌≡◌, ◌≤◌, map, IfOk, IfSome};
 ghost use Rattle.std.specs.Option.{option_map};
 ghost use Rattle.clap.specs.Words.{found_of};
-ghost use Rattle.mesh_terms.specs.Points.{IsOnGrid};
-ghost use Rattle.play_terms.specs.Words.{command, command_with, copy_of, digits_of, grid_operand, inside_of, run_of};
+ghost use Rattle.play_terms.specs.Words.{command, command_with, copy_of, digits_of, inside_of, run_of};
 ghost use Rattle.command_words.specs.Commands.{command_of, digits_in};
 ghost use Rattle.command_words.specs.Grammar.{given_in};
 
 use crate::grammar::parse;
 use clap::ArgMatches;
-use grid_number::read_grid;
 use mb_base::{ArgList, NoMemory, Point};
 use mesh_names::is_mesh_name;
 use std::alloc::Global;
-
-/// The digits after the point of a file's numbers, where none are given.
-const DIGITS: u8 = 4;
+use word_values::{coordinate, digits_from};
 
 /// A command with its operands.
 #[derive(Drop)]
@@ -39,26 +35,12 @@ pub enum Command<'a> {
     },
 }
 
-// The number of one character from 0 to 6.
-fn digit(text: &[u8]) -> Option<u8>
-    ensures value { result ≡ digits_of (text.now ∷ []) }
-    ensures few { IfSome result (λ k. k ≤ 6) }
-{
-    match text {
-        [c] if b'0' <= *c && *c <= b'6' => Some(*c - b'0'),
-        _ => None,
-    }
-}
-
 // The digits that were given, or 4. None where they are not one character from 0 to 6.
-fn digits_from(matches: &ArgMatches<'_>) -> Option<u8>
+fn digits_given(matches: &ArgMatches<'_>) -> Option<u8>
     ensures value { result ≡ digits_of (given_in (found_of matches.now)).digits }
     ensures few { IfSome result (λ k. k ≤ 6) }
 {
-    match matches.get_str("digits") {
-        Some(text) => digit(text.as_bytes()),
-        None => Some(DIGITS),
-    }
+    digits_from(matches.get_str("digits"))
 }
 
 // The copy with these operands.
@@ -74,15 +56,6 @@ fn copy_with<'a>(digits: u8, operands: &[&'a str]) -> Option<Command<'a>>
         return None;
     }
     Some(Command::CopyFile { digits, from, to })
-}
-
-// The grid number of an operand.
-fn coordinate(word: &str, digits: u8) -> Option<i32>
-    requires { digits ≤ 6 }
-    ensures value { result ≡ grid_operand digits word.now }
-    ensures on_grid { IfSome result (λ z. IsOnGrid z) }
-{
-    read_grid(word.as_bytes(), digits).ok()
 }
 
 // The point with these operands.
@@ -154,7 +127,7 @@ pub fn read_command(alloc: Global, args: &ArgList) -> Result<Option<Command<'_>>
     let Some(matches) = parse(alloc, words)? else {
         return Ok(None);
     };
-    let Some(digits) = digits_from(&matches) else {
+    let Some(digits) = digits_given(&matches) else {
         return Ok(None);
     };
     // no command is without operands

@@ -1,17 +1,20 @@
 -- Calls of a shelf that met the asking for a file, or the writing of one.
-use Rattle.std.proofs.Common.{◌≡◌, ℕ, List, [], false, Option, Result, Ok, Err, IsTrue, IfOk, IfErr, OnOk, ◌⊎◌, inl, inr, ap, sym, subst, refl, ◌∙◌, ℤ}
+use Rattle.std.proofs.Common.{◌≡◌, ℕ, List, [], false, Option, Some, None, Result, Ok, Err, IsTrue, IfOk, IfErr, OnOk, ◌⊎◌, inl, inr, ap, sym, subst, refl, ◌∙◌, ℤ}
 use Rattle.mesh_terms.specs.Limits.{Limits}
 use Rattle.mesh_terms.specs.Meshes.{Triple}
-use Rattle.run_terms.specs.Files.{Bytes, Files, Grew, put}
+use Rattle.run_terms.specs.Files.{Bytes, Files, Grew, length_of, put}
 use Rattle.run_terms.specs.Runs.{World, Write, Partial}
 use Rattle.run_terms.specs.Tasks.{Refusal, give}
 use Rattle.run_terms.specs.Meets.{Why, Refused, Unread, Unwritten, Starved, Seen, Meets}
 use Rattle.play_terms.specs.Commands.{ask_file, ask_mesh, bytes_in, checked, write_mesh}
 use Rattle.play_terms.specs.Formats.{mesh_soup, mesh_text}
 use Rattle.mb_outside.specs.Seen.{OnShelf, ShelfMeets, seen}
-use Rattle.mesh_files.specs.Stops.{ended_by, soup_with, why_of}
+use Rattle.mesh_files.specs.Stops.{soup_with}
+use Rattle.file_stops.specs.Sizes.{IsSizeStop}
+use Rattle.file_stops.specs.Stops.{ended_by, is_reading_stop, why_of}
+use Rattle.file_stops.specs.declared.stop.Stop.{Stop}
 use Rattle.mesh_files.specs.declared.reading.Read.{Read}
-use Rattle.mesh_files.specs.declared.stop.Stop.{Stop}
+use Rattle.mesh_files.proofs.Texts.{bytes_of_long, bytes_of_none}
 use Rattle.mesh_files.proofs.Saved.{IsSavedInPart}
 use Rattle.run_laws.proofs.Tasks.{meets_then, meets_stop, meets_starved}
 
@@ -44,6 +47,19 @@ refused limits name why before now tells files read short write is told outs =
       faults = rw (read, short, write) refl;
       does = λ t. record { gives = is t; all_done = ap (λ f. world_of f told) files };
     }
+
+-- a file of such a size is refused
+pub size_refused : (limits : Limits) (name : Bytes) (before now : OnShelf) (most : ℕ) (size : Option ℕ) (stop : Stop) → most ≡ limits.file_bytes
+    → now.tells ≡ before.tells → now.files ≡ before.files → now.read ≡ before.read → now.short ≡ before.short → now.write ≡ before.write
+    → (IsTrue before.tells → size ≡ length_of (before.files name)) → IsSizeStop most size stop → ShelfMeets (ask_file limits name) before now (Err (why_of name stop))
+size_refused limits name before now most None stop same tells files read short write long is =
+    rw is (refused limits name _ before now tells files read short write (λ told. bytes_of_none limits name (before.files name) (sym (long told))))
+size_refused limits name before now most (Some n) stop same tells files read short write long is =
+    rw is.0 (refused limits name _ before now tells files read short write (λ told. bytes_of_long limits name (before.files name) most n (sym (long told)) same is.1))
+
+pub is_reading : (most : ℕ) (size : Option ℕ) (stop : Stop) → IsSizeStop most size stop → IsTrue (is_reading_stop stop)
+is_reading most None stop is = rw is refl
+is_reading most (Some n) stop is = rw is.0 refl
 
 -- memory ran out
 pub starved : (limits : Limits) (name : Bytes) (before now : OnShelf) → now ≡ before → ShelfMeets (ask_file limits name) before now (Err Starved)

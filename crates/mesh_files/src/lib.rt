@@ -7,10 +7,9 @@
 
 mod reading;
 mod saving;
-mod stop;
 #[cfg(test)]
 mod tests;
 
+pub use file_stops::Stop;
 pub use reading::{Read, read_file, read_mesh};
 pub use saving::save_mesh;
-pub use stop::Stop;

@@ -1,5 +1,5 @@
 // Reading a file, and the mesh in it, from a shelf.
-ghost use Rattle.std.specs.Prelude.{◌≡◌, ◌≤◌, ◌<◌, ◌+◌, ◌⊎◌, ◌↔◌, ℕ, Option, Some, None, Ok, Err, false, length, take, IsTrue, IfOk, OnErr, OnOk, IfErr, IsErrOf, vec_len};
+ghost use Rattle.std.specs.Prelude.{◌≡◌, ◌≤◌, ◌<◌, ◌+◌, Ok, Err, false, length, IsTrue, IfOk, OnErr, OnOk, IfErr, vec_len};
 ghost use Rattle.mesh_terms.specs.Limits.{IsLawful};
 ghost use Rattle.run_terms.specs.Files.{Bytes, text_of, Counts, CountsShort, IsShort, Grew};
 ghost use Rattle.run_terms.specs.Meets.{Seen, Meets};
@@ -9,10 +9,11 @@ ghost use Rattle.play_terms.specs.Formats.{mesh_soup};
 ghost use Rattle.mb_outside.specs.Seen.{MeetsOnShelf, on_shelf};
 ghost use Rattle.text_lines.specs.Faults.{IsFaultOf};
 ghost use Rattle.mesh_files.specs.Pieces.{ReadsOn, IsSized};
-ghost use Rattle.mesh_files.specs.Stops.{ended_by, is_reading_stop, soup_with, why_of};
+ghost use Rattle.file_stops.specs.Stops.{ended_by, is_reading_stop, why_of};
+ghost use Rattle.mesh_files.specs.Stops.{soup_with};
 
-use crate::stop::Stop;
-use mb_base::{Counted, Limits, Soup, TextFault};
+use file_stops::{Stop, size_within};
+use mb_base::{Limits, Soup, TextFault};
 use mb_outside::{Failed, Shelf};
 use mesh_check::Mesh;
 use mesh_names::is_stl_name;
@@ -42,19 +43,10 @@ fn size_of<S: Shelf>(name: &str, limits: &Limits, shelf: &mut S) -> Result<usize
     ensures spare { S.spare shelf.new ≡ S.spare shelf.old }
 {
     let most = limits.file_bytes();
-    let Ok(answer) = shelf.size(name) else {
+    let Ok(size) = shelf.size(name) else {
         return Err(Stop::ReadFault);
     };
-    let Some(size) = answer else {
-        return Err(Stop::Missing);
-    };
-    if size > most {
-        return Err(Stop::Over {
-            what: Counted::FileBytes,
-            seen: size,
-        });
-    }
-    Ok(size as usize)
+    size_within(size, most)
 }
 
 // Reads one piece more of a file, into these places, and answers how many bytes came.
@@ -167,7 +159,8 @@ fn mesh_of_text(
     limits: &Limits,
 ) -> Result<Read, Stop>
     requires { digits ≤ 6 }
-    ensures meets { (now : Seen) → Meets (give (checked name.now (mesh_soup digits limits.now name.now bytes.items))) now now (ended_by soup_with name.now result) }
+    ensures meets { (now : Seen) →
+        Meets (give (checked name.now (mesh_soup digits limits.now name.now bytes.items))) now now (ended_by soup_with name.now result) }
     ensures stop { IfErr result (λ stop. IsTrue (is_reading_stop stop)) }
 {
     let soup = soup_of_text(alloc, name, bytes, digits, limits)?;

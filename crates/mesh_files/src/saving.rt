@@ -8,10 +8,10 @@ ghost use Rattle.play_terms.specs.Formats.{mesh_text};
 ghost use Rattle.mb_outside.specs.Seen.{MeetsOnShelf};
 ghost use Rattle.mb_outside.specs.Sinks.{AddsPart};
 ghost use Rattle.mesh_writer.specs.Pages.{without};
-ghost use Rattle.mesh_files.specs.Pieces.{HasRoom, HoldsPart};
-ghost use Rattle.mesh_files.specs.Stops.{saved};
+ghost use Rattle.file_stops.specs.Stops.{saved};
+ghost use Rattle.mesh_files.specs.Pieces.{HasRoom, HoldsPart, text_in};
 
-use crate::stop::Stop;
+use file_stops::Stop;
 use mb_outside::{Failed, Shelf, Sink};
 use mesh_check::Mesh;
 use mesh_names::is_stl_name;
@@ -20,14 +20,14 @@ use mesh_writer::{PageSink, write_obj, write_stl};
 // Writes the text of a mesh for a file of this name.
 fn write_text<K: Sink>(mesh: &Mesh, name: &str, digits: u8, sink: &mut K) -> Result<(), Failed>
     requires { digits ≤ 6 }
-    ensures added { OnOk result (K.told sink.new ≡ option_map (λ held. held ++ mesh_text digits name.now mesh.now.points mesh.now.triples) (K.told sink.old)) }
-    ensures part { OnErr result (AddsPart (mesh_text digits name.now mesh.now.points mesh.now.triples) (K.told sink.old) (K.told sink.new)) }
+    ensures added { OnOk result (K.told sink.new ≡ option_map (λ held. held ++ text_in digits name.now mesh.now) (K.told sink.old)) }
+    ensures part { OnErr result (AddsPart (text_in digits name.now mesh.now) (K.told sink.old) (K.told sink.new)) }
     ensures count { Counts (K.faults sink.old) (K.faults sink.new) result }
     ensures other { K.other sink.new ≡ K.other sink.old }
     ensures second { K.second sink.new ≡ K.second sink.old }
     ensures rest { K.rest sink.new ≡ K.rest sink.old }
     ensures loan { K.loan sink.new ≡ K.loan sink.old }
-    ensures sure { (free : ℕ) → K.room sink.old ≡ Some free → length (mesh_text digits name.now mesh.now.points mesh.now.triples) ≤ free → IsOk result }
+    ensures sure { (free : ℕ) → K.room sink.old ≡ Some free → length (text_in digits name.now mesh.now) ≤ free → IsOk result }
 {
     if is_stl_name(name.as_bytes()) {
         write_stl(mesh, digits, sink)
@@ -40,14 +40,14 @@ fn write_text<K: Sink>(mesh: &Mesh, name: &str, digits: u8, sink: &mut K) -> Res
 fn append_text<S: Shelf>(mesh: &Mesh, name: &str, digits: u8, shelf: &mut S) -> Result<(), Failed>
     requires digits { digits ≤ 6 }
     requires empty { IsTrue (S.tells shelf.old) → S.files shelf.old name.now ≡ Some [] }
-    ensures text { OnOk result (IsTrue (S.tells shelf.old) → S.files shelf.new name.now ≡ Some (mesh_text digits name.now mesh.now.points mesh.now.triples)) }
-    ensures part { OnErr result (IsTrue (S.tells shelf.old) → HoldsPart (S.files shelf.new name.now) (mesh_text digits name.now mesh.now.points mesh.now.triples)) }
+    ensures text { OnOk result (IsTrue (S.tells shelf.old) → S.files shelf.new name.now ≡ Some (text_in digits name.now mesh.now)) }
+    ensures part { OnErr result (IsTrue (S.tells shelf.old) → HoldsPart (S.files shelf.new name.now) (text_in digits name.now mesh.now)) }
     ensures others { IsTrue (S.tells shelf.old) → without name.now (S.files shelf.new) ≡ without name.now (S.files shelf.old) }
     ensures writes { Counts (S.write_faults shelf.old) (S.write_faults shelf.new) result }
     ensures reads { S.read_faults shelf.new ≡ S.read_faults shelf.old }
     ensures short { S.short_reads shelf.new ≡ S.short_reads shelf.old }
     ensures told { S.tells shelf.new ≡ S.tells shelf.old }
-    ensures sure { HasRoom (S.spare shelf.old) name.now (mesh_text digits name.now mesh.now.points mesh.now.triples) → IsOk result }
+    ensures sure { HasRoom (S.spare shelf.old) name.now (text_in digits name.now mesh.now) → IsOk result }
 {
     let mut sink = PageSink::of(shelf, name);
     write_text(mesh, name, digits, &mut sink)

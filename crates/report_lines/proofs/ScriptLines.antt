@@ -35,11 +35,3 @@ combined_parts op name left right line o is =
     ap (λ t. name ++ t) (op_parts op left right line)
     ∙ ap (λ t. name ++ (codes " = " ++ (operation_text op left right ++ t))) is
     ∙ sym (from_right name (codes " = ") (operation_text op left right) (combined_text o) (10 ∷ []))
-
--- three texts, each with a number, put into a line one after the other
-pub three_put : (a x b y c z put_y put_z first second third last : Bytes) → first ≡ a ++ x → second ≡ first ++ (b ++ put_y) → third ≡ second ++ (c ++ put_z) → last ≡ third ++ codes "\n"
-    → put_y ≡ y → put_z ≡ z → last ≡ line_of (a ++ x ++ b ++ y ++ c ++ z)
-three_put a x b y c z put_y put_z first second third last one two three end is_y is_z =
-    let before : second ≡ a ++ x ++ b ++ y = two ∙ (λ i. one i ++ (b ++ is_y i)) ∙ sym (append_assoc (a ++ x) b y) in
-    let all : third ≡ a ++ x ++ b ++ y ++ c ++ z = three ∙ (λ i. before i ++ (c ++ is_z i)) ∙ sym (append_assoc (a ++ x ++ b ++ y) c z) in
-    end ∙ ap line_of all

@@ -2,8 +2,8 @@
 use Rattle.std.specs.Prelude.{◌≡◌, ◌⊎◌, Bool, true, false, IsTrue, Result, Ok, Err}
 use Rattle.run_terms.specs.Files.{Bytes}
 use Rattle.run_terms.specs.Meets.{Why, Unsaid, Starved}
-use Rattle.mesh_files.specs.Stops.{is_reading_stop, why_of}
-use Rattle.mesh_files.specs.declared.stop.Stop.TheVariants.{WriteFault}
+use Rattle.file_stops.specs.Stops.{is_reading_stop, why_of}
+use Rattle.file_stops.specs.declared.stop.Stop.TheVariants.{WriteFault}
 use Rattle.report_lines.specs.declared.halt.Halt.{Halt}
 use Rattle.report_lines.specs.declared.halt.Halt.TheVariants.{At, Reporting, NoMemory}
 

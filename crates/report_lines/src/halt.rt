@@ -1,9 +1,9 @@
 // Where a command stopped.
 ghost use Rattle.std.specs.Prelude.{◌≡◌};
 
+use file_stops::Stop;
 use mb_base::NoMemory;
 use mb_outside::Failed;
-use mesh_files::Stop;
 
 /// Where a command stopped: at the file of this name, as it reported on the output, or where memory ran out between the two.
 #[derive(Clone, Copy, Debug, PartialEq, Eq, Drop)]

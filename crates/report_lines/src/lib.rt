@@ -4,8 +4,6 @@
 mod halt;
 mod report;
 mod script_report;
-mod script_tail;
-mod tail;
 
 pub use halt::Halt;
 pub use report::{say_copied, say_winding, tell_halt, tell_stop};

@@ -9,14 +9,13 @@ ghost use Rattle.script_terms.specs.Combined.{Combined};
 ghost use Rattle.script_terms.specs.Commands.{op_word};
 ghost use Rattle.script_terms.specs.Lines.{combine_line, load_line, measure_line, save_line};
 ghost use Rattle.mesh_terms.specs.Meshes.{Mesh as TheMesh};
-ghost use Rattle.mesh_files.specs.Stops.{soup_of};
+ghost use Rattle.file_stops.specs.Stops.{soup_of};
 ghost use Rattle.report_lines.specs.Counts.{counts_of};
 ghost use Rattle.report_lines.specs.Measures.{IsMeasureOf};
 ghost use Rattle.report_lines.specs.Reports.{said};
 
 use crate::report::say;
-use crate::script_tail::{combined_tail, measured_tail, saved_tail, size_tail};
-use crate::tail::copied_tail;
+use line_tails::{combined_tail, copied_tail, measured_tail, saved_tail, size_tail};
 use mb_base::Op;
 use mb_outside::{Failed, Sink, write_all};
 use mesh_check::Mesh;
@@ -39,7 +38,8 @@ fn say_five<K: Sink>(
     tail: &[u8],
     sink: &mut K,
 ) -> Result<(), Failed>
-    ensures added { OnOk result (K.told sink.new ≡ option_map (λ held. held ++ (head.now ++ (name.now ++ (between.now ++ (other.now ++ tail.now))))) (K.told sink.old)) }
+    ensures added { OnOk result (K.told sink.new ≡
+        option_map (λ held. held ++ (head.now ++ (name.now ++ (between.now ++ (other.now ++ tail.now))))) (K.told sink.old)) }
     ensures part { OnErr result (AddsPart (head.now ++ (name.now ++ (between.now ++ (other.now ++ tail.now)))) (K.told sink.old) (K.told sink.new)) }
     ensures count { Counts (K.faults sink.old) (K.faults sink.new) result }
 {
@@ -58,8 +58,10 @@ fn say_six<K: Sink>(
     tail: &[u8],
     sink: &mut K,
 ) -> Result<(), Failed>
-    ensures added { OnOk result (K.told sink.new ≡ option_map (λ held. held ++ (first.now ++ (head.now ++ (name.now ++ (between.now ++ (other.now ++ tail.now)))))) (K.told sink.old)) }
-    ensures part { OnErr result (AddsPart (first.now ++ (head.now ++ (name.now ++ (between.now ++ (other.now ++ tail.now))))) (K.told sink.old) (K.told sink.new)) }
+    ensures added { OnOk result (K.told sink.new ≡
+        option_map (λ held. held ++ (first.now ++ (head.now ++ (name.now ++ (between.now ++ (other.now ++ tail.now)))))) (K.told sink.old)) }
+    ensures part { OnErr result
+        (AddsPart (first.now ++ (head.now ++ (name.now ++ (between.now ++ (other.now ++ tail.now))))) (K.told sink.old) (K.told sink.new)) }
     ensures count { Counts (K.faults sink.old) (K.faults sink.new) result }
 {
     write_all(sink, first)?;

@@ -1,8 +1,8 @@
 -- Where the steps of a script stop, and where a script does.
 use Rattle.std.specs.Prelude.{◌≡◌, Bool, true, false, ⊤, IsTrue}
 use Rattle.run_terms.specs.Files.{Bytes}
-use Rattle.mesh_files.specs.declared.stop.Stop.{Stop}
-use Rattle.mesh_files.specs.declared.stop.Stop.TheVariants.{Usage, BadScript}
+use Rattle.file_stops.specs.declared.stop.Stop.{Stop}
+use Rattle.file_stops.specs.declared.stop.Stop.TheVariants.{Usage, BadScript}
 use Rattle.report_lines.specs.declared.halt.Halt.{Halt}
 use Rattle.report_lines.specs.declared.halt.Halt.TheVariants.{At, Reporting, NoMemory}
 

@@ -7,8 +7,7 @@ pub returns-in-Ok-clause-given : goal.returns-in-Ok-clause-given
 returns-in-Ok-clause-given c =
     matches_read (app_of c.in_ok-grammar.field-0) c.args.words.now c.in-Ok.matches c.in_ok-grammar.ensures c.in-Ok.ensures.kinds c.in-Ok.ensures.matches
 
-pub returns : goal.returns
-returns c =
-    let lost = refusal_read (app_of c.in_ok-grammar.field-0) c.args.words.now (kind_of c.in-Err.error) c.in_ok-grammar.ensures c.in-Err.ensures.kinds
-    (λ memory. c.in_default.not-OutOfMemory (c.kind.ensures ∙ memory)) in
-    record { given = tt; refused = λ none. lost }
+pub returns-in_ok-refusal-in-Err-clause-refused : goal.returns-in_ok-refusal-in-Err-clause-refused
+returns-in_ok-refusal-in-Err-clause-refused c none =
+    refusal_read (app_of c.in_ok-grammar.field-0) c.args.words.now (kind_of c.in-Err.error) c.in_ok-grammar.ensures c.in-Err.ensures.kinds
+    (λ memory. c.in_ok-refusal-in-Err.ensures (c.kind.ensures ∙ memory))
