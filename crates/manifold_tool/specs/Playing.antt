@@ -2,9 +2,10 @@
 use Rattle.std.specs.Prelude.{◌≡◌, ℕ, List, IsTrue, Result, Ok}
 use Rattle.mesh_terms.specs.Limits.{Limits}
 use Rattle.run_terms.specs.Files.{Bytes}
-use Rattle.run_terms.specs.Meets.{Why, Seen, Meets}
+use Rattle.run_terms.specs.Meets.{Why}
+use Rattle.run_terms.specs.Tasks.{Task}
 use Rattle.play_terms.specs.Ends.{RiseWith}
-use Rattle.mb_outside.specs.Seen.{OnOutput, on_output, seen_of}
+use Rattle.mb_outside.specs.Seen.{MeetsOn, on_output, seen_of}
 use Rattle.mb_outside.specs.declared.shelf.Shelf.{Ghosts as OfShelf}
 use Rattle.mb_outside.specs.declared.sink.Sink.{Ghosts as OfSink}
 use Rattle.mesh_commands.specs.Endings.{TellsAs}
@@ -16,15 +17,14 @@ use Rattle.script_runs.specs.Operations as operations
 abbrev pub meanings : Meanings
 meanings = record { points = windings; scripts = operations.meanings }
 
--- the run met the task of the words in some end, whose status it has and whose line it told on standard error
-abbrev pub MeetsPlay : Limits → List Bytes → Seen → Seen → ℕ → OnOutput → OnOutput → Type 0
-MeetsPlay limits words before now status told_before told_now =
-    (ended : Result (Unit {0}) Why) × Meets (play meanings limits words) before now ended × TellsAs ended status told_before told_now
+-- a task was met over a shelf, an output and standard error of any type, in some end, which has this status and whose line was told on standard error
+abbrev pub MeetsAs : {S O E : Type 0} → OfShelf S → OfSink O → OfSink E → Task (Unit {0}) → S × O × E → S × O × E → ℕ → Type 0
+MeetsAs s o e t old new status =
+    (ended : Result (Unit {0}) Why) × MeetsOn s o t (old.0, old.1) (new.0, new.1) ended × TellsAs ended status (on_output e old.2) (on_output e new.2)
 
--- the same of a shelf, an output and standard error of any type
+-- the run met the task of the words so
 abbrev pub RunMeets : {S O E : Type 0} → OfShelf S → OfSink O → OfSink E → Limits → List Bytes → S × O × E → S × O × E → ℕ → Type 0
-RunMeets s o e limits words old new status =
-    MeetsPlay limits words (seen_of s o old.0 old.1) (seen_of s o new.0 new.1) status (on_output e old.2) (on_output e new.2)
+RunMeets s o e limits words old new status = MeetsAs s o e (play meanings limits words) old new status
 
 -- the status is that of some end, whose line was told on standard error
 abbrev pub TellsEnd : {E : Type 0} → OfSink E → E → E → ℕ → Type 0

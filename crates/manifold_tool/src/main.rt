@@ -17,7 +17,9 @@ ghost use Rattle.manifold_tool.specs.Playing.{TellsEnd};
 ghost use Rattle.mesh_commands.specs.Statuses.{IsUsageOrStarved, status_number};
 
 mod back;
+mod dispatch;
 mod run;
+mod scripted;
 mod start;
 #[cfg(test)]
 mod tests;

@@ -12,13 +12,10 @@ ghost use Rattle.manifold_tool.specs.Playing.{IsUntroubled, RiseOn, RunMeets, me
 ghost use Rattle.mesh_commands.specs.Statuses.{IsDoneOrStarved, IsUsageOrStarved, status_number};
 
 use crate::back::plays_are_readable;
-use command_words::{Command, read_command};
-use mb_base::{ArgList, Limits, NoMemory};
+use crate::dispatch::dispatch;
+use mb_base::{ArgList, Limits};
 use mb_outside::{Shelf, Sink};
-use mesh_commands::{Status, concluded, copy, inside};
-use mesh_files::Stop;
-use report_lines::tell_stop;
-use script_runs::run_script;
+use mesh_commands::Status;
 use std::alloc::Global;
 use std::sync::ledger::Ledger;
 use steps::Steps;
@@ -77,34 +74,5 @@ pub fn run<S: Shelf, O: Sink, E: Sink, L: Ledger>(
 {
     // The law of what a play writes.
     plays_are_readable(limits, words);
-    let command = match read_command(alloc, words) {
-        Ok(Some(command)) => command,
-        Ok(None) => {
-            tell_stop("", &Stop::Usage, err);
-            return Status::Usage;
-        }
-        Err(NoMemory) => {
-            tell_stop("", &Stop::NoMemory, err);
-            return Status::NoMemory;
-        }
-    };
-    match command {
-        Command::CopyFile { digits, from, to } => {
-            let ended = copy(alloc, from, to, digits, limits, shelf, out);
-            concluded(ended, err)
-        }
-        Command::InsideFile {
-            digits,
-            file,
-            point,
-        } => {
-            let ended = inside(alloc, file, point, digits, limits, shelf, out, steps);
-            concluded(ended, err)
-        }
-        Command::RunScript { digits, script } => {
-            let mut bytes = Vec::new(alloc);
-            let ended = run_script(alloc, script, &mut bytes, digits, limits, shelf, out, steps);
-            concluded(ended, err)
-        }
-    }
+    dispatch(alloc, words, limits, shelf, out, err, steps)
 }

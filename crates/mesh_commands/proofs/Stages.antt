@@ -1,5 +1,7 @@
 -- The commands by their stages, each of which met its task.
-use Rattle.std.proofs.Common.{ℕ, ℤ, List, Result, Ok, Err}
+use Rattle.std.proofs.Common.{◌≡◌, ◌∙◌, ℕ, ℤ, List, Result, Ok, Err, ap}
+use Rattle.std.proofs.lemmas.Result.{err_from_is_err_and}
+use Rattle.std.specs.Result.{IsErrAnd}
 use Rattle.mesh_terms.specs.Limits.{Limits}
 use Rattle.mesh_terms.specs.Meshes.{Soup}
 use Rattle.run_terms.specs.Files.{Bytes}
@@ -8,6 +10,10 @@ use Rattle.run_laws.proofs.Tasks.{meets_then, meets_stop, meets_starved}
 use Rattle.play_terms.specs.Commands.{Meanings, ask_mesh, copied_task, copy_task, inside_task, say_line, winding_task, write_mesh}
 use Rattle.play_terms.specs.Lines.{copied_line, winding_line}
 use Rattle.mb_outside.specs.Seen.{OnShelf, OnOutput, ShelfMeets, OutputMeets, seen}
+
+-- a stop that is handed on is the same stop
+pub handed_on : {T E : Type 0} (ended : Result T E) (stop : E) → IsErrAnd ended (λ given. given ≡ stop) → ended ≡ Err stop
+handed_on ended stop on = let p = err_from_is_err_and ended on in p.1 ∙ ap Err p.2
 
 -- the file of a copy was not read
 pub copy_unread : (k : ℕ) (limits : Limits) (from to : Bytes) (before now : OnShelf) (out : OnOutput) (why : Why)

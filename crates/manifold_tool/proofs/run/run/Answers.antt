@@ -1,34 +1,53 @@
-use Rattle.std.proofs.Common.{◌∙◌, ap, sym, Some}
-use Rattle.std.specs.Option.{option_map}
-use Rattle.command_words.specs.Commands.{command_of}
-use Rattle.manifold_tool.proofs.Counting.{cost_met, found_once, runs}
-use Rattle.manifold_tool.proofs.Running.{asked_for, refused_met, starved_met}
+use Rattle.manifold_tool.proofs.Faults.{complete, rise_on}
+use Rattle.manifold_tool.specs.Playing.{meanings}
+use Rattle.program_terms.specs.Commands.{play}
 use Rattle.manifold_tool.proofs.run.run.Goals as goal
 
-pub returns-in-Ok-None-clause-play : goal.returns-in-Ok-None-clause-play
-returns-in-Ok-None-clause-play g c =
-    let none = sym c.in-Ok-None.ensures.command ∙ ap (option_map command_of) c.in-Ok-None.field-0-is in
-    refused_met c.args.limits.now c.args.words.now _ _ _ none c.tell_stop.ensures
+pub returns-clause-usage : goal.returns-clause-usage
+returns-clause-usage g c = c.dispatch.ensures.usage
 
-pub returns-in-Err-clause-play : goal.returns-in-Err-clause-play
-returns-in-Err-clause-play g c = starved_met c.args.limits.now c.args.words.now _ _ _ c.tell_stop-in-Err.ensures
+pub returns-clause-no_command : goal.returns-clause-no_command
+returns-clause-no_command g c = c.dispatch.ensures.no_command
 
-pub returns-in-InsideFile-clause-cost : goal.returns-in-InsideFile-clause-cost
-returns-in-InsideFile-clause-cost g c told =
-    let asked = asked_for c.args.words.now c.in-Ok-Some.field-0 _ c.in-Ok-Some.ensures.command (c.in-Ok-Some.field-0-is ∙ ap Some c.in-InsideFile.is) in
-    cost_met c.args.limits.now c.args.words.now _ _ _ _ asked (found_once c.inside-ended.result _ _ c.inside-ended.ensures.counted c.inside-ended.ensures.stopped)
+pub returns-clause-refused : goal.returns-clause-refused
+returns-clause-refused g c = c.dispatch.ensures.refused
 
-pub returns-in-RunScript-clause-cost : goal.returns-in-RunScript-clause-cost
-returns-in-RunScript-clause-cost g c told =
-    let asked = asked_for c.args.words.now c.in-Ok-Some.field-0 _ c.in-Ok-Some.ensures.command (c.in-Ok-Some.field-0-is ∙ ap Some c.in-RunScript.is) in
-    cost_met c.args.limits.now c.args.words.now _ _ _ _ asked (c.run_script-ended.ensures.cost told)
+pub returns-clause-untouched : goal.returns-clause-untouched
+returns-clause-untouched g c = c.dispatch.ensures.untouched
 
-pub returns-in-RunScript-clause-most : goal.returns-in-RunScript-clause-most
-returns-in-RunScript-clause-most g c other =
-    let asked = asked_for c.args.words.now c.in-Ok-Some.field-0 _ c.in-Ok-Some.ensures.command (c.in-Ok-Some.field-0-is ∙ ap Some c.in-RunScript.is) in
-    absurd (other (runs c.args.words.now _ _ asked))
+pub returns-clause-quiet : goal.returns-clause-quiet
+returns-clause-quiet g c = c.dispatch.ensures.quiet
 
-pub returns-in-RunScript-clause-uncounted : goal.returns-in-RunScript-clause-uncounted
-returns-in-RunScript-clause-uncounted g c other =
-    let asked = asked_for c.args.words.now c.in-Ok-Some.field-0 _ c.in-Ok-Some.ensures.command (c.in-Ok-Some.field-0-is ∙ ap Some c.in-RunScript.is) in
-    absurd (other (runs c.args.words.now _ _ asked))
+pub returns-clause-play : goal.returns-clause-play
+returns-clause-play g c = c.dispatch.ensures.play
+
+pub returns-clause-counts : goal.returns-clause-counts
+returns-clause-counts g c =
+    rise_on g.S.Shelf g.O.Sink g.E.Sink (c.args.shelf.now, c.args.out.now, c.args.err.now) (c.dispatch.new.shelf, c.dispatch.new.out, c.dispatch.new.err) c.requires.reads c.requires.writes c.requires.outs
+    (play meanings c.args.limits.now c.args.words.now) _ c.dispatch.ensures.play
+
+pub returns-clause-complete : goal.returns-clause-complete
+returns-clause-complete g c =
+    complete g.S.Shelf g.O.Sink g.E.Sink (c.args.shelf.now, c.args.out.now, c.args.err.now) (c.dispatch.new.shelf, c.dispatch.new.out, c.dispatch.new.err) c.requires.reads c.requires.writes c.requires.outs
+    c.args.limits.now c.args.words.now _ c.dispatch.ensures.play
+
+pub returns-clause-mesh_back : goal.returns-clause-mesh_back
+returns-clause-mesh_back g c = c.plays_are_readable.ensures.mesh_back
+
+pub returns-clause-back : goal.returns-clause-back
+returns-clause-back g c = c.plays_are_readable.ensures.back
+
+pub returns-clause-copies_uncounted : goal.returns-clause-copies_uncounted
+returns-clause-copies_uncounted g c = c.dispatch.ensures.steps.copies_uncounted
+
+pub returns-clause-counted : goal.returns-clause-counted
+returns-clause-counted g c = c.dispatch.ensures.steps.counted
+
+pub returns-clause-most : goal.returns-clause-most
+returns-clause-most g c = c.dispatch.ensures.steps.most
+
+pub returns-clause-cost : goal.returns-clause-cost
+returns-clause-cost g c = c.dispatch.ensures.steps.cost
+
+pub returns-clause-uncounted : goal.returns-clause-uncounted
+returns-clause-uncounted g c = c.dispatch.ensures.steps.uncounted
