@@ -11,4 +11,3 @@ mod write;
 
 pub use read::{NumberFault, read_grid};
 pub use write::{write_grid, write_grid_before};
-

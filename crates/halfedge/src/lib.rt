@@ -8,8 +8,6 @@ mod fans;
 mod open_edge;
 mod pairing;
 mod surplus;
-#[cfg(test)]
-mod tests;
 mod twins;
 mod ways;
 

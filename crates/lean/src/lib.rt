@@ -6,8 +6,6 @@ mod corner;
 mod faces;
 mod marks;
 mod side;
-#[cfg(test)]
-mod tests;
 
 pub use corner::corner_of;
 pub use faces::face_of;

@@ -27,6 +27,3 @@ pub use sink::Sink;
 pub use std_sink::StdSink;
 pub use sure_shelf::SureShelf;
 pub use writing::write_all;
-
-#[cfg(test)]
-mod tests;

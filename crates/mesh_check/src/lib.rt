@@ -10,8 +10,6 @@ mod opposites;
 mod oriented;
 mod oriented_ways;
 mod reduction;
-#[cfg(test)]
-mod tests;
 
 pub use mesh::{Mesh, MeshFault};
 pub use reduction::{is_plainly_reduced, reduce};

@@ -10,8 +10,6 @@ mod made;
 mod motions;
 mod rows;
 mod solids;
-#[cfg(test)]
-mod tests;
 
 pub use fault::MakeFault;
 pub use lattice::make_lattice;

@@ -10,6 +10,3 @@ mod stl;
 pub use obj::write_obj;
 pub use page_sink::PageSink;
 pub use stl::write_stl;
-
-#[cfg(test)]
-mod tests;

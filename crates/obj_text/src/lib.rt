@@ -57,6 +57,3 @@ pub fn read_obj(alloc: Global, bytes: &[u8], digits: u8, limits: &Limits) -> Res
 {
     Reading::of(alloc, without_mark(bytes), digits, limits)?.into_soup(alloc)
 }
-
-#[cfg(test)]
-mod tests;

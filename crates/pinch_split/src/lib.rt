@@ -6,8 +6,6 @@
 mod lists;
 mod result;
 mod splitting;
-#[cfg(test)]
-mod tests;
 
 pub use result::Split;
 pub use splitting::split;

@@ -69,6 +69,3 @@ pub fn read_script(alloc: Global, bytes: &[u8], digits: u8) -> Result<Script<'_>
         Err(fault) => Err(fault),
     }
 }
-
-#[cfg(test)]
-mod tests;

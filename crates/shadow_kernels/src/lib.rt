@@ -101,4 +101,3 @@ pub trait Flats: Meets<1, 1> + Meets<1, 2> + Meets<2, 1> + Meets<2, 2> {
         +ℤ shadow_of (⟦<Self as Meets<2, 1>>⟧.meet_of k (a ∷ b ∷ []) (d ∷ []))
         -ℤ shadow_of (⟦<Self as Meets<2, 1>>⟧.meet_of k (a ∷ b ∷ []) (c ∷ [])) };
 }
-

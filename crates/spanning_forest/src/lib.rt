@@ -9,8 +9,6 @@ ghost use Rattle.mesh_terms.specs.Meshes.{triples_of, IsAccepted};
 ghost use Rattle.spanning_forest.specs.Forests.{IsSpanningForest};
 
 mod entrance;
-#[cfg(test)]
-mod tests;
 mod walk;
 
 use counting_sort::Buckets;

@@ -47,6 +47,3 @@ pub fn read_stl(alloc: Global, bytes: &[u8], digits: u8, limits: &Limits) -> Res
 {
     Reading::of(alloc, bytes, digits, limits)?.into_soup(alloc, bytes)
 }
-
-#[cfg(test)]
-mod tests;

@@ -1,10 +1,10 @@
 // Rings after joining against two tables.
+use super::joined_rows::{RANDOM_ROWS, ROWS};
+use super::{can_fill, is_ring, loops_of, points_of};
 use face_loops::Loop;
 use mb_base::Point;
 use std::alloc::Global;
 use std::test::Fail;
-use super::joined_rows::{RANDOM_ROWS, ROWS};
-use super::{can_fill, is_ring, loops_of, points_of};
 use triangulate::{FacePlane, Joined, Ring, join_holes};
 
 // The four parts of a line.

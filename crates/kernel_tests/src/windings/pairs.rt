@@ -1,17 +1,19 @@
 // The hits and winding numbers of pairs of meshes, against those of an independent reference program.
+use super::numbers::numbers_of;
+use super::table::{FIRST_PAIRS, SECOND_PAIRS};
 use lean::Side;
 use mb_base::{Hits, Op, Windings};
 use mesh_check::Mesh;
 use rounding::{Nearest, Rounding};
-use sample_lines::{Low, POST_IN_BOX, marked_side, plain_side, read_meshes, read_pair, write_numbers};
+use sample_lines::{
+    Low, POST_IN_BOX, marked_side, plain_side, read_meshes, read_pair, write_numbers,
+};
 use shadow_kernels::Grid;
 use std::alloc::Global;
 use std::marker::Brand;
 use std::process::Abort;
 use std::sync::ledger::Blank;
 use std::test::Fail;
-use super::numbers::numbers_of;
-use super::table::{FIRST_PAIRS, SECOND_PAIRS};
 
 // The answers of two sides, as the table writes them.
 fn answers_of<R: Rounding + Copy>(

@@ -1,9 +1,9 @@
 // Meshes whose fans are known from outside.
 mod table;
 
-use crate::{Split, split};
 use mb_base::Point;
 use mesh_check::Mesh;
+use pinch_split::{Split, split};
 use samples::{TETRAHEDRON, line_soup, two_boxes};
 use std::alloc::Global;
 use std::test::Fail;

@@ -1,8 +1,8 @@
 // Small meshes, closed and open, and their reductions against a table from outside.
 mod table;
 
-use crate::{Mesh, MeshFault, is_plainly_reduced, reduce};
 use mb_base::Point;
+use mesh_check::{Mesh, MeshFault, is_plainly_reduced, reduce};
 use samples::{BOX, TETRAHEDRON, line_soup};
 use std::alloc::Global;
 use std::test::Fail;

@@ -1,8 +1,9 @@
 // What scripts are read as, and which line refuses one.
 ghost use Rattle.std.specs.Prelude.{◌≤◌};
 
-use super::*;
 use mb_base::Op;
+use script_lang::{Line, Script, ScriptFault, Step, Word, read_script};
+use std::alloc::Global;
 use std::process::Abort;
 use std::test::Fail;
 

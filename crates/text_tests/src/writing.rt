@@ -1,10 +1,10 @@
 // The text of a mesh, through a sink and through a file of a shelf.
 ghost use Rattle.std.specs.Prelude.{◌≤◌};
 
-use crate::{PageSink, write_obj, write_stl};
 use mb_base::{NoMemory, Point, Soup};
 use mb_outside::{Failed, MemoryShelf, MemorySink, Shelf, Sink};
 use mesh_check::Mesh;
+use mesh_writer::{PageSink, write_obj, write_stl};
 use std::alloc::Global;
 use std::test::Fail;
 

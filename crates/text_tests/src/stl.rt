@@ -1,8 +1,10 @@
+// What ASCII STL texts are read as, and what refuses them.
 ghost use Rattle.std.specs.Prelude.{◌≤◌};
 
-use super::*;
-use mb_base::{Counted, TextKind};
+use mb_base::{Counted, Limits, Soup, TextFault, TextKind};
+use std::alloc::Global;
 use std::test::Fail;
+use stl_text::read_stl;
 
 // A facet of 3 corners, before and after other text.
 const TETRAHEDRON: &[u8] = b"solid t

@@ -1,7 +1,7 @@
 // Forests of small meshes, worked out by hand.
-use crate::{Entrance, forest};
 use mesh_check::Mesh;
 use samples::{TETRAHEDRON, line_soup, two_boxes};
+use spanning_forest::{Entrance, forest};
 use std::alloc::Global;
 use std::test::Fail;
 

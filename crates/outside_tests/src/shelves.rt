@@ -1,5 +1,5 @@
 // Shelves and sinks call by call, and what they hold in the end.
-use crate::{Failed, FolderShelf, MemoryShelf, MemorySink, Shelf, Sink, StdSink, SureShelf};
+use mb_outside::{Failed, FolderShelf, MemoryShelf, MemorySink, Shelf, Sink, StdSink, SureShelf};
 use std::alloc::Global;
 use std::fs;
 use std::io::{self, Write};

@@ -1,5 +1,5 @@
 // Small meshes, with twins and fans known from outside.
-use crate::{TwinFault, Twins};
+use halfedge::{TwinFault, Twins};
 use samples::{TETRAHEDRON, line_soup, two_boxes};
 use std::alloc::Global;
 use std::test::Fail;

@@ -1,5 +1,5 @@
 // The marks and corners of small meshes.
-use crate::{Side, leans};
+use lean::{Side, leans};
 use mb_base::{Box3, Corner, Op, Soup, UNIT};
 use mesh_check::Mesh;
 use samples::{box_soup, soup_of};

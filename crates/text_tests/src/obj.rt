@@ -1,7 +1,9 @@
+// What OBJ texts are read as, and what refuses them.
 ghost use Rattle.std.specs.Prelude.{◌≤◌};
 
-use super::*;
-use mb_base::{Counted, TextKind};
+use mb_base::{Counted, Limits, Soup, TextFault, TextKind};
+use obj_text::read_obj;
+use std::alloc::Global;
 use std::process::Abort;
 use std::test::Fail;
 

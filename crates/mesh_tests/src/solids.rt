@@ -1,10 +1,10 @@
 // Made solids, motions and measures; what is expected was found by a reference program.
-use crate::{
+use mb_base::{Counted, Limits, Point};
+use mesh_check::Mesh;
+use mesh_make::{
     MakeFault, make_box, make_lattice, make_prism, make_tetra, measure, mirror, quarter_turn,
     scale, shift, volume6,
 };
-use mb_base::{Counted, Limits, Point};
-use mesh_check::Mesh;
 use samples::{BOX, box_points, soup_of};
 use std::alloc::Global;
 use std::test::Fail;

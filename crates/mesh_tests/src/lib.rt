@@ -1,0 +1,15 @@
+//! Tests of twins, of accepted meshes and their reduction, of sides, pinches and made solids, by the public calls.
+#![tactic(auto)]
+
+#[cfg(test)]
+mod acceptance;
+#[cfg(test)]
+mod orders;
+#[cfg(test)]
+mod pinches;
+#[cfg(test)]
+mod sides;
+#[cfg(test)]
+mod solids;
+#[cfg(test)]
+mod twins;

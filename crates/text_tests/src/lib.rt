@@ -1,0 +1,11 @@
+//! Tests of reading OBJ and STL texts and scripts, and of writing meshes, by the public calls.
+#![tactic(auto)]
+
+#[cfg(test)]
+mod obj;
+#[cfg(test)]
+mod scripts;
+#[cfg(test)]
+mod stl;
+#[cfg(test)]
+mod writing;
