@@ -108,17 +108,21 @@ pub const FAULTY: [(&[u8], &[u8]); 9] = [
     (b"# a\n\nload a cube.ply\n", b"s.txt:3: 25 BadSuffix\n"),
 ];
 
+const WHOLE_STEPS: &[&str] = &["run", "s.txt", "--digits", "0"];
+
+const CUBE_AND_BOX: &[(&str, &[u8])] = &[
+    (
+        "s.txt",
+        b"load a cube.obj\nload b b.obj\nunion u a b\nsave u u.obj\n",
+    ),
+    ("cube.obj", CUBE),
+    ("b.obj", BOX),
+];
+
 // The union of the cube and the box; under a limit on half-edges; and what was saved before a stop.
 pub const UNITED: Case<'static> = Case {
-    words: &["run", "s.txt", "--digits", "0"],
-    files: &[
-        (
-            "s.txt",
-            b"load a cube.obj\nload b b.obj\nunion u a b\nsave u u.obj\n",
-        ),
-        ("cube.obj", CUBE),
-        ("b.obj", BOX),
-    ],
+    words: WHOLE_STEPS,
+    files: CUBE_AND_BOX,
     status: 0,
     out: b"load a cube.obj: points 8, triangles 12, unused 0\nload b b.obj: points 8, triangles 12, unused 0\nu = union a b: kept 8 4, crossings 10, forced 0\nsave u u.obj: points 22, triangles 40\n",
     err: b"",
@@ -127,8 +131,8 @@ pub const UNITED: Case<'static> = Case {
 };
 
 pub const OVER: Case<'static> = Case {
-    words: UNITED.words,
-    files: UNITED.files,
+    words: WHOLE_STEPS,
+    files: CUBE_AND_BOX,
     status: 5,
     out: b"load a cube.obj: points 8, triangles 12, unused 0\nload b b.obj: points 8, triangles 12, unused 0\n",
     err: b"limit halfedges 84\n",
@@ -137,7 +141,7 @@ pub const OVER: Case<'static> = Case {
 };
 
 pub const SAVED_BEFORE: Case<'static> = Case {
-    words: UNITED.words,
+    words: WHOLE_STEPS,
     files: &[
         (
             "s.txt",
