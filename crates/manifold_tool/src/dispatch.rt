@@ -25,7 +25,8 @@ pub fn dispatch<S: Shelf, O: Sink, E: Sink, L: Ledger>(
     steps: &mut Steps<L>,
 ) -> Status
     requires errs { E.faults err.old < 2 ^ 64 - 1 }
-    ensures { IsRunOf S.Shelf O.Sink E.Sink limits.now (command words.now) (shelf.old, out.old, err.old) (shelf.new, out.new, err.new) steps.old steps.new result }
+    ensures { IsRunOf S.Shelf O.Sink E.Sink limits.now (command words.now)
+        (shelf.old, out.old, err.old) (shelf.new, out.new, err.new) steps.old steps.new result }
 {
     let command = match read_command(alloc, words) {
         Ok(Some(command)) => command,

@@ -70,7 +70,8 @@ pub fn run<S: Shelf, O: Sink, E: Sink, L: Ledger>(
     ensures counted { IsInside (command words.now) → result ≡ Status.Done → steps.new ≡ steps.old + 1 }
     ensures most { (IsRun (command words.now) → ⊥) → steps.new ≤ steps.old + 1 }
     ensures cost { IsTrue (S.tells shelf.old) → steps.new ≤ steps.old + play_cost limits.now words.now (S.files shelf.old) }
-    ensures uncounted { (IsRun (command words.now) → ⊥) → (result ≡ Status.Done → ⊥) → (result ≡ Status.WriteFault → ⊥) → steps.new ≡ steps.old }
+    ensures uncounted { (IsRun (command words.now) → ⊥) →
+        (result ≡ Status.Done → ⊥) → (result ≡ Status.WriteFault → ⊥) → steps.new ≡ steps.old }
 {
     // The law of what a play writes.
     plays_are_readable(limits, words);

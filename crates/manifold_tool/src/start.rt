@@ -54,7 +54,8 @@ pub fn start<S: Shelf, O: Sink, E: Sink, L: Ledger>(
     ensures counted { IfOk words (λ words. IsInside (command words) → result ≡ Status.Done → steps.new ≡ steps.old + 1) }
     ensures most { IfOk words (λ words. (IsRun (command words) → ⊥) → steps.new ≤ steps.old + 1) }
     ensures cost { IfOk words (λ words. IsTrue (S.tells shelf.old) → steps.new ≤ steps.old + play_cost program_limits words (S.files shelf.old)) }
-    ensures uncounted { IfOk words (λ words. (IsRun (command words) → ⊥) → (result ≡ Status.Done → ⊥) → (result ≡ Status.WriteFault → ⊥) → steps.new ≡ steps.old) }
+    ensures uncounted { IfOk words (λ words. (IsRun (command words) → ⊥) →
+        (result ≡ Status.Done → ⊥) → (result ≡ Status.WriteFault → ⊥) → steps.new ≡ steps.old) }
     ensures status { IfErr words (λ stop. status_number result ≡ why_status (why_of [] stop)) }
     ensures report { IfErr words (λ stop. IsReported (why_line (why_of [] stop)) (on_output E.Sink err.old) (on_output E.Sink err.new)) }
     ensures alone { IfErr words (λ _. (shelf.new ≡ shelf.old) × (out.new ≡ out.old) × (steps.new ≡ steps.old)) }

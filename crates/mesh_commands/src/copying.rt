@@ -51,7 +51,8 @@ fn copied<'a, S: Shelf, O: Sink>(
     out: &mut O,
 ) -> Result<(), Halt<'a>>
     requires digits { digits ≤ 6 }
-    ensures met { IsMet S.Shelf O.Sink (copy_task digits limits.now from.now to.now) (IsHaltOfCopy from.now to.now) (shelf.old, out.old) (shelf.new, out.new) result }
+    ensures met { IsMet S.Shelf O.Sink (copy_task digits limits.now from.now to.now) (IsHaltOfCopy from.now to.now)
+        (shelf.old, out.old) (shelf.new, out.new) result }
     ensures lawful { IsLawful limits.now }
 {
     let read = ask(alloc, from, digits, limits, shelf)?;

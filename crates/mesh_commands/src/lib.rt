@@ -1,5 +1,5 @@
-//! The commands that copy a mesh and say a winding number, over any shelf and any output, each from its reading to its status; and how a command ends: its status, and
-//! the line on standard error that tells a stop.
+//! The commands that copy a mesh and say a winding number, over any shelf and any output, each from its reading to its status; and how a command ends: its status,
+//! and the line on standard error that tells a stop.
 #![tactic(auto)]
 
 mod copying;
