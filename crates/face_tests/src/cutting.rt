@@ -6,6 +6,7 @@ ghost use Rattle.face_plane.specs.Rings.{Ringy, Three};
 
 mod table;
 
+use crate::words::{numbers_of, vertices_of};
 use face_plane::FacePlane;
 use loop_ring::Ring;
 use mb_base::Point;
@@ -13,24 +14,6 @@ use ring_cutting::{Filled, cut_ring, some_place_may_be_cut};
 use std::alloc::Global;
 use std::test::Fail;
 use table::ROWS;
-
-// The numbers of a text.
-fn numbers_of(alloc: Global, text: &str) -> Result<Vec<i32>, Fail> {
-    let mut numbers = Vec::new(alloc);
-    for word in text.split_whitespace() {
-        numbers.push(word.parse::<i32>()?)?;
-    }
-    Ok(numbers)
-}
-
-// The vertices of a text.
-fn vertices_of(alloc: Global, text: &str) -> Result<Vec<u32>, Fail> {
-    let mut vertices = Vec::new(alloc);
-    for word in text.split_whitespace() {
-        vertices.push(word.parse::<u32>()?)?;
-    }
-    Ok(vertices)
-}
 
 // The points whose u and v are the numbers of a text, two by two.
 fn points_of(alloc: Global, text: &str) -> Result<Vec<Point>, Fail> {

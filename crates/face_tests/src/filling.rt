@@ -8,6 +8,7 @@ mod joined;
 mod joined_rows;
 mod rows;
 
+use crate::words::vertices_of;
 use face_loops::Loop;
 use mb_base::{NoMemory, Point};
 use rows::{HARD, RANDOM};
@@ -105,19 +106,10 @@ fn lettered(alloc: Global, letters: &[u8]) -> Result<Vec<u32>, Fail> {
     Ok(vertices)
 }
 
-// The vertices of numbers with spaces between.
-fn numbered(alloc: Global, text: &str) -> Result<Vec<u32>, Fail> {
-    let mut vertices = Vec::new(alloc);
-    for word in text.split_whitespace() {
-        vertices.push(word.parse::<u32>()?)?;
-    }
-    Ok(vertices)
-}
-
 // The vertices of letters without spaces between, or of numbers with spaces.
-fn vertices_of(alloc: Global, text: &str) -> Result<Vec<u32>, Fail> {
+fn listed(alloc: Global, text: &str) -> Result<Vec<u32>, Fail> {
     if text.contains(" ") {
-        return numbered(alloc, text);
+        return vertices_of(alloc, text);
     }
     lettered(alloc, text.as_bytes())
 }
@@ -125,7 +117,7 @@ fn vertices_of(alloc: Global, text: &str) -> Result<Vec<u32>, Fail> {
 pub(crate) fn loops_of(alloc: Global, text: &str) -> Result<Vec<Loop>, Fail> {
     let mut loops = Vec::new(alloc);
     for part in text.split("/") {
-        loops.push(Loop::of(vertices_of(alloc, part)?))?;
+        loops.push(Loop::of(listed(alloc, part)?))?;
     }
     Ok(loops)
 }

@@ -13,3 +13,5 @@ mod pairing;
 mod planes;
 #[cfg(test)]
 mod rings;
+#[cfg(test)]
+mod words;

@@ -5,6 +5,7 @@ ghost use Rattle.face_loops.specs.Segments.{edges_of, is_once, IsOneToOne};
 
 mod table;
 
+use crate::words::vertices_of;
 use face_loops::loops;
 use mb_base::{NoMemory, Segment};
 use std::alloc::Global;
@@ -33,15 +34,6 @@ fn is_one_to_one(segments: &[Segment]) -> bool
     ensures { IsTrue result → IsOneToOne (edges_of segments.now) }
 {
     are_once(segments)
-}
-
-// The numbers of a text.
-fn numbers(alloc: Global, text: &str) -> Result<Vec<u32>, Fail> {
-    let mut numbers = Vec::new(alloc);
-    for word in text.split_whitespace() {
-        numbers.push(word.parse::<u32>()?)?;
-    }
-    Ok(numbers)
 }
 
 // The segments whose ends are the numbers, two by two.
@@ -73,9 +65,9 @@ fn listed(alloc: Global, segments: &[Segment]) -> Result<Vec<u32>, Fail> {
 // Whether the loops of a line are those of its segments.
 fn agrees(alloc: Global, line: &str) -> Result<bool, Fail> {
     let (segments, wanted) = line.split_once(':').ok_or("no loops")?;
-    let segments = segments_of(alloc, &numbers(alloc, segments)?)?;
+    let segments = segments_of(alloc, &vertices_of(alloc, segments)?)?;
     let list = listed(alloc, &segments)?;
-    Ok(list.as_slice() == numbers(alloc, wanted)?.as_slice())
+    Ok(list.as_slice() == vertices_of(alloc, wanted)?.as_slice())
 }
 
 #[test]

@@ -5,6 +5,7 @@ ghost use Rattle.edge_pairing.specs.Entries.{starts_of, ends_of};
 
 mod table;
 
+use crate::words::numbers_of;
 use edge_pairing::{exchange_reverses, segments_of_edge, segments_of_pair};
 use mb_base::{Entry, Point, Segment};
 use std::alloc::Global;
@@ -33,19 +34,10 @@ fn are_below(entries: &[Entry], points: &[Point]) -> bool
     entries.iter().all(|e| (e.vertex as usize) < points.len())
 }
 
-// The numbers of a text.
-fn numbers(alloc: Global, text: &str) -> Result<Vec<i32>, Fail> {
-    let mut numbers = Vec::new(alloc);
-    for word in text.split_whitespace() {
-        numbers.push(word.parse::<i32>()?)?;
-    }
-    Ok(numbers)
-}
-
 // The points whose coordinates are the numbers of a text, three by three.
 fn points_of(alloc: Global, text: &str) -> Result<Vec<Point>, Fail> {
     let mut points = Vec::new(alloc);
-    for three in numbers(alloc, text)?.chunks(3) {
+    for three in numbers_of(alloc, text)?.chunks(3) {
         if let [x, y, z] = three {
             points.push(Point::of(*x, *y, *z).ok_or("outside the grid")?)?;
         }
@@ -56,7 +48,7 @@ fn points_of(alloc: Global, text: &str) -> Result<Vec<Point>, Fail> {
 // The entries of a text: of each its vertex, and 1 where it is a start.
 fn entries_of(alloc: Global, text: &str) -> Result<Vec<Entry>, Fail> {
     let mut entries = Vec::new(alloc);
-    for pair in numbers(alloc, text)?.chunks(2) {
+    for pair in numbers_of(alloc, text)?.chunks(2) {
         if let [vertex, start] = pair {
             entries.push(Entry {
                 vertex: u32::try_from(*vertex)?,
@@ -101,7 +93,7 @@ fn agrees(alloc: Global, line: &str) -> Result<bool, Fail> {
     let edge = points_of(alloc, edge)?;
     let entries = entries_of(alloc, entries)?;
     let list = found(alloc, &edge, &entries, &points_of(alloc, points)?)?;
-    Ok(list.as_slice() == numbers(alloc, wanted)?.as_slice())
+    Ok(list.as_slice() == numbers_of(alloc, wanted)?.as_slice())
 }
 
 #[test]
