@@ -13,7 +13,7 @@ use Rattle.script_terms.specs.Plays.{script_task}
 use Rattle.mb_outside.specs.Seen.{on_output, seen_of}
 use Rattle.mb_outside.specs.declared.shelf.Shelf.{Ghosts as OfShelf}
 use Rattle.mb_outside.specs.declared.sink.Sink.{Ghosts as OfSink}
-use Rattle.mesh_files.specs.declared.stop.Stop.TheVariants as stop
+use Rattle.file_stops.specs.declared.stop.Stop.TheVariants as stop
 use Rattle.report_lines.specs.Halts.{IsHaltOfCopy, IsHaltOfInside, halted}
 use Rattle.report_lines.specs.Reports.{IsReported}
 use Rattle.report_lines.specs.declared.halt.Halt.{Halt}

@@ -1,8 +1,8 @@
 -- Where the commands stop, by the status of that.
 use Rattle.std.proofs.Common.{◌≡◌, ◌∙◌, ◌==◌, ℕ, if◌then◌else◌, Result, Ok, Err, IfErr, IsTrue, inl, inr, refl, ap, sym}
 use Rattle.mesh_files.specs.Stops.{is_reading_stop, why_of}
-use Rattle.mesh_files.specs.declared.stop.Stop.{Stop}
-use Rattle.mesh_files.specs.declared.stop.Stop.TheVariants.{Usage, BadScript, BadStep, Missing, BadText, BadEdge, Over, ReadFault, WriteFault, NoMemory}
+use Rattle.file_stops.specs.declared.stop.Stop.{Stop}
+use Rattle.file_stops.specs.declared.stop.Stop.TheVariants.{Usage, BadScript, BadStep, Missing, BadText, BadEdge, Over, ReadFault, WriteFault, NoMemory}
 use Rattle.play_terms.specs.Ends.{ended_status, why_status}
 use Rattle.report_lines.specs.Halts.{IsHaltOfCopy, IsHaltOfInside, IsUnreadAt, halted}
 use Rattle.report_lines.specs.declared.halt.Halt.{Halt}
