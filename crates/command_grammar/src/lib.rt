@@ -1,7 +1,7 @@
 //! How `clap` reads the words of a command line after the first: operands, and one option for the digits. There is no option for help.
 #![tactic(auto)]
 
-ghost use Rattle.std.specs.Prelude.{◌≡◌, ◌≢◌, IfOk, OnOk};
+ghost use Rattle.std.specs.Prelude.{◌≡◌, ◌≢◌, IfErr, IfOk, OnOk};
 ghost use Rattle.clap.specs.Words.{app_of, with_rule};
 ghost use Rattle.clap.specs.declared.error.kind.ErrorKind.TheVariants.{OutOfMemory};
 ghost use Rattle.command_grammar.specs.Grammar.{bare_app, digits_rule, grammar_app, operands_rule};
@@ -47,7 +47,8 @@ pub fn grammar<'a>(alloc: Global) -> Result<Command<'a>, AllocError>
 
 /// Whether an error of this kind is a refusal of the words; `AllocError` where it is want of memory.
 pub fn refusal(kind: ErrorKind) -> Result<(), AllocError>
-    ensures { OnOk result (kind ≢ OutOfMemory) }
+    ensures told { OnOk result (kind ≢ OutOfMemory) }
+    ensures starved { IfErr result (λ _. kind ≡ OutOfMemory) }
 {
     match kind {
         ErrorKind::OutOfMemory => Err(AllocError),

@@ -4,7 +4,7 @@ mod table;
 use mb_base::Point;
 use mesh_check::Mesh;
 use pinch_split::{Split, split};
-use samples::{TETRAHEDRON, line_soup, two_boxes};
+use samples::{TETRAHEDRON, line_soup};
 use std::alloc::Global;
 use std::test::Fail;
 use table::ROWS;
@@ -27,14 +27,6 @@ fn consists_of(split: &Split, from: &[u32], triples: &[[u32; 3]]) -> bool {
     split.from.as_slice() == from
         && split.mesh.triples() == triples
         && lie_at(split.mesh.points(), from)
-}
-
-#[test]
-fn a_shared_vertex_becomes_two(rt: HostRuntime) -> Result<(), Fail> {
-    let split = split_line(rt.alloc(), 15, &two_boxes(7))?;
-    let from = [0, 1, 2, 3, 4, 5, 6, 7, 7, 8, 9, 10, 11, 12, 13, 14];
-    assert!(rt; consists_of(&split, &from, &two_boxes(8)));
-    Ok(())
 }
 
 #[test]
@@ -67,6 +59,16 @@ fn agrees(alloc: Global, line: &str) -> Result<bool, Fail> {
 #[test]
 fn no_triangles_stay_none(rt: HostRuntime) -> Result<(), Fail> {
     assert!(rt; consists_of(&split_line(rt.alloc(), 0, &[])?, &[], &[]));
+    Ok(())
+}
+
+// Two boxes that share a vertex, as a line of the table.
+const AT_A_VERTEX: &str =
+    "15 adbacdefhehgabebfebdhbhfdcgdghaegagchkihjklmolonhilimlikoiomkjnknohlnhnj abcdefghhijklmno adbacdefhehgabebfebdhbhfdcgdghaegagciljiklmnpmpoijmjnmjlpjpnlkolopimoiok";
+
+#[test]
+fn a_shared_vertex_becomes_two(rt: HostRuntime) -> Result<(), Fail> {
+    assert!(rt; agrees(rt.alloc(), AT_A_VERTEX)?);
     Ok(())
 }
 

@@ -37,7 +37,7 @@ fn a_missing_file_is_named(rt: HostRuntime) -> Result<(), Fail> {
 }
 
 #[test]
-fn a_copy_fails_where_the_outside_does(rt: HostRuntime) -> Result<(), Fail> {
+fn a_copy_fails_at_the_call_that_does(rt: HostRuntime) -> Result<(), Fail> {
     for (case, faults) in &FAILING_COPIES {
         judge_under(&rt, case, &Limits::program(), faults)?;
     }

@@ -112,7 +112,7 @@ pub const STL_COPIES: [Case<'static>; 4] = [
     },
 ];
 
-// Copies whose shelf or output fails.
+// Copies with the call of the shelf or of the output that fails, where it comes to that.
 pub const FAILING_COPIES: [(Case<'static>, Faults); 4] = [
     // The size of an empty file is asked and the copy is begun: a third call would fail.
     (

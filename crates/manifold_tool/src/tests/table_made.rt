@@ -119,7 +119,7 @@ const CUBE_AND_BOX: &[(&str, &[u8])] = &[
     ("b.obj", BOX),
 ];
 
-// The union of the cube and the box; under a limit on half-edges; and what was saved before a stop.
+// The union of the cube and the box.
 pub const UNITED: Case<'static> = Case {
     words: WHOLE_STEPS,
     files: CUBE_AND_BOX,
@@ -130,6 +130,7 @@ pub const UNITED: Case<'static> = Case {
     saved: Some(UNION),
 };
 
+// The same under a limit on half-edges.
 pub const OVER: Case<'static> = Case {
     words: WHOLE_STEPS,
     files: CUBE_AND_BOX,
@@ -140,6 +141,7 @@ pub const OVER: Case<'static> = Case {
     saved: None,
 };
 
+// What was saved before a stop.
 pub const SAVED_BEFORE: Case<'static> = Case {
     words: WHOLE_STEPS,
     files: &[

@@ -10,4 +10,4 @@ returns-in-Ok-clause-given c =
 pub returns-in_ok-refusal-in-Err-clause-refused : goal.returns-in_ok-refusal-in-Err-clause-refused
 returns-in_ok-refusal-in-Err-clause-refused c none =
     refusal_read (app_of c.in_ok-grammar.field-0) c.args.words.now (kind_of c.in-Err.error) c.in_ok-grammar.ensures c.in-Err.ensures.kinds
-    (λ memory. c.in_ok-refusal-in-Err.ensures (c.kind.ensures ∙ memory))
+    (λ memory. c.in_ok-refusal-in-Err.ensures.told (c.kind.ensures ∙ memory))
