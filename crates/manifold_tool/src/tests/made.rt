@@ -1,57 +1,186 @@
 // Whole runs of scripts that make their solids, or take them beside a file, under no digits where nothing else is said.
-use super::table_made::{BOXES, FILES, FLAT_OR_FAR, HOLE, LATTICES, MOVED};
-use super::{judge, judge_refused, said};
-use mb_base::NoMemory;
+ghost use Rattle.std.specs.Prelude.{◌≡◌, IfOk};
+
+use super::files::{CUBE_AND_FLAT, CUBES_AT_A_CORNER, MODELLED_CUBE};
+use super::{ROOM, sink, status_on};
+use mb_base::{Limits, NoMemory};
+use mb_outside::{MemoryShelf, Shelf};
+use std::alloc::Global;
+use std::marker::Brand;
 use std::process::Abort;
+use std::sync::ledger::Blank;
 use std::test::Fail;
 
-const WHOLE_STEPS: [&str; 4] = ["run", "s.txt", "--digits", "0"];
+// A shelf with a script and one mesh.
+fn shelf_of(alloc: Global, script: &[u8], mesh: &[u8]) -> Result<MemoryShelf, NoMemory>
+    ensures { IfOk result (λ shelf. (shelf.read_faults ≡ 0) × (shelf.write_faults ≡ 0)) }
+{
+    let mut shelf = MemoryShelf::of(alloc, 4, ROOM, ROOM, Vec::new(alloc))?;
+    shelf.put("s.txt", script)?;
+    shelf.put("m.obj", mesh)?;
+    Ok(shelf)
+}
 
-// Judges the run of a script that ends well, over a mesh, and what it told.
-fn judge_told<R: Abort + AllocGlobal>(
+// Judges the status of a script's run, and what it told, either on the output or on the error line.
+fn judge<R: Abort + AllocGlobal>(
     rt: &R,
     words: &[&str],
     script: &[u8],
     mesh: &[u8],
+    status: u8,
     told: &[u8],
 ) -> Result<(), NoMemory> {
-    let files = [("s.txt", script), ("m.obj", mesh)];
-    judge(rt, &said(words, &files, told))
-}
-
-#[test]
-fn boxes_are_combined_and_measured(rt: HostRuntime) -> Result<(), Fail> {
-    for (script, told) in &BOXES {
-        judge_told(&rt, &WHOLE_STEPS, script, b"", told)?;
+    let alloc = rt.alloc();
+    let mut shelf = shelf_of(alloc, script, mesh)?;
+    let mut out = sink(alloc, 0)?;
+    let mut err = sink(alloc, 0)?;
+    let limits = Limits::program();
+    let ended = status_on::<_, Brand>(
+        alloc,
+        words,
+        &limits,
+        &mut shelf,
+        &mut out,
+        &mut err,
+        Blank::new(1),
+    )?;
+    assert!(rt; ended == status);
+    if status == 0 {
+        assert!(rt; out.bytes() == told);
+        assert!(rt; err.bytes().is_empty());
+    } else {
+        assert!(rt; err.bytes() == told);
     }
     Ok(())
 }
 
+const WHOLE_STEPS: [&str; 4] = ["run", "s.txt", "--digits", "0"];
+
+// A script over boxes, and what it tells.
+const BOXES: [(&[u8], &[u8]); 5] = [
+    // Apart.
+    (
+        b"box a 0 0 0 10 10 10\nbox b 20 0 0 30 10 10\nunion u a b\nmeasure u\nintersect i a b\nmeasure i\nsubtract d a b\nmeasure d\n",
+        b"u = union a b: kept 8 8, crossings 0, forced 0\nu: points 16, triangles 24, components 2, euler 4, volume6 12000\ni = intersect a b: kept 0 0, crossings 0, forced 0\ni: points 0, triangles 0, components 0, euler 0, volume6 0\nd = subtract a b: kept 8 0, crossings 0, forced 0\nd: points 8, triangles 12, components 1, euler 2, volume6 6000\n",
+    ),
+    // One box twice.
+    (
+        b"box a 0 0 0 10 10 10\nunion u a a\nmeasure u\nsubtract d a a\nsave d d.obj\nintersect i a a\n",
+        b"u = union a a: kept 8 0, crossings 0, forced 0\nu: points 8, triangles 12, components 1, euler 2, volume6 6000\nd = subtract a a: kept 0 0, crossings 0, forced 0\nsave d d.obj: points 0, triangles 0\ni = intersect a a: kept 8 0, crossings 0, forced 0\n",
+    ),
+    // One in the other.
+    (
+        b"box a 0 0 0 10 10 10\nbox b 2 2 2 4 4 4\nsubtract d a b\nmeasure d\n",
+        b"d = subtract a b: kept 8 8, crossings 0, forced 0\nd: points 16, triangles 24, components 2, euler 4, volume6 5952\n",
+    ),
+    // One through the top of the other, across the diagonal of the top.
+    (
+        b"box a 0 0 0 10 10 10\nbox b 3 4 5 6 7 20\nunion u a b\nmeasure u\nintersect i a b\nmeasure i\nsubtract d a b\nmeasure d\n",
+        b"u = union a b: kept 8 4, crossings 10, forced 0\nu: points 22, triangles 40, components 1, euler 2, volume6 6540\ni = intersect a b: kept 0 4, crossings 10, forced 0\ni: points 14, triangles 24, components 1, euler 2, volume6 270\nd = subtract a b: kept 8 4, crossings 10, forced 0\nd: points 22, triangles 40, components 1, euler 2, volume6 5730\n",
+    ),
+    // And beside it, so that one triangle of the top has a hole.
+    (
+        b"box a 0 0 0 10 10 10\nbox b 5 1 5 8 4 20\nunion u a b\nmeasure u\n",
+        b"u = union a b: kept 8 4, crossings 8, forced 0\nu: points 20, triangles 36, components 1, euler 2, volume6 6540\n",
+    ),
+];
+
+#[test]
+fn boxes_are_combined_and_measured(rt: HostRuntime) -> Result<(), Fail> {
+    for (script, told) in BOXES {
+        judge(&rt, &WHOLE_STEPS, script, b"", 0, told)?;
+    }
+    Ok(())
+}
+
+// Triangles back to back go, cubes that share a point are one component, and a modelled cube gets a hole.
 #[test]
 fn a_mesh_of_a_file_is_combined_with_a_box(rt: HostRuntime) -> Result<(), Fail> {
-    for (script, mesh, told) in &FILES {
-        judge_told(&rt, &WHOLE_STEPS, script, mesh, told)?;
-    }
-    judge_told(&rt, &["run", "s.txt"], HOLE.0, HOLE.1, HOLE.2)?;
+    judge(
+        &rt,
+        &WHOLE_STEPS,
+        b"load a m.obj\nbox b 80 0 0 90 10 10\nunion u a b\n",
+        CUBE_AND_FLAT,
+        0,
+        b"load a m.obj: points 11, triangles 14, unused 0\nu = union a b: kept 8 8, crossings 0, forced 0\n",
+    )?;
+    judge(
+        &rt,
+        &WHOLE_STEPS,
+        b"load a m.obj\nbox b 40 40 40 50 50 50\nunion u a b\nmeasure u\n",
+        CUBES_AT_A_CORNER,
+        0,
+        b"load a m.obj: points 15, triangles 24, unused 0\nu = union a b: kept 15 8, crossings 0, forced 0\nu: points 24, triangles 36, components 3, euler 6, volume6 18000\n",
+    )?;
+    judge(
+        &rt,
+        &["run", "s.txt"],
+        b"load part m.obj\nbox hole 3 4 -5 6 7 20\nsubtract out part hole\nmeasure out\nsave out out.obj\n",
+        MODELLED_CUBE,
+        0,
+        b"load part m.obj: points 8, triangles 12, unused 0\nout = subtract part hole: kept 8 0, crossings 20, forced 0\nout: points 28, triangles 56, components 1, euler 0, volume6 5460000000000000\nsave out out.obj: points 28, triangles 56\n",
+    )?;
     Ok(())
 }
 
 #[test]
 fn solids_are_moved(rt: HostRuntime) -> Result<(), Fail> {
-    judge_told(&rt, &WHOLE_STEPS, MOVED.0, b"", MOVED.1)?;
+    judge(
+        &rt,
+        &WHOLE_STEPS,
+        b"tetra t 0 0 0 6\nmeasure t\nprism p 0 0 0 4 5\nscale q p 2\nmirror m q x\nturn r m z\nshift w r 1 2 3\nmeasure w\n",
+        b"",
+        0,
+        b"t: points 4, triangles 4, components 1, euler 2, volume6 216\nw: points 6, triangles 8, components 1, euler 2, volume6 1920\n",
+    )?;
     Ok(())
 }
 
 #[test]
 fn a_box_cuts_a_lattice(rt: HostRuntime) -> Result<(), Fail> {
-    for (script, told) in &LATTICES {
-        judge_told(&rt, &WHOLE_STEPS, script, b"", told)?;
-    }
+    judge(
+        &rt,
+        &WHOLE_STEPS,
+        b"lattice grid 20 7\nmeasure grid\nbox cut 1005 -100 -150 3000 2100 2050\nsubtract rest grid cut\nmeasure rest\n",
+        b"",
+        0,
+        b"grid: points 64000, triangles 96000, components 8000, euler 16000, volume6 1200000000\nrest = subtract grid cut: kept 33600 0, crossings 3200, forced 0\nrest: points 36800, triangles 56000, components 4400, euler 8800, volume6 609000000\n",
+    )?;
+    judge(
+        &rt,
+        &WHOLE_STEPS,
+        b"lattice g 30 7\nshift h g 50 0 0\nunion u g h\n",
+        b"",
+        0,
+        b"u = union g h: kept 216000 216000, crossings 0, forced 0\n",
+    )?;
     Ok(())
 }
 
 #[test]
 fn what_can_not_be_made_is_refused_on_its_line(rt: HostRuntime) -> Result<(), Fail> {
-    judge_refused(&rt, &WHOLE_STEPS, "s.txt", 4, &FLAT_OR_FAR)?;
+    let refused: [(&[u8], u8, &[u8]); 6] = [
+        (b"box b 0 0 0 0 1 1\n", 4, b"s.txt:1: 16 FlatSolid\n"),
+        (
+            b"box b 0 0 0 1 1 1\nshift c b 1073741824 0 0\n",
+            4,
+            b"s.txt:2: 15 OutOfGrid\n",
+        ),
+        (
+            b"\nprism p 1073741824 0 0 1 -1\n",
+            4,
+            b"s.txt:2: 16 FlatSolid\n",
+        ),
+        (b"tetra t 0 0 0 1e10\n", 2, b"s.txt:1: 24 BadNumber\n"),
+        (b"lattice l 61 0\n", 2, b"s.txt:1: 24 BadNumber\n"),
+        (
+            b"box b 0 0 0 1 1 1\nturn t b X\n",
+            2,
+            b"s.txt:2: 24 BadNumber\n",
+        ),
+    ];
+    for (script, status, told) in refused {
+        judge(&rt, &WHOLE_STEPS, script, b"", status, told)?;
+    }
     Ok(())
 }

@@ -1,30 +1,132 @@
-// Whole runs of scripts over a cube and a box, and of scripts at fault.
-use super::table_made::{FAULTY, OVER, SAVED_BEFORE, UNITED};
-use super::{SOUND, judge, judge_refused, judge_under};
-use mb_base::Limits;
+// Whole runs of scripts over a cube and a box.
+ghost use Rattle.std.specs.Prelude.{◌≡◌, IfOk};
+
+use super::files::{BOX, CUBE, UNION};
+use super::{ROOM, sink, status_on};
+use mb_base::{Limits, NoMemory};
+use mb_outside::{MemoryShelf, Shelf};
+use std::alloc::Global;
+use std::marker::Brand;
+use std::process::Abort;
+use std::sync::ledger::Blank;
 use std::test::Fail;
+
+const LOADED: &[u8] =
+    b"load a cube.obj: points 8, triangles 12, unused 0\nload b b.obj: points 8, triangles 12, unused 0\n";
+
+// A script, and what is to stand after its run.
+#[derive(Drop)]
+struct Case<'a> {
+    script: &'a [u8],
+    limits: Limits,
+    status: u8,
+    out: &'a [u8],
+    err: &'a [u8],
+    saved: Option<&'a [u8]>,
+}
+
+// A shelf with the script, the cube and the box.
+fn shelf_of(alloc: Global, script: &[u8]) -> Result<MemoryShelf, NoMemory>
+    ensures { IfOk result (λ shelf. (shelf.read_faults ≡ 0) × (shelf.write_faults ≡ 0)) }
+{
+    let mut shelf = MemoryShelf::of(alloc, 8, ROOM, ROOM, Vec::new(alloc))?;
+    shelf.put("s.txt", script)?;
+    shelf.put("cube.obj", CUBE)?;
+    shelf.put("b.obj", BOX)?;
+    Ok(shelf)
+}
+
+fn judge<R: Abort + AllocGlobal>(rt: &R, case: &Case<'_>) -> Result<(), NoMemory> {
+    let alloc = rt.alloc();
+    let mut shelf = shelf_of(alloc, case.script)?;
+    let mut out = sink(alloc, 0)?;
+    let mut err = sink(alloc, 0)?;
+    let status = status_on::<_, Brand>(
+        alloc,
+        &["run", "s.txt", "--digits", "0"],
+        &case.limits,
+        &mut shelf,
+        &mut out,
+        &mut err,
+        Blank::new(1),
+    )?;
+    assert!(rt; status == case.status);
+    assert!(rt; out.bytes() == case.out);
+    assert!(rt; err.bytes() == case.err);
+    assert!(rt; shelf.get("u.obj") == case.saved);
+    Ok(())
+}
 
 #[test]
 fn a_script_unites_two_meshes(rt: HostRuntime) -> Result<(), Fail> {
-    judge(&rt, &UNITED)?;
+    let case = Case {
+        script: b"load a cube.obj\nload b b.obj\nunion u a b\nsave u u.obj\n",
+        limits: Limits::program(),
+        status: 0,
+        out: b"load a cube.obj: points 8, triangles 12, unused 0\nload b b.obj: points 8, triangles 12, unused 0\nu = union a b: kept 8 4, crossings 10, forced 0\nsave u u.obj: points 22, triangles 40\n",
+        err: b"",
+        saved: Some(UNION),
+    };
+    judge(&rt, &case)?;
     Ok(())
 }
 
 #[test]
 fn the_half_edges_of_an_operation_have_a_limit(rt: HostRuntime) -> Result<(), Fail> {
     let limits = Limits::of(13_090, 210, 140, 83).ok_or("these limits are lawful")?;
-    judge_under(&rt, &OVER, &limits, &SOUND)?;
+    let case = Case {
+        script: b"load a cube.obj\nload b b.obj\nunion u a b\nsave u u.obj\n",
+        limits,
+        status: 5,
+        out: LOADED,
+        err: b"limit halfedges 84\n",
+        saved: None,
+    };
+    judge(&rt, &case)?;
     Ok(())
 }
 
 #[test]
 fn a_faulty_script_does_nothing(rt: HostRuntime) -> Result<(), Fail> {
-    judge_refused(&rt, UNITED.words, "s.txt", 2, &FAULTY)?;
+    let faulty: [(&[u8], &[u8]); 6] = [
+        // No such file is there, and it is not asked for.
+        (
+            b"load a a.obj\nunion c a b\n",
+            b"s.txt:2: 23 NameNotDefined\n",
+        ),
+        (
+            b"load a cube.obj\nsave a u.obj\njoin u a a\n",
+            b"s.txt:3: 20 BadWord\n",
+        ),
+        (b"load a\n", b"s.txt:1: 21 WrongCount\n"),
+        (b"load 1a cube.obj\n", b"s.txt:1: 22 BadName\n"),
+        (b"save u u.obj\n", b"s.txt:1: 23 NameNotDefined\n"),
+        (b"# a\n\nload a cube.ply\n", b"s.txt:3: 25 BadSuffix\n"),
+    ];
+    for (script, err) in faulty {
+        let case = Case {
+            script,
+            limits: Limits::program(),
+            status: 2,
+            out: b"",
+            err,
+            saved: None,
+        };
+        judge(&rt, &case)?;
+    }
     Ok(())
 }
 
 #[test]
 fn what_was_saved_before_a_stop_stays(rt: HostRuntime) -> Result<(), Fail> {
-    judge(&rt, &SAVED_BEFORE)?;
+    let case = Case {
+        script: b"load a cube.obj\nsave a u.obj\nload b none.obj\nsave b u.obj\n",
+        limits: Limits::program(),
+        status: 3,
+        out: b"load a cube.obj: points 8, triangles 12, unused 0\nsave a u.obj: points 8, triangles 12\n",
+        err: b"none.obj: missing\n",
+        saved: Some(CUBE),
+    };
+    judge(&rt, &case)?;
     Ok(())
 }

@@ -1,9 +1,8 @@
 // Words and digits in whole runs, and a start without words.
 ghost use Rattle.std.specs.Prelude.{◌≡◌, ◌<◌, ◌^◌, ◌-◌};
 
-use super::files::CUBE;
-use super::table::FINE_COPIES;
-use super::{ROOM, USAGE, judge, judge_refused, sink};
+use super::files::{CUBE, FINE_TETRAHEDRON};
+use super::{ROOM, USAGE, copied, judge, plain, sink};
 use crate::start::start;
 use mb_base::NoMemory;
 use mb_outside::{MemoryShelf, MemorySink};
@@ -24,16 +23,32 @@ fn other_words_are_usage(rt: HostRuntime) -> Result<(), Fail> {
         &["run", "c.obj", "u.obj"],
     ];
     for words in others {
-        judge_refused(&rt, words, "c.obj", 1, &[(CUBE, USAGE)])?;
+        let case = plain(words, "c.obj", CUBE, 1, USAGE);
+        judge(&rt, &case)?;
     }
     Ok(())
 }
 
 #[test]
 fn a_copy_keeps_so_many_digits(rt: HostRuntime) -> Result<(), Fail> {
-    for case in &FINE_COPIES {
-        judge(&rt, case)?;
-    }
+    let one = ["copy", "--digits", "1", "--", "-t.obj", "u.obj"];
+    let rounded = copied(
+        &one,
+        "-t.obj",
+        FINE_TETRAHEDRON,
+        b"copied u.obj: points 4, triangles 4, unused 0\n",
+        b"v 0 0 0\nv 1.3 0 0\nv 0 1.2 0\nv 0 0 -1.3\nf 1 2 3\nf 1 4 2\nf 2 4 3\nf 3 4 1\n",
+    );
+    judge(&rt, &rounded)?;
+    let six = ["copy", "t.OBJ", "u.obj", "--digits=6"];
+    let whole = copied(
+        &six,
+        "t.OBJ",
+        FINE_TETRAHEDRON,
+        b"copied u.obj: points 4, triangles 4, unused 0\n",
+        FINE_TETRAHEDRON,
+    );
+    judge(&rt, &whole)?;
     Ok(())
 }
 
