@@ -3,7 +3,7 @@ ghost use Rattle.std.specs.Prelude.{◌≡◌, ◌≤◌, ◌<◌, ◌++◌, ◌
 ghost use Rattle.std.specs.Prelude.{is_err, IfOk, OnOk, OnErr};
 ghost use Rattle.std.specs.Option.{option_map};
 ghost use Rattle.run_terms.specs.Files.{Counts, OthersStay, ReadsAt, length_of, text_of};
-ghost use Rattle.mb_outside.specs.Calls.{is_listed, part_of};
+ghost use Rattle.mb_outside.specs.Calls.{is_listed, next, part_of};
 ghost use Rattle.mb_outside.specs.Store.{files_of, given, written};
 ghost use Rattle.mb_outside.specs.ShelfState.{ShelfState, empty_shelf, holding, is_append_refused, is_begin_refused, read_of, with_read_fault, with_write_fault};
 
@@ -89,6 +89,19 @@ impl MemoryShelf {
     {
         self.places.text(name.as_bytes())
     }
+
+    // Counts a call, and makes a file empty, or a new one that is, where the call is not listed.
+    fn begin_unlisted(&mut self, name: &[u8]) -> Result<(), Failed>
+        ensures exact { is_err result ≡ is_begin_refused self.old name.now }
+        ensures begun { OnOk result (self.new ≡ holding (written name.now [] self.old.store) self.old) }
+        ensures kept { OnErr result (self.new ≡ record self.old { calls = next self.old.calls }) }
+    {
+        let listed = self.calls.fails_now();
+        if listed {
+            return Err(Failed);
+        }
+        self.places.begin(name)
+    }
 }
 
 impl Shelf for MemoryShelf {
@@ -153,7 +166,7 @@ impl Shelf for MemoryShelf {
         ensures after { OnOk result (self.new ≡ holding (written name.now [] self.old.store) self.old) }
         ensures refused { OnErr result (self.new ≡ with_write_fault self.old) }
     {
-        if self.calls.fails_now() || self.places.begin(name.as_bytes()).is_err() {
+        if self.begin_unlisted(name.as_bytes()).is_err() {
             self.write_faults = self.write_faults.saturating_add(1);
             return Err(Failed);
         }
