@@ -5,7 +5,8 @@ use Rattle.obj_text.specs.Plain.{SpellsOn, BeginsIndex}
 use Rattle.obj_text.proofs.plain.next_index.Goals as goal
 
 -- digits behind a space
-index_first : (text digits rest : List ℕ) (number count : ℕ) → text ≡ 32 ∷ digits → SpellsOn 0 digits number count → (number ≡ 0 → ⊥) → rest ≡ drop count digits → BeginsIndex text (number - 1) rest
+index_first : (text digits rest : List ℕ) (number count : ℕ) → text ≡ 32 ∷ digits → SpellsOn 0 digits number count → (number ≡ 0 → ⊥) →
+    rest ≡ drop count digits → BeginsIndex text (number - 1) rest
 index_first text digits rest number count behind spells some left =
     let word = take count digits in
     let value : digits_value word ≡ number = sym spells.spelled in

@@ -1,4 +1,5 @@
-use Rattle.std.proofs.Common.{◌≡◌, ℕ, ◌+◌, ◌<◌, ◌≤◌, List, [], ◌∷◌, ◌++◌, length, drop, get_or, refl, rules, arith, sym, ap, ◌∙◌, append-nil, append_assoc, add-one, drop-cons, length-drop}
+use Rattle.std.proofs.Common.{◌≡◌, ℕ, ◌+◌, ◌<◌, ◌≤◌, List, [], ◌∷◌, ◌++◌, length, drop, get_or, refl, rules, arith, sym, ap, ◌∙◌, append-nil, append_assoc, add-one, drop-cons}
+use Rattle.std.proofs.Common.{length-drop}
 use Rattle.mesh_terms.specs.Meshes.{Triple, triples_of}
 use Rattle.obj_terms.specs.Faces.{fan_from, face_fan}
 use Rattle.obj_text.proofs.FaceSteps.{triples_of-push}
@@ -48,7 +49,8 @@ loop-place-preserved c =
     let vertices = c.args.vertices.now in
     record {
       added =
-          one_stored c.loop-place.triples.items c.push.new.self.items (get_or vertices 0 0) c.loop-place.place vertices c.in-Ok.ensures.items (omega (arith, c.loop-place-test.true))
+          one_stored c.loop-place.triples.items c.push.new.self.items (get_or vertices 0 0) c.loop-place.place vertices c.in-Ok.ensures.items
+          (omega (arith, c.loop-place-test.true))
           ∙ c.loop-place.invariant.added;
       room = search rules;
     }

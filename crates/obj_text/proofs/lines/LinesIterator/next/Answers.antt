@@ -21,5 +21,6 @@ returns-clause-steps c = sym c.self.view_is ∙ cut c
 
 pub returns-clause-goes : goal.returns-clause-goes
 returns-clause-goes c =
-    let e : c.args.self.now ≡ (c.self.inside.number, c.of.result) ∷ word_lines (joined_from c.past_line-next.result.0 (lines_of c.past_line-next.result.1.now)) = sym c.self.view_is ∙ cut c in
+    let e : c.args.self.now ≡ (c.self.inside.number, c.of.result) ∷ word_lines (joined_from c.past_line-next.result.0 (lines_of c.past_line-next.result.1.now)) =
+    sym c.self.view_is ∙ cut c in
     search (rules, e)
