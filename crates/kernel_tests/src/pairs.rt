@@ -1,9 +1,10 @@
 // Two boxes, worked out by a separate program in Python that was written from the definitions alone.
 use crossings::crossings;
-use lean::{Side, leans};
+use lean::Side;
 use mb_base::{Hit, Op};
 use mesh_check::Mesh;
 use rounding::Nearest;
+use sample_lines::{marked_side, plain_side};
 use samples::{BOX, box_points, soup_of};
 use shadow_kernels::Grid;
 use std::alloc::Global;
@@ -38,15 +39,13 @@ fn boxes_of(alloc: Global, spans: &[Span]) -> Result<Mesh, Fail> {
 // Boxes as the first mesh of a union, with its marks.
 fn first_side(alloc: Global, spans: &[Span]) -> Result<Side, Fail> {
     let mesh = boxes_of(alloc, spans)?;
-    let ups = leans(alloc, &mesh, Op::Union)?;
-    Ok(Side::of(alloc, &mesh, ups)?)
+    marked_side(alloc, &mesh, Op::Union)
 }
 
 // Boxes as the second mesh, without marks.
 fn second_side(alloc: Global, spans: &[Span]) -> Result<Side, Fail> {
     let mesh = boxes_of(alloc, spans)?;
-    let ups = vec![in alloc; [false; 3]; mesh.points().len()]?;
-    Ok(Side::of(alloc, &mesh, ups)?)
+    plain_side(alloc, &mesh)
 }
 
 // A hit: edge, face, number and the coordinates of the point.

@@ -139,44 +139,44 @@ fn agrees_with_the_table(rt: HostRuntime) {
     assert!(rt; all_agree(&ROWS_9));
 }
 
+// A corner near the origin, moved up on x or on no axis.
+fn near(x: i8, y: i8, up: bool) -> Corner
+    ensures { IsFineCorner result }
+{
+    Corner {
+        at: [x as i64, y as i64, 0],
+        up: [up, false, false],
+    }
+}
+
+// Where an edge of P at x = 5 passes q at (5, 4, 0) by its end at (5, 8, 0).
+const TIE: Spot = Spot {
+    x: 5,
+    py: 8,
+    qy: 4,
+    pz: 0,
+    qz: 0,
+    up: [false; 3],
+};
+
+// Whether the edge from a to b passes above q there, with this count.
+fn passes(a: &Corner, b: &Corner, q: &Corner, count: i8) -> bool
+    requires a_fine { IsFineCorner a.now }
+    requires b_fine { IsFineCorner b.now }
+    requires q_fine { IsFineCorner q.now }
+{
+    let met = Grid { rounding: Nearest }.meet(&[*a, *b], &[*q]);
+    met == Some(Meet {
+        count,
+        above: true,
+        spot: TIE,
+    })
+}
+
 // Both ends have the x of q: the left end is the one that is not up, whichever way the edge runs.
 #[test]
 fn left_is_not_up_at_a_tie(rt: HostRuntime) {
-    let grid = Grid { rounding: Nearest };
-    let a = Corner {
-        at: [5, 0, 0],
-        up: [true, false, false],
-    };
-    let b = Corner {
-        at: [5, 8, 0],
-        up: [false; 3],
-    };
-    let q = Corner {
-        at: [5, 4, 0],
-        up: [false; 3],
-    };
-    let spot = Spot {
-        x: 5,
-        py: 8,
-        qy: 4,
-        pz: 0,
-        qz: 0,
-        up: [false; 3],
-    };
-    assert_eq!(rt;
-        grid.meet(&[a, b], &[q]),
-        Some(Meet {
-            count: -1,
-            above: true,
-            spot
-        })
-    );
-    assert_eq!(rt;
-        grid.meet(&[b, a], &[q]),
-        Some(Meet {
-            count: 1,
-            above: true,
-            spot
-        })
-    );
+    let (up, still, q) = (near(5, 0, true), near(5, 8, false), near(5, 4, false));
+    assert!(rt; passes(&up, &still, &q, -1));
+    assert!(rt; passes(&still, &up, &q, 1));
 }
