@@ -1,0 +1,30 @@
+use Rattle.std.proofs.Common.{inl, inr, refl}
+use Rattle.mb_outside.specs.Seen.{on_output}
+use Rattle.mesh_files.specs.Stops.{soup_with}
+use Rattle.mesh_commands.proofs.Stages.{copy_told, copy_unwritten, handed_on}
+use Rattle.mesh_commands.proofs.copying.written.Goals as goal
+
+pub returns-in_err-write-clause-meets : goal.returns-in_err-write-clause-meets
+returns-in_err-write-clause-meets g c =
+    rw (handed_on _ _ c.from_residual.ensures.1)
+    (copy_unwritten c.args.digits c.args.to.now (soup_with c.args.read.now) _ _ (on_output g.O.Sink c.args.out.now) _ c.in_err-write.ensures.meets)
+
+pub returns-in_err-write-clause-halts : goal.returns-in_err-write-clause-halts
+returns-in_err-write-clause-halts g c = rw (handed_on _ _ c.from_residual.ensures.1) (inl c.in_err-write.ensures.unwritten)
+
+pub returns-in_err-say_copied-clause-meets : goal.returns-in_err-say_copied-clause-meets
+returns-in_err-say_copied-clause-meets g c =
+    rw (handed_on _ _ c.from_residual-in_err-say_copied.ensures.1)
+    (copy_told c.args.digits c.args.to.now (soup_with c.args.read.now) _ _ (on_output g.O.Sink c.args.out.now) (on_output g.O.Sink c.say_copied.new.sink) _ c.in_ok-write.ensures.meets
+    c.in_err-say_copied.ensures.meets)
+
+pub returns-in_err-say_copied-clause-halts : goal.returns-in_err-say_copied-clause-halts
+returns-in_err-say_copied-clause-halts g c = rw (handed_on _ _ c.from_residual-in_err-say_copied.ensures.1) (inr refl)
+
+pub returns-clause-meets : goal.returns-clause-meets
+returns-clause-meets g c =
+    copy_told c.args.digits c.args.to.now (soup_with c.args.read.now) _ _ (on_output g.O.Sink c.args.out.now) (on_output g.O.Sink c.say_copied.new.sink) _ c.in_ok-write.ensures.meets
+    c.in_ok-say_copied.ensures.meets
+
+pub returns-clause-halts : goal.returns-clause-halts
+returns-clause-halts g c = tt
