@@ -30,7 +30,9 @@ pub copy_unwritten : (k : ℕ) (to : Bytes) (m : Soup) (before now : OnShelf) (o
     → ShelfMeets (write_mesh k to m.points m.triples) before now (Err why)
     → Meets (copied_task k to m) (seen before out.told out.faults) (seen now out.told out.faults) (Err why)
 copy_unwritten k to m before now out why write =
-    meets_stop (write_mesh k to m.points m.triples) (λ _. say_line (copied_line to m)) why (seen before out.told out.faults) (seen now out.told out.faults) (write out.told out.faults)
+    let first = seen before out.told out.faults in
+    let last = seen now out.told out.faults in
+    meets_stop (write_mesh k to m.points m.triples) (λ _. say_line (copied_line to m)) why first last (write out.told out.faults)
 
 -- the copy was written, and was told or not
 pub copy_told : (k : ℕ) (to : Bytes) (m : Soup) (before now : OnShelf) (out told : OnOutput) (r : Result (Unit {0}) Why)
@@ -48,7 +50,10 @@ pub copy_ended : (k : ℕ) (limits : Limits) (from to : Bytes) (m : Soup) (befor
     → Meets (copied_task k to m) (seen mid out.told out.faults) (seen now told.told told.faults) r
     → Meets (copy_task k limits from to) (seen before out.told out.faults) (seen now told.told told.faults) r
 copy_ended k limits from to m before mid now out told r ask rest =
-    meets_then (ask_mesh k limits from) (copied_task k to) m r (seen before out.told out.faults) (seen mid out.told out.faults) (seen now told.told told.faults) (ask out.told out.faults) rest
+    let first = seen before out.told out.faults in
+    let second = seen mid out.told out.faults in
+    let last = seen now told.told told.faults in
+    meets_then (ask_mesh k limits from) (copied_task k to) m r first second last (ask out.told out.faults) rest
 
 -- a stop of the rest is one of the copy
 pub copy_halts : (from to : Bytes) (r : Result (Unit {0}) Halt) → IfErr r (λ halt. IsUnwrittenAt to halt ⊎ (halt ≡ Reporting)) → IfErr r (IsHaltOfCopy from to)

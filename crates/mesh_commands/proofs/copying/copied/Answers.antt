@@ -14,9 +14,10 @@ returns-in_err-read-clause-met g c =
 
 pub returns-clause-met : goal.returns-clause-met
 returns-clause-met g c =
+    let soup = soup_with c.in_ok-read.read in
+    let before = on_output g.O.Sink c.args.out.now in
+    let now = on_output g.O.Sink c.written.new.out in
     record {
-      meets =
-          copy_ended c.args.digits c.args.limits.now c.args.from.now c.args.to.now (soup_with c.in_ok-read.read) _ _ _ (on_output g.O.Sink c.args.out.now) (on_output g.O.Sink c.written.new.out) _
-          c.in_ok-read.ensures.meets c.written.ensures.meets;
+      meets = copy_ended c.args.digits c.args.limits.now c.args.from.now c.args.to.now soup _ _ _ before now _ c.in_ok-read.ensures.meets c.written.ensures.meets;
       halts = copy_halts c.args.from.now c.args.to.now _ c.written.ensures.halts;
     }

@@ -14,17 +14,19 @@ returns-in_err-write-clause-halts g c = rw (handed_on _ _ c.from_residual.ensure
 
 pub returns-in_err-say_copied-clause-meets : goal.returns-in_err-say_copied-clause-meets
 returns-in_err-say_copied-clause-meets g c =
+    let before = on_output g.O.Sink c.args.out.now in
+    let now = on_output g.O.Sink c.say_copied.new.sink in
     rw (handed_on _ _ c.from_residual-in_err-say_copied.ensures.1)
-    (copy_told c.args.digits c.args.to.now (soup_with c.args.read.now) _ _ (on_output g.O.Sink c.args.out.now) (on_output g.O.Sink c.say_copied.new.sink) _ c.in_ok-write.ensures.meets
-    c.in_err-say_copied.ensures.meets)
+    (copy_told c.args.digits c.args.to.now (soup_with c.args.read.now) _ _ before now _ c.in_ok-write.ensures.meets c.in_err-say_copied.ensures.meets)
 
 pub returns-in_err-say_copied-clause-halts : goal.returns-in_err-say_copied-clause-halts
 returns-in_err-say_copied-clause-halts g c = rw (handed_on _ _ c.from_residual-in_err-say_copied.ensures.1) (inr refl)
 
 pub returns-clause-meets : goal.returns-clause-meets
 returns-clause-meets g c =
-    copy_told c.args.digits c.args.to.now (soup_with c.args.read.now) _ _ (on_output g.O.Sink c.args.out.now) (on_output g.O.Sink c.say_copied.new.sink) _ c.in_ok-write.ensures.meets
-    c.in_ok-say_copied.ensures.meets
+    let before = on_output g.O.Sink c.args.out.now in
+    let now = on_output g.O.Sink c.say_copied.new.sink in
+    copy_told c.args.digits c.args.to.now (soup_with c.args.read.now) _ _ before now _ c.in_ok-write.ensures.meets c.in_ok-say_copied.ensures.meets
 
 pub returns-clause-halts : goal.returns-clause-halts
 returns-clause-halts g c = tt

@@ -22,10 +22,11 @@ returns-in_err-read-clause-counted g c = rw (handed_on _ _ c.from_residual.ensur
 
 pub returns-clause-met : goal.returns-clause-met
 returns-clause-met g c =
+    let soup = soup_with c.in_ok-read.read in
+    let before = on_output g.O.Sink c.args.out.now in
+    let now = on_output g.O.Sink c.said.new.out in
     record {
-      meets =
-          inside_ended c.args.digits windings c.args.limits.now c.args.file.now c.args.point (soup_with c.in_ok-read.read) _ _ (on_output g.O.Sink c.args.out.now) (on_output g.O.Sink c.said.new.out) _
-          c.in_ok-read.ensures.meets c.said.ensures.meets;
+      meets = inside_ended c.args.digits windings c.args.limits.now c.args.file.now c.args.point soup _ _ before now _ c.in_ok-read.ensures.meets c.said.ensures.meets;
       halts = inside_halts c.args.file.now _ c.said.ensures.halts;
     }
 

@@ -16,7 +16,8 @@ as_found number n small few = to_z-of_z w64 number (fits_signed_from_abs w64 num
 
 pub returns-in_err-number-clause-meets : goal.returns-in_err-number-clause-meets
 returns-in_err-number-clause-meets g c on =
-    rw (handed_on _ _ c.from_residual.ensures.1) (meets_starved (winding_task windings c.args.point (soup_with c.args.read.now)) (seen on (g.O.Sink.told c.args.out.now) (g.O.Sink.faults c.args.out.now)))
+    let now = seen on (g.O.Sink.told c.args.out.now) (g.O.Sink.faults c.args.out.now) in
+    rw (handed_on _ _ c.from_residual.ensures.1) (meets_starved (winding_task windings c.args.point (soup_with c.args.read.now)) now)
 
 pub returns-in_err-number-clause-halts : goal.returns-in_err-number-clause-halts
 returns-in_err-number-clause-halts g c = rw (handed_on _ _ c.from_residual.ensures.1) (inr refl)
@@ -30,13 +31,14 @@ returns-in_err-say_winding-clause-counted g c = rw (handed_on _ _ c.from_residua
 pub returns-in_err-say_winding-clause-meets : goal.returns-in_err-say_winding-clause-meets
 returns-in_err-say_winding-clause-meets g c =
     let P : ℤ → Type 0 = λ number. OutputMeets (say_line (winding_line number)) (on_output g.O.Sink c.args.out.now) (on_output g.O.Sink c.say_winding.new.sink) (Err Unsaid) in
-    rw (handed_on _ _ c.from_residual-in_err-say_winding.ensures.1)
-    (subst P (as_found c.in_ok-number.number _ c.in_ok-number.ensures.size c.triples-few.ensures.accepted.mesh.few_triples ∙ c.in_ok-number.ensures.value) c.in_err-say_winding.ensures.meets)
+    let said = as_found c.in_ok-number.number _ c.in_ok-number.ensures.size c.triples-few.ensures.accepted.mesh.few_triples ∙ c.in_ok-number.ensures.value in
+    rw (handed_on _ _ c.from_residual-in_err-say_winding.ensures.1) (subst P said c.in_err-say_winding.ensures.meets)
 
 pub returns-clause-meets : goal.returns-clause-meets
 returns-clause-meets g c =
     let P : ℤ → Type 0 = λ number. OutputMeets (say_line (winding_line number)) (on_output g.O.Sink c.args.out.now) (on_output g.O.Sink c.say_winding.new.sink) (Ok tt) in
-    subst P (as_found c.in_ok-number.number _ c.in_ok-number.ensures.size c.triples-few.ensures.accepted.mesh.few_triples ∙ c.in_ok-number.ensures.value) c.in_ok-say_winding.ensures.meets
+    let said = as_found c.in_ok-number.number _ c.in_ok-number.ensures.size c.triples-few.ensures.accepted.mesh.few_triples ∙ c.in_ok-number.ensures.value in
+    subst P said c.in_ok-say_winding.ensures.meets
 
 pub returns-clause-counted : goal.returns-clause-counted
 returns-clause-counted g c = c.in_ok-number.ensures.cost
