@@ -76,6 +76,6 @@ fn written<'a, S: Shelf, O: Sink>(
     ensures halts { IfErr result (λ halt. IsUnwrittenAt to.now halt ⊎ (halt ≡ Reporting)) }
 {
     write(&read.mesh, to, digits, shelf)?;
-    say_copied(to, &read.mesh, read.unused, out)?;
-    Ok(())
+    let told = say_copied(to, &read.mesh, read.unused, out);
+    Ok(told?)
 }

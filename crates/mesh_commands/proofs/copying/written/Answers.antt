@@ -12,21 +12,21 @@ returns-in_err-write-clause-meets g c =
 pub returns-in_err-write-clause-halts : goal.returns-in_err-write-clause-halts
 returns-in_err-write-clause-halts g c = rw (handed_on _ _ c.from_residual.ensures.1) (inl c.in_err-write.ensures.unwritten)
 
-pub returns-in_err-say_copied-clause-meets : goal.returns-in_err-say_copied-clause-meets
-returns-in_err-say_copied-clause-meets g c =
+pub returns-in_err-told-clause-meets : goal.returns-in_err-told-clause-meets
+returns-in_err-told-clause-meets g c =
     let before = on_output g.O.Sink c.args.out.now in
-    let now = on_output g.O.Sink c.say_copied.new.sink in
-    rw (handed_on _ _ c.from_residual-in_err-say_copied.ensures.1)
-    (copy_told c.args.digits c.args.to.now (soup_with c.args.read.now) _ _ before now _ c.in_ok-write.ensures.meets c.in_err-say_copied.ensures.meets)
+    let now = on_output g.O.Sink c.say_copied-told.new.sink in
+    rw (handed_on _ _ c.from_residual-in_err-told.ensures.1)
+    (copy_told c.args.digits c.args.to.now (soup_with c.args.read.now) _ _ before now _ c.in_ok-write.ensures.meets c.in_err-told.ensures.meets)
 
-pub returns-in_err-say_copied-clause-halts : goal.returns-in_err-say_copied-clause-halts
-returns-in_err-say_copied-clause-halts g c = rw (handed_on _ _ c.from_residual-in_err-say_copied.ensures.1) (inr refl)
+pub returns-in_err-told-clause-halts : goal.returns-in_err-told-clause-halts
+returns-in_err-told-clause-halts g c = rw (handed_on _ _ c.from_residual-in_err-told.ensures.1) (inr refl)
 
 pub returns-clause-meets : goal.returns-clause-meets
 returns-clause-meets g c =
     let before = on_output g.O.Sink c.args.out.now in
-    let now = on_output g.O.Sink c.say_copied.new.sink in
-    copy_told c.args.digits c.args.to.now (soup_with c.args.read.now) _ _ before now _ c.in_ok-write.ensures.meets c.in_ok-say_copied.ensures.meets
+    let now = on_output g.O.Sink c.say_copied-told.new.sink in
+    copy_told c.args.digits c.args.to.now (soup_with c.args.read.now) _ _ before now _ c.in_ok-write.ensures.meets c.in_ok-told.ensures.meets
 
 pub returns-clause-halts : goal.returns-clause-halts
 returns-clause-halts g c = tt
