@@ -1,3 +1,4 @@
+mod Operands
 pub mod Given
 pub mod ReadByClap
 pub mod Reading

@@ -1,16 +1,20 @@
 // The command copy.
-ghost use Rattle.std.specs.Prelude.{◌≤◌, ◌<◌, ◌^◌, ◌-◌, All};
+ghost use Rattle.std.specs.Prelude.{◌≡◌, ◌⊎◌, ◌≤◌, ◌<◌, ◌^◌, ◌-◌, All, IfErr};
 ghost use Rattle.mesh_terms.specs.Limits.{IsLawful};
-ghost use Rattle.play_terms.specs.Commands.{copy_task};
+ghost use Rattle.play_terms.specs.Commands.{copied_task, copy_task};
 ghost use Rattle.play_terms.specs.ReadingBack.{GivesReadable, WritesReadable};
 ghost use Rattle.run_terms.specs.Files.{Files};
-ghost use Rattle.report_lines.specs.Halts.{IsHaltOfCopy};
+ghost use Rattle.mb_outside.specs.Seen.{MeetsOn};
+ghost use Rattle.mesh_files.specs.Stops.{soup_with};
+ghost use Rattle.report_lines.specs.Halts.{IsHaltOfCopy, IsUnwrittenAt, halted};
+ghost use Rattle.report_lines.specs.declared.halt.Halt.TheVariants.{Reporting};
 ghost use Rattle.mesh_commands.specs.Commands.{IsEnded, IsMet};
 
 use crate::ending::concluded;
 use crate::status::Status;
 use mb_base::Limits;
 use mb_outside::{Shelf, Sink};
+use mesh_files::Read;
 use named_files::{ask, write};
 use report_lines::{Halt, say_copied};
 use std::alloc::Global;
@@ -56,7 +60,22 @@ fn copied<'a, S: Shelf, O: Sink>(
     ensures lawful { IsLawful limits.now }
 {
     let read = ask(alloc, from, digits, limits, shelf)?;
+    written(&read, to, digits, shelf, out)
+}
+
+// Saves the mesh that was read, and reports that. Here the mesh is borrowed, so that no early return has to let it go.
+fn written<'a, S: Shelf, O: Sink>(
+    read: &Read,
+    to: &'a str,
+    digits: u8,
+    shelf: &mut S,
+    out: &mut O,
+) -> Result<(), Halt<'a>>
+    requires digits { digits ≤ 6 }
+    ensures meets { MeetsOn S.Shelf O.Sink (copied_task digits to.now (soup_with read.now)) (shelf.old, out.old) (shelf.new, out.new) (halted result) }
+    ensures halts { IfErr result (λ halt. IsUnwrittenAt to.now halt ⊎ (halt ≡ Reporting)) }
+{
     write(&read.mesh, to, digits, shelf)?;
-    say_copied(to, &read.mesh, read.unused, out)?;
-    Ok(())
+    let told = say_copied(to, &read.mesh, read.unused, out);
+    Ok(told?)
 }

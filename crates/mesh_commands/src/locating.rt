@@ -1,10 +1,13 @@
 // The command inside: where a point lies, as the winding number tells.
-ghost use Rattle.std.specs.Prelude.{◌≡◌, ◌≤◌, ◌<◌, ◌+◌, ◌^◌, ◌-◌, All};
+ghost use Rattle.std.specs.Prelude.{◌≡◌, ◌⊎◌, ◌≤◌, ◌<◌, ◌+◌, ◌^◌, ◌-◌, All, IfErr};
 ghost use Rattle.mesh_terms.specs.Limits.{IsLawful};
-ghost use Rattle.play_terms.specs.Commands.{inside_task};
+ghost use Rattle.play_terms.specs.Commands.{inside_task, winding_task};
 ghost use Rattle.play_terms.specs.ReadingBack.{WritesReadable};
 ghost use Rattle.run_terms.specs.Files.{Files};
-ghost use Rattle.report_lines.specs.Halts.{IsHaltOfInside};
+ghost use Rattle.mb_outside.specs.Seen.{MeetsOnOutput};
+ghost use Rattle.mesh_files.specs.Stops.{soup_with};
+ghost use Rattle.report_lines.specs.Halts.{IsHaltOfInside, halted};
+ghost use Rattle.report_lines.specs.declared.halt.Halt.TheVariants.{NoMemory, Reporting};
 ghost use Rattle.mesh_commands.specs.Commands.{IsEnded, IsMet};
 ghost use Rattle.mesh_commands.specs.Points.{steps_in, steps_of_point};
 ghost use Rattle.mesh_commands.specs.Windings.{windings};
@@ -13,6 +16,7 @@ use crate::ending::concluded;
 use crate::status::Status;
 use mb_base::{Limits, Point};
 use mb_outside::{Shelf, Sink};
+use mesh_files::Read;
 use named_files::ask;
 use report_lines::{Halt, say_winding};
 use std::alloc::Global;
@@ -63,6 +67,23 @@ fn located<'a, S: Shelf, O: Sink, L: Ledger>(
     ensures lawful { IsLawful limits.now }
 {
     let read = ask(alloc, file, digits, limits, shelf)?;
+    said(alloc, point, &read, out, steps)
+}
+
+// Finds the number in the mesh that was read, and reports it. Here the mesh is borrowed, so that no early return has to let it go.
+fn said<'a, O: Sink, L: Ledger>(
+    alloc: Global,
+    point: Point,
+    read: &Read,
+    out: &mut O,
+    steps: &mut Steps<L>,
+) -> Result<(), Halt<'a>>
+    ensures meets { MeetsOnOutput O.Sink (winding_task windings point (soup_with read.now)) out.old out.new (halted result) }
+    ensures halts { IfErr result (λ halt. (halt ≡ Reporting) ⊎ (halt ≡ NoMemory)) }
+    ensures counted { steps.new ≡ steps.old + steps_in result }
+{
+    // what is known of them bounds the number, so that it is said as it is found
+    let _few = read.mesh.triples();
     let number = winding_at(alloc, point, &read.mesh, steps)?;
     say_winding(number, out)?;
     Ok(())

@@ -1,7 +1,7 @@
-use Rattle.std.proofs.Common.{inl, inr, refl}
+use Rattle.std.proofs.Common.{inl}
 use Rattle.mb_outside.specs.Seen.{on_output}
 use Rattle.mesh_files.specs.Stops.{soup_with}
-use Rattle.mesh_commands.proofs.Stages.{copy_ended, copy_unread, copy_unwritten, handed_on}
+use Rattle.mesh_commands.proofs.Stages.{copy_ended, copy_halts, copy_unread, handed_on}
 use Rattle.mesh_commands.proofs.copying.copied.Goals as goal
 
 pub returns-in_err-read-clause-met : goal.returns-in_err-read-clause-met
@@ -12,30 +12,12 @@ returns-in_err-read-clause-met g c =
       halts = inl c.in_err-read.ensures.unread;
     })
 
-pub returns-in_err-write-clause-met : goal.returns-in_err-write-clause-met
-returns-in_err-write-clause-met g c =
-    rw (handed_on _ _ c.from_residual-in_err-write.ensures.1)
-    (record {
-      meets =
-          copy_unwritten c.args.digits c.args.limits.now c.args.from.now c.args.to.now (soup_with c.in_ok-read.read) _ _ _ (on_output g.O.Sink c.args.out.now) _ c.in_ok-read.ensures.meets c.in_err-write.ensures.meets;
-      halts = inr (inl c.in_err-write.ensures.unwritten);
-    })
-
-pub returns-in_err-say_copied-clause-met : goal.returns-in_err-say_copied-clause-met
-returns-in_err-say_copied-clause-met g c =
-    rw (handed_on _ _ c.from_residual-in_err-say_copied.ensures.1)
-    (record {
-      meets =
-          copy_ended c.args.digits c.args.limits.now c.args.from.now c.args.to.now (soup_with c.in_ok-read.read) _ _ _ (on_output g.O.Sink c.args.out.now) (on_output g.O.Sink c.say_copied.new.sink) _
-          c.in_ok-read.ensures.meets c.in_ok-write.ensures.meets c.in_err-say_copied.ensures.meets;
-      halts = inr (inr refl);
-    })
-
 pub returns-clause-met : goal.returns-clause-met
 returns-clause-met g c =
+    let soup = soup_with c.in_ok-read.read in
+    let before = on_output g.O.Sink c.args.out.now in
+    let now = on_output g.O.Sink c.written.new.out in
     record {
-      meets =
-          copy_ended c.args.digits c.args.limits.now c.args.from.now c.args.to.now (soup_with c.in_ok-read.read) _ _ _ (on_output g.O.Sink c.args.out.now) (on_output g.O.Sink c.say_copied.new.sink) _
-          c.in_ok-read.ensures.meets c.in_ok-write.ensures.meets c.in_ok-say_copied.ensures.meets;
-      halts = tt;
+      meets = copy_ended c.args.digits c.args.limits.now c.args.from.now c.args.to.now soup _ _ _ before now _ c.in_ok-read.ensures.meets c.written.ensures.meets;
+      halts = copy_halts c.args.from.now c.args.to.now _ c.written.ensures.halts;
     }
