@@ -36,7 +36,7 @@ value_from-front v (d ∷ ds) =
     omega (arith, p, front, alone, q, z)
 
 -- the byte of a digit
-digit-at_most : (d : ℕ) → is_digit d ≡ true → d - 48 ≤ 9
+pub digit-at_most : (d : ℕ) → is_digit d ≡ true → d - 48 ≤ 9
 digit-at_most d digit = grind (arith, nat_tests)
 
 -- n digits spell less than 10 ^ n

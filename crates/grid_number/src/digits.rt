@@ -60,7 +60,8 @@ pub fn appended(value: u64, digit: u8) -> u64
     requires digit { IsTrue (is_digit digit) }
     ensures { result ≡ saturated (value * 10 + (digit - 48)) }
 {
-    if value < FULL / 10 {
+    let has_room = value < FULL / 10;
+    if has_room {
         value * 10 + u64::from(digit - b'0')
     } else {
         FULL

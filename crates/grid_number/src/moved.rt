@@ -1,5 +1,5 @@
 // What digits spell, moved by places.
-ghost use Rattle.std.specs.Prelude.{◌≡◌, ℕ, ◌+◌, ◌-◌, ◌*◌, ◌^◌, ◌<◌, ◌≤◌, ◌++◌, IsTrue, pos, neg_ℤ, nat_lt, if◌then◌else◌};
+ghost use Rattle.std.specs.Prelude.{◌≡◌, ℕ, ◌+◌, ◌-◌, ◌*◌, ◌^◌, ◌<◌, ◌≤◌, ◌++◌, IsTrue, pos, neg_ℤ, nat_lt, if◌then◌else◌, get_or, length};
 ghost use Rattle.text_terms.specs.Numbers.{is_digit, all_digits, digits_value, scaled};
 ghost use Rattle.grid_number.specs.Reading.{carry_of, saturated, saturation};
 
@@ -31,19 +31,21 @@ pub fn lowered(whole: &[u8], fraction: &[u8], places: u128) -> u64
     let places = places as usize;
     if places <= fraction.len() {
         let (kept, lost) = fraction.split_at(fraction.len() - places);
-        rounded(spelled_after(spelled_after(0, whole), kept), lost[0])
+        rounded(spelled_after(spelled_after(0, whole), kept), lost)
     } else {
         let (kept, lost) = whole.split_at(whole.len() - (places - fraction.len()));
-        rounded(spelled_after(0, kept), lost[0])
+        rounded(spelled_after(0, kept), lost)
     }
 }
 
 // One more where the first dropped digit is 5 or more.
-fn rounded(kept: u64, dropped: u8) -> u64
-    requires { kept ≤ saturation }
-    ensures { result ≡ saturated (kept + carry_of dropped) }
+fn rounded(kept: u64, lost: &[u8]) -> u64
+    requires kept { kept ≤ saturation }
+    requires some { 0 < length lost.now }
+    ensures { result ≡ saturated (kept + carry_of (get_or lost.now 0 0)) }
 {
-    if dropped < b'5' || kept == FULL {
+    let first = lost[0];
+    if first < b'5' || kept == FULL {
         kept
     } else {
         kept + 1

@@ -1,10 +1,10 @@
 // A shelf over memory.
-ghost use Rattle.std.specs.Prelude.{◌≡◌, ◌≤◌, ◌<◌, ◌++◌, ◌-◌, ℕ, true, None, Some, [], length, take, min};
+ghost use Rattle.std.specs.Prelude.{◌≡◌, ◌≤◌, ◌<◌, ◌++◌, ◌-◌, ◌||◌, ℕ, true, None, Some, [], length, take, min};
 ghost use Rattle.std.specs.Prelude.{is_err, IfOk, OnOk, OnErr};
 ghost use Rattle.std.specs.Option.{option_map};
 ghost use Rattle.run_terms.specs.Files.{Counts, OthersStay, ReadsAt, length_of, text_of};
-ghost use Rattle.mb_outside.specs.Calls.{is_listed, part_of};
-ghost use Rattle.mb_outside.specs.Store.{files_of, given, written};
+ghost use Rattle.mb_outside.specs.Calls.{is_listed, next, part_of};
+ghost use Rattle.mb_outside.specs.Store.{files_of, given, is_past, is_unplaced, written};
 ghost use Rattle.mb_outside.specs.ShelfState.{ShelfState, empty_shelf, holding, is_append_refused, is_begin_refused, read_of, with_read_fault, with_write_fault};
 
 use crate::calls::FailingCalls;
@@ -89,6 +89,32 @@ impl MemoryShelf {
     {
         self.places.text(name.as_bytes())
     }
+
+    // Counts a call, and makes a file empty, or a new one that is, where the call is not listed.
+    fn begin_unlisted(&mut self, name: &[u8]) -> Result<(), Failed>
+        ensures exact { is_err result ≡ is_begin_refused self.old name.now }
+        ensures begun { OnOk result (self.new ≡ holding (written name.now [] self.old.store) self.old) }
+        ensures kept { OnErr result (self.new ≡ record self.old { calls = next self.old.calls }) }
+    {
+        let listed = self.calls.fails_now();
+        if listed {
+            return Err(Failed);
+        }
+        self.places.begin(name)
+    }
+
+    // Counts a call, and adds a piece to a file, or makes a new one of it, where the call is not listed.
+    fn append_unlisted(&mut self, name: &[u8], piece: &[u8]) -> Result<(), Failed>
+        ensures exact { is_err result ≡ (is_listed self.old.calls || is_unplaced self.old.store name.now || is_past self.old.store name.now (length piece.now)) }
+        ensures added { OnOk result (
+            self.new ≡ holding (written name.now (text_of (files_of self.old.store.files name.now) ++ piece.now) self.old.store) self.old) }
+        ensures kept { OnErr result (self.new ≡ record self.old { calls = next self.old.calls }) }
+    {
+        if self.calls.fails_now() {
+            return Err(Failed);
+        }
+        self.places.append(name, piece)
+    }
 }
 
 impl Shelf for MemoryShelf {
@@ -153,7 +179,7 @@ impl Shelf for MemoryShelf {
         ensures after { OnOk result (self.new ≡ holding (written name.now [] self.old.store) self.old) }
         ensures refused { OnErr result (self.new ≡ with_write_fault self.old) }
     {
-        if self.calls.fails_now() || self.places.begin(name.as_bytes()).is_err() {
+        if self.begin_unlisted(name.as_bytes()).is_err() {
             self.write_faults = self.write_faults.saturating_add(1);
             return Err(Failed);
         }
@@ -176,7 +202,7 @@ impl Shelf for MemoryShelf {
     {
         let count = self.most.min(piece.len());
         let (front, _) = piece.split_at(count);
-        if self.calls.fails_now() || self.places.append(name.as_bytes(), front).is_err() {
+        if self.append_unlisted(name.as_bytes(), front).is_err() {
             self.write_faults = self.write_faults.saturating_add(1);
             return Err(Failed);
         }

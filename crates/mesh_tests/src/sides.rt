@@ -90,6 +90,10 @@ fn sheet(alloc: Global) -> Result<Side, Fail> {
 fn expect_lists(rt: &impl Abort, side: &Side) {
     assert_eq!(rt; side.triples(), SHEET.as_slice());
     assert_eq!(rt; side.twins().twins(), [4, 3, 5, 1, 0, 2].as_slice());
+    let first = Corner {
+        at: [0; 3],
+        up: [false; 3],
+    };
     let second = Corner {
         at: [(1 << 30) * UNIT, -5 * UNIT, 7 * UNIT],
         up: [true, false, true],
@@ -98,10 +102,7 @@ fn expect_lists(rt: &impl Abort, side: &Side) {
         at: [3 * UNIT, -(1 << 30) * UNIT, 2 * UNIT],
         up: [false, true, false],
     };
-    let corners = side.corners();
-    assert_eq!(rt; corners.len(), 3);
-    let first = corners[0];
-    assert_eq!(rt; corners, [first, second, third].as_slice());
+    assert_eq!(rt; side.corners(), [first, second, third].as_slice());
 }
 
 fn expect_faces(rt: &impl Abort, side: &Side) {

@@ -32,10 +32,14 @@ fn read_points(alloc: Global, word: &str) -> Result<Vec<Point>, Fail> {
     let numbers = numbers_of(alloc, word)?;
     let mut points = Vec::new(alloc);
     for at in numbers.chunks_exact(3) {
-        let point = Point::of(at[0] as i32, at[1] as i32, at[2] as i32);
-        points.push(point.ok_or("outside the grid")?)?;
+        points.push(point_of(at[0], at[1], at[2])?)?;
     }
     Ok(points)
+}
+
+pub fn point_of(x: i8, y: i8, z: i8) -> Result<Point, Fail> {
+    let point = Point::of(i32::from(x), i32::from(y), i32::from(z));
+    Ok(point.ok_or("outside the grid")?)
 }
 
 // The triangles of a word, three numbers each.

@@ -1,13 +1,19 @@
 // Winding numbers and hits in words.
 use crate::digits::{numbers_of, push_signed};
-use mb_base::{Hit, Hits, Point, Windings};
+use crate::meshes::point_of;
+use mb_base::{Hit, Hits, Windings};
 use std::alloc::Global;
 use std::test::Fail;
 
 fn read_windings(alloc: Global, word: &str) -> Result<Vec<i64>, Fail> {
+    let numbers = numbers_of(alloc, word)?;
+    widened(alloc, &numbers)
+}
+
+fn widened(alloc: Global, numbers: &[i8]) -> Result<Vec<i64>, Fail> {
     let mut windings = Vec::new(alloc);
-    for number in &numbers_of(alloc, word)? {
-        windings.push(*number as i64)?;
+    for number in numbers {
+        windings.push(i64::from(*number))?;
     }
     Ok(windings)
 }
@@ -18,12 +24,11 @@ fn read_hit(alloc: Global, word: &str) -> Result<Hit, Fail> {
     if numbers.len() != 6 {
         return Err("no hit".into());
     }
-    let point = Point::of(numbers[3] as i32, numbers[4] as i32, numbers[5] as i32);
     Ok(Hit {
         edge: u32::from(numbers[0].unsigned_abs()),
         face: u32::from(numbers[1].unsigned_abs()),
         number: numbers[2],
-        at: point.ok_or("outside the grid")?,
+        at: point_of(numbers[3], numbers[4], numbers[5])?,
     })
 }
 
@@ -58,33 +63,42 @@ pub fn read_numbers(alloc: Global, line: &str) -> Result<(Windings, Hits), Fail>
 }
 
 fn push_windings(text: &mut String, windings: &[i64]) -> Result<(), Fail> {
-    for winding in windings {
-        push_signed(text, *winding)?;
+    for &winding in windings {
+        push_signed(text, winding)?;
     }
     Ok(())
 }
 
 fn push_hits(text: &mut String, hits: &[Hit]) -> Result<(), Fail> {
     for hit in hits {
-        text.push(' ')?;
-        push_signed(text, hit.edge as i64)?;
-        push_signed(text, hit.face as i64)?;
-        push_signed(text, hit.number as i64)?;
-        for coordinate in hit.at.at() {
-            push_signed(text, coordinate as i64)?;
-        }
+        push_hit(text, hit)?;
     }
     Ok(())
+}
+
+fn push_hit(text: &mut String, hit: &Hit) -> Result<(), Fail> {
+    text.push(' ')?;
+    push_signed(text, i64::from(hit.edge))?;
+    push_signed(text, i64::from(hit.face))?;
+    push_signed(text, i64::from(hit.number))?;
+    let [x, y, z] = hit.at.at();
+    push_signed(text, i64::from(x))?;
+    push_signed(text, i64::from(y))?;
+    push_signed(text, i64::from(z))
 }
 
 /// The line of these numbers, as `read_numbers` reads it.
 pub fn write_numbers(alloc: Global, windings: &Windings, hits: &Hits) -> Result<String, Fail> {
     let mut text = String::new(alloc);
-    push_windings(&mut text, &windings.w03)?;
-    text.push(' ')?;
-    push_windings(&mut text, &windings.w30)?;
-    push_hits(&mut text, &hits.x12)?;
-    text.push_str(" |")?;
-    push_hits(&mut text, &hits.x21)?;
+    push_numbers(&mut text, windings, hits)?;
     Ok(text)
+}
+
+fn push_numbers(text: &mut String, windings: &Windings, hits: &Hits) -> Result<(), Fail> {
+    push_windings(text, &windings.w03)?;
+    text.push(' ')?;
+    push_windings(text, &windings.w30)?;
+    push_hits(text, &hits.x12)?;
+    text.push_str(" |")?;
+    push_hits(text, &hits.x21)
 }

@@ -1,4 +1,6 @@
-use Rattle.std.proofs.Common.{◌∙◌, ◌-◌, arith, ap, Some, rules, ◌≡◌, ◌+◌, ◌≤◌, length}
+use Rattle.std.proofs.Common.{◌∙◌, ℕ, ◌-◌, List, le_antisymm, arith, ap, Some, rules, ◌≡◌, ◌+◌, ◌≤◌, ◌++◌, length}
+use Rattle.std.specs.Option.{option_map}
+use Rattle.std.proofs.lemmas.List.{take_all}
 use Rattle.mb_outside.proofs.Adds.{told_on}
 use Rattle.mb_outside.proofs.writing.write_all.Goals as goal
 
@@ -26,3 +28,13 @@ returns-in_err-done-clause-sure g c free is fits =
     let fits_rest : length c.split_at.result.1.now ≤ free - c.loop-done.done = omega (arith, c.split_at.ensures.back_len, c.loop-done.invariant.within, fits) in
     let ok = c.in_err-done.ensures.sure (free - c.loop-done.done) (c.loop-done.invariant.room free is fits) fits_rest in
     cc
+
+pub returns-clause-added : goal.returns-clause-added
+returns-clause-added g c =
+    let all = take_all c.loop-done.done c.args.text.now c.loop-done-test.false in
+    c.loop-done.invariant.told ∙ ap (λ (text : List ℕ). option_map (λ (held : List ℕ). held ++ text) (g.K.Sink.told c.args.sink.now)) all
+
+pub returns-clause-less : goal.returns-clause-less
+returns-clause-less g c free is fits =
+    let all : c.loop-done.done ≡ length c.args.text.now = le_antisymm c.loop-done.invariant.within c.loop-done-test.false in
+    c.loop-done.invariant.room free is fits ∙ ap (λ (n : ℕ). Some (free - n)) all

@@ -17,10 +17,10 @@ cut : (c : goal.After-of) → word_lines (joined_from c.self.inside.number (line
 cut c = first_of c.self.inside.number c.past_line-next.result.0 c.self.inside.text.now c.first_line.result.0.now c.first_line.result.1.now c.past_line-next.result.1.now c.of.result c.first_line.ensures.lines c.past_line-next.ensures.past c.of.ensures
 
 pub returns-clause-steps : goal.returns-clause-steps
-returns-clause-steps c = let s = cut c in cc
+returns-clause-steps c = sym c.self.view_is ∙ cut c
 
 pub returns-clause-goes : goal.returns-clause-goes
 returns-clause-goes c =
-    let s = cut c in
-    let e : c.args.self.now ≡ (c.self.inside.number, c.of.result) ∷ word_lines (joined_from c.past_line-next.result.0 (lines_of c.past_line-next.result.1.now)) = cc in
+    let e : c.args.self.now ≡ (c.self.inside.number, c.of.result) ∷ word_lines (joined_from c.past_line-next.result.0 (lines_of c.past_line-next.result.1.now)) =
+    sym c.self.view_is ∙ cut c in
     search (rules, e)

@@ -1,15 +1,10 @@
-use Rattle.std.proofs.Common.{◌≡◌, ℕ, ◌+◌, ◌-◌, List, length, Ok, refl, ap, sym, ◌∙◌, arith}
-use Rattle.std.proofs.lemmas.List.{length-map}
-use Rattle.mesh_terms.specs.Meshes.{Triple, triple_of, triples_of}
+use Rattle.std.proofs.Common.{◌≡◌, ◌+◌, ◌-◌, List, length, Ok, refl, ap, sym, ◌∙◌, arith}
+use Rattle.mesh_terms.specs.Meshes.{Triple, triples_of}
 use Rattle.obj_terms.specs.Faces.{face_fan}
 use Rattle.obj_terms.specs.Obj.{Gathered}
 use Rattle.obj_terms.proofs.Fans.{length-face_fan}
-use Rattle.obj_text.proofs.FaceSteps.{IsSound-face, with_triples-over, with_triples-within}
+use Rattle.obj_text.proofs.FaceSteps.{IsSound-face, length-triples_of, with_triples-over, with_triples-within}
 use Rattle.obj_text.proofs.reading.Gathered.add_face.Goals as goal
-
--- as many triangles as are stored
-length-triples_of : (triples : List (List ℕ)) → length (triples_of triples) ≡ length triples
-length-triples_of triples = length-map triples triple_of
 
 pub returns-then-seen-from-clause-fault : goal.returns-then-seen-from-clause-fault
 returns-then-seen-from-clause-fault c =

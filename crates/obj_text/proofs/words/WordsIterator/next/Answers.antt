@@ -27,7 +27,9 @@ split c =
     ∙ first_word c.next_word.result.0.now c.next_word.result.1.now c.split_at.result.0.now c.split_at.result.1.now c.first_blank.result (sym c.is_empty.ensures ∙ c.if-is_empty.false) c.next_word.ensures.word c.if-text-eq35.false c.first_blank.ensures c.split_at.ensures.front c.split_at.ensures.back
 
 pub returns-clause-steps : goal.returns-clause-steps
-returns-clause-steps c = let s = split c in cc
+returns-clause-steps c = sym c.self.view_is ∙ split c
 
 pub returns-clause-goes : goal.returns-clause-goes
-returns-clause-goes c = let s = split c in let e : c.args.self.now ≡ c.split_at.result.0.now ∷ before_comment (words_left c.split_at.result.1.now c.next_word.result.1.now) = cc in search (rules, e)
+returns-clause-goes c =
+    let e : c.args.self.now ≡ c.split_at.result.0.now ∷ before_comment (words_left c.split_at.result.1.now c.next_word.result.1.now) = sym c.self.view_is ∙ split c in
+    search (rules, e)
