@@ -2,7 +2,7 @@
 ghost use Rattle.std.specs.Prelude.{◌≡◌, IfOk};
 
 use super::files::{CUBE_AND_FLAT, CUBES_AT_A_CORNER, MODELLED_CUBE};
-use super::{ROOM, sink, status_on};
+use super::{ROOM, put, sink, status_on};
 use mb_base::{Limits, NoMemory};
 use mb_outside::{MemoryShelf, Shelf};
 use std::alloc::Global;
@@ -11,13 +11,21 @@ use std::process::Abort;
 use std::sync::ledger::Blank;
 use std::test::Fail;
 
+// Puts a script and one mesh on a shelf, which raises no count of faults.
+fn put_script(shelf: &mut MemoryShelf, script: &[u8], mesh: &[u8]) -> Result<(), NoMemory>
+    ensures reads { shelf.new.read_faults ≡ shelf.old.read_faults }
+    ensures writes { shelf.new.write_faults ≡ shelf.old.write_faults }
+{
+    put(shelf, "s.txt", script)?;
+    put(shelf, "m.obj", mesh)
+}
+
 // A shelf with a script and one mesh.
 fn shelf_of(alloc: Global, script: &[u8], mesh: &[u8]) -> Result<MemoryShelf, NoMemory>
     ensures { IfOk result (λ shelf. (shelf.read_faults ≡ 0) × (shelf.write_faults ≡ 0)) }
 {
     let mut shelf = MemoryShelf::of(alloc, 4, ROOM, ROOM, Vec::new(alloc))?;
-    shelf.put("s.txt", script)?;
-    shelf.put("m.obj", mesh)?;
+    put_script(&mut shelf, script, mesh)?;
     Ok(shelf)
 }
 

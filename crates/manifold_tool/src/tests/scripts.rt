@@ -2,7 +2,7 @@
 ghost use Rattle.std.specs.Prelude.{◌≡◌, IfOk};
 
 use super::files::{BOX, CUBE, UNION};
-use super::{ROOM, sink, status_on};
+use super::{ROOM, put, sink, status_on};
 use mb_base::{Limits, NoMemory};
 use mb_outside::{MemoryShelf, Shelf};
 use std::alloc::Global;
@@ -25,14 +25,22 @@ struct Case<'a> {
     saved: Option<&'a [u8]>,
 }
 
+// Puts the script, the cube and the box on a shelf, which raises no count of faults.
+fn put_script(shelf: &mut MemoryShelf, script: &[u8]) -> Result<(), NoMemory>
+    ensures reads { shelf.new.read_faults ≡ shelf.old.read_faults }
+    ensures writes { shelf.new.write_faults ≡ shelf.old.write_faults }
+{
+    put(shelf, "s.txt", script)?;
+    put(shelf, "cube.obj", CUBE)?;
+    put(shelf, "b.obj", BOX)
+}
+
 // A shelf with the script, the cube and the box.
 fn shelf_of(alloc: Global, script: &[u8]) -> Result<MemoryShelf, NoMemory>
     ensures { IfOk result (λ shelf. (shelf.read_faults ≡ 0) × (shelf.write_faults ≡ 0)) }
 {
     let mut shelf = MemoryShelf::of(alloc, 8, ROOM, ROOM, Vec::new(alloc))?;
-    shelf.put("s.txt", script)?;
-    shelf.put("cube.obj", CUBE)?;
-    shelf.put("b.obj", BOX)?;
+    put_script(&mut shelf, script)?;
     Ok(shelf)
 }
 
