@@ -223,21 +223,23 @@ fn agrees_far(line: &str) -> bool {
 // triangle is its first once more, so that the other pair has no crossing. The answers are those of an independent
 // reference program, in which the point depends on which pair stands first in the order start, end, first, second and
 // third edge of the face.
-static FIRST_PAIRS: &str = "\
+const FIRST_PAIRS: &str = "\
 212xy 122xz 212xy 012 424 101 1:212 .
 001z 233y 431xy 111 304 111 . -1:111";
 
 #[test]
 fn a_crossing_lies_between_the_first_pairs_on_each_side(rt: HostRuntime) {
+    assert_eq!(rt; FIRST_PAIRS.lines().count(), 2);
     assert!(rt; FIRST_PAIRS.lines().all(agrees_far));
 }
 
 // A straight edge crosses a flat face once at most; shadows that are rounded far away can count it twice.
-static TWICE: &str = "\
+const TWICE: &str = "\
 220yz 133x 220yz 010 444 240 -2:220 .
 420xyz 333z 104 434 213 434 . 2:313";
 
 #[test]
 fn far_rounding_can_count_a_crossing_twice(rt: HostRuntime) {
+    assert_eq!(rt; TWICE.lines().count(), 2);
     assert!(rt; TWICE.lines().all(agrees_far));
 }

@@ -82,7 +82,7 @@ fn said<'a, O: Sink, L: Ledger>(
     ensures halts { IfErr result (λ halt. (halt ≡ Reporting) ⊎ (halt ≡ NoMemory)) }
     ensures counted { steps.new ≡ steps.old + steps_in result }
 {
-    // what is known of them bounds the number, so that it is said as it is found
+    // Read so that what a mesh keeps is known here: so few triangles that the number fits its type.
     let _few = read.mesh.triples();
     let number = winding_at(alloc, point, &read.mesh, steps)?;
     say_winding(number, out)?;
