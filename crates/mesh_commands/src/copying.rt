@@ -8,10 +8,9 @@ ghost use Rattle.mb_outside.specs.Seen.{MeetsOn};
 ghost use Rattle.mesh_files.specs.Stops.{soup_with};
 ghost use Rattle.report_lines.specs.Halts.{IsHaltOfCopy, IsUnwrittenAt, halted};
 ghost use Rattle.report_lines.specs.declared.halt.Halt.TheVariants.{Reporting};
-ghost use Rattle.mesh_commands.specs.Commands.{IsEnded, IsMet};
+ghost use Rattle.command_ends.specs.Commands.{IsEnded, IsMet};
 
-use crate::ending::concluded;
-use crate::status::Status;
+use command_ends::{Status, concluded};
 use mb_base::Limits;
 use mb_outside::{Shelf, Sink};
 use mesh_files::Read;

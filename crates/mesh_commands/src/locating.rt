@@ -8,12 +8,11 @@ ghost use Rattle.mb_outside.specs.Seen.{MeetsOnOutput};
 ghost use Rattle.mesh_files.specs.Stops.{soup_with};
 ghost use Rattle.report_lines.specs.Halts.{IsHaltOfInside, halted};
 ghost use Rattle.report_lines.specs.declared.halt.Halt.TheVariants.{NoMemory, Reporting};
-ghost use Rattle.mesh_commands.specs.Commands.{IsEnded, IsMet};
+ghost use Rattle.command_ends.specs.Commands.{IsEnded, IsMet};
 ghost use Rattle.mesh_commands.specs.Points.{steps_in, steps_of_point};
 ghost use Rattle.mesh_commands.specs.Windings.{windings};
 
-use crate::ending::concluded;
-use crate::status::Status;
+use command_ends::{Status, concluded};
 use mb_base::{Limits, Point};
 use mb_outside::{Shelf, Sink};
 use mesh_files::Read;

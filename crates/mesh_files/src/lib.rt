@@ -10,6 +10,7 @@ mod saving;
 #[cfg(test)]
 mod tests;
 
+pub use file_reading::read_file;
 pub use file_stops::Stop;
-pub use reading::{Read, read_file, read_mesh};
+pub use reading::{Read, read_mesh};
 pub use saving::save_mesh;

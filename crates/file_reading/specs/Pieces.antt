@@ -1,0 +1,12 @@
+-- Files that are read in pieces.
+use Rattle.std.specs.Prelude.{◌≡◌, ℕ, ◌+◌, ◌≤◌, ◌++◌, take, drop, Option, Some}
+use Rattle.mesh_terms.specs.Limits.{Limits}
+use Rattle.run_terms.specs.Files.{Bytes, length_of}
+
+-- after the first bytes of a buffer the next ones are those of the text
+abbrev pub ReadsOn : Bytes → ℕ → ℕ → Bytes → Bytes → Type 0
+ReadsOn text have count old new = take (have + count) new ≡ take have old ++ take count (drop have text)
+
+-- the file is there, so long, and not too long
+abbrev pub IsSized : Limits → Option Bytes → ℕ → Type 0
+IsSized limits file size = (length_of file ≡ Some size) × (size ≤ limits.file_bytes)

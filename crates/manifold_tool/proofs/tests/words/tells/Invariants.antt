@@ -1,4 +1,0 @@
-use Rattle.manifold_tool.proofs.tests.words.tells.Given as goal
-
-abbrev pub ghosts-wordless : goal.ghosts-wordless
-ghosts-wordless g a = record { name = a.blank.name; parts = a.blank.parts }

@@ -1,0 +1,21 @@
+// What a play writes is read again.
+ghost use Rattle.std.specs.Prelude.{All};
+ghost use Rattle.play_terms.specs.ReadingBack.{CopiesReadable, WritesReadable, digits_in};
+ghost use Rattle.play_terms.specs.Words.{command};
+ghost use Rattle.program_terms.specs.Commands.{play};
+ghost use Rattle.run_terms.specs.Files.{Files};
+ghost use Rattle.program_runs.specs.Playing.{meanings};
+
+use mb_base::{ArgList, Limits};
+use operation_laws::laws::operations_are_readable;
+
+/// Whatever the words and the files, each file that their play writes holds the text of a mesh, which is read of its OBJ text, and so is the mesh that a copy
+/// reads. The contract is this law, and the call does nothing.
+pub fn plays_are_readable(limits: &Limits, words: &ArgList)
+    ensures mesh_back { CopiesReadable limits.now (command words.now) }
+    ensures back { (files : Files) → All (WritesReadable (digits_in (command words.now)) limits.now) (play meanings limits.now words.now files).actions }
+{
+    // The limits are lawful, and the law of what operations give.
+    let _ = limits.file_bytes();
+    operations_are_readable();
+}

@@ -1,0 +1,47 @@
+// The start of the program in the current folder.
+ghost use Rattle.std.specs.Prelude.{◌≡◌, ◌<◌, ◌^◌, ◌-◌, [], None, IfOk, IfErr};
+ghost use Rattle.play_terms.specs.Ends.{why_line, why_status};
+ghost use Rattle.play_terms.specs.Lines.{usage};
+ghost use Rattle.play_terms.specs.Words.{command};
+ghost use Rattle.mb_outside.specs.Seen.{on_output};
+ghost use Rattle.mesh_files.specs.Stops.{why_of};
+ghost use Rattle.report_lines.specs.Reports.{IsReported};
+ghost use Rattle.program_runs.specs.Playing.{TellsEnd};
+ghost use Rattle.command_ends.specs.Statuses.{IsUsageOrStarved, status_number};
+
+use crate::start::start;
+use mb_base::ArgList;
+use mb_outside::{FolderShelf, Sink};
+use command_ends::Status;
+use mesh_files::Stop;
+use std::alloc::Global;
+use std::rt::Files;
+use std::sync::ledger::{Blank, Ledger};
+use steps::Steps;
+
+/// The program over the current folder, which counts its steps for nobody. What the folder holds can't be told, but the status and `err` can.
+pub fn start_here<R: Files, O: Sink, E: Sink, L: Ledger>(
+    rt: &R,
+    alloc: Global,
+    words: Result<ArgList, Stop>,
+    out: &mut O,
+    err: &mut E,
+    blank: Blank,
+) -> Status
+    requires outs { O.faults out.old < 2 ^ 64 - 1 }
+    requires errs { E.faults err.old < 2 ^ 64 - 1 }
+    requires name { blank.name ≡ L.name }
+    requires parts { blank.parts ≡ L.parts }
+    requires some { 0 < blank.parts }
+    ensures usage { IfOk words (λ words. result ≡ Status.Usage → command words ≡ None) }
+    ensures no_command { IfOk words (λ words. command words ≡ None → IsUsageOrStarved result) }
+    ensures refused { IfOk words (λ _. result ≡ Status.Usage → IsReported usage.line (on_output E.Sink err.old) (on_output E.Sink err.new)) }
+    ensures told { IfOk words (λ _. TellsEnd E.Sink err.old err.new (status_number result)) }
+    ensures quiet { IfOk words (λ _. result ≡ Status.Done → err.new ≡ err.old) }
+    ensures status { IfErr words (λ stop. status_number result ≡ why_status (why_of [] stop)) }
+    ensures report { IfErr words (λ stop. IsReported (why_line (why_of [] stop)) (on_output E.Sink err.old) (on_output E.Sink err.new)) }
+{
+    let mut shelf = FolderShelf::of(rt);
+    let mut steps = Steps::<L>::over(blank);
+    start(alloc, words, &mut shelf, out, err, &mut steps)
+}

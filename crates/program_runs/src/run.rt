@@ -1,0 +1,79 @@
+// The top call.
+ghost use Rattle.std.specs.Prelude.{◌≡◌, ◌≤◌, ◌<◌, ◌+◌, ◌^◌, ◌-◌, All, IsTrue, None};
+ghost use Rattle.play_terms.specs.Lines.{usage};
+ghost use Rattle.play_terms.specs.ReadingBack.{CopiesReadable, WritesReadable, digits_in};
+ghost use Rattle.play_terms.specs.Words.{IsCopy, IsInside, IsRun, command};
+ghost use Rattle.program_terms.specs.Commands.{play};
+ghost use Rattle.run_terms.specs.Files.{Bytes, Files};
+ghost use Rattle.mb_outside.specs.Seen.{on_output};
+ghost use Rattle.report_lines.specs.Reports.{IsReported};
+ghost use Rattle.program_runs.specs.Counting.{play_cost};
+ghost use Rattle.program_runs.specs.Playing.{IsUntroubled, RiseOn, RunMeets, meanings};
+ghost use Rattle.command_ends.specs.Statuses.{IsDoneOrStarved, IsUsageOrStarved, status_number};
+
+use crate::back::plays_are_readable;
+use crate::dispatch::dispatch;
+use mb_base::{ArgList, Limits};
+use mb_outside::{Shelf, Sink};
+use command_ends::Status;
+use std::alloc::Global;
+use std::sync::ledger::Ledger;
+use steps::Steps;
+
+/// Runs the program on the words after its name.
+///
+/// The words are `copy IN OUT`, `inside FILE X Y Z` or `run SCRIPT`, with digits or without, as `read_command` has them; any other are `Usage`, want of
+/// memory aside, and nothing is done but the usage line on `err`. A unit of the files has 10^K steps of the grid, where K are the digits. `copy` reads and
+/// checks the mesh of IN, saves it to OUT and reports that on `out` in one line. `inside` reads and checks the mesh of FILE and reports the winding number of
+/// the point in it, and counts one step; a run that ends before the number is found counts none. `run` reads the whole script of SCRIPT, whose lines load meshes
+/// or make solids and give them names, shift, scale, mirror and turn them, unite, intersect and subtract them, measure and save them; a faulty line is
+/// `BadScript`, and then no line is done. It then does its lines in order, and reports each that loads, combines, measures or saves on `out` in one line.
+/// A solid without a volume, and a solid or a moved mesh that would leave the grid, is `BadMesh`. What was saved before a stop stays. Of a script only
+/// operations count steps; where the shelf tells its files these are at most one for each connected component of their meshes, reduced. Whatever goes
+/// wrong first ends the run with its status and one line on `err`, and a fault of `err` changes no status. A run that ends well leaves `err` as it was.
+///
+/// The run meets its play, which is the task of its words under the limits; where the shelf tells its files, that says what was done, and of `out`
+/// it says the bytes where `out` tells them. With status 0 to 5 every action of the play was done whole, and the status and the
+/// line are those of the play's result; with 6 a file could not be read, with 7 a file or a line was written in part or not at
+/// all, and with 8 memory ran out between two actions. So where the files are told, a run whose play gives no refusal, and in which no
+/// fault came, ends with 0, or for want of memory. Whatever the files and however the run ended, each file that the play writes holds the text of a mesh in the format of its name,
+/// and the mesh is read of its OBJ text under the same digits and limits; for a copy this mesh is the one that was read of IN, in either format, without its
+/// unused points. An STL text reads as the mesh welded, its points in another order; that is a law of `stl_laws` and no clause here.
+///
+/// The read faults of the shelf rise with status 6 alone, its write faults and the faults of `out` with 7 alone, and one of the two does. With
+/// 6 the read faults rose, or the shelf tells no files and a read into some space gave nothing below the size that was stated. The shelf
+/// counts such reads apart, and this count rises then, but where it stands at 2^64 - 1, its last value, it stays.
+pub fn run<S: Shelf, O: Sink, E: Sink, L: Ledger>(
+    alloc: Global,
+    words: &ArgList,
+    limits: &Limits,
+    shelf: &mut S,
+    out: &mut O,
+    err: &mut E,
+    steps: &mut Steps<L>,
+) -> Status
+    requires reads { S.read_faults shelf.old < 2 ^ 64 - 1 }
+    requires writes { S.write_faults shelf.old < 2 ^ 64 - 1 }
+    requires outs { O.faults out.old < 2 ^ 64 - 1 }
+    requires errs { E.faults err.old < 2 ^ 64 - 1 }
+    ensures usage { result ≡ Status.Usage → command words.now ≡ None }
+    ensures no_command { command words.now ≡ None → IsUsageOrStarved result }
+    ensures refused { result ≡ Status.Usage → IsReported usage.line (on_output E.Sink err.old) (on_output E.Sink err.new) }
+    ensures untouched { result ≡ Status.Usage → (shelf.new ≡ shelf.old) × (out.new ≡ out.old) }
+    ensures quiet { result ≡ Status.Done → err.new ≡ err.old }
+    ensures play { RunMeets S.Shelf O.Sink E.Sink limits.now words.now (shelf.old, out.old, err.old) (shelf.new, out.new, err.new) (status_number result) }
+    ensures counts { RiseOn S.Shelf O.Sink (shelf.old, out.old) (shelf.new, out.new) (status_number result) }
+    ensures complete { IsUntroubled S.Shelf O.Sink limits.now words.now (shelf.old, out.old) (shelf.new, out.new) → IsDoneOrStarved result }
+    ensures mesh_back { CopiesReadable limits.now (command words.now) }
+    ensures back { (files : Files) → All (WritesReadable (digits_in (command words.now)) limits.now) (play meanings limits.now words.now files).actions }
+    ensures copies_uncounted { IsCopy (command words.now) → steps.new ≡ steps.old }
+    ensures counted { IsInside (command words.now) → result ≡ Status.Done → steps.new ≡ steps.old + 1 }
+    ensures most { (IsRun (command words.now) → ⊥) → steps.new ≤ steps.old + 1 }
+    ensures cost { IsTrue (S.tells shelf.old) → steps.new ≤ steps.old + play_cost limits.now words.now (S.files shelf.old) }
+    ensures uncounted { (IsRun (command words.now) → ⊥) →
+        (result ≡ Status.Done → ⊥) → (result ≡ Status.WriteFault → ⊥) → steps.new ≡ steps.old }
+{
+    // The law of what a play writes.
+    plays_are_readable(limits, words);
+    dispatch(alloc, words, limits, shelf, out, err, steps)
+}

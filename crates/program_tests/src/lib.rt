@@ -1,0 +1,5 @@
+//! Tests of whole runs, by the program's calls over memory.
+#![tactic(auto)]
+
+#[cfg(test)]
+mod runs;
