@@ -1,37 +1,10 @@
-// The ends of the lines that scripts say, and the kinds of faults of a script.
+// The ends of the lines that scripts say.
 ghost use Rattle.std.specs.Prelude.{◌≡◌, ◌≤◌, ◌++◌, codes, decimal, length, slice_index};
 ghost use Rattle.std.specs.Fmt.{signed_decimal};
 ghost use Rattle.arrayvec.specs.ArrayVec.{array_vec_len};
 ghost use Rattle.text_terms.specs.Written.{line_of};
-ghost use Rattle.script_terms.specs.Lines.{script_kind_name, step_kind_name};
 
 use crate::tail::{Tail, put, put_pair};
-
-/// The name of a kind of fault of a script.
-pub fn script_kind_text(kind: u8) -> &'static [u8]
-    ensures text { result.now ≡ script_kind_name kind }
-    ensures short { length result.now ≤ 14 }
-{
-    match kind {
-        20 => b"BadWord",
-        21 => b"WrongCount",
-        22 => b"BadName",
-        23 => b"NameNotDefined",
-        24 => b"BadNumber",
-        _ => b"BadSuffix",
-    }
-}
-
-/// The name of a kind of fault of a mesh that a line of a script makes.
-pub fn step_kind_text(kind: u8) -> &'static [u8]
-    ensures text { result.now ≡ step_kind_name kind }
-    ensures short { length result.now ≤ 9 }
-{
-    match kind {
-        15 => b"OutOfGrid",
-        _ => b"FlatSolid",
-    }
-}
 
 /// The numbers of points and triangles, which the lines of saved and measured meshes have.
 pub fn size_tail(points: u64, triangles: u64) -> Tail

@@ -2,17 +2,17 @@
 ghost use Rattle.std.specs.Prelude.{◌≡◌, ◌≤◌, ◌+◌, ◌++◌, length, decimal, codes};
 ghost use Rattle.std.specs.Fmt.{signed_decimal};
 ghost use Rattle.arrayvec.specs.ArrayVec.{array_vec_len};
-ghost use Rattle.mb_base.specs.Faults.{counted_of, kind_number};
+ghost use Rattle.mb_base.specs.Faults.{counted_of};
 ghost use Rattle.play_terms.specs.Ends.{why_line};
-ghost use Rattle.play_terms.specs.Lines.{counts_text, kind_name, limit_name};
+ghost use Rattle.play_terms.specs.Lines.{counts_text, limit_name};
 ghost use Rattle.script_terms.specs.Lines.{step_kind_name};
 ghost use Rattle.file_stops.specs.Stops.{why_of};
 
-use crate::script_tail::{script_kind_text, step_kind_text};
 use arrayvec::ArrayVec;
+use fault_names::{kind_text, limit_text, script_kind_text, step_kind_text};
 use file_stops::Stop;
 use itoa::{Buffer, Integer};
-use mb_base::{Counted, TextKind};
+use mb_base::Counted;
 
 /// The end of a line.
 pub type Tail = ArrayVec<u8, 128>;
@@ -47,37 +47,6 @@ pub fn put_pair<I: Integer>(tail: &mut Tail, text: &[u8], number: I)
 {
     put(tail, text);
     put_number(tail, number);
-}
-
-// The number and the name of a kind of fault.
-fn kind_text(kind: TextKind) -> (u64, &'static [u8])
-    ensures number { result.0 ≡ kind_number kind }
-    ensures text { result.1.now ≡ kind_name (kind_number kind) }
-    ensures short { length result.1.now ≤ 17 }
-{
-    match kind {
-        TextKind::UnknownLine => (1, b"UnknownLine"),
-        TextKind::BadVertex => (2, b"BadVertex"),
-        TextKind::BadNumber => (3, b"BadNumber"),
-        TextKind::OutOfGrid => (4, b"OutOfGrid"),
-        TextKind::BadFace => (5, b"BadFace"),
-        TextKind::BadIndex => (6, b"BadIndex"),
-        TextKind::FaceRepeatsVertex => (7, b"FaceRepeatsVertex"),
-        TextKind::NotStl => (10, b"NotStl"),
-    }
-}
-
-// The name of a counted thing.
-fn limit_text(what: Counted) -> &'static [u8]
-    ensures text { result.now ≡ limit_name (counted_of what) }
-    ensures short { length result.now ≤ 10 }
-{
-    match what {
-        Counted::FileBytes => b"file_bytes",
-        Counted::Points => b"points",
-        Counted::Triangles => b"triangles",
-        Counted::Halfedges => b"halfedges",
-    }
 }
 
 // The end of the line that tells a fault on a line of a file, with the number and the name of its kind.
