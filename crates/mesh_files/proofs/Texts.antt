@@ -1,5 +1,5 @@
 -- What a mesh of a text is.
-use Rattle.std.proofs.Common.{◌≡◌, ℕ, List, ap, ◌∙◌, Result, Ok, ℤ}
+use Rattle.std.proofs.Common.{◌≡◌, ℕ, List, ap, refl, ◌∙◌, Result, Ok, ℤ}
 use Rattle.chain_terms.specs.Chains.{all_edges, IsClosed}
 use Rattle.mesh_terms.specs.Faults.{Fault}
 use Rattle.mesh_terms.specs.Meshes.{Soup, Triple}
