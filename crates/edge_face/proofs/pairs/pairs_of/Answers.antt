@@ -1,6 +1,7 @@
 use Rattle.std.proofs.Common.{arith}
-use Rattle.side_terms.specs.Corners.{corner_at, blank_corner}
+use Rattle.side_terms.specs.Corners.{corner_at, blank_corner, IsFineCorner}
 use Rattle.shadow_kernels.specs.FinePairs.{fine_one}
+use Rattle.edge_face.specs.Parts.{first_edge, second_edge, third_edge}
 use Rattle.edge_face.specs.Sides.{pairs_on, met_on}
 use Rattle.edge_face.proofs.Five.{AreKnown, counts_known}
 use Rattle.edge_face.proofs.Kept.{fine_edge, fine_face}
@@ -33,3 +34,18 @@ edge_pair-requires-3-clause-known g c = (known g (goal.at.edge_pair-requires-3-c
 
 pub face_pair-requires-2-clause-vertex_fine : goal.face_pair-requires-2-clause-vertex_fine
 face_pair-requires-2-clause-vertex_fine g c = fine_one (corner_at c.args.edge.now 1) (c.requires.edge_fine 1 blank_corner (omega (arith, c.told-edge)))
+
+pub edge_pair-requires-clause-other_fine : goal.edge_pair-requires-clause-other_fine
+edge_pair-requires-clause-other_fine g c =
+    let f = c.args.face.now in first_edge (corner_at f 0) (corner_at f 1) (corner_at f 2) IsFineCorner (fine_face f c.told-face c.requires.face_fine)
+
+pub edge_pair-requires-2-clause-other_fine : goal.edge_pair-requires-2-clause-other_fine
+edge_pair-requires-2-clause-other_fine g c =
+    let f = c.args.face.now in second_edge (corner_at f 0) (corner_at f 1) (corner_at f 2) IsFineCorner (fine_face f c.told-face c.requires.face_fine)
+
+pub edge_pair-requires-3-clause-other_fine : goal.edge_pair-requires-3-clause-other_fine
+edge_pair-requires-3-clause-other_fine g c =
+    let f = c.args.face.now in third_edge (corner_at f 0) (corner_at f 1) (corner_at f 2) IsFineCorner (fine_face f c.told-face c.requires.face_fine)
+
+pub returns : goal.returns
+returns g c = (c.face_pair.ensures, c.face_pair-2.ensures, c.edge_pair.ensures, c.edge_pair-2.ensures, c.edge_pair-3.ensures)

@@ -7,6 +7,12 @@ use Rattle.edge_face.specs.Sides.{place_on, mirrored}
 use Rattle.edge_face.proofs.Placed.{other_point}
 use Rattle.edge_face.proofs.points.edge_point.Goals as goal
 
+pub returns-in-OfP : goal.returns-in-OfP
+returns-in-OfP g c =
+    let w : Between = g.R.Rounding.between_of c.args.rounding.now in
+    let settle : Settle = g.R.Rounding.settle_of c.args.rounding.now in
+    c.p_point.ensures ∙ ap (λ (e : Edge). Some (place_on e w settle c.args.below.now c.args.above.now)) (sym c.in-OfP.is)
+
 pub returns-in-OfQ : goal.returns-in-OfQ
 returns-in-OfQ g c =
     let w : Between = g.R.Rounding.between_of c.args.rounding.now in
