@@ -1,5 +1,5 @@
 pub mod Kept
-pub mod Numbers
+mod Numbers
 pub mod Placed
 pub mod Five
 mod Upright
