@@ -7,8 +7,6 @@
 
 mod reading;
 mod saving;
-#[cfg(test)]
-mod tests;
 
 pub use file_stops::Stop;
 pub use reading::{Read, read_file, read_mesh};
