@@ -12,6 +12,8 @@ ghost use Rattle.halfedge.specs.Laws.{PairUp, GoAround, AreSingle};
 ghost use Rattle.mesh_terms.specs.Twins.{IsTwinned};
 
 mod renamed;
+#[cfg(test)]
+mod tests;
 
 use crate::open_edge::least_open_edge;
 use crate::pairing::paired;

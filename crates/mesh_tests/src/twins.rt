@@ -2,7 +2,6 @@
 use halfedge::{TwinFault, Twins};
 use samples::{TETRAHEDRON, line_soup, two_boxes};
 use std::alloc::Global;
-use std::ptr;
 use std::test::Fail;
 
 #[test]
@@ -21,16 +20,6 @@ fn a_copy_has_the_same_lists(rt: HostRuntime) -> Result<(), Fail> {
     let copy = twins.clone()?;
     assert_eq!(rt; copy.triples(), twins.triples());
     assert_eq!(rt; copy.twins(), twins.twins());
-    Ok(())
-}
-
-// Two lists that live at once share their memory where their first items do.
-#[test]
-fn a_clone_shares_both_lists(rt: HostRuntime) -> Result<(), Fail> {
-    let twins = Twins::of(rt.alloc(), &TETRAHEDRON)?;
-    let copy = twins.clone()?;
-    assert!(rt; ptr::eq(&copy.triples()[0], &twins.triples()[0]));
-    assert!(rt; ptr::eq(&copy.twins()[0], &twins.twins()[0]));
     Ok(())
 }
 
