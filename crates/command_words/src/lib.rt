@@ -5,7 +5,5 @@
 
 mod commands;
 mod grammar;
-#[cfg(test)]
-mod tests;
 
 pub use commands::{Command, read_command};

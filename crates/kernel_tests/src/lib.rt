@@ -2,7 +2,11 @@
 #![tactic(auto)]
 
 #[cfg(test)]
+mod counters;
+#[cfg(test)]
 mod edges_and_faces;
+#[cfg(test)]
+mod nearest;
 #[cfg(test)]
 mod pairs;
 #[cfg(test)]

@@ -7,8 +7,6 @@
 
 mod reading;
 mod saving;
-#[cfg(test)]
-mod tests;
 
 pub use file_reading::read_file;
 pub use file_stops::Stop;

@@ -113,22 +113,3 @@ fn round(n: i128, d: i64) -> i64
     let divisor = d as i128;
     (2 * n + divisor).div_euclid(2 * divisor) as i64
 }
-
-#[cfg(test)]
-mod tests {
-    use super::*;
-
-    // Worked by hand from the two formulas: a half goes up on both sides of 0.
-    #[test]
-    fn rounds_to_the_nearest(rt: HostRuntime) {
-        assert_eq!(rt; Nearest.between(0, 10, 1, 2), 3);
-        assert_eq!(rt; Nearest.between(10, 0, 1, 2), 7);
-        assert_eq!(rt; Nearest.between(0, 1, 1, 1), 1);
-        assert_eq!(rt; Nearest.between(0, -1, 1, 1), 0);
-        assert_eq!(rt; Nearest.between(-7, -4, 1, 1), -5);
-        assert_eq!(rt; Nearest.between(4, 9, 0, 3), 4);
-        assert_eq!(rt; Nearest.between(4, 9, 3, 0), 9);
-        assert_eq!(rt; Nearest.between(4, 9, 0, 0), 4);
-        assert_eq!(rt; Nearest.settle(UNIT * -7), -7);
-    }
-}

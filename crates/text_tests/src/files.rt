@@ -1,9 +1,9 @@
 // Reading from a shelf that tells no files, and reading and saving over one that does.
 ghost use Rattle.std.specs.Prelude.{◌≡◌, false, None};
 
-use crate::{Stop, read_mesh, save_mesh};
 use mb_base::{Limits, NoMemory};
 use mb_outside::{Failed, MemoryShelf, Shelf};
+use mesh_files::{Stop, read_mesh, save_mesh};
 use std::alloc::Global;
 use std::test::Fail;
 

@@ -1,5 +1,5 @@
 // What words are a command, and which one.
-use crate::{Command, read_command};
+use command_words::{Command, read_command};
 use mb_base::{ArgList, NoMemory, Point};
 use std::alloc::Global;
 use std::test::Fail;
