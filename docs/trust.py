@@ -1,11 +1,11 @@
 """Prints the tables of docs/TRUST.md: the files of definitions that the clauses of `run` cite, directly or through others.
 
-It starts at the names that stand in the clauses of `pub fn run` in crates/program_runs/src/run.rt, and follows the `use` lines of crates/*/specs. A file
+It starts at the names that stand in the clauses of `pub fn run` in crates/program_runs/src/top_call.rt, and follows the `use` lines of crates/*/specs. A file
 comes after all that it cites. A second table has the types of the code that they name. Usage: docs/trust.py"""
 import os, re, sys
 
 TOP = os.path.dirname(os.path.dirname(os.path.abspath(__file__)))
-RUN = "crates/program_runs/src/run.rt"
+RUN = "crates/program_runs/src/top_call.rt"
 USE = re.compile(r"^(?:ghost )?use Rattle\.(\w+)\.specs\.([\w.]+?)(?:\.\{([^}]*)\}| as \w+)?;?$", re.M)
 
 

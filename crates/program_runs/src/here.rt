@@ -9,10 +9,10 @@ ghost use Rattle.report_lines.specs.Reports.{IsReported};
 ghost use Rattle.program_runs.specs.Playing.{TellsEnd};
 ghost use Rattle.command_ends.specs.Statuses.{IsUsageOrStarved, status_number};
 
-use crate::start::start;
+use crate::starting::start;
+use command_ends::Status;
 use mb_base::ArgList;
 use mb_outside::{FolderShelf, Sink};
-use command_ends::Status;
 use mesh_files::Stop;
 use std::alloc::Global;
 use std::rt::Files;

@@ -5,13 +5,13 @@
 mod back;
 mod dispatch;
 mod here;
-mod run;
 mod scripted;
-mod start;
+mod starting;
+mod top_call;
 mod words;
 
-pub use here::start_here;
 pub use command_ends::Status;
-pub use run::run;
-pub use start::start;
+pub use here::start_here;
+pub use starting::start;
+pub use top_call::run;
 pub use words::words_of;

@@ -6,9 +6,9 @@ ghost use Rattle.script_runs.specs.Halts.{IsHaltOfScript};
 ghost use Rattle.script_runs.specs.Operations.{meanings};
 ghost use Rattle.script_terms.specs.Plays.{script_task};
 
+use command_ends::{Status, concluded};
 use mb_base::Limits;
 use mb_outside::{Shelf, Sink};
-use command_ends::{Status, concluded};
 use script_runs::run_script;
 use std::alloc::Global;
 use std::sync::ledger::Ledger;

@@ -1,4 +1,4 @@
-//! Tests of reading OBJ and STL texts and scripts, and of writing meshes, by the public calls.
+//! Tests of reading OBJ and STL texts and scripts, of writing meshes, and of the files of a shelf, by the public calls.
 #![tactic(auto)]
 
 #[cfg(test)]

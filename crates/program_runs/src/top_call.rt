@@ -13,9 +13,9 @@ ghost use Rattle.command_ends.specs.Statuses.{IsDoneOrStarved, IsUsageOrStarved,
 
 use crate::back::plays_are_readable;
 use crate::dispatch::dispatch;
+use command_ends::Status;
 use mb_base::{ArgList, Limits};
 use mb_outside::{Shelf, Sink};
-use command_ends::Status;
 use std::alloc::Global;
 use std::sync::ledger::Ledger;
 use steps::Steps;

@@ -9,7 +9,7 @@ use Rattle.file_stops.specs.declared.stop.Stop.{Stop}
 use Rattle.command_ends.specs.Statuses.{IsDoneOrStarved, status_number}
 use Rattle.program_runs.specs.Counting.{play_cost}
 use Rattle.program_runs.specs.Playing.{IsUntroubled, RunMeets, meanings}
-use Rattle.program_runs.proofs.start.start.Goals as goal
+use Rattle.program_runs.proofs.starting.start.Goals as goal
 
 -- what holds of the words that are there holds if they are
 if_words : (P : ArgList → Type 0) (given : Result ArgList Stop) (words : ArgList) → given ≡ Ok words → P words → IfOk given P

@@ -1,7 +1,7 @@
 use Rattle.program_runs.proofs.Faults.{complete, rise_on}
 use Rattle.program_runs.specs.Playing.{meanings}
 use Rattle.program_terms.specs.Commands.{play}
-use Rattle.program_runs.proofs.run.run.Goals as goal
+use Rattle.program_runs.proofs.top_call.run.Goals as goal
 
 pub returns-clause-usage : goal.returns-clause-usage
 returns-clause-usage g c = c.dispatch.ensures.usage
