@@ -1,5 +1,5 @@
-//! The program over any shelf and any outputs: `run` is its top call, and its contract is the program's promise. `start` hands it the program's limits, and
-//! `start_here` the current folder.
+//! Runs of the program. `run` is its top call, over any shelf and any outputs, and its contract is the program's promise. `start` hands it the program's limits, and
+//! `start_here` the current folder too; `given_words` reads the words after the program's name.
 #![tactic(auto)]
 
 mod back;
@@ -14,4 +14,4 @@ pub use command_ends::Status;
 pub use here::start_here;
 pub use starting::start;
 pub use top_call::run;
-pub use words::words_of;
+pub use words::given_words;

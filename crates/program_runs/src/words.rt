@@ -8,8 +8,8 @@ use std::alloc::Global;
 use std::io::{self, ErrorKind};
 use std::rt::Env;
 
-/// The words after the program's name, or why there are none: `Usage` where a word is not UTF-8, and `NoMemory` else.
-pub fn words_of<R: Env + AllocGlobal>(rt: &R, alloc: Global) -> Result<ArgList, Stop>
+/// The words after the program's name. The stop is `Usage`, as a word that is not UTF-8 gives, or `NoMemory`; the contract says no more of which.
+pub fn given_words<R: Env + AllocGlobal>(rt: &R, alloc: Global) -> Result<ArgList, Stop>
     ensures { IfErr result (λ stop. (stop ≡ Stop.Usage) ⊎ (stop ≡ Stop.NoMemory)) }
 {
     let mut words = ArgList::start(alloc);
