@@ -9,6 +9,8 @@ mod decimals;
 #[cfg(test)]
 mod files;
 #[cfg(test)]
+mod lists;
+#[cfg(test)]
 mod obj;
 #[cfg(test)]
 mod points;
@@ -20,5 +22,7 @@ mod shelves;
 mod sorting;
 #[cfg(test)]
 mod stl;
+#[cfg(test)]
+mod texts;
 #[cfg(test)]
 mod writing;

@@ -4,41 +4,43 @@ use mb_base::NoMemory;
 use std::alloc::Global;
 use std::test::Fail;
 
-// Bucket k of the places, or none where there are more than ten keys or k or a key is not below the count.
+// Whether bucket k has these places. No bucket has any where there are more than ten keys or k or a key is not below the count.
 // So few keys are plainly below 2^32, as `Buckets::of` requires.
-fn bucket_of(
+fn is_bucket(
     alloc: Global,
     keys: &[u32],
     count: usize,
     k: usize,
-) -> Result<Option<Vec<u32>>, NoMemory> {
+    places: &[u32],
+) -> Result<bool, NoMemory> {
     if keys.len() > 10 || k >= count || !keys.iter().all(|key| (*key as usize) < count) {
-        return Ok(None);
+        return Ok(false);
     }
     let buckets = Buckets::of(alloc, keys, count)?;
-    let places = buckets.bucket(k).to_vec(alloc)?;
-    Ok(Some(places))
+    Ok(buckets.bucket(k) == places)
 }
+
+// Keys, and the places in each bucket.
+static TABLE: [(&[u32], &[&[u32]]); 6] = [
+    (&[], &[&[], &[], &[]]),
+    (&[0], &[&[0]]),
+    (&[2], &[&[], &[], &[0]]),
+    (&[0, 0, 0, 0], &[&[0, 1, 2, 3]]),
+    (&[2, 1, 0], &[&[2], &[1], &[0]]),
+    (
+        &[4, 1, 3, 1, 4, 4, 1],
+        &[&[], &[1, 3, 6], &[], &[2], &[0, 4, 5], &[]],
+    ),
+];
 
 #[test]
 fn places_are_gathered_by_key(rt: HostRuntime) -> Result<(), Fail> {
-    // Keys, and the places in each bucket.
-    let table: [(&[u32], &[&[u32]]); 6] = [
-        (&[], &[&[], &[], &[]]),
-        (&[0], &[&[0]]),
-        (&[2], &[&[], &[], &[0]]),
-        (&[0, 0, 0, 0], &[&[0, 1, 2, 3]]),
-        (&[2, 1, 0], &[&[2], &[1], &[0]]),
-        (
-            &[4, 1, 3, 1, 4, 4, 1],
-            &[&[], &[1, 3, 6], &[], &[2], &[0, 4, 5], &[]],
-        ),
-    ];
-    for (keys, wanted) in table {
-        for (k, places) in wanted.iter().enumerate() {
-            let found = bucket_of(rt.alloc(), keys, wanted.len(), k)?;
-            let list = found.as_ref().map(|list| list.as_slice());
-            assert_eq!(rt; list, Some(*places));
+    for (keys, wanted) in &TABLE {
+        for k in 0..wanted.len() {
+            assert!(rt;
+                is_bucket(rt.alloc(), keys, wanted.len(), k, wanted[k])?,
+                "{k} of {keys:?}"
+            );
         }
     }
     Ok(())
