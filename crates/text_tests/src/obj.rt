@@ -172,7 +172,7 @@ fn counts_to_the_limits(rt: HostRuntime) -> Result<(), Fail> {
     let three = Limits::of(1000, 3, 2, 1).ok_or("limits")?;
     assert!(rt; is_over(alloc, false, TETRAHEDRON, &three, Counted::Points, 4));
     let four = Limits::of(1000, 4, 2, 1).ok_or("limits")?;
-    for bytes in [TETRAHEDRON, SQUARE] {
+    for bytes in &[TETRAHEDRON, SQUARE] {
         assert!(rt;
             is_over(alloc, false, bytes, &four, Counted::Triangles, 3),
             "at {bytes:?}"

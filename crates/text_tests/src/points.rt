@@ -101,12 +101,19 @@ fn a_soup_keeps_its_lists(rt: HostRuntime) -> Result<(), Fail> {
 
 const WORDS: [&str; 3] = ["union", "", "β.obj"];
 
+fn gives_the_words(list: &ArgList) -> bool {
+    list.len() == 3
+        && list.as_slice().len() == 3
+        && list.get(0) == WORDS[0]
+        && list.get(1) == WORDS[1]
+        && list.get(2) == WORDS[2]
+}
+
 #[test]
 fn a_list_gives_its_words(rt: HostRuntime) -> Result<(), Fail> {
     assert!(rt; ArgList::start(rt.alloc()).is_empty());
     let list = listed(rt.alloc(), &WORDS)?;
-    assert!(rt; list.len() == 3 && list.as_slice().len() == 3);
-    assert!(rt; list.get(0) == WORDS[0] && list.get(1) == WORDS[1] && list.get(2) == WORDS[2]);
+    assert!(rt; gives_the_words(&list));
     Ok(())
 }
 

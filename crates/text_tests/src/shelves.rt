@@ -114,12 +114,17 @@ static IN_PIECES: [(Call, Answer); 10] = [
     (Call::Append("old", b"9"), Err(Failed)),
 ];
 
-// Whether a shelf holds these bytes under a name.
-pub fn holds(shelf: &MemoryShelf, name: &str, wanted: &[u8]) -> bool {
-    match shelf.get(name) {
+// Whether a file is there with these bytes.
+fn is_text(found: Option<&[u8]>, wanted: &[u8]) -> bool {
+    match found {
         Some(bytes) => *bytes == *wanted,
         None => false,
     }
+}
+
+// Whether a shelf holds these bytes under a name.
+pub fn holds(shelf: &MemoryShelf, name: &str, wanted: &[u8]) -> bool {
+    is_text(shelf.get(name), wanted)
 }
 
 // Whether a shelf holds these bytes under a name once they are put there.
@@ -164,7 +169,7 @@ fn a_sure_shelf_takes_what_its_spare_has_room_for(rt: HostRuntime) -> Result<(),
     let mut shelf = SureShelf::of(rt.alloc(), "old", b"12345678", "new", 6)?;
     let mut into = *b"....";
     assert!(rt; answers(&mut shelf, &SURE, &mut into, b"78.."));
-    assert!(rt; shelf.get("new").ok_or("the file is there")? == b"abcdef".as_slice());
+    assert!(rt; is_text(shelf.get("new"), b"abcdef"));
     assert!(rt; answers(&mut shelf, &SURE_AGAIN, &mut into, b"78.."));
     Ok(())
 }
@@ -225,7 +230,7 @@ fn the_folder_keeps_what_was_written_where_it_has_a_place(rt: HostRuntime) -> Re
     assert!(rt; answers(&mut shelf, &KEPT, &mut into, b"hello, folder.."));
     assert!(rt; answers(&mut shelf, &KEPT_AGAIN, &mut into, b"xyzder folder.."));
     assert!(rt; answers(&mut shelf, &NO_PLACE, &mut into, b"xyzder folder.."));
-    for name in ["kept.txt", "made.txt", "plain.txt"] {
+    for name in &["kept.txt", "made.txt", "plain.txt"] {
         fs::remove_file(&rt, name)?;
     }
     Ok(())

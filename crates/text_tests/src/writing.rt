@@ -60,12 +60,20 @@ fn goes_to_a_file(alloc: Global, mesh: &Mesh, solid: bool, text: &[u8]) -> Resul
     Ok(written && holds(&shelf, "t", text))
 }
 
+static TEXTS: [(bool, &[u8]); 2] = [(false, TEXT), (true, SOLID)];
+
 #[test]
 fn the_text_goes_to_a_sink_and_to_a_file(rt: HostRuntime) -> Result<(), Fail> {
     let mesh = tetrahedron(rt.alloc())?.ok_or("the tetrahedron is closed")?;
-    for (solid, text) in [(false, TEXT), (true, SOLID)] {
-        assert!(rt; goes_to_a_sink(rt.alloc(), &mesh, solid, text)?);
-        assert!(rt; goes_to_a_file(rt.alloc(), &mesh, solid, text)?);
+    for (solid, text) in &TEXTS {
+        assert!(rt;
+            goes_to_a_sink(rt.alloc(), &mesh, *solid, text)?,
+            "solid {solid}"
+        );
+        assert!(rt;
+            goes_to_a_file(rt.alloc(), &mesh, *solid, text)?,
+            "solid {solid}"
+        );
     }
     Ok(())
 }
@@ -115,14 +123,17 @@ fn taken_at_once(
     }
 }
 
+// Whether the text is that of a solid, how many lines are longer, and how many bytes go out at once.
+static PAGES: [(bool, i32, usize); 3] = [(false, 0, 3984), (false, 1, 3969), (true, 0, 3975)];
+
 #[test]
 fn a_page_goes_out_where_fewer_than_128_bytes_are_free(rt: HostRuntime) -> Result<(), Fail> {
     // After 248 lines of OBJ 128 bytes are free, or 127 where one line is longer. Of a solid with so many bytes fewer than 128 are
     // free for the first time after a line.
-    for (solid, wide, length) in [(false, 0, 3984), (false, 1, 3969), (true, 0, 3975)] {
-        let mesh = flat_triangles(rt.alloc(), wide)?.ok_or("each triangle has its reverse")?;
+    for (solid, wide, length) in &PAGES {
+        let mesh = flat_triangles(rt.alloc(), *wide)?.ok_or("each triangle has its reverse")?;
         assert!(rt;
-            taken_at_once(rt.alloc(), &mesh, solid, 0)? == Some(length),
+            taken_at_once(rt.alloc(), &mesh, *solid, 0)? == Some(*length),
             "at {length}"
         );
     }
