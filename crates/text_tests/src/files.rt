@@ -1,6 +1,8 @@
 // Reading from a shelf that tells no files, and reading and saving over one that does.
 ghost use Rattle.std.specs.Prelude.{◌≡◌, false, None};
 
+use crate::obj::TETRAHEDRON;
+use crate::shelves::{holds, shelf_with};
 use mb_base::{Limits, NoMemory};
 use mb_outside::{Failed, MemoryShelf, Shelf};
 use mesh_files::{Stop, read_mesh, save_mesh};
@@ -76,29 +78,24 @@ fn a_file_that_ends_early_is_a_read_fault(rt: HostRuntime) {
     assert!(rt; read_from(rt.alloc(), 64, 100).is_none());
 }
 
-const TETRAHEDRON: &[u8] =
-    b"v 0 0 0\nv 1 0 0\nv 0 1 0\nv 0 0 1\nf 1 3 2\nf 1 2 4\nf 2 3 4\nf 3 1 4\n";
-
 // A shelf with one file.
-fn shelf_with(alloc: Global, bytes: &[u8]) -> Result<MemoryShelf, NoMemory> {
-    let mut shelf = MemoryShelf::of(alloc, 2, 1000, 1000, Vec::new(alloc))?;
-    shelf.put("t.obj", bytes)?;
-    Ok(shelf)
+fn shelf_of(alloc: Global, bytes: &[u8]) -> Result<MemoryShelf, NoMemory> {
+    shelf_with(alloc, 2, 1000, 1000, Vec::new(alloc), "t.obj", bytes)
 }
 
 // Why the bytes are no mesh, where they are none.
 fn stop_of(alloc: Global, bytes: &[u8]) -> Result<Option<Stop>, NoMemory> {
-    let mut shelf = shelf_with(alloc, bytes)?;
+    let mut shelf = shelf_of(alloc, bytes)?;
     Ok(read_mesh(alloc, "t.obj", 4, &Limits::program(), &mut shelf).err())
 }
 
 // Whether the bytes are read as a mesh and saved so again.
 fn is_copied(alloc: Global, bytes: &[u8]) -> Result<bool, NoMemory> {
-    let mut shelf = shelf_with(alloc, bytes)?;
+    let mut shelf = shelf_of(alloc, bytes)?;
     match read_mesh(alloc, "t.obj", 4, &Limits::program(), &mut shelf) {
         Ok(read) => {
             let is_saved = save_mesh(&read.mesh, "u.obj", 4, &mut shelf).is_ok();
-            Ok(is_saved && shelf.get("u.obj") == Some(bytes))
+            Ok(is_saved && holds(&shelf, "u.obj", bytes))
         }
         Err(_) => Ok(false),
     }

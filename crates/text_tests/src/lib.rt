@@ -1,13 +1,28 @@
-//! Tests of reading OBJ and STL texts and scripts, of writing meshes, and of the files of a shelf, by the public calls.
+//! Tests of what reads and writes texts and of what that stands on: plain types, decimal numbers, counting sort, shelves and sinks, the words of
+//! a command line, OBJ and STL texts, scripts, the writing of meshes, and the files of a shelf, by the public calls.
 #![tactic(auto)]
 
 #[cfg(test)]
+mod commands;
+#[cfg(test)]
+mod decimals;
+#[cfg(test)]
 mod files;
+#[cfg(test)]
+mod lists;
 #[cfg(test)]
 mod obj;
 #[cfg(test)]
+mod points;
+#[cfg(test)]
 mod scripts;
 #[cfg(test)]
+mod shelves;
+#[cfg(test)]
+mod sorting;
+#[cfg(test)]
 mod stl;
+#[cfg(test)]
+mod texts;
 #[cfg(test)]
 mod writing;

@@ -1,13 +1,14 @@
 // What OBJ texts are read as, and what refuses them.
 ghost use Rattle.std.specs.Prelude.{◌≤◌};
 
-use mb_base::{Counted, Limits, Soup, TextFault, TextKind};
-use obj_text::read_obj;
+use crate::lists::joined;
+use crate::texts::{Lists, Refused, is_over, is_read, is_refused_at, refuses};
+use mb_base::{Counted, Limits, NoMemory, TextKind};
 use std::alloc::Global;
 use std::process::Abort;
 use std::test::Fail;
 
-const TETRAHEDRON: &[u8] =
+pub const TETRAHEDRON: &[u8] =
     b"v 0 0 0\nv 1 0 0\nv 0 1 0\nv 0 0 1\nf 1 3 2\nf 1 2 4\nf 2 3 4\nf 3 1 4\n";
 
 // The file as an editor on another system may save it: a mark at the start, CRLF, tabs, spare blanks, empty
@@ -19,57 +20,92 @@ const SPACED: &[u8] =
 const DRESSED: &[u8] =
     b"mtllib a \\\nv\nv 0 0\\\n 0\ng \nv 1 0 0 1 1 1 1\nv 0 1 0\nvn 0 0 1\nv 9 9 9\nv 0 \\\n\\\n0 1\nf 1/1 3//-3 2/2/2\nf -5 -4 -1\\\n\nusemtl f\nf -4//1 -3//1 -1//1 \\\n#\nf 3 1 5\n";
 
-fn refusal(alloc: Global, bytes: &[u8], digits: u8, limits: &Limits) -> Result<TextFault, Fail>
-    requires { digits ≤ 6 }
-{
-    match read_obj(alloc, bytes, digits, limits) {
-        Ok(_) => Err(Fail::from("read")),
-        Err(fault) => Ok(fault),
-    }
-}
+// The corners and the triangles of the file.
+const CORNERS: [[i32; 3]; 4] = [[0, 0, 0], [10_000, 0, 0], [0, 10_000, 0], [0, 0, 10_000]];
 
-// The triangles of the file.
 const SIDES: [[u32; 3]; 4] = [[0, 2, 1], [0, 1, 3], [1, 2, 3], [2, 0, 3]];
 
-// Reads a file of the tetrahedron, which leaves out so many points.
-fn reads(rt: &impl Abort, alloc: Global, bytes: &[u8], unused: u32) -> Result<(), Fail> {
-    let soup = read_obj(alloc, bytes, 4, &Limits::program())?;
-    assert_eq!(rt; (soup.points().len(), soup.unused()), (4, unused));
-    assert_eq!(rt; soup.points()[1].at(), [10_000, 0, 0]);
-    assert_eq!(rt; soup.points()[3].at(), [0, 0, 10_000]);
-    assert_eq!(rt; soup.triples(), SIDES.as_slice());
-    Ok(())
-}
+const POLYGON: &[u8] = b"v 5 5 5\nv 0 0 0\nv 2.5 0 0\nv 2 2 0\nv 1 3 0\nv 0 2 0\nf -5 -4 -3 -2 6\n";
 
-#[test]
-fn reads_a_tetrahedron(rt: HostRuntime) -> Result<(), Fail> {
-    reads(&rt, rt.alloc(), TETRAHEDRON, 0)?;
-    reads(&rt, rt.alloc(), SPACED, 0)?;
-    reads(&rt, rt.alloc(), DRESSED, 1)
-}
+const FIVE: [[i32; 3]; 5] = [[0, 0, 0], [3, 0, 0], [2, 2, 0], [1, 3, 0], [0, 2, 0]];
 
-#[test]
-fn reads_a_file_of_nothing(rt: HostRuntime) -> Result<(), Fail> {
-    let empty = read_obj(rt.alloc(), b"", 0, &Limits::program())?;
-    assert_eq!(rt; empty.points().len(), 0);
-    Ok(())
-}
-
-// The triangles of a polygon of five points.
 const FAN: [[u32; 3]; 3] = [[0, 1, 2], [0, 2, 3], [0, 3, 4]];
 
+// Points on a line, and a face through all of them.
+const MANY_POINTS: &[u8] =
+    b"v 0 0 0\nv 1 0 0\nv 2 0 0\nv 3 0 0\nv 4 0 0\nv 5 0 0\nv 6 0 0\nv 7 0 0\nv 8 0 0\nv 9 0 0\nv 10 0 0\nv 11 0 0\nv 12 0 0\nv 13 0 0\n";
+
+const MANY_CORNERS: &[u8] = b"f 7 1 14 2 13 3 12 4 11 5 10 6 9 8\n";
+
+const FOURTEEN: [[i32; 3]; 14] = [
+    [0, 0, 0],
+    [1, 0, 0],
+    [2, 0, 0],
+    [3, 0, 0],
+    [4, 0, 0],
+    [5, 0, 0],
+    [6, 0, 0],
+    [7, 0, 0],
+    [8, 0, 0],
+    [9, 0, 0],
+    [10, 0, 0],
+    [11, 0, 0],
+    [12, 0, 0],
+    [13, 0, 0],
+];
+
+const WIDE_FAN: [[u32; 3]; 12] = [
+    [6, 0, 13],
+    [6, 13, 1],
+    [6, 1, 12],
+    [6, 12, 2],
+    [6, 2, 11],
+    [6, 11, 3],
+    [6, 3, 10],
+    [6, 10, 4],
+    [6, 4, 9],
+    [6, 9, 5],
+    [6, 5, 8],
+    [6, 8, 7],
+];
+
+// The two parts of a file, the digits of the grid, and the lists that it gives.
+static READ: [(&[u8], &[u8], u8, Lists<'static>); 6] = [
+    (TETRAHEDRON, b"", 4, (&CORNERS, 0, &SIDES)),
+    (SPACED, b"", 4, (&CORNERS, 0, &SIDES)),
+    (DRESSED, b"", 4, (&CORNERS, 1, &SIDES)),
+    (b"", b"", 0, (&[], 0, &[])),
+    (POLYGON, b"", 0, (&FIVE, 1, &FAN)),
+    (MANY_POINTS, MANY_CORNERS, 0, (&FOURTEEN, 0, &WIDE_FAN)),
+];
+
+// Whether a file of two parts gives these lists.
+fn gives(
+    alloc: Global,
+    front: &[u8],
+    after: &[u8],
+    digits: u8,
+    wanted: &Lists<'_>,
+) -> Result<bool, NoMemory>
+    requires { digits ≤ 6 }
+{
+    let bytes = joined(alloc, front, after, b"")?;
+    Ok(is_read(alloc, false, &bytes, digits, &Limits::program(), wanted))
+}
+
 #[test]
-fn makes_a_fan_of_a_polygon(rt: HostRuntime) -> Result<(), Fail> {
-    let bytes = b"v 5 5 5\nv 0 0 0\nv 2.5 0 0\nv 2 2 0\nv 1 3 0\nv 0 2 0\nf -5 -4 -3 -2 6\n";
-    let soup = read_obj(rt.alloc(), bytes, 0, &Limits::program())?;
-    assert_eq!(rt; (soup.points().len(), soup.unused()), (5, 1));
-    assert_eq!(rt; soup.points()[1].at(), [3, 0, 0]);
-    assert_eq!(rt; soup.triples(), FAN.as_slice());
+fn reads_meshes(rt: HostRuntime) -> Result<(), Fail> {
+    for (front, after, digits, wanted) in &READ {
+        assert!(rt;
+            *digits <= 6 && gives(rt.alloc(), front, after, *digits, wanted)?,
+            "at {front:?}"
+        );
+    }
     Ok(())
 }
 
 // Files, with the line and the fault that refuse them.
-const REFUSED: [(&[u8], u64, TextKind); 22] = [
+static REFUSED: [Refused; 22] = [
     (b"v 0 0 0\nvn 0 0 1\nx\nv 0", 3, TextKind::UnknownLine),
     (b"vp 1\n", 1, TextKind::UnknownLine),
     (b"o \\\n \\\nv\nV 1 2 3\n", 4, TextKind::UnknownLine),
@@ -106,103 +142,66 @@ const REFUSED: [(&[u8], u64, TextKind); 22] = [
     ),
 ];
 
-// A text and what comes after it.
-fn joined(alloc: Global, front: &[u8], after: &[u8]) -> Result<Vec<u8>, Fail> {
-    let mut bytes = front.to_vec(alloc)?;
-    bytes.extend_from_slice(after)?;
-    Ok(bytes)
-}
-
-// Each text after this front is refused at its line, with its fault.
-fn refuses(
-    rt: &impl Abort,
-    alloc: Global,
-    front: &[u8],
-    rows: &[(&[u8], u64, TextKind)],
-) -> Result<(), Fail> {
-    for (after, line, kind) in rows {
-        let bytes = joined(alloc, front, after)?;
-        let bad = TextFault::Bad {
-            line: *line,
-            kind: *kind,
-        };
-        assert_eq!(rt; refusal(alloc, &bytes, 4, &Limits::program())?, bad);
-    }
-    Ok(())
-}
-
 #[test]
 fn refuses_the_first_faulty_line(rt: HostRuntime) -> Result<(), Fail> {
-    refuses(&rt, rt.alloc(), b"", &REFUSED)
-}
-
-const MANY_POINTS: &[u8] =
-    b"v 0 0 0\nv 1 0 0\nv 2 0 0\nv 3 0 0\nv 4 0 0\nv 5 0 0\nv 6 0 0\nv 7 0 0\nv 8 0 0\nv 9 0 0\nv 10 0 0\nv 11 0 0\nv 12 0 0\nv 13 0 0\n";
-
-#[test]
-fn reads_a_face_of_many_vertices(rt: HostRuntime) -> Result<(), Fail> {
-    let face = b"f 7 1 14 2 13 3 12 4 11 5 10 6 9 8\n";
-    let bytes = joined(rt.alloc(), MANY_POINTS, face)?;
-    let soup = read_obj(rt.alloc(), &bytes, 0, &Limits::program())?;
-    assert_eq!(rt; soup.triples().len(), 12);
-    assert_eq!(rt; soup.triples()[11], [6, 8, 7]);
-    Ok(())
+    refuses(&rt, rt.alloc(), false, b"", &REFUSED)
 }
 
 #[test]
 fn finds_a_repeat_among_many_vertices(rt: HostRuntime) -> Result<(), Fail> {
     let faces = b"f 7 1 14 2 13 3 12 4 11 5 10 6 9 8\nf 7 1 14 2 13 3 12 4 11 5 10 6 9 8 4\n";
-    let bytes = joined(rt.alloc(), MANY_POINTS, faces)?;
-    assert_eq!(rt;
-        refusal(rt.alloc(), &bytes, 0, &Limits::program())?,
-        TextFault::Bad {
-            line: 16,
-            kind: TextKind::FaceRepeatsVertex
-        }
+    let bytes = joined(rt.alloc(), MANY_POINTS, faces, b"")?;
+    assert!(rt;
+        is_refused_at(
+            rt.alloc(),
+            false,
+            &bytes,
+            0,
+            16,
+            TextKind::FaceRepeatsVertex
+        )
     );
     Ok(())
 }
 
-// The fault of a file where so many points and two triangles are allowed.
-fn refusal_within(rt: &HostRuntime, bytes: &[u8], points: u32) -> Result<TextFault, Fail> {
-    let limits = Limits::of(1000, points, 2, 1).ok_or("limits")?;
-    refusal(rt.alloc(), bytes, 4, &limits)
-}
+const SQUARE: &[u8] = b"v 0 0 0\nv 1 0 0\nv 1 1 0\nf 1 2 3\nv 0 1 0\nf 1 2 3 4\n";
 
 #[test]
 fn counts_to_the_limits(rt: HostRuntime) -> Result<(), Fail> {
-    let four_points = TextFault::Over {
-        what: Counted::Points,
-        seen: 4,
-    };
-    let three_triangles = TextFault::Over {
-        what: Counted::Triangles,
-        seen: 3,
-    };
-    assert_eq!(rt; refusal_within(&rt, TETRAHEDRON, 3)?, four_points);
-    assert_eq!(rt; refusal_within(&rt, TETRAHEDRON, 4)?, three_triangles);
-    let square = b"v 0 0 0\nv 1 0 0\nv 1 1 0\nf 1 2 3\nv 0 1 0\nf 1 2 3 4\n";
-    assert_eq!(rt; refusal_within(&rt, square, 4)?, three_triangles);
+    let alloc = rt.alloc();
+    let three = Limits::of(1000, 3, 2, 1).ok_or("limits")?;
+    assert!(rt; is_over(alloc, false, TETRAHEDRON, &three, Counted::Points, 4));
+    let four = Limits::of(1000, 4, 2, 1).ok_or("limits")?;
+    for bytes in &[TETRAHEDRON, SQUARE] {
+        assert!(rt;
+            is_over(alloc, false, bytes, &four, Counted::Triangles, 3),
+            "at {bytes:?}"
+        );
+    }
     Ok(())
 }
 
 // Three points and a triangle in plain lines.
 const FRONT: &[u8] = b"v 0 0 0\nv 1 0 0\nv 0 1 0\nf 1 2 3\n";
 
-// How many triangles a file of FRONT and what stands after it gives, where the last is this one, else 0.
-fn triangles_with(rt: &HostRuntime, after: &[u8], last: [u32; 3]) -> Result<usize, Fail> {
-    let bytes = joined(rt.alloc(), FRONT, after)?;
-    let soup = read_obj(rt.alloc(), &bytes, 4, &Limits::program())?;
-    match soup.triples().last() {
-        Some(triple) if *triple == last => Ok(soup.triples().len()),
-        _ => Ok(0),
-    }
-}
+// Their points, the triangles of FRONT and its reverse, and those of the mixed lines.
+const THREE: [[i32; 3]; 3] = [[0, 0, 0], [10_000, 0, 0], [0, 10_000, 0]];
+
+const BOTH: [[u32; 3]; 2] = [[0, 1, 2], [2, 1, 0]];
+
+const FOUR: [[i32; 3]; 4] = [
+    [0, 0, 0],
+    [10_000, 0, 0],
+    [0, 10_000, 0],
+    [90_000, 90_000, 90_000],
+];
+
+const MIXED: [[u32; 3]; 4] = [[0, 1, 2], [2, 1, 0], [0, 1, 2], [1, 3, 2]];
 
 // Plain lines that end at LF or at CR LF, and lines that are not plain for one reason each: a tab, two blanks, one at
 // the end or at the front, a slash, a minus, ten digits, a comment, a backslash, no LF; and plain points before a face.
 // The answers are those of an independent reference program, which was written from the definitions alone.
-const PLAIN: [&[u8]; 23] = [
+static PLAIN: [&[u8]; 17] = [
     b"f 3 2 1\n",
     b"f 000000003 2 1\n",
     b"f 3 2 1\r\n",
@@ -220,6 +219,10 @@ const PLAIN: [&[u8]; 23] = [
     b"f 3 2 1",
     b"f 3 2 1\r",
     b"f 3 2 1 \r\n",
+];
+
+// The same beside a point that is left out.
+static PLAIN_BESIDE: [&[u8]; 6] = [
     b"v 2 2 2\nf 3 2 1\n",
     b"v 2 2 2\r\nf 3 2 1\r\n",
     b"v 2 2 2.5\nf 3 2 1\r\n",
@@ -228,20 +231,29 @@ const PLAIN: [&[u8]; 23] = [
     b"#\nv 2 2 2e0\r\nf 3 2 1\n",
 ];
 
-#[test]
-fn reads_plain_lines_among_others(rt: HostRuntime) -> Result<(), Fail> {
-    for line in &PLAIN {
-        assert_eq!(rt; triangles_with(&rt, line, [2, 1, 0])?, 2);
+// Triangles with a point of their own.
+static MIXED_LINES: [&[u8]; 2] = [
+    b"f 3 2 1\nv 9 9 9\nf 1 2 3 \nf 2 4 3\n",
+    b"f 3 2 1\r\nv 9 9 9\r\nf 1 2 3\nf 2 4 3\r\n",
+];
+
+// Each text after FRONT gives these lists.
+fn give(rt: &impl Abort, alloc: Global, rows: &[&[u8]], wanted: &Lists<'_>) -> Result<(), Fail> {
+    for after in rows {
+        assert!(rt; gives(alloc, FRONT, after, 4, wanted)?, "at {after:?}");
     }
-    let mixed = b"f 3 2 1\nv 9 9 9\nf 1 2 3 \nf 2 4 3\n";
-    assert_eq!(rt; triangles_with(&rt, mixed, [1, 3, 2])?, 4);
-    let ended = b"f 3 2 1\r\nv 9 9 9\r\nf 1 2 3\nf 2 4 3\r\n";
-    assert_eq!(rt; triangles_with(&rt, ended, [1, 3, 2])?, 4);
     Ok(())
 }
 
+#[test]
+fn reads_plain_lines_among_others(rt: HostRuntime) -> Result<(), Fail> {
+    give(&rt, rt.alloc(), &PLAIN, &(&THREE, 0, &BOTH))?;
+    give(&rt, rt.alloc(), &PLAIN_BESIDE, &(&THREE, 1, &BOTH))?;
+    give(&rt, rt.alloc(), &MIXED_LINES, &(&FOUR, 0, &MIXED))
+}
+
 // What stands after FRONT, with the line and the fault that refuse the file.
-const REFUSED_LATER: [(&[u8], u64, TextKind); 29] = [
+static REFUSED_LATER: [Refused; 29] = [
     (b"f 0 1 2\n", 5, TextKind::BadIndex),
     (b"f 1 2 4\n", 5, TextKind::BadIndex),
     (b"f 4294967297 2 3\n", 5, TextKind::BadIndex),
@@ -275,36 +287,65 @@ const REFUSED_LATER: [(&[u8], u64, TextKind); 29] = [
 
 #[test]
 fn refuses_faults_after_plain_lines(rt: HostRuntime) -> Result<(), Fail> {
-    refuses(&rt, rt.alloc(), FRONT, &REFUSED_LATER)
+    refuses(&rt, rt.alloc(), false, FRONT, &REFUSED_LATER)
 }
 
 // Numbers, and what they are in hundredths by an independent reference program.
-const NUMBERS: &str =
-    "0 0\n-0 0\n-7 -700\n1.5 150\n-1.25 -125\n1.254 125\n1.255 126\n-1.255 -126\n1.2549999999999 125\n0.0049 0\n-0.005 -1\n\
-    1. 100\n007.10 710\n10737418.24 1073741824\n10737418.244 1073741824\n-10737418.24 -1073741824\n.5 50\n+3 300\n1e2 10000\n\
-    1.5e-1 15\n0.00000000000000000001 0\n1.999999999999999999999 200\n";
+static NUMBERS: [(&str, i32); 22] = [
+    ("0", 0),
+    ("-0", 0),
+    ("-7", -700),
+    ("1.5", 150),
+    ("-1.25", -125),
+    ("1.254", 125),
+    ("1.255", 126),
+    ("-1.255", -126),
+    ("1.2549999999999", 125),
+    ("0.0049", 0),
+    ("-0.005", -1),
+    ("1.", 100),
+    ("007.10", 710),
+    ("10737418.24", 1_073_741_824),
+    ("10737418.244", 1_073_741_824),
+    ("-10737418.24", -1_073_741_824),
+    (".5", 50),
+    ("+3", 300),
+    ("1e2", 10_000),
+    ("1.5e-1", 15),
+    ("0.00000000000000000001", 0),
+    ("1.999999999999999999999", 200),
+];
 
-// The first coordinate of a line with this number, in steps of so many digits after the point.
-fn in_steps(rt: &HostRuntime, word: &str, digits: u8) -> Result<i32, Fail>
+const ONE: [[u32; 3]; 1] = [[0, 1, 2]];
+
+// Whether a number is read as so many steps, of which one has so many.
+fn is_in_steps(
+    alloc: Global,
+    word: &str,
+    digits: u8,
+    steps: i32,
+    one: i32,
+) -> Result<bool, NoMemory>
     requires { digits ≤ 6 }
 {
-    let mut bytes = b"v ".to_vec(rt.alloc())?;
-    bytes.extend_from_slice(word.as_bytes())?;
-    bytes.extend_from_slice(b" 1 1\nv 0 0 0\nv 0 1 0\nf 1 2 3\n")?;
-    let soup = read_obj(rt.alloc(), &bytes, digits, &Limits::program())?;
-    match soup.points().first() {
-        Some(point) => Ok(point.at()[0]),
-        None => Err(Fail::from("no point")),
-    }
+    let after = b" 1 1\nv 0 0 0\nv 0 1 0\nf 1 2 3\n";
+    let bytes = joined(alloc, b"v ", word.as_bytes(), after)?;
+    let places = [[steps, one, one], [0, 0, 0], [0, one, 0]];
+    Ok(is_read(
+        alloc,
+        false,
+        &bytes,
+        digits,
+        &Limits::program(),
+        &(&places, 0, &ONE),
+    ))
 }
 
 #[test]
 fn reads_the_numbers_of_plain_lines(rt: HostRuntime) -> Result<(), Fail> {
-    for line in NUMBERS.lines() {
-        let (word, value) = line.split_once(" ").ok_or("row")?;
-        let value: i32 = value.parse()?;
-        assert!(rt; in_steps(&rt, word, 2)? == value, "at {word}");
+    for (word, value) in &NUMBERS {
+        assert!(rt; is_in_steps(rt.alloc(), word, 2, *value, 100)?, "at {word}");
     }
-    assert!(rt; in_steps(&rt, "0.5", 0)? == 1, "at no digits");
+    assert!(rt; is_in_steps(rt.alloc(), "0.5", 0, 1, 1)?, "at no digits");
     Ok(())
 }

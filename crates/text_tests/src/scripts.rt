@@ -5,7 +5,6 @@ use mb_base::Op;
 use script_lang::{Line, Script, ScriptFault, Step, Word, read_script};
 use std::alloc::Global;
 use std::process::Abort;
-use std::test::Fail;
 
 // A name of 32 bytes.
 const LONG: &str = "abcdefghijklmnopqrstuvwxyz_ABCD9";
@@ -85,173 +84,203 @@ fn is_row(line: &Line<'_>, wanted: &Row<'_>) -> bool {
 }
 
 // Whether a script has these lines under so many digits.
-fn gives(rt: &HostRuntime, bytes: &[u8], digits: u8, wanted: &[Row<'_>]) -> Result<bool, Fail>
+fn gives(alloc: Global, bytes: &[u8], digits: u8, wanted: &[Row<'_>]) -> bool
     requires { digits ≤ 6 }
 {
-    let Ok(script) = read_script(rt.alloc(), bytes, digits) else {
-        return Err(Fail::from("refused"));
-    };
-    let lines = script.lines();
-    Ok(lines.len() == wanted.len() && lines.iter().zip(wanted).all(|(l, w)| is_row(l, w)))
+    match read_script(alloc, bytes, digits) {
+        Ok(script) => are_rows(script.lines(), wanted),
+        Err(_) => false,
+    }
 }
 
-// How a script is refused.
-fn refusal(alloc: Global, bytes: &[u8]) -> Result<(u64, u8), Fail> {
+// Whether the lines are these rows.
+fn are_rows(lines: &[Line<'_>], wanted: &[Row<'_>]) -> bool {
+    let mut all = lines.len() == wanted.len();
+    for (line, row) in lines.iter().zip(wanted) {
+        if !is_row(line, row) {
+            all = false;
+        }
+    }
+    all
+}
+
+// A script, with the line and the kind of fault that refuse it.
+type Refused = (&'static [u8], u64, u8);
+
+// Whether a script is refused so.
+fn is_refused(alloc: Global, row: &Refused) -> bool {
+    let (bytes, wanted_line, wanted_kind) = row;
     match read_script(alloc, bytes, 0) {
-        Ok(_) => Ok((0, 0)),
-        Err(ScriptFault::Bad { line, kind }) => Ok((line, kind)),
-        Err(ScriptFault::NoMemory) => Err(Fail::from("no memory")),
+        Err(ScriptFault::Bad { line, kind }) => line == *wanted_line && kind == *wanted_kind,
+        _ => false,
     }
 }
 
 // Each script is refused at this line, with this kind of fault.
-fn refuses(rt: &impl Abort, alloc: Global, rows: &[(&[u8], u64, u8)]) -> Result<(), Fail> {
-    for (bytes, line, kind) in rows {
-        assert_eq!(rt; refusal(alloc, bytes)?, (*line, *kind));
+fn refuses(rt: &impl Abort, alloc: Global, rows: &[Refused]) {
+    for row in rows {
+        assert!(rt; is_refused(alloc, row), "at {:?}", row.0);
     }
-    Ok(())
 }
 
 // No numbers.
 const NONE: [i64; 6] = [0; 6];
 
-#[test]
-fn the_steps_stand_in_order_with_their_lines(rt: HostRuntime) -> Result<(), Fail> {
-    let script = b"load a cube.obj\nload b b.obj\nunion u a b\nmeasure u\nsave u u.obj\n";
-    let wanted = [
-        (1, "load", ["a", "cube.obj", ""], NONE),
-        (2, "load", ["b", "b.obj", ""], NONE),
-        (3, "union", ["u", "a", "b"], NONE),
-        (4, "measure", ["u", "", ""], NONE),
-        (5, "save", ["u", "u.obj", ""], NONE),
-    ];
-    assert!(rt; gives(&rt, script, 0, &wanted)?);
-    Ok(())
-}
+// Steps in order.
+const STEPS: &[u8] = b"load a cube.obj\nload b b.obj\nunion u a b\nmeasure u\nsave u u.obj\n";
+
+const STEPS_ROWS: [Row<'static>; 5] = [
+    (1, "load", ["a", "cube.obj", ""], NONE),
+    (2, "load", ["b", "b.obj", ""], NONE),
+    (3, "union", ["u", "a", "b"], NONE),
+    (4, "measure", ["u", "", ""], NONE),
+    (5, "save", ["u", "u.obj", ""], NONE),
+];
+
+// A mark, comments, blanks and ends of lines, which are passed over.
+const COMMENTED: &[u8] =
+    b"\xef\xbb\xbf# a\r\n\r\n \tload\ta1  A#.oBj \t#b\r\n#\nsubtract a1 a1 a1\r";
+
+const COMMENTED_ROWS: [Row<'static>; 2] = [
+    (3, "load", ["a1", "A#.oBj", ""], NONE),
+    (5, "subtract", ["a1", "a1", "a1"], NONE),
+];
+
+// A name of 32 bytes, and names that are given again.
+const LONG_NAMES: &[u8] =
+    b"load abcdefghijklmnopqrstuvwxyz_ABCD9 .obj\nintersect Z abcdefghijklmnopqrstuvwxyz_ABCD9 abcdefghijklmnopqrstuvwxyz_ABCD9\nunion Z Z Z\nsave Z \xc3\xa9.OBJ\n";
+
+const LONG_NAMES_ROWS: [Row<'static>; 4] = [
+    (1, "load", [LONG, ".obj", ""], NONE),
+    (2, "intersect", ["Z", LONG, LONG], NONE),
+    (3, "union", ["Z", "Z", "Z"], NONE),
+    (4, "save", ["Z", "\u{e9}.OBJ", ""], NONE),
+];
+
+// Solids and motions with their numbers.
+const NUMBERED: &[u8] =
+    b"box a -1 2. 3.4 +4e1 05 5.5\ntetra t 0 0 0 6\nprism p 1 2 3 4 -5\nlattice l 60 0999999\nshift w p 1 -2 1073741824\nscale q p 1000000\nmirror m q x\nmirror m m y\nturn r m z\n";
+
+const NUMBERED_ROWS: [Row<'static>; 9] = [
+    (1, "box", ["a", "", ""], [-1, 2, 3, 40, 5, 6]),
+    (2, "tetra", ["t", "", ""], [0, 0, 0, 6, 0, 0]),
+    (3, "prism", ["p", "", ""], [1, 2, 3, 4, -5, 0]),
+    (4, "lattice", ["l", "", ""], [60, 999_999, 0, 0, 0, 0]),
+    (5, "shift", ["w", "p", ""], [1, -2, 1_073_741_824, 0, 0, 0]),
+    (6, "scale", ["q", "p", ""], [1_000_000, 0, 0, 0, 0, 0]),
+    (7, "mirror", ["m", "q", ""], [0, 0, 0, 0, 0, 0]),
+    (8, "mirror", ["m", "m", ""], [1, 0, 0, 0, 0, 0]),
+    (9, "turn", ["r", "m", ""], [2, 0, 0, 0, 0, 0]),
+];
+
+// Numbers under four digits.
+const FINER: &[u8] = b"tetra t 1 .00005 -107374.1824 6e-4";
+
+const FINER_ROWS: [Row<'static>; 1] = [(
+    1,
+    "tetra",
+    ["t", "", ""],
+    [10_000, 1, -1_073_741_824, 6, 0, 0],
+)];
+
+// Scripts, the digits of the grid, and the lines that are read.
+static READ: [(&[u8], u8, &[Row<'static>]); 6] = [
+    (STEPS, 0, &STEPS_ROWS),
+    (COMMENTED, 0, &COMMENTED_ROWS),
+    (b"", 0, &[]),
+    (LONG_NAMES, 0, &LONG_NAMES_ROWS),
+    (NUMBERED, 0, &NUMBERED_ROWS),
+    (FINER, 4, &FINER_ROWS),
+];
 
 #[test]
-fn marks_comments_and_ends_of_lines_are_passed_over(rt: HostRuntime) -> Result<(), Fail> {
-    let script = b"\xef\xbb\xbf# a\r\n\r\n \tload\ta1  A#.oBj \t#b\r\n#\nsubtract a1 a1 a1\r";
-    let wanted = [
-        (3, "load", ["a1", "A#.oBj", ""], NONE),
-        (5, "subtract", ["a1", "a1", "a1"], NONE),
-    ];
-    assert!(rt; gives(&rt, script, 0, &wanted)?);
-    assert!(rt; gives(&rt, b"", 0, &[])?);
-    Ok(())
+fn the_steps_stand_in_order_with_their_lines_and_numbers(rt: HostRuntime) {
+    for (script, digits, wanted) in &READ {
+        assert!(rt;
+            *digits <= 6 && gives(rt.alloc(), script, *digits, wanted),
+            "at {script:?}"
+        );
+    }
 }
 
-#[test]
-fn a_name_may_be_given_again_and_be_long(rt: HostRuntime) -> Result<(), Fail> {
-    let script =
-        b"load abcdefghijklmnopqrstuvwxyz_ABCD9 .obj\nintersect Z abcdefghijklmnopqrstuvwxyz_ABCD9 abcdefghijklmnopqrstuvwxyz_ABCD9\nunion Z Z Z\nsave Z \xc3\xa9.OBJ\n";
-    let wanted = [
-        (1, "load", [LONG, ".obj", ""], NONE),
-        (2, "intersect", ["Z", LONG, LONG], NONE),
-        (3, "union", ["Z", "Z", "Z"], NONE),
-        (4, "save", ["Z", "\u{e9}.OBJ", ""], NONE),
-    ];
-    assert!(rt; gives(&rt, script, 0, &wanted)?);
-    Ok(())
-}
+static LINES: [Refused; 28] = [
+    (b"cut a b", 1, 20),
+    (b"Load a c.obj", 1, 20),
+    (b"measures a", 1, 20),
+    (b"load\r a c.obj", 1, 20),
+    (b"\xef\xbb\xbf\xef\xbb\xbfload a c.obj", 1, 20),
+    (b"load a", 1, 21),
+    (b"load a c.obj d", 1, 21),
+    (b"load a #c.obj", 1, 21),
+    (b"save", 1, 21),
+    (b"box a 0 0 0 1 1", 1, 21),
+    (b"box a 0 0 0 1 1 1 1 1", 1, 21),
+    (b"union u 1 c.ply 2", 1, 21),
+    (b"load 1a c.obj", 1, 22),
+    (b"load _a c.obj", 1, 22),
+    (b"load a-b c.ply", 1, 22),
+    (b"load \xc3\xa9 c.ply", 1, 22),
+    (b"load abcdefghijklmnopqrstuvwxyz_ABCD99 c.obj", 1, 22),
+    (b"save 1 c.ply", 1, 22),
+    (b"union 1 a b", 1, 22),
+    (b"save a c.ply", 1, 23),
+    (b"union u a 1", 1, 23),
+    (b"union u u u", 1, 23),
+    (b"load a c", 1, 25),
+    (b"load a obj", 1, 25),
+    (b"load a c.obj.ply", 1, 25),
+    (b"load a c.obj\x0b", 1, 25),
+    (b"load a \xff.obj", 1, 25),
+    (b"load a \xc3.obj", 1, 25),
+];
 
 #[test]
-fn solids_and_motions_have_their_numbers(rt: HostRuntime) -> Result<(), Fail> {
-    let script =
-        b"box a -1 2. 3.4 +4e1 05 5.5\ntetra t 0 0 0 6\nprism p 1 2 3 4 -5\nlattice l 60 0999999\nshift w p 1 -2 1073741824\nscale q p 1000000\nmirror m q x\nmirror m m y\nturn r m z\n";
-    let wanted = [
-        (1, "box", ["a", "", ""], [-1, 2, 3, 40, 5, 6]),
-        (2, "tetra", ["t", "", ""], [0, 0, 0, 6, 0, 0]),
-        (3, "prism", ["p", "", ""], [1, 2, 3, 4, -5, 0]),
-        (4, "lattice", ["l", "", ""], [60, 999_999, 0, 0, 0, 0]),
-        (5, "shift", ["w", "p", ""], [1, -2, 1_073_741_824, 0, 0, 0]),
-        (6, "scale", ["q", "p", ""], [1_000_000, 0, 0, 0, 0, 0]),
-        (7, "mirror", ["m", "q", ""], [0, 0, 0, 0, 0, 0]),
-        (8, "mirror", ["m", "m", ""], [1, 0, 0, 0, 0, 0]),
-        (9, "turn", ["r", "m", ""], [2, 0, 0, 0, 0, 0]),
-    ];
-    assert!(rt; gives(&rt, script, 0, &wanted)?);
-    let finer = b"tetra t 1 .00005 -107374.1824 6e-4";
-    let row = [10_000, 1, -1_073_741_824, 6, 0, 0];
-    assert!(rt; gives(&rt, finer, 4, &[(1, "tetra", ["t", "", ""], row)])?);
-    Ok(())
+fn the_first_fault_of_a_line_refuses_it(rt: HostRuntime) {
+    refuses(&rt, rt.alloc(), &LINES);
 }
 
-#[test]
-fn the_first_fault_of_a_line_refuses_it(rt: HostRuntime) -> Result<(), Fail> {
-    let refused: [(&[u8], u64, u8); 28] = [
-        (b"cut a b", 1, 20),
-        (b"Load a c.obj", 1, 20),
-        (b"measures a", 1, 20),
-        (b"load\r a c.obj", 1, 20),
-        (b"\xef\xbb\xbf\xef\xbb\xbfload a c.obj", 1, 20),
-        (b"load a", 1, 21),
-        (b"load a c.obj d", 1, 21),
-        (b"load a #c.obj", 1, 21),
-        (b"save", 1, 21),
-        (b"box a 0 0 0 1 1", 1, 21),
-        (b"box a 0 0 0 1 1 1 1 1", 1, 21),
-        (b"union u 1 c.ply 2", 1, 21),
-        (b"load 1a c.obj", 1, 22),
-        (b"load _a c.obj", 1, 22),
-        (b"load a-b c.ply", 1, 22),
-        (b"load \xc3\xa9 c.ply", 1, 22),
-        (b"load abcdefghijklmnopqrstuvwxyz_ABCD99 c.obj", 1, 22),
-        (b"save 1 c.ply", 1, 22),
-        (b"union 1 a b", 1, 22),
-        (b"save a c.ply", 1, 23),
-        (b"union u a 1", 1, 23),
-        (b"union u u u", 1, 23),
-        (b"load a c", 1, 25),
-        (b"load a obj", 1, 25),
-        (b"load a c.obj.ply", 1, 25),
-        (b"load a c.obj\x0b", 1, 25),
-        (b"load a \xff.obj", 1, 25),
-        (b"load a \xc3.obj", 1, 25),
-    ];
-    refuses(&rt, rt.alloc(), &refused)
-}
+static OPERANDS: [Refused; 22] = [
+    (b"box a 0 0 0 1 1 1e", 1, 24),
+    (b"tetra t nan 0 0 6", 1, 24),
+    (b"tetra t 0 0 0 \xff", 1, 24),
+    (b"prism p 1073741825 0 0 4 5", 1, 24),
+    (b"prism p 0 0 0 4 -1073741825", 1, 24),
+    (b"lattice l 0 0", 1, 24),
+    (b"lattice l 61 0", 1, 24),
+    (b"lattice l +1 0", 1, 24),
+    (b"lattice l 1. 0", 1, 24),
+    (b"lattice l 00000001 0", 1, 24),
+    (b"lattice l 1 1000000", 1, 24),
+    (b"lattice l 1 4294967296", 1, 24),
+    (b"lattice 1 0 0", 1, 22),
+    (b"tetra t 0 0 0 6\nshift s t 0 . 0", 2, 24),
+    (b"tetra t 0 0 0 6\nscale s t 0", 2, 24),
+    (b"tetra t 0 0 0 6\nscale s t 1000001", 2, 24),
+    (b"tetra t 0 0 0 6\nscale s s 0", 2, 23),
+    (b"tetra t 0 0 0 6\nmirror m t X", 2, 24),
+    (b"tetra t 0 0 0 6\nmirror m t xy", 2, 24),
+    (b"tetra t 0 0 0 6\nturn m t 0", 2, 24),
+    (b"tetra t 0 0 0 6\nturn 1 t 0", 2, 22),
+    (b"tetra t 0 0 0 6\nmeasure T", 2, 23),
+];
 
 #[test]
-fn operands_without_a_value_refuse_a_line(rt: HostRuntime) -> Result<(), Fail> {
-    let refused: [(&[u8], u64, u8); 22] = [
-        (b"box a 0 0 0 1 1 1e", 1, 24),
-        (b"tetra t nan 0 0 6", 1, 24),
-        (b"tetra t 0 0 0 \xff", 1, 24),
-        (b"prism p 1073741825 0 0 4 5", 1, 24),
-        (b"prism p 0 0 0 4 -1073741825", 1, 24),
-        (b"lattice l 0 0", 1, 24),
-        (b"lattice l 61 0", 1, 24),
-        (b"lattice l +1 0", 1, 24),
-        (b"lattice l 1. 0", 1, 24),
-        (b"lattice l 00000001 0", 1, 24),
-        (b"lattice l 1 1000000", 1, 24),
-        (b"lattice l 1 4294967296", 1, 24),
-        (b"lattice 1 0 0", 1, 22),
-        (b"tetra t 0 0 0 6\nshift s t 0 . 0", 2, 24),
-        (b"tetra t 0 0 0 6\nscale s t 0", 2, 24),
-        (b"tetra t 0 0 0 6\nscale s t 1000001", 2, 24),
-        (b"tetra t 0 0 0 6\nscale s s 0", 2, 23),
-        (b"tetra t 0 0 0 6\nmirror m t X", 2, 24),
-        (b"tetra t 0 0 0 6\nmirror m t xy", 2, 24),
-        (b"tetra t 0 0 0 6\nturn m t 0", 2, 24),
-        (b"tetra t 0 0 0 6\nturn 1 t 0", 2, 22),
-        (b"tetra t 0 0 0 6\nmeasure T", 2, 23),
-    ];
-    refuses(&rt, rt.alloc(), &refused)
+fn operands_without_a_value_refuse_a_line(rt: HostRuntime) {
+    refuses(&rt, rt.alloc(), &OPERANDS);
 }
 
+static SCRIPTS: [Refused; 8] = [
+    (b"load a a.obj\nunion c a b\n", 2, 23),
+    (b"load a a.obj\nload b b.ply\ncut\n", 2, 25),
+    (b"save a a.obj\nload a a.obj\n", 1, 23),
+    (b"load a a.obj\nsave a b.obj\nsave b a.obj\n", 3, 23),
+    (b"load a a.obj\nsave A a.obj\n", 2, 23),
+    (b"load a a.obj\nunion u a 1\nsave a\n", 2, 22),
+    (b"\r\n#\n\r\nload a\n", 4, 21),
+    (b"\xef\xbb\xbf\ncut", 2, 20),
+];
+
 #[test]
-fn the_first_faulty_line_refuses_the_script(rt: HostRuntime) -> Result<(), Fail> {
-    let refused: [(&[u8], u64, u8); 8] = [
-        (b"load a a.obj\nunion c a b\n", 2, 23),
-        (b"load a a.obj\nload b b.ply\ncut\n", 2, 25),
-        (b"save a a.obj\nload a a.obj\n", 1, 23),
-        (b"load a a.obj\nsave a b.obj\nsave b a.obj\n", 3, 23),
-        (b"load a a.obj\nsave A a.obj\n", 2, 23),
-        (b"load a a.obj\nunion u a 1\nsave a\n", 2, 22),
-        (b"\r\n#\n\r\nload a\n", 4, 21),
-        (b"\xef\xbb\xbf\ncut", 2, 20),
-    ];
-    refuses(&rt, rt.alloc(), &refused)
+fn the_first_faulty_line_refuses_the_script(rt: HostRuntime) {
+    refuses(&rt, rt.alloc(), &SCRIPTS);
 }

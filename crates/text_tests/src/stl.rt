@@ -1,10 +1,7 @@
 // What ASCII STL texts are read as, and what refuses them.
-ghost use Rattle.std.specs.Prelude.{◌≤◌};
-
-use mb_base::{Counted, Limits, Soup, TextFault, TextKind};
-use std::alloc::Global;
+use crate::texts::{Lists, Refused, is_over, is_read, is_refused_at, refuses};
+use mb_base::{Counted, Limits, TextKind};
 use std::test::Fail;
-use stl_text::read_stl;
 
 // A facet of 3 corners, before and after other text.
 const TETRAHEDRON: &[u8] = b"solid t
@@ -45,100 +42,91 @@ endsolid t
 const SPACED: &[u8] =
     b"\xef\xbb\xbf\r\n \tSOLID facet\tendsolid \r\nFacet Normal a\r\nb c\tOUTER\r\n\r\nloop Vertex +0 -0 0e9 vertex 0 1. 0 vertex 1 0 0 endLOOP endfacet facet normal outer loop endloop outer loop vertex 0 0 0\r\nvertex 1.00001 0 0 vertex\t0\t0\r\n1 endloop endfacet endsolid solid facet\r\nsolid\r\nfacet normal 0 0 0 outer loop vertex 1 0 0 vertex 0 1 0 vertex 0 0 1 endloop endfacet\r\nfacet normal 0 0 0 outer loop vertex 0 1 0 vertex 0 0 0 vertex 0 0 1 endloop endfacet\r\nfacet normal 0 0 0 outer loop vertex 0 0 0 vertex 7 7 7 vertex 7 7 7 endloop endfacet endsolid";
 
-fn refusal(rt: &HostRuntime, bytes: &[u8], digits: u8, limits: &Limits) -> Result<TextFault, Fail>
-    requires { digits ≤ 6 }
-{
-    match read_stl(rt.alloc(), bytes, digits, limits) {
-        Ok(_) => Err(Fail::from("read")),
-        Err(fault) => Ok(fault),
-    }
-}
+// The corners and the triangles of the tetrahedron, where so many points are left out.
+const CORNERS: [[i32; 3]; 4] = [[0, 0, 0], [0, 10_000, 0], [10_000, 0, 0], [0, 0, 10_000]];
+
+const SIDES: [[u32; 3]; 4] = [[0, 1, 2], [0, 2, 3], [2, 1, 3], [1, 0, 3]];
+
+static READ: [(&[u8], Lists<'static>); 2] = [
+    (TETRAHEDRON, (&CORNERS, 0, &SIDES)),
+    (SPACED, (&CORNERS, 1, &SIDES)),
+];
 
 #[test]
-fn reads_a_tetrahedron(rt: HostRuntime) -> Result<(), Fail> {
-    for (bytes, unused) in [(TETRAHEDRON, 0), (SPACED, 1)] {
-        let soup = read_stl(rt.alloc(), bytes, 4, &Limits::program())?;
-        let triples = [[0, 1, 2], [0, 2, 3], [2, 1, 3], [1, 0, 3]];
-        assert_eq!(rt; soup.points().len(), 4);
-        assert_eq!(rt; soup.points()[1].at(), [0, 10_000, 0]);
-        assert_eq!(rt; soup.points()[2].at(), [10_000, 0, 0]);
-        assert_eq!(rt; soup.points()[3].at(), [0, 0, 10_000]);
-        assert_eq!(rt; soup.triples(), triples.as_slice());
-        assert_eq!(rt; soup.unused(), unused);
+fn reads_a_tetrahedron(rt: HostRuntime) {
+    let limits = Limits::program();
+    for (bytes, wanted) in &READ {
+        assert!(rt;
+            is_read(rt.alloc(), true, bytes, 4, &limits, wanted),
+            "at {bytes:?}"
+        );
     }
-    Ok(())
 }
 
 // The head of a binary file: 80 bytes, which may begin with `solid`, the number of triangles, and a triangle.
 const BINARY: &[u8] =
     b"solid made by a scanner, in 80 bytes, as some programs write them to this day      \x01\0\0\0\0\0\0\0\0\0\0\0\0\0\x80\x3f\0\0\0\0\0\0\0\0\0\0\0\0\0\0\x80\x3f\0\0\0\0\0\0\0\0\0\0\0\0\0\0\x80\x3f\0\0\0\0\0\0";
 
+static REFUSED: [Refused; 18] = [
+    (b"", 1, TextKind::NotStl),
+    (b"\n\r\n \n", 4, TextKind::NotStl),
+    (b"v 0 0 0\n", 1, TextKind::NotStl),
+    (BINARY, 1, TextKind::NotStl),
+    (b"solid \xff\xfe\n\xff", 2, TextKind::NotStl),
+    (b"\x80\n", 1, TextKind::NotStl),
+    (b"solid t\nfacet\n\nnormal 0\n", 5, TextKind::NotStl),
+    (b"solid\nfacets", 2, TextKind::NotStl),
+    (b"solid\nendsolid\nfacet", 3, TextKind::NotStl),
+    (
+        b"solid facet\nfacet normal 0 0 outer\nloop",
+        3,
+        TextKind::NotStl,
+    ),
+    (
+        b"solid\nfacet normal 0 0 0 outer loop vertex 0 0 0 vertex 0 0 0\nendloop",
+        3,
+        TextKind::NotStl,
+    ),
+    (
+        b"solid\nfacet normal 0 0 0 outer loop\nvertex 0 0 endloop\n",
+        3,
+        TextKind::BadNumber,
+    ),
+    (
+        b"solid\nfacet normal 0 0 0 outer loop\nvertex 0\n0\n\xff 0",
+        5,
+        TextKind::BadNumber,
+    ),
+    (
+        b"solid\nfacet normal 0 0 0 outer loop\nvertex 107375 0 x\n",
+        3,
+        TextKind::OutOfGrid,
+    ),
+    (
+        b"solid\nfacet normal 0 0 0 outer loop\nvertex 0 0\n\n",
+        5,
+        TextKind::NotStl,
+    ),
+    (
+        b"solid\nfacet normal 0 0 0 outer loop vertex 0 0 0 vertex 0 0 0 vertex 0 0 0\nendloop\nendfacets",
+        4,
+        TextKind::NotStl,
+    ),
+    (
+        b"solid t\rfacet\nendsolid\r\nendsolid\r",
+        3,
+        TextKind::NotStl,
+    ),
+    (b"solid t # c\n# c\nendsolid", 2, TextKind::NotStl),
+];
+
 #[test]
 fn refuses_the_first_fault(rt: HostRuntime) -> Result<(), Fail> {
-    let refused: [(&[u8], u64, TextKind); 18] = [
-        (b"", 1, TextKind::NotStl),
-        (b"\n\r\n \n", 4, TextKind::NotStl),
-        (b"v 0 0 0\n", 1, TextKind::NotStl),
-        (BINARY, 1, TextKind::NotStl),
-        (b"solid \xff\xfe\n\xff", 2, TextKind::NotStl),
-        (b"\x80\n", 1, TextKind::NotStl),
-        (b"solid t\nfacet\n\nnormal 0\n", 5, TextKind::NotStl),
-        (b"solid\nfacets", 2, TextKind::NotStl),
-        (b"solid\nendsolid\nfacet", 3, TextKind::NotStl),
-        (
-            b"solid facet\nfacet normal 0 0 outer\nloop",
-            3,
-            TextKind::NotStl,
-        ),
-        (
-            b"solid\nfacet normal 0 0 0 outer loop vertex 0 0 0 vertex 0 0 0\nendloop",
-            3,
-            TextKind::NotStl,
-        ),
-        (
-            b"solid\nfacet normal 0 0 0 outer loop\nvertex 0 0 endloop\n",
-            3,
-            TextKind::BadNumber,
-        ),
-        (
-            b"solid\nfacet normal 0 0 0 outer loop\nvertex 0\n0\n\xff 0",
-            5,
-            TextKind::BadNumber,
-        ),
-        (
-            b"solid\nfacet normal 0 0 0 outer loop\nvertex 107375 0 x\n",
-            3,
-            TextKind::OutOfGrid,
-        ),
-        (
-            b"solid\nfacet normal 0 0 0 outer loop\nvertex 0 0\n\n",
-            5,
-            TextKind::NotStl,
-        ),
-        (
-            b"solid\nfacet normal 0 0 0 outer loop vertex 0 0 0 vertex 0 0 0 vertex 0 0 0\nendloop\nendfacets",
-            4,
-            TextKind::NotStl,
-        ),
-        (
-            b"solid t\rfacet\nendsolid\r\nendsolid\r",
-            3,
-            TextKind::NotStl,
-        ),
-        (b"solid t # c\n# c\nendsolid", 2, TextKind::NotStl),
-    ];
-    for (bytes, line, kind) in refused {
-        assert_eq!(rt;
-            refusal(&rt, bytes, 4, &Limits::program())?,
-            TextFault::Bad { line, kind }
-        );
-    }
-    Ok(())
+    refuses(&rt, rt.alloc(), true, b"", &REFUSED)
 }
 
 #[test]
-fn a_text_cut_after_any_line_ends_too_early(rt: HostRuntime) -> Result<(), Fail> {
-    let kind = TextKind::NotStl;
+fn a_text_cut_after_any_line_ends_too_early(rt: HostRuntime) {
     let mut line = 1;
     for (end, byte) in TETRAHEDRON.iter().enumerate() {
         if *byte != b'\n' {
@@ -146,33 +134,42 @@ fn a_text_cut_after_any_line_ends_too_early(rt: HostRuntime) -> Result<(), Fail>
         }
         if line < 30 {
             line += 1;
-            assert_eq!(rt;
-                refusal(&rt, &TETRAHEDRON[..end + 1], 4, &Limits::program())?,
-                TextFault::Bad { line, kind }
+            let text = &TETRAHEDRON[..end + 1];
+            assert!(rt;
+                is_refused_at(rt.alloc(), true, text, 4, line, TextKind::NotStl),
+                "{line}"
             );
         }
     }
-    assert_eq!(rt; line, 30);
-    Ok(())
+    assert!(rt; line == 30);
 }
 
 #[test]
 fn counts_to_the_limits(rt: HostRuntime) -> Result<(), Fail> {
+    let alloc = rt.alloc();
     let three_points = Limits::of(1000, 3, 2, 1).ok_or("limits")?;
-    let seen = 4;
-    let what = Counted::Points;
-    assert_eq!(rt;
-        refusal(&rt, TETRAHEDRON, 4, &three_points)?,
-        TextFault::Over { what, seen }
-    );
+    assert!(rt; is_over(alloc, true, TETRAHEDRON, &three_points, Counted::Points, 4));
     let three_triangles = Limits::of(1000, 5, 3, 1).ok_or("limits")?;
-    let what = Counted::Triangles;
-    assert_eq!(rt;
-        refusal(&rt, TETRAHEDRON, 4, &three_triangles)?,
-        TextFault::Over { what, seen }
+    assert!(rt;
+        is_over(
+            alloc,
+            true,
+            TETRAHEDRON,
+            &three_triangles,
+            Counted::Triangles,
+            4
+        )
     );
     let four_triangles = Limits::of(1000, 6, 4, 1).ok_or("limits")?;
-    let soup = read_stl(rt.alloc(), TETRAHEDRON, 4, &four_triangles)?;
-    assert_eq!(rt; soup.points().len(), 4);
+    assert!(rt;
+        is_read(
+            alloc,
+            true,
+            TETRAHEDRON,
+            4,
+            &four_triangles,
+            &(&CORNERS, 0, &SIDES)
+        )
+    );
     Ok(())
 }

@@ -1,6 +1,8 @@
 // The text of a mesh, through a sink and through a file of a shelf.
 ghost use Rattle.std.specs.Prelude.{◌≤◌};
 
+use crate::lists::{point_at, points_at};
+use crate::shelves::holds;
 use mb_base::{NoMemory, Point, Soup};
 use mb_outside::{Failed, MemoryShelf, MemorySink, Shelf, Sink};
 use mesh_check::Mesh;
@@ -22,36 +24,30 @@ fn mesh_of(alloc: Global, points: Vec<Point>, triples: Vec<[u32; 3]>) -> Option<
     Mesh::check(alloc, Soup::of(points, triples, 0)).ok()
 }
 
-// Points with coordinates that have digits after the point.
-fn four_points(alloc: Global) -> Result<Vec<Point>, NoMemory> {
-    let mut points = Vec::new(alloc);
-    for [x, y, z] in [[0, 0, 0], [15_000, 0, 0], [0, -1, 0], [0, 0, 1_073_741_824]] {
-        if let Some(point) = Point::of(x, y, z) {
-            points.push(point)?;
-        }
-    }
-    Ok(points)
-}
+// Coordinates that have digits after the point.
+const FOUR: [[i32; 3]; 4] = [[0, 0, 0], [15_000, 0, 0], [0, -1, 0], [0, 0, 1_073_741_824]];
 
-// A tetrahedron on these points.
+// A tetrahedron there.
 fn tetrahedron(alloc: Global) -> Result<Option<Mesh>, NoMemory> {
     let triples = Vec::from_array(alloc, [[0, 2, 1], [0, 1, 3], [1, 2, 3], [2, 0, 3]])?;
-    Ok(mesh_of(alloc, four_points(alloc)?, triples))
+    Ok(mesh_of(alloc, points_at(alloc, &FOUR)?, triples))
 }
 
 // Writes a mesh as a solid of STL, or as OBJ.
-fn write<K: Sink>(mesh: &Mesh, solid: bool, sink: &mut K) -> Result<(), Failed> {
+fn write<K: Sink>(mesh: &Mesh, solid: bool, digits: u8, sink: &mut K) -> Result<(), Failed>
+    requires { digits ≤ 6 }
+{
     if solid {
-        write_stl(mesh, 4, sink)
+        write_stl(mesh, digits, sink)
     } else {
-        write_obj(mesh, 4, sink)
+        write_obj(mesh, digits, sink)
     }
 }
 
 // Whether a sink gets this text of a mesh.
 fn goes_to_a_sink(alloc: Global, mesh: &Mesh, solid: bool, text: &[u8]) -> Result<bool, NoMemory> {
     let mut sink = MemorySink::of(alloc, 1000, 7, Vec::new(alloc))?;
-    Ok(write(mesh, solid, &mut sink).is_ok() && sink.bytes() == text)
+    Ok(write(mesh, solid, 4, &mut sink).is_ok() && sink.bytes() == text)
 }
 
 // Whether a file of a shelf gets this text of a mesh.
@@ -60,16 +56,24 @@ fn goes_to_a_file(alloc: Global, mesh: &Mesh, solid: bool, text: &[u8]) -> Resul
     if shelf.begin("t").is_err() {
         return Ok(false);
     }
-    let written = write(mesh, solid, &mut PageSink::of(&mut shelf, "t")).is_ok();
-    Ok(written && shelf.get("t") == Some(text))
+    let written = write(mesh, solid, 4, &mut PageSink::of(&mut shelf, "t")).is_ok();
+    Ok(written && holds(&shelf, "t", text))
 }
+
+static TEXTS: [(bool, &[u8]); 2] = [(false, TEXT), (true, SOLID)];
 
 #[test]
 fn the_text_goes_to_a_sink_and_to_a_file(rt: HostRuntime) -> Result<(), Fail> {
     let mesh = tetrahedron(rt.alloc())?.ok_or("the tetrahedron is closed")?;
-    for (solid, text) in [(false, TEXT), (true, SOLID)] {
-        assert!(rt; goes_to_a_sink(rt.alloc(), &mesh, solid, text)?);
-        assert!(rt; goes_to_a_file(rt.alloc(), &mesh, solid, text)?);
+    for (solid, text) in &TEXTS {
+        assert!(rt;
+            goes_to_a_sink(rt.alloc(), &mesh, *solid, text)?,
+            "solid {solid}"
+        );
+        assert!(rt;
+            goes_to_a_file(rt.alloc(), &mesh, *solid, text)?,
+            "solid {solid}"
+        );
     }
     Ok(())
 }
@@ -79,7 +83,7 @@ fn many_points(alloc: Global, wide: i32) -> Result<Vec<Point>, NoMemory> {
     let mut points = Vec::new(alloc);
     for i in 0..300i32 {
         let z = if i < wide { 10 } else { 1 };
-        if let Some(point) = Point::of(10_000 + i, 10_000, z) {
+        if let Some(point) = point_at([10_000 + i, 10_000, z]) {
             points.push(point)?;
         }
     }
@@ -103,23 +107,35 @@ fn flat_triangles(alloc: Global, wide: i32) -> Result<Option<Mesh>, NoMemory> {
 }
 
 // How many bytes a sink gets whose second write fails; None where no write fails.
-fn taken_at_once(alloc: Global, mesh: &Mesh, digits: u8) -> Result<Option<usize>, NoMemory>
+fn taken_at_once(
+    alloc: Global,
+    mesh: &Mesh,
+    solid: bool,
+    digits: u8,
+) -> Result<Option<usize>, NoMemory>
     requires { digits ≤ 6 }
 {
     let fails = vec![in alloc; 2]?;
     let mut sink = MemorySink::of(alloc, 10_000, 10_000, fails)?;
-    match write_obj(mesh, digits, &mut sink) {
+    match write(mesh, solid, digits, &mut sink) {
         Ok(()) => Ok(None),
         Err(_) => Ok(Some(sink.bytes().len())),
     }
 }
 
+// Whether the text is that of a solid, how many lines are longer, and how many bytes go out at once.
+static PAGES: [(bool, i32, usize); 3] = [(false, 0, 3984), (false, 1, 3969), (true, 0, 3975)];
+
 #[test]
 fn a_page_goes_out_where_fewer_than_128_bytes_are_free(rt: HostRuntime) -> Result<(), Fail> {
-    // After 248 lines 128 bytes are free, or 127 where one line is longer.
-    for (wide, length) in [(0, 3984), (1, 3969)] {
-        let mesh = flat_triangles(rt.alloc(), wide)?.ok_or("each triangle has its reverse")?;
-        assert!(rt; taken_at_once(rt.alloc(), &mesh, 0)? == Some(length));
+    // After 248 lines of OBJ 128 bytes are free, or 127 where one line is longer. Of a solid with so many bytes fewer than 128 are
+    // free for the first time after a line.
+    for (solid, wide, length) in &PAGES {
+        let mesh = flat_triangles(rt.alloc(), *wide)?.ok_or("each triangle has its reverse")?;
+        assert!(rt;
+            taken_at_once(rt.alloc(), &mesh, *solid, 0)? == Some(*length),
+            "at {length}"
+        );
     }
     Ok(())
 }
@@ -127,17 +143,6 @@ fn a_page_goes_out_where_fewer_than_128_bytes_are_free(rt: HostRuntime) -> Resul
 #[test]
 fn a_text_that_fits_a_page_goes_out_in_one_write(rt: HostRuntime) -> Result<(), Fail> {
     let mesh = tetrahedron(rt.alloc())?.ok_or("the tetrahedron is closed")?;
-    assert!(rt; taken_at_once(rt.alloc(), &mesh, 4)?.is_none());
-    Ok(())
-}
-
-#[test]
-fn a_page_of_a_solid_goes_out_after_a_line(rt: HostRuntime) -> Result<(), Fail> {
-    let mesh = flat_triangles(rt.alloc(), 0)?.ok_or("each triangle has its reverse")?;
-    let fails = vec![in rt.alloc(); 2]?;
-    let mut sink = MemorySink::of(rt.alloc(), 10_000, 10_000, fails)?;
-    // With so many bytes fewer than 128 are free for the first time after a line.
-    assert!(rt; write_stl(&mesh, 0, &mut sink).is_err());
-    assert!(rt; sink.bytes().len() == 3975);
+    assert!(rt; taken_at_once(rt.alloc(), &mesh, false, 4)?.is_none());
     Ok(())
 }

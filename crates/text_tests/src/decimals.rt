@@ -9,7 +9,7 @@ use table::{READ_1, READ_2, READ_3, READ_4, Read, WRITTEN};
 fn expect_read(rt: &impl Abort, rows: &[Read]) {
     for (text, digits, answer) in rows {
         assert!(rt; *digits <= 6, "at {text}");
-        assert_eq!(rt; read_grid(text.as_bytes(), *digits), *answer, "at {text}");
+        assert!(rt; read_grid(text.as_bytes(), *digits) == *answer, "at {text}");
     }
 }
 

@@ -1,4 +1,7 @@
 // Shelves and sinks call by call, and what they hold in the end.
+ghost use Rattle.std.specs.Prelude.{◌<◌};
+
+use mb_base::NoMemory;
 use mb_outside::{Failed, FolderShelf, MemoryShelf, MemorySink, Shelf, Sink, StdSink, SureShelf};
 use std::alloc::Global;
 use std::fs;
@@ -17,21 +20,23 @@ enum Call {
 // What a call answers: a size, a count of bytes, or 0 where a file was begun.
 type Answer = Result<Option<u64>, Failed>;
 
+// So many bytes were read or taken.
+fn counted(count: Result<usize, Failed>) -> Answer {
+    match count {
+        Ok(count) => Ok(Some(count as u64)),
+        Err(Failed) => Err(Failed),
+    }
+}
+
 fn answer<S: Shelf>(shelf: &mut S, call: &Call, into: &mut [u8]) -> Answer {
     match call {
         Call::Size(name) => shelf.size(name),
-        Call::Read(name, at) => match shelf.read_at(name, *at, into) {
-            Ok(count) => Ok(Some(count as u64)),
-            Err(Failed) => Err(Failed),
-        },
+        Call::Read(name, at) => counted(shelf.read_at(name, *at, into)),
         Call::Begin(name) => match shelf.begin(name) {
             Ok(()) => Ok(Some(0)),
             Err(Failed) => Err(Failed),
         },
-        Call::Append(name, piece) => match shelf.append(name, piece) {
-            Ok(count) => Ok(Some(count as u64)),
-            Err(Failed) => Err(Failed),
-        },
+        Call::Append(name, piece) => counted(shelf.append(name, piece)),
     }
 }
 
@@ -47,26 +52,29 @@ fn answers<S: Shelf>(shelf: &mut S, rows: &[(Call, Answer)], into: &mut [u8], le
 }
 
 // Whether the writes, one after the other, take so many bytes.
-fn takes<K: Sink>(sink: &mut K, rows: &[(&[u8], Result<usize, Failed>)]) -> bool {
+fn takes<K: Sink>(sink: &mut K, rows: &[(&[u8], Answer)]) -> bool {
     let mut all = true;
     for (piece, wanted) in rows {
-        if sink.write(piece) != *wanted {
+        if counted(sink.write(piece)) != *wanted {
             all = false;
         }
     }
     all
 }
 
-// A shelf with one file, and free places for so many bytes each, which takes and gives four bytes at a time.
-fn shelf_with(
+// A shelf with one file, and free places for so many bytes each, which takes and gives so many bytes at a time.
+pub fn shelf_with(
     alloc: Global,
     places: usize,
     room: usize,
+    most: usize,
     fails: Vec<u64>,
     name: &str,
     bytes: &[u8],
-) -> Result<MemoryShelf, Fail> {
-    let mut shelf = MemoryShelf::of(alloc, places, room, 4, fails)?;
+) -> Result<MemoryShelf, NoMemory>
+    requires { 0 < most }
+{
+    let mut shelf = MemoryShelf::of(alloc, places, room, most, fails)?;
     shelf.put(name, bytes)?;
     Ok(shelf)
 }
@@ -86,7 +94,7 @@ static END: [(Call, Answer); 3] = [
 #[test]
 fn a_file_in_memory_is_read_in_pieces(rt: HostRuntime) -> Result<(), Fail> {
     let fails = Vec::new(rt.alloc());
-    let mut shelf = shelf_with(rt.alloc(), 2, 100, fails, "cube.obj", b"v 0 0 0\n")?;
+    let mut shelf = shelf_with(rt.alloc(), 2, 100, 4, fails, "cube.obj", b"v 0 0 0\n")?;
     let mut into = *b"......";
     assert!(rt; answers(&mut shelf, &FRONT, &mut into, b"v 0 .."));
     assert!(rt; answers(&mut shelf, &END, &mut into, b" 0\n .."));
@@ -106,24 +114,32 @@ static IN_PIECES: [(Call, Answer); 10] = [
     (Call::Append("old", b"9"), Err(Failed)),
 ];
 
-// Whether a shelf holds these bytes under a name, or no file of the name.
-fn holds(shelf: &MemoryShelf, name: &str, wanted: Option<&[u8]>) -> bool {
-    shelf.get(name) == wanted
+// Whether a file is there with these bytes.
+fn is_text(found: Option<&[u8]>, wanted: &[u8]) -> bool {
+    match found {
+        Some(bytes) => *bytes == *wanted,
+        None => false,
+    }
+}
+
+// Whether a shelf holds these bytes under a name.
+pub fn holds(shelf: &MemoryShelf, name: &str, wanted: &[u8]) -> bool {
+    is_text(shelf.get(name), wanted)
 }
 
 // Whether a shelf holds these bytes under a name once they are put there.
-fn is_put(shelf: &mut MemoryShelf, name: &str, bytes: &[u8]) -> Result<bool, Fail> {
+fn is_put(shelf: &mut MemoryShelf, name: &str, bytes: &[u8]) -> Result<bool, NoMemory> {
     shelf.put(name, bytes)?;
-    Ok(holds(shelf, name, Some(bytes)))
+    Ok(holds(shelf, name, bytes))
 }
 
 #[test]
 fn a_file_in_memory_is_written_in_pieces(rt: HostRuntime) -> Result<(), Fail> {
     let fails = vec![in rt.alloc(); 3]?;
-    let mut shelf = shelf_with(rt.alloc(), 1, 6, fails, "old", b"12345678")?;
+    let mut shelf = shelf_with(rt.alloc(), 1, 6, 4, fails, "old", b"12345678")?;
     assert!(rt; answers(&mut shelf, &IN_PIECES, &mut [], b""));
-    assert!(rt; holds(&shelf, "new", Some(b"abcdef")));
-    assert!(rt; holds(&shelf, "third", None));
+    assert!(rt; holds(&shelf, "new", b"abcdef"));
+    assert!(rt; shelf.get("third").is_none());
     assert!(rt; is_put(&mut shelf, "old", b"now")?);
     Ok(())
 }
@@ -153,16 +169,16 @@ fn a_sure_shelf_takes_what_its_spare_has_room_for(rt: HostRuntime) -> Result<(),
     let mut shelf = SureShelf::of(rt.alloc(), "old", b"12345678", "new", 6)?;
     let mut into = *b"....";
     assert!(rt; answers(&mut shelf, &SURE, &mut into, b"78.."));
-    assert!(rt; shelf.get("new") == Some(b"abcdef".as_slice()));
+    assert!(rt; is_text(shelf.get("new"), b"abcdef"));
     assert!(rt; answers(&mut shelf, &SURE_AGAIN, &mut into, b"78.."));
     Ok(())
 }
 
-static TAKEN: [(&[u8], Result<usize, Failed>); 4] = [
-    (b"abcd", Ok(3)),
+static TAKEN: [(&[u8], Answer); 4] = [
+    (b"abcd", Ok(Some(3))),
     (b"d", Err(Failed)),
     (b"def", Err(Failed)),
-    (b"de", Ok(2)),
+    (b"de", Ok(Some(2))),
 ];
 
 #[test]
@@ -194,17 +210,6 @@ static KEPT_AGAIN: [(Call, Answer); 8] = [
     (Call::Read("made.txt", 0), Ok(Some(3))),
 ];
 
-#[test]
-fn the_folder_keeps_what_was_written(rt: HostRuntime) -> Result<(), Fail> {
-    let mut shelf = FolderShelf::of(&rt);
-    let mut into = *b"...............";
-    assert!(rt; answers(&mut shelf, &KEPT, &mut into, b"hello, folder.."));
-    assert!(rt; answers(&mut shelf, &KEPT_AGAIN, &mut into, b"xyzder folder.."));
-    fs::remove_file(&rt, "kept.txt")?;
-    fs::remove_file(&rt, "made.txt")?;
-    Ok(())
-}
-
 // A name longer than any file's.
 const LONG: &str =
     "a_name_that_is_longer_than_that_of_any_file_a_name_that_is_longer_than_that_of_any_file_a_name_that_is_longer_than_that_of_any_file_a_name_that_is_longer_than_that_of_any_file_a_name_that_is_longer_than_that_of_any_file_a_name_that_is_longer_than_that_of_any_file";
@@ -219,17 +224,22 @@ static NO_PLACE: [(Call, Answer); 6] = [
 ];
 
 #[test]
-fn what_the_folder_has_no_place_for_fails(rt: HostRuntime) -> Result<(), Fail> {
-    let mut into = *b"...";
-    assert!(rt; answers(&mut FolderShelf::of(&rt), &NO_PLACE, &mut into, b"..."));
-    fs::remove_file(&rt, "plain.txt")?;
+fn the_folder_keeps_what_was_written_where_it_has_a_place(rt: HostRuntime) -> Result<(), Fail> {
+    let mut shelf = FolderShelf::of(&rt);
+    let mut into = *b"...............";
+    assert!(rt; answers(&mut shelf, &KEPT, &mut into, b"hello, folder.."));
+    assert!(rt; answers(&mut shelf, &KEPT_AGAIN, &mut into, b"xyzder folder.."));
+    assert!(rt; answers(&mut shelf, &NO_PLACE, &mut into, b"xyzder folder.."));
+    for name in &["kept.txt", "made.txt", "plain.txt"] {
+        fs::remove_file(&rt, name)?;
+    }
     Ok(())
 }
 
-static SAID: [(&[u8], Result<usize, Failed>); 3] = [
-    (b"said", Ok(4)),
-    (b"", Ok(0)),
-    (b", done\n", Ok(7)),
+static SAID: [(&[u8], Answer); 3] = [
+    (b"said", Ok(Some(4))),
+    (b"", Ok(Some(0))),
+    (b", done\n", Ok(Some(7))),
 ];
 
 static READ_BACK: [(Call, Answer); 1] = [(Call::Read("out.txt", 0), Ok(Some(11)))];
@@ -248,7 +258,7 @@ fn a_writer_of_std_gets_what_was_written(rt: HostRuntime) -> Result<(), Fail> {
         )
     );
     let mut closed = StdSink::over(fs::open(&rt, "out.txt")?);
-    assert!(rt; closed.write(b"more") == Err(Failed));
+    assert!(rt; closed.write(b"more").is_err());
     fs::remove_file(&rt, "out.txt")?;
     Ok(())
 }
@@ -267,8 +277,10 @@ impl Write for SlowWriter {
     }
 }
 
+static PART: [(&[u8], Answer); 1] = [(b"said", Ok(Some(1)))];
+
 #[test]
 fn a_writer_of_std_may_take_a_part(rt: HostRuntime) {
     let mut sink = StdSink::over(SlowWriter);
-    assert!(rt; sink.write(b"said") == Ok(1));
+    assert!(rt; takes(&mut sink, &PART));
 }

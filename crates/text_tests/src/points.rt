@@ -1,14 +1,12 @@
 // Rules at their edges, and each public call once with ample memory.
-use mb_base::{ArgList, Box3, Corner, Limits, Op, Point, Soup, box_of, cross};
-use std::alloc::Global;
+ghost use Rattle.std.specs.Prelude.{◌<◌, length};
+
+use crate::lists::{listed, point_at, points_at, stand_at};
+use crate::texts::has;
+use mb_base::{ArgList, Corner, Limits, Op, Point, Soup, box_of, cross};
 use std::test::Fail;
 
 const GRID_END: i32 = 1 << 30;
-
-fn point_at(at: [i32; 3]) -> Option<Point> {
-    let [x, y, z] = at;
-    Point::of(x, y, z)
-}
 
 const BEYOND: [[i32; 3]; 4] = [
     [GRID_END + 1, 0, 0],
@@ -20,7 +18,7 @@ const BEYOND: [[i32; 3]; 4] = [
 #[test]
 fn points_end_with_the_grid(rt: HostRuntime) -> Result<(), Fail> {
     let corner = Point::of(GRID_END, -GRID_END, 0).ok_or("a corner of the grid")?;
-    assert_eq!(rt; corner.at(), [GRID_END, -GRID_END, 0]);
+    assert!(rt; corner.at() == [GRID_END, -GRID_END, 0]);
     for at in &BEYOND {
         assert!(rt; point_at(*at).is_none(), "{at:?}");
     }
@@ -40,14 +38,9 @@ fn numbers_of(limits: &Limits) -> [u64; 4] {
 #[test]
 fn limits_have_their_numbers(rt: HostRuntime) -> Result<(), Fail> {
     let most = Limits::of(1 << 40, 150_000_000, 100_000_000, 60_000_000).ok_or("the greatest")?;
-    assert_eq!(rt;
-        numbers_of(&most),
-        [1 << 40, 150_000_000, 100_000_000, 60_000_000]
-    );
-    assert_eq!(rt;
-        numbers_of(&Limits::program()),
-        [1_073_741_824, 15_000_000, 10_000_000, 6_000_000]
-    );
+    assert!(rt; numbers_of(&most) == [1 << 40, 150_000_000, 100_000_000, 60_000_000]);
+    let usual = Limits::program();
+    assert!(rt; numbers_of(&usual) == [1_073_741_824, 15_000_000, 10_000_000, 6_000_000]);
     Ok(())
 }
 
@@ -78,20 +71,10 @@ const TETRAHEDRON: [[i32; 3]; 4] = [[0, 0, 0], [2, 0, 0], [0, 2, 0], [0, 0, 2]];
 
 const SIDES: [[u32; 3]; 4] = [[0, 2, 1], [0, 1, 3], [1, 2, 3], [2, 0, 3]];
 
-fn tetrahedron_points(alloc: Global) -> Result<Vec<Point>, Fail> {
-    let mut points = Vec::new(alloc);
-    for at in &TETRAHEDRON {
-        if let Some(point) = point_at(*at) {
-            points.push(point)?;
-        }
-    }
-    Ok(points)
-}
-
 #[test]
 fn lists_fit_where_each_point_is_used(rt: HostRuntime) -> Result<(), Fail> {
-    let points = tetrahedron_points(rt.alloc())?;
-    assert_eq!(rt; points.len(), 4);
+    let points = points_at(rt.alloc(), &TETRAHEDRON)?;
+    assert!(rt; points.len() == 4);
     assert!(rt; !Soup::fits(&points[..3], &SIDES), "there is no last point");
     assert!(rt;
         !Soup::fits(&points[..3], &[[0, 1, 2], [1, 0, 1]]),
@@ -106,45 +89,40 @@ fn lists_fit_where_each_point_is_used(rt: HostRuntime) -> Result<(), Fail> {
 
 #[test]
 fn a_soup_keeps_its_lists(rt: HostRuntime) -> Result<(), Fail> {
-    let points = tetrahedron_points(rt.alloc())?;
-    let triples = vec![in rt.alloc(); [0, 2, 1], [0, 1, 3], [1, 2, 3], [2, 0, 3]]?;
+    let points = points_at(rt.alloc(), &TETRAHEDRON)?;
+    let triples = Vec::from_array(rt.alloc(), SIDES)?;
     assert!(rt; Soup::fits(&points, &triples));
     let soup = Soup::of(points, triples, 5);
-    assert_eq!(rt; (soup.points().len(), soup.unused()), (4, 5));
-    assert_eq!(rt; soup.triples(), &SIDES[..]);
+    assert!(rt; has(&soup, &(&TETRAHEDRON, 5, &SIDES)));
     let (points, triples) = soup.into_parts();
-    assert_eq!(rt; points.len(), 4);
-    assert_eq!(rt; points[3].at(), [0, 0, 2]);
-    assert_eq!(rt; triples.as_slice(), &SIDES[..]);
+    assert!(rt; stand_at(&points, &TETRAHEDRON) && triples.as_slice() == &SIDES[..]);
     Ok(())
 }
 
 const WORDS: [&str; 3] = ["union", "", "β.obj"];
 
-fn list_of_words(alloc: Global) -> Result<ArgList, Fail> {
-    let mut list = ArgList::start(alloc);
-    for word in &WORDS {
-        list.push(word)?;
-    }
-    Ok(list)
+fn gives_the_words(list: &ArgList) -> bool {
+    list.len() == 3
+        && list.as_slice().len() == 3
+        && list.get(0) == WORDS[0]
+        && list.get(1) == WORDS[1]
+        && list.get(2) == WORDS[2]
 }
 
 #[test]
 fn a_list_gives_its_words(rt: HostRuntime) -> Result<(), Fail> {
     assert!(rt; ArgList::start(rt.alloc()).is_empty());
-    let list = list_of_words(rt.alloc())?;
-    assert_eq!(rt; list.len(), 3);
-    assert_eq!(rt; [list.get(0), list.get(1), list.get(2)], WORDS);
-    assert_eq!(rt; list.as_slice().len(), 3);
+    let list = listed(rt.alloc(), &WORDS)?;
+    assert!(rt; gives_the_words(&list));
     Ok(())
 }
 
 // J. M. Smith's table of the three operations.
 #[test]
 fn operations_have_their_constants(rt: HostRuntime) {
-    assert_eq!(rt; Op::Union.constants(), [1, 1, -1]);
-    assert_eq!(rt; Op::Intersect.constants(), [0, 0, 1]);
-    assert_eq!(rt; Op::Subtract.constants(), [1, 0, -1]);
+    assert!(rt; Op::Union.constants() == [1, 1, -1]);
+    assert!(rt; Op::Intersect.constants() == [0, 0, 1]);
+    assert!(rt; Op::Subtract.constants() == [1, 0, -1]);
 }
 
 // Three points and the cross product at the first of them. The last row is the greatest that can come: two sides of the
@@ -164,16 +142,27 @@ const NORMALS: [([[i32; 3]; 3], [i128; 3]); 5] = [
     ),
 ];
 
-fn cross_of(triangle: [[i32; 3]; 3]) -> Option<[i128; 3]> {
+fn is_normal(triangle: [[i32; 3]; 3], normal: [i128; 3]) -> bool {
     let [a, b, c] = triangle;
-    Some(cross(point_at(a)?, point_at(b)?, point_at(c)?))
+    match (point_at(a), point_at(b), point_at(c)) {
+        (Some(a), Some(b), Some(c)) => cross(a, b, c) == normal,
+        _ => false,
+    }
 }
 
 #[test]
 fn a_cross_product_is_normal_to_its_triangle(rt: HostRuntime) {
     for (triangle, normal) in &NORMALS {
-        assert_eq!(rt; cross_of(*triangle), Some(*normal));
+        assert!(rt; is_normal(*triangle, *normal), "{normal:?}");
     }
+}
+
+// Whether the box of the corners reaches from here to there.
+fn reaches(corners: &[Corner], low: [i64; 3], high: [i64; 3]) -> bool
+    requires { 0 < length corners.now }
+{
+    let found = box_of(corners);
+    found.low == low && found.high == high
 }
 
 #[test]
@@ -184,25 +173,7 @@ fn a_box_reaches_as_far_as_its_corners(rt: HostRuntime) {
         Corner { at: [-4, 2, 0], up },
         Corner { at: [1, -7, 9], up },
     ];
-    assert_eq!(rt;
-        box_of(&corners),
-        Box3 {
-            low: [-4, -7, 0],
-            high: [3, 2, 9]
-        }
-    );
-    assert_eq!(rt;
-        box_of(&corners[..2]),
-        Box3 {
-            low: [-4, -5, 0],
-            high: [3, 2, 0]
-        }
-    );
-    assert_eq!(rt;
-        box_of(&corners[2..]),
-        Box3 {
-            low: [1, -7, 9],
-            high: [1, -7, 9]
-        }
-    );
+    assert!(rt; reaches(&corners, [-4, -7, 0], [3, 2, 9]));
+    assert!(rt; reaches(&corners[..2], [-4, -5, 0], [3, 2, 0]));
+    assert!(rt; reaches(&corners[2..], [1, -7, 9], [1, -7, 9]));
 }

@@ -1,5 +1,0 @@
-//! Tests of shelves and sinks, by the public calls.
-#![tactic(auto)]
-
-#[cfg(test)]
-mod shelves;

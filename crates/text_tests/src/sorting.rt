@@ -1,0 +1,47 @@
+// Keys whose buckets are known.
+use counting_sort::Buckets;
+use mb_base::NoMemory;
+use std::alloc::Global;
+use std::test::Fail;
+
+// Whether bucket k has these places. No bucket has any where there are more than ten keys or k or a key is not below the count.
+// So few keys are plainly below 2^32, as `Buckets::of` requires.
+fn is_bucket(
+    alloc: Global,
+    keys: &[u32],
+    count: usize,
+    k: usize,
+    places: &[u32],
+) -> Result<bool, NoMemory> {
+    if keys.len() > 10 || k >= count || !keys.iter().all(|key| (*key as usize) < count) {
+        return Ok(false);
+    }
+    let buckets = Buckets::of(alloc, keys, count)?;
+    Ok(buckets.bucket(k) == places)
+}
+
+// Keys, and the places in each bucket.
+static TABLE: [(&[u32], &[&[u32]]); 6] = [
+    (&[], &[&[], &[], &[]]),
+    (&[0], &[&[0]]),
+    (&[2], &[&[], &[], &[0]]),
+    (&[0, 0, 0, 0], &[&[0, 1, 2, 3]]),
+    (&[2, 1, 0], &[&[2], &[1], &[0]]),
+    (
+        &[4, 1, 3, 1, 4, 4, 1],
+        &[&[], &[1, 3, 6], &[], &[2], &[0, 4, 5], &[]],
+    ),
+];
+
+#[test]
+fn places_are_gathered_by_key(rt: HostRuntime) -> Result<(), Fail> {
+    for (keys, wanted) in &TABLE {
+        for k in 0..wanted.len() {
+            assert!(rt;
+                is_bucket(rt.alloc(), keys, wanted.len(), k, wanted[k])?,
+                "{k} of {keys:?}"
+            );
+        }
+    }
+    Ok(())
+}

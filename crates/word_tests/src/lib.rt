@@ -1,5 +1,0 @@
-//! Tests of the words of a command line, by the public calls.
-#![tactic(auto)]
-
-#[cfg(test)]
-mod commands;
