@@ -30,7 +30,7 @@ pub(crate) fn line_mesh(alloc: Global, count: u8, triples: &[[u32; 3]]) -> Resul
 // Whether a point lies at this place on the line.
 fn lies_at(point: &Point, place: u32) -> bool {
     let [x, y, z] = point.at();
-    x as i64 == place as i64 && y == 0 && z == 0
+    i64::from(x) == i64::from(place) && y == 0 && z == 0
 }
 
 // Whether these points lie at these places on the line.

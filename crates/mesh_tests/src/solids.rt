@@ -14,7 +14,10 @@ const GRID_END: i32 = 1 << 30;
 
 fn point(row: [i32; 3]) -> Result<Point, Fail> {
     let [x, y, z] = row;
-    Ok(Point::of(x, y, z).ok_or("a point of the grid")?)
+    match Point::of(x, y, z) {
+        Some(point) => Ok(point),
+        None => Err("no point of the grid".into()),
+    }
 }
 
 // Points, triangles, components, Euler characteristic and six times the volume.
