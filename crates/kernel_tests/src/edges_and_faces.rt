@@ -42,7 +42,10 @@ fn at(x: u8, y: u8, z: u8, up: [bool; 3]) -> Corner
 
 /// The number of a digit.
 fn digit(byte: u8) -> Option<u8> {
-    byte.checked_sub(b'0')
+    if byte < b'0' {
+        return None;
+    }
+    Some(byte - b'0')
 }
 
 /// A corner from a word as `210xz`.

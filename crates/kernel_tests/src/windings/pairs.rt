@@ -27,12 +27,21 @@ fn answers_of<R: Rounding + Copy>(
     write_numbers(alloc, &windings, &hits)
 }
 
+// Whether two sides have these answers under a rounding.
+fn have_answers_by<R: Rounding + Copy>(
+    alloc: Global,
+    p: &Side,
+    q: &Side,
+    rounding: R,
+    wanted: &str,
+) -> Result<bool, Fail> {
+    let answers = answers_of(alloc, p, q, rounding)?;
+    Ok(answers.as_str() == wanted)
+}
+
 // Whether two sides have these answers, to the nearest and to the first.
 fn have_answers(alloc: Global, p: &Side, q: &Side, nearest: &str, low: &str) -> Result<bool, Fail> {
-    if answers_of(alloc, p, q, Nearest)?.as_str() != nearest {
-        return Ok(false);
-    }
-    Ok(answers_of(alloc, p, q, Low)?.as_str() == low)
+    Ok(have_answers_by(alloc, p, q, Nearest, nearest)? && have_answers_by(alloc, p, q, Low, low)?)
 }
 
 // Whether the sides of a line have these answers.
