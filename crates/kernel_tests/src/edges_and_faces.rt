@@ -30,18 +30,37 @@ struct Row {
     ghost q_fine: { AllFine q },
 }
 
+/// A corner at a point given in grid steps.
+fn at(x: u8, y: u8, z: u8, up: [bool; 3]) -> Corner
+    ensures { IsFineCorner result }
+{
+    Corner {
+        at: [x as i64 * UNIT, y as i64 * UNIT, z as i64 * UNIT],
+        up,
+    }
+}
+
+/// The number of a digit.
+fn digit(byte: u8) -> Option<u8> {
+    if byte < b'0' {
+        return None;
+    }
+    Some(byte - b'0')
+}
+
 /// A corner from a word as `210xz`.
 fn corner(word: &str) -> Option<Corner>
     ensures { IfSome result (λ c. IsFineCorner c) }
 {
-    let mut digits = word.bytes();
-    let x = digits.next()?.checked_sub(b'0')?;
-    let y = digits.next()?.checked_sub(b'0')?;
-    let z = digits.next()?.checked_sub(b'0')?;
-    Some(Corner {
-        at: [x as i64 * UNIT, y as i64 * UNIT, z as i64 * UNIT],
-        up: [word.contains('x'), word.contains('y'), word.contains('z')],
-    })
+    let [x, y, z, letters @ ..] = word.as_bytes() else {
+        return None;
+    };
+    let up = [
+        letters.contains(&b'x'),
+        letters.contains(&b'y'),
+        letters.contains(&b'z'),
+    ];
+    Some(at(digit(*x)?, digit(*y)?, digit(*z)?, up))
 }
 
 /// A crossing from a word as `-1:122`, or none from a dot.
@@ -50,10 +69,10 @@ fn crossing(word: &str) -> Option<Option<Cross>> {
         return Some(None);
     }
     let (number, point) = word.split_once(':')?;
-    let mut digits = point.bytes();
-    let x = digits.next()?.checked_sub(b'0')?;
-    let y = digits.next()?.checked_sub(b'0')?;
-    let z = digits.next()?.checked_sub(b'0')?;
+    let [x, y, z, ..] = point.as_bytes() else {
+        return None;
+    };
+    let [x, y, z] = [digit(*x)?, digit(*y)?, digit(*z)?];
     Some(cross_at(number.parse::<i8>().ok()?, x as i32, y as i32, z as i32))
 }
 
@@ -90,11 +109,6 @@ fn agrees<K: Kernels>(kernels: &K, line: &str) -> bool {
     edge_face == row.edge_face && face_edge == row.face_edge
 }
 
-/// Whether they are those of the nearest rounding.
-fn agrees_nearest(line: &str) -> bool {
-    agrees(&Grid { rounding: Nearest }, line)
-}
-
 /// The number of the edge from a to b and a face, asked of the edge from b to a: right for any lawful kernels, by their
 /// laws alone.
 fn number_back<K: Kernels>(kernels: &K, a: &Corner, b: &Corner, q: &[Corner; 3]) -> i64
@@ -118,28 +132,24 @@ fn turns(line: &str) -> bool {
         None => 0,
         Some(c) => c.number as i64,
     };
-    let [a, b, _] = row.p;
-    number_back(&Grid { rounding: Nearest }, &a, &b, &row.q) == number
+    let edge = [row.p[0], row.p[1]];
+    number_back(&Grid { rounding: Nearest }, &edge[0], &edge[1], &row.q) == number
 }
 
 #[test]
 fn agrees_with_the_table(rt: HostRuntime) {
-    assert_eq!(rt; ROWS.lines().count(), 200);
-    assert!(rt; ROWS.lines().all(agrees_nearest));
+    let mut count = 0u8;
+    for line in ROWS.lines() {
+        assert!(rt; agrees(&Grid { rounding: Nearest }, line), "{line}");
+        count = count.saturating_add(1);
+    }
+    assert!(rt; count == 200);
 }
 
 #[test]
 fn turned_edges_have_turned_numbers(rt: HostRuntime) {
-    assert!(rt; ROWS.lines().all(turns));
-}
-
-/// A corner of P or of Q at a point given in grid steps.
-fn at(x: i8, y: i8, z: i8, up: [bool; 3]) -> Corner
-    ensures { IsFineCorner result }
-{
-    Corner {
-        at: [x as i64 * UNIT, y as i64 * UNIT, z as i64 * UNIT],
-        up,
+    for line in ROWS.lines() {
+        assert!(rt; turns(line), "{line}");
     }
 }
 
@@ -163,10 +173,10 @@ fn a_cube_crosses_a_post(rt: HostRuntime) {
     let diagonal = [top[2], top[0]];
     let front = [at(3, 4, 5, still), at(6, 4, 5, still), at(3, 4, 20, still)];
     let side = [at(6, 4, 5, still), at(6, 7, 5, still), at(6, 7, 20, still)];
-    assert_eq!(rt; grid.cross(&diagonal, &front), cross_at(1, 4, 4, 10));
-    assert_eq!(rt; grid.cross(&diagonal, &side), cross_at(-1, 6, 6, 10));
+    assert!(rt; grid.cross(&diagonal, &front) == cross_at(1, 4, 4, 10));
+    assert!(rt; grid.cross(&diagonal, &side) == cross_at(-1, 6, 6, 10));
     let wall = [front[1], front[2]];
-    assert_eq!(rt; grid.cross(&top, &wall), cross_at(1, 5, 4, 10));
+    assert!(rt; grid.cross(&top, &wall) == cross_at(1, 5, 4, 10));
 }
 
 /// A lawful rounding that is hardly ever near: the farther of the two values, but where a weight is 0.
@@ -214,32 +224,22 @@ impl Rounding for Far {
     }
 }
 
-/// Whether the crossings of a line are those of the far rounding.
-fn agrees_far(line: &str) -> bool {
-    agrees(&Grid { rounding: Far }, line)
-}
-
 // Lines as in the table: an edge of P and a face of Q, then a face of P and an edge of Q. The third corner of the other
 // triangle is its first once more, so that the other pair has no crossing. The answers are those of an independent
 // reference program, in which the point depends on which pair stands first in the order start, end, first, second and
 // third edge of the face.
-const FIRST_PAIRS: &str = "\
-212xy 122xz 212xy 012 424 101 1:212 .
-001z 233y 431xy 111 304 111 . -1:111";
+static FAR_ROWS: [&str; 4] = [
+    // A crossing lies between the first pairs on each side.
+    "212xy 122xz 212xy 012 424 101 1:212 .",
+    "001z 233y 431xy 111 304 111 . -1:111",
+    // A straight edge crosses a flat face once at most; shadows that are rounded far away can count it twice.
+    "220yz 133x 220yz 010 444 240 -2:220 .",
+    "420xyz 333z 104 434 213 434 . 2:313",
+];
 
 #[test]
-fn a_crossing_lies_between_the_first_pairs_on_each_side(rt: HostRuntime) {
-    assert_eq!(rt; FIRST_PAIRS.lines().count(), 2);
-    assert!(rt; FIRST_PAIRS.lines().all(agrees_far));
-}
-
-// A straight edge crosses a flat face once at most; shadows that are rounded far away can count it twice.
-const TWICE: &str = "\
-220yz 133x 220yz 010 444 240 -2:220 .
-420xyz 333z 104 434 213 434 . 2:313";
-
-#[test]
-fn far_rounding_can_count_a_crossing_twice(rt: HostRuntime) {
-    assert_eq!(rt; TWICE.lines().count(), 2);
-    assert!(rt; TWICE.lines().all(agrees_far));
+fn far_rounding_keeps_the_laws(rt: HostRuntime) {
+    for line in &FAR_ROWS {
+        assert!(rt; agrees(&Grid { rounding: Far }, line), "{line}");
+    }
 }

@@ -15,13 +15,15 @@ const BETWEEN: [([i8; 2], [u8; 2], i64); 8] = [
 ];
 
 fn between([u, v]: [i8; 2], [a, b]: [u8; 2]) -> i64 {
-    Nearest.between(u.into(), v.into(), a.into(), b.into())
+    Nearest.between(u as i64, v as i64, a as i64, b as i64)
 }
 
 #[test]
 fn rounds_to_the_nearest(rt: HostRuntime) {
-    for (numbers, weights, wanted) in BETWEEN {
-        assert_eq!(rt; between(numbers, weights), wanted);
+    for (numbers, weights, wanted) in &BETWEEN {
+        let [u, v] = *numbers;
+        let [a, b] = *weights;
+        assert!(rt; between(*numbers, *weights) == *wanted, "{u} {v} {a} {b}");
     }
-    assert_eq!(rt; Nearest.settle(UNIT * -7), -7);
+    assert!(rt; Nearest.settle(UNIT * -7) == -7);
 }

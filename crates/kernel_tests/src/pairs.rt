@@ -1,51 +1,22 @@
 // Two boxes, worked out by a separate program in Python that was written from the definitions alone.
+use crate::boxes::{Span, boxes_of, plain_boxes};
 use crossings::crossings;
 use lean::Side;
 use mb_base::{Hit, Op};
-use mesh_check::Mesh;
 use rounding::Nearest;
-use sample_lines::{marked_side, plain_side};
-use samples::{BOX, box_points, soup_of};
+use sample_lines::marked_side;
 use shadow_kernels::Grid;
 use std::alloc::Global;
 use std::test::Fail;
-
-// The lowest and the highest corner of a box.
-type Span = [[i32; 3]; 2];
 
 const CUBE: Span = [[0; 3], [10; 3]];
 
 const POST: Span = [[3, 4, 5], [6, 7, 20]];
 
-// Boxes, one after the other.
-fn boxes_of(alloc: Global, spans: &[Span]) -> Result<Mesh, Fail> {
-    let mut rows = Vec::new(alloc);
-    let mut triples = Vec::new(alloc);
-    let mut first = 0u32;
-    for [low, high] in spans {
-        rows.extend_from_slice(&box_points(*low, *high))?;
-        for [a, b, c] in &BOX {
-            triples.push([
-                first.wrapping_add(*a),
-                first.wrapping_add(*b),
-                first.wrapping_add(*c),
-            ])?;
-        }
-        first = first.wrapping_add(8);
-    }
-    Ok(Mesh::check(alloc, soup_of(alloc, &rows, &triples)?)?)
-}
-
 // Boxes as the first mesh of a union, with its marks.
 fn first_side(alloc: Global, spans: &[Span]) -> Result<Side, Fail> {
     let mesh = boxes_of(alloc, spans)?;
     marked_side(alloc, &mesh, Op::Union)
-}
-
-// Boxes as the second mesh, without marks.
-fn second_side(alloc: Global, spans: &[Span]) -> Result<Side, Fail> {
-    let mesh = boxes_of(alloc, spans)?;
-    plain_side(alloc, &mesh)
 }
 
 // A hit: edge, face, number and the coordinates of the point.
@@ -83,7 +54,7 @@ fn cross_at(
     x21: &[Row],
 ) -> Result<bool, Fail> {
     let p = first_side(alloc, first)?;
-    let q = second_side(alloc, second)?;
+    let q = plain_boxes(alloc, second)?;
     let hits = crossings(alloc, &p, &q, &Grid { rounding: Nearest })?;
     Ok(are_rows(&hits.x12, x12) && are_rows(&hits.x21, x21))
 }

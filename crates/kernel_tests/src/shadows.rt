@@ -122,7 +122,12 @@ fn agrees(corners: u64, answers: u128) -> bool {
 
 /// Whether the answers of all rows are those of their corners.
 fn all_agree(rows: &[(u64, u128)]) -> bool {
-    rows.iter().all(|row| agrees(row.0, row.1))
+    for (corners, answers) in rows {
+        if !agrees(*corners, *answers) {
+            return false;
+        }
+    }
+    true
 }
 
 #[test]

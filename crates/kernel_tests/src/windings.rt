@@ -5,12 +5,12 @@ mod numbers;
 mod pairs;
 mod table;
 
+use crate::boxes::{Span, boxes_of, mesh_of, plain_boxes};
 use lean::{Side, corner_of};
 use mb_base::Point;
 use mesh_check::Mesh;
 use rounding::Nearest;
-use sample_lines::plain_side;
-use samples::{BOX, box_points, soup_of};
+use samples::{BOX, box_points};
 use shadow_kernels::Grid;
 use std::alloc::Global;
 use std::marker::Brand;
@@ -19,18 +19,9 @@ use std::test::Fail;
 use steps::Steps;
 use winding::{winding_at, winding_sum};
 
-fn checked(alloc: Global, points: &[[i32; 3]], triples: &[[u32; 3]]) -> Result<Mesh, Fail> {
-    Ok(Mesh::check(alloc, soup_of(alloc, points, triples)?)?)
-}
+const CUBE: Span = [[0; 3], [100_000; 3]];
 
-const CUBE: [[i32; 3]; 2] = [[0; 3], [100_000; 3]];
-
-const INNER: [[i32; 3]; 2] = [[20_000; 3], [80_000; 3]];
-
-fn cube(alloc: Global) -> Result<Mesh, Fail> {
-    let [low, high] = CUBE;
-    checked(alloc, &box_points(low, high), &BOX)
-}
+const INNER: Span = [[20_000; 3], [80_000; 3]];
 
 fn turned_cube(alloc: Global) -> Result<Mesh, Fail> {
     let [low, high] = CUBE;
@@ -38,21 +29,7 @@ fn turned_cube(alloc: Global) -> Result<Mesh, Fail> {
     for [a, b, c] in &BOX {
         triples.push([*a, *c, *b])?;
     }
-    checked(alloc, &box_points(low, high), &triples)
-}
-
-fn nested_cubes(alloc: Global) -> Result<Mesh, Fail> {
-    let mut points = Vec::new(alloc);
-    for [low, high] in [CUBE, INNER] {
-        for point in box_points(low, high) {
-            points.push(point)?;
-        }
-    }
-    let mut triples = BOX.to_vec(alloc)?;
-    for [a, b, c] in &BOX {
-        triples.push([*a | 8, *b | 8, *c | 8])?;
-    }
-    checked(alloc, &points, &triples)
+    mesh_of(alloc, &box_points(low, high), &triples)
 }
 
 // The winding number of a point in tens of thousands of grid steps.
@@ -86,7 +63,7 @@ fn has_numbers(alloc: Global, mesh: &Mesh, numbers: &[([i8; 3], i64)]) -> Result
 // On the mesh, a coordinate that is equal to a vertex's is not beyond it.
 #[test]
 fn a_cube_winds_once_round_its_inside(rt: HostRuntime) -> Result<(), Fail> {
-    let mesh = cube(rt.alloc())?;
+    let mesh = boxes_of(rt.alloc(), &[CUBE])?;
     let numbers = [
         ([5, 4, 3], 1),
         ([11, 4, 3], 0),
@@ -106,7 +83,7 @@ fn a_cube_inside_out_winds_backwards(rt: HostRuntime) -> Result<(), Fail> {
 
 #[test]
 fn nested_cubes_wind_twice(rt: HostRuntime) -> Result<(), Fail> {
-    let mesh = nested_cubes(rt.alloc())?;
+    let mesh = boxes_of(rt.alloc(), &[CUBE, INNER])?;
     assert!(rt; has_numbers(rt.alloc(), &mesh, &[([5, 4, 3], 2), ([1, 1, 1], 1)])?);
     Ok(())
 }
@@ -122,17 +99,12 @@ fn sum_from<L: Ledger>(point: Point, q: &Side, blank: Blank) -> i64
     winding_sum(&p, q, &Grid { rounding: Nearest }, &mut steps)
 }
 
-fn plain_cube(alloc: Global) -> Result<Side, Fail> {
-    let mesh = cube(alloc)?;
-    plain_side(alloc, &mesh)
-}
-
 #[test]
 fn a_point_moved_up_lies_on_the_other_side(rt: HostRuntime) -> Result<(), Fail> {
-    let side = plain_cube(rt.alloc())?;
+    let side = plain_boxes(rt.alloc(), &[CUBE])?;
     let low = Point::of(0, 0, 0).ok_or("outside the grid")?;
-    assert_eq!(rt; sum_from::<Brand>(low, &side, Blank::new(1)), 1);
+    assert!(rt; sum_from::<Brand>(low, &side, Blank::new(1)) == 1);
     let high = Point::of(100_000, 5, 7).ok_or("outside the grid")?;
-    assert_eq!(rt; sum_from::<Brand>(high, &side, Blank::new(1)), 0);
+    assert!(rt; sum_from::<Brand>(high, &side, Blank::new(1)) == 0);
     Ok(())
 }

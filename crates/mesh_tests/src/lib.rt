@@ -4,6 +4,8 @@
 #[cfg(test)]
 mod acceptance;
 #[cfg(test)]
+mod lines;
+#[cfg(test)]
 mod orders;
 #[cfg(test)]
 mod pinches;

@@ -1,64 +1,9 @@
 // Small meshes, with twins and fans known from outside.
-use halfedge::{TwinFault, Twins};
+use crate::lines::DOUBLED;
+use halfedge::{Fans, TwinFault, Twins};
 use samples::{TETRAHEDRON, line_soup, two_boxes};
 use std::alloc::Global;
 use std::test::Fail;
-
-#[test]
-fn the_tetrahedron_has_its_twins(rt: HostRuntime) -> Result<(), Fail> {
-    let twins = Twins::of(rt.alloc(), &TETRAHEDRON)?;
-    assert_eq!(rt; twins.triples(), TETRAHEDRON.as_slice());
-    assert_eq!(rt; twins.twin(0), 9);
-    assert_eq!(rt; twins.next(2), 0);
-    assert_eq!(rt; twins.next(0), 1);
-    Ok(())
-}
-
-#[test]
-fn a_copy_has_the_same_lists(rt: HostRuntime) -> Result<(), Fail> {
-    let twins = Twins::of(rt.alloc(), &TETRAHEDRON)?;
-    let copy = twins.clone()?;
-    assert_eq!(rt; copy.triples(), twins.triples());
-    assert_eq!(rt; copy.twins(), twins.twins());
-    Ok(())
-}
-
-#[test]
-fn the_tetrahedron_has_one_fan_at_each_vertex(rt: HostRuntime) -> Result<(), Fail> {
-    let twins = Twins::of(rt.alloc(), &TETRAHEDRON)?;
-    let fans = twins.fans(rt.alloc())?;
-    assert_eq!(rt; fans.first.as_slice(), [0, 2, 1, 5].as_slice());
-    assert_eq!(rt;
-        fans.of.as_slice(),
-        [0, 2, 1, 0, 1, 3, 1, 2, 3, 2, 0, 3].as_slice()
-    );
-    Ok(())
-}
-
-#[test]
-fn vertex_numbers_may_be_far_above_the_number_of_triangles(rt: HostRuntime) -> Result<(), Fail> {
-    // All four vertices lie in one of the five buckets.
-    let far = [
-        [0, 4_000_000_000, 5],
-        [0, 5, u32::MAX],
-        [5, 4_000_000_000, u32::MAX],
-        [4_000_000_000, 0, u32::MAX],
-    ];
-    let twins = Twins::of(rt.alloc(), &far)?;
-    let near = Twins::of(rt.alloc(), &TETRAHEDRON)?;
-    assert_eq!(rt; twins.twins(), near.twins());
-    Ok(())
-}
-
-#[test]
-fn an_edge_that_is_used_four_times_is_paired_in_order(rt: HostRuntime) -> Result<(), Fail> {
-    let [a, b, c, d] = TETRAHEDRON;
-    let twins = Twins::of(rt.alloc(), &[a, b, c, d, a, b, c, d])?;
-    assert_eq!(rt; twins.twin(0), 9);
-    assert_eq!(rt; twins.twin(12), 21);
-    assert_eq!(rt; twins.fans(rt.alloc())?.first.len(), 8);
-    Ok(())
-}
 
 // The twins of triangles over so many points on a line.
 fn line_twins(alloc: Global, count: u8, triples: &[[u32; 3]]) -> Result<Twins, Fail> {
@@ -66,14 +11,89 @@ fn line_twins(alloc: Global, count: u8, triples: &[[u32; 3]]) -> Result<Twins, F
     Ok(Twins::of(alloc, soup.triples())?)
 }
 
+// The twin of a half-edge, and the half-edge after it.
+fn beside(twins: &Twins, half_edge: u32) -> Result<[u32; 2], Fail> {
+    if half_edge as usize >= 3 * twins.triples().len() {
+        return Err("no half-edge".into());
+    }
+    Ok([twins.twin(half_edge), twins.next(half_edge)])
+}
+
+// The twin of each half-edge of a tetrahedron.
+const ACROSS: [u32; 12] = [9, 6, 3, 2, 8, 10, 1, 11, 4, 0, 5, 7];
+
+fn are_of_tetrahedron(twins: &Twins) -> bool {
+    twins.triples() == TETRAHEDRON.as_slice() && twins.twins() == ACROSS.as_slice()
+}
+
+#[test]
+fn the_tetrahedron_has_its_twins(rt: HostRuntime) -> Result<(), Fail> {
+    let twins = line_twins(rt.alloc(), 4, &TETRAHEDRON)?;
+    assert!(rt; are_of_tetrahedron(&twins));
+    assert!(rt; beside(&twins, 0)? == [9, 1]);
+    assert!(rt; beside(&twins, 2)? == [3, 0]);
+    Ok(())
+}
+
+// A copy of a tetrahedron's twins.
+fn copied(alloc: Global) -> Result<Twins, Fail> {
+    let twins = line_twins(alloc, 4, &TETRAHEDRON)?;
+    Ok(twins.clone()?)
+}
+
+#[test]
+fn a_copy_has_the_same_lists(rt: HostRuntime) -> Result<(), Fail> {
+    let copy = copied(rt.alloc())?;
+    assert!(rt; are_of_tetrahedron(&copy));
+    Ok(())
+}
+
+// The fans at the vertices of a mesh over so many points on a line.
+fn line_fans(alloc: Global, count: u8, triples: &[[u32; 3]]) -> Result<Fans, Fail> {
+    let twins = line_twins(alloc, count, triples)?;
+    Ok(twins.fans(alloc)?)
+}
+
+#[test]
+fn the_tetrahedron_has_one_fan_at_each_vertex(rt: HostRuntime) -> Result<(), Fail> {
+    let fans = line_fans(rt.alloc(), 4, &TETRAHEDRON)?;
+    assert!(rt; fans.first.as_slice() == [0, 2, 1, 5].as_slice());
+    assert!(rt; fans.of.as_slice() == [0, 2, 1, 0, 1, 3, 1, 2, 3, 2, 0, 3].as_slice());
+    Ok(())
+}
+
+// A tetrahedron whose vertices all lie in one of the five buckets.
+const FAR: [[u32; 3]; 4] = [
+    [0, 4_000_000_000, 5],
+    [0, 5, u32::MAX],
+    [5, 4_000_000_000, u32::MAX],
+    [4_000_000_000, 0, u32::MAX],
+];
+
+#[test]
+fn vertex_numbers_may_be_far_above_the_number_of_triangles(rt: HostRuntime) -> Result<(), Fail> {
+    let twins = Twins::of(rt.alloc(), &FAR)?;
+    assert!(rt; twins.twins() == ACROSS.as_slice());
+    Ok(())
+}
+
+#[test]
+fn an_edge_that_is_used_four_times_is_paired_in_order(rt: HostRuntime) -> Result<(), Fail> {
+    let twins = line_twins(rt.alloc(), 4, &DOUBLED)?;
+    assert!(rt; beside(&twins, 0)? == [9, 1]);
+    assert!(rt; beside(&twins, 12)? == [21, 13]);
+    let fans = line_fans(rt.alloc(), 4, &DOUBLED)?;
+    assert!(rt; fans.first.len() == 8);
+    Ok(())
+}
+
 #[test]
 fn a_shared_vertex_has_two_fans(rt: HostRuntime) -> Result<(), Fail> {
-    let twins = line_twins(rt.alloc(), 15, &two_boxes(7))?;
-    let fans = twins.fans(rt.alloc())?;
-    assert_eq!(rt; fans.first.len(), 16);
+    let fans = line_fans(rt.alloc(), 15, &two_boxes(7))?;
+    assert!(rt; fans.first.len() == 16);
     // The first box's half-edges at vertex 7 begin with 8, the second's with 36.
-    assert_eq!(rt; fans.first[7], 8);
-    assert_eq!(rt; fans.first[8], 36);
+    assert!(rt; fans.first[7] == 8);
+    assert!(rt; fans.first[8] == 36);
     Ok(())
 }
 
@@ -91,11 +111,32 @@ fn a_shared_vertex_is_found(rt: HostRuntime) -> Result<(), Fail> {
     Ok(())
 }
 
+// Where these triangles over so many points on a line are open.
+fn fault_of(alloc: Global, count: u8, triples: &[[u32; 3]]) -> Result<Option<TwinFault>, Fail> {
+    let soup = line_soup(alloc, count, triples)?;
+    Ok(Twins::of(alloc, soup.triples()).err())
+}
+
+static OPEN: [(&str, u8, &[[u32; 3]], TwinFault); 2] = [
+    (
+        "no last face",
+        4,
+        &[[0, 2, 1], [0, 1, 3], [1, 2, 3]],
+        TwinFault::Open { from: 0, to: 2 },
+    ),
+    (
+        "three triangles at an edge",
+        5,
+        &[[0, 1, 2], [1, 0, 3], [0, 1, 4]],
+        TwinFault::Open { from: 0, to: 1 },
+    ),
+];
+
 #[test]
 fn the_least_open_edge_is_named(rt: HostRuntime) -> Result<(), Fail> {
-    let open = Twins::of(rt.alloc(), &TETRAHEDRON[..3]);
-    assert_eq!(rt; open.err(), Some(TwinFault::Open { from: 0, to: 2 }));
-    let thrice = Twins::of(rt.alloc(), &[[0, 1, 2], [1, 0, 3], [0, 1, 4]]);
-    assert_eq!(rt; thrice.err(), Some(TwinFault::Open { from: 0, to: 1 }));
+    for (name, count, triples, fault) in &OPEN {
+        let found = fault_of(rt.alloc(), *count, triples)?;
+        assert!(rt; found == Some(*fault), "{name}");
+    }
     Ok(())
 }

@@ -49,6 +49,9 @@ pub fn push_signed(text: &mut String, number: i64) -> Result<(), Fail> {
     if number < 0 {
         text.push('-')?;
     }
-    let size = u32::try_from(number.unsigned_abs()).map_err(|_| "no digit")?;
-    push_digit(text, size)
+    let size = number.unsigned_abs();
+    if size > 61 {
+        return Err("no digit".into());
+    }
+    push_digit(text, size as u32)
 }

@@ -31,8 +31,8 @@ fn read_op(word: &str) -> Result<Op, Fail> {
 fn read_points(alloc: Global, word: &str) -> Result<Vec<Point>, Fail> {
     let numbers = numbers_of(alloc, word)?;
     let mut points = Vec::new(alloc);
-    for at in numbers.chunks_exact(3) {
-        points.push(point_of(at[0], at[1], at[2])?)?;
+    for [x, y, z] in numbers.as_chunks::<3>().0 {
+        points.push(point_of(*x, *y, *z)?)?;
     }
     Ok(points)
 }
@@ -46,8 +46,8 @@ pub fn point_of(x: i8, y: i8, z: i8) -> Result<Point, Fail> {
 fn read_triples(alloc: Global, word: &str) -> Result<Vec<[u32; 3]>, Fail> {
     let numbers = numbers_of(alloc, word)?;
     let mut triples = Vec::new(alloc);
-    for at in numbers.chunks_exact(3) {
-        triples.push([vertex_of(at[0]), vertex_of(at[1]), vertex_of(at[2])])?;
+    for [a, b, c] in numbers.as_chunks::<3>().0 {
+        triples.push([vertex_of(*a), vertex_of(*b), vertex_of(*c)])?;
     }
     Ok(triples)
 }
@@ -76,7 +76,7 @@ pub fn read_meshes(alloc: Global, line: &str) -> Result<(Mesh, Mesh), Fail> {
 
 /// The operation and the two meshes of a line's first five words.
 pub fn read_pair(alloc: Global, line: &str) -> Result<(Op, Mesh, Mesh), Fail> {
-    let (op, rest) = line.split_once(" ").ok_or("no operation")?;
+    let (op, rest) = line.split_once(' ').ok_or("no operation")?;
     let op = read_op(op)?;
     let (p, q) = read_meshes(alloc, rest)?;
     Ok((op, p, q))

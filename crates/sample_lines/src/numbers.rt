@@ -54,9 +54,9 @@ fn hits_of(alloc: Global, p: &str, q: &str) -> Result<Hits, Fail> {
 
 /// The numbers of a line: a word of winding numbers for each mesh, then the hits of the first mesh's edges and, after a bar, of the second's, a word each.
 pub fn read_numbers(alloc: Global, line: &str) -> Result<(Windings, Hits), Fail> {
-    let (front, back) = line.split_once("|").ok_or("no bar")?;
-    let (w03, rest) = front.split_once(" ").ok_or("no windings")?;
-    let (w30, edges) = rest.split_once(" ").ok_or("no windings")?;
+    let (front, back) = line.split_once('|').ok_or("no bar")?;
+    let (w03, rest) = front.split_once(' ').ok_or("no windings")?;
+    let (w30, edges) = rest.split_once(' ').ok_or("no windings")?;
     let windings = windings_of(alloc, w03, w30)?;
     let hits = hits_of(alloc, edges, back)?;
     Ok((windings, hits))

@@ -1,5 +1,23 @@
 // Meshes with repeated and opposite triangles, and what is left of them.
 
+/// A box, and after it a two-sided triangle.
+pub const BOX_AND_SHEET: [[u32; 3]; 14] = [
+    [0, 3, 1],
+    [0, 2, 3],
+    [4, 5, 7],
+    [4, 7, 6],
+    [0, 1, 4],
+    [1, 5, 4],
+    [1, 3, 7],
+    [1, 7, 5],
+    [3, 2, 6],
+    [3, 6, 7],
+    [0, 4, 6],
+    [0, 6, 2],
+    [8, 9, 10],
+    [8, 10, 9],
+];
+
 /// A two-sided triangle, and beside it a box, whose corners have the numbers 3 to 10.
 pub const SHEET_AND_BOX: [[u32; 3]; 14] = [
     [1, 2, 0],
