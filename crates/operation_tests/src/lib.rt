@@ -2,6 +2,10 @@
 #![tactic(auto)]
 
 #[cfg(test)]
+mod faces;
+#[cfg(test)]
 mod prescribed;
 #[cfg(test)]
 mod results;
+#[cfg(test)]
+mod sums;
