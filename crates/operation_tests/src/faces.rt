@@ -9,6 +9,7 @@ mod table;
 mod text;
 mod words;
 
+use crate::rows::{Kind, expect_rows};
 use handed::are_numbers;
 use lean::Side;
 use mb_base::{Hits, Limits, Op, Windings};
@@ -85,8 +86,8 @@ fn answer(alloc: Global, meshes: &str, numbers: &str) -> Result<String, Fail> {
     answer_of_meshes(alloc, op, &p, &q, numbers)
 }
 
-// Compares that with the line of the table.
-fn expect_line(
+/// Compares that with the line of the table.
+pub fn expect_line(
     rt: &impl Abort,
     alloc: Global,
     meshes: &str,
@@ -100,13 +101,5 @@ fn expect_line(
 
 #[test]
 fn agrees_with_the_table(rt: HostRuntime) -> Result<(), Fail> {
-    let mut lines = PAIRS.lines();
-    for _ in 0..100 {
-        let meshes = lines.next().ok_or("no meshes")?;
-        let numbers = lines.next().ok_or("no numbers")?;
-        let expected = lines.next().ok_or("no answer")?;
-        expect_line(&rt, rt.alloc(), meshes, numbers, expected)?;
-    }
-    assert!(rt; lines.next().is_none());
-    Ok(())
+    expect_rows(&rt, rt.alloc(), &Kind::Faces, PAIRS, 100)
 }

@@ -179,23 +179,23 @@ fn done_from<L: Ledger>(alloc: Global, blank: Blank, case: Case) -> Result<([usi
     Ok(([points, 0, 0], most))
 }
 
-#[test]
-fn three_operations_on_two_boxes_take_at_most_six_sums(rt: HostRuntime) -> Result<(), Fail> {
-    let done = done_from::<Brand>(rt.alloc(), Blank::new(1), Case::PostThroughBox)?;
-    assert_eq!(rt; done, ([22, 14, 22], 6));
-    Ok(())
-}
+// What is done, the points that it gives, and the most by which it raises the counter.
+const DONE: [(Case, [usize; 3], u64); 3] = [
+    (Case::PostThroughBox, [22, 14, 22], 6),
+    (Case::CutLattice, [36_800, 0, 0], 8001),
+    (Case::JoinedBoxes, [24, 0, 0], 2),
+];
 
+// Three operations on two boxes take six sums at most, a cut of a lattice one for each box and one for the cutting box, and two
+// boxes that share a vertex count as one component.
 #[test]
-fn a_cut_of_a_lattice_takes_at_most_one_sum_for_each_box(rt: HostRuntime) -> Result<(), Fail> {
-    let done = done_from::<Brand>(rt.alloc(), Blank::new(1), Case::CutLattice)?;
-    assert_eq!(rt; done, ([36_800, 0, 0], 8001));
-    Ok(())
-}
-
-#[test]
-fn boxes_that_share_a_vertex_count_as_one_component(rt: HostRuntime) -> Result<(), Fail> {
-    let done = done_from::<Brand>(rt.alloc(), Blank::new(1), Case::JoinedBoxes)?;
-    assert_eq!(rt; done, ([24, 0, 0], 2));
+fn operations_take_at_most_a_sum_for_each_component(rt: HostRuntime) -> Result<(), Fail> {
+    for (case, points, most) in DONE {
+        let (given, sums) = done_from::<Brand>(rt.alloc(), Blank::new(1), case)?;
+        assert!(rt;
+            given == points && sums == most,
+            "where {most} are the most: {sums}"
+        );
+    }
     Ok(())
 }

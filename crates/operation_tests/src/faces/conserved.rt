@@ -39,7 +39,7 @@ fn number_in(hit: &Hit, edge: u32, face: u32) -> i64
     ensures { result ≡ cond ((hit.now.edge == edge) && (hit.now.face == face)) hit.now.number (pos 0) }
 {
     if hit.edge == edge && hit.face == face {
-        i64::from(hit.number)
+        hit.number as i64
     } else {
         0
     }

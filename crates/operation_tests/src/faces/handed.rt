@@ -7,9 +7,9 @@ ghost use Rattle.retained_verts.specs.Small.{AreSmallWindings};
 ghost use Rattle.side_terms.specs.Hits.{AreHits};
 
 use crate::faces::conserved::are_conserved;
+use crate::handed::are_of_sides;
 use lean::Side;
 use mb_base::{Hits, Windings};
-use sample_lines::{are_hits, are_windings};
 
 /// Whether these are numbers of two sides, and conserved.
 pub fn are_numbers(p: &Side, q: &Side, windings: &Windings, hits: &Hits) -> bool
@@ -21,9 +21,5 @@ pub fn are_numbers(p: &Side, q: &Side, windings: &Windings, hits: &Hits) -> bool
     ensures x21 { IsTrue result → AreHits (all_edges q.now.triples) (length p.now.triples) hits.now.x21.items }
     ensures conserved { IsTrue result → AreConserved p.now q.now (numbers windings.now hits.now) }
 {
-    are_windings(p, &windings.w03)
-        && are_windings(q, &windings.w30)
-        && are_hits(p, q, &hits.x12)
-        && are_hits(q, p, &hits.x21)
-        && are_conserved(p, q, windings, hits)
+    are_of_sides(p, q, windings, hits) && are_conserved(p, q, windings, hits)
 }

@@ -1,4 +1,4 @@
-use Rattle.operation_tests.proofs.sums.three_operations_on_two_boxes_take_at_most_six_sums.Given as goal
+use Rattle.operation_tests.proofs.sums.operations_take_at_most_a_sum_for_each_component.Given as goal
 
 -- the ledger is that of the blank
 abbrev pub ghosts-done_from : goal.ghosts-done_from
