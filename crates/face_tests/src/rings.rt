@@ -4,13 +4,18 @@ ghost use Rattle.std.specs.Prelude.{◌≡◌};
 use loop_ring::Ring;
 use std::test::Fail;
 
+// Whether a list has this value at a place.
+fn is_at(list: &[u32], place: usize, value: u32) -> bool {
+    place < list.len() && list[place] == value
+}
+
 /// Whether a ring has these values from its cursor once round, by `get` and `step`, which bring the cursor back.
 pub fn has(ring: &mut Ring, wanted: &[u32]) -> bool
     ensures { ring.new ≡ ring.old }
 {
     let mut same = ring.len() == wanted.len();
     for place in 0..ring.len() {
-        same = same && place < wanted.len() && wanted[place] == ring.get();
+        same &= is_at(wanted, place, ring.get());
         ring.step();
     }
     same
