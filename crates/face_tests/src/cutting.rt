@@ -6,25 +6,14 @@ ghost use Rattle.face_plane.specs.Rings.{Ringy, Three};
 
 mod table;
 
-use crate::words::{numbers_of, vertices_of};
+use crate::rows::{Kind, expect_rows};
+use crate::words::{is_filling, parts_of, points_of, vertices_of};
 use face_plane::FacePlane;
 use loop_ring::Ring;
-use mb_base::Point;
 use ring_cutting::{Filled, cut_ring, some_place_may_be_cut};
 use std::alloc::Global;
 use std::test::Fail;
 use table::ROWS;
-
-// The points whose u and v are the numbers of a text, two by two.
-fn points_of(alloc: Global, text: &str) -> Result<Vec<Point>, Fail> {
-    let mut points = Vec::new(alloc);
-    for pair in numbers_of(alloc, text)?.chunks(2) {
-        if let [u, v] = pair {
-            points.push(Point::of(*u, *v, 0).ok_or("a point of the grid")?)?;
-        }
-    }
-    Ok(points)
-}
 
 // Whether neighbouring places have different vertices.
 fn are_apart(ring: &[u32]) -> bool
@@ -53,8 +42,8 @@ fn has_third(ring: &[u32]) -> bool
     false
 }
 
-// Whether each vertex is one of so many.
-fn are_below(ring: &[u32], count: usize) -> bool
+/// Whether each vertex is one of so many.
+pub fn are_below(ring: &[u32], count: usize) -> bool
     ensures { IsTrue result → All (λ v. v < count) ring.now }
 {
     for v in ring {
@@ -75,46 +64,31 @@ fn can_be_cut(ring: &[u32], count: usize) -> bool
     some && are_apart(ring) && has_third(ring) && are_below(ring, count)
 }
 
-// The five parts of a line.
-fn parts(line: &str) -> Option<(&str, &str, &str, &str, &str)> {
-    let (sign, rest) = line.split_once(" : ")?;
-    let (points, rest) = rest.split_once(" : ")?;
-    let (ring, rest) = rest.split_once(" : ")?;
-    let (triples, forced) = rest.split_once(" : ")?;
-    Some((sign, points, ring, triples, forced))
-}
-
 // The triangles of a ring, cut in the plane of a sign.
 fn cut(alloc: Global, sign: &str, points: &str, ring: &str) -> Result<Filled, Fail> {
-    let points = points_of(alloc, points)?;
+    let points = points_of(alloc, points, 2)?;
     let places = vertices_of(alloc, ring)?;
     if !can_be_cut(&places, points.len()) {
-        return Err(Fail::from("a ring"));
+        return Err("a ring".into());
     }
     let plane = FacePlane { drop: 2 };
     let turned = sign == "~";
     Ok(cut_ring(alloc, plane, turned, Ring::of(alloc, &places)?, &points)?)
 }
 
-// Whether a ring is cut into the triangles of its line.
-fn agrees(alloc: Global, line: &str) -> Result<bool, Fail> {
-    let (sign, points, ring, triples, forced) = parts(line).ok_or("five parts")?;
+/// Whether a ring is cut into the triangles of its line.
+pub fn agrees(alloc: Global, line: &str) -> Result<bool, Fail> {
+    let parts = parts_of(alloc, line, " : ")?;
+    let [sign, points, ring, triples, forced] = parts.as_slice() else {
+        return Err("five parts".into());
+    };
     let filled = cut(alloc, sign, points, ring)?;
     let wanted = vertices_of(alloc, triples)?;
-    let mut corners = Vec::new(alloc);
-    for triple in &filled.triples {
-        corners.extend_from_slice(triple)?;
-    }
-    let forced = forced.parse::<u64>()?;
-    Ok(corners.as_slice() == wanted.as_slice() && filled.forced == forced)
+    is_filling(alloc, &filled, &wanted, forced.parse::<u32>()? as u64)
 }
 
 #[test]
 fn hard_rings_are_cut_by_the_rule(rt: HostRuntime) -> Result<(), Fail> {
-    assert!(rt; ROWS.lines().count() == 29);
-    for line in ROWS.lines() {
-        assert!(rt; agrees(rt.alloc(), line)?, "{line}");
-    }
     some_place_may_be_cut();
-    Ok(())
+    expect_rows(&rt, rt.alloc(), &Kind::Cuts, ROWS, 29)
 }

@@ -4,11 +4,14 @@ ghost use Rattle.std.specs.List.{concat};
 ghost use Rattle.face_loops.specs.Segments.{AreDifferent};
 ghost use Rattle.hole_joining.specs.Laws.{AreFillable};
 
-mod joined;
+pub mod joined;
 mod joined_rows;
 mod rows;
 
-use crate::words::vertices_of;
+use crate::cutting::are_below;
+use crate::rings::has;
+use crate::rows::{Kind, expect_rows};
+use crate::words::{is_filling, numbers_of, parts_of, point_of, vertices_of};
 use face_loops::Loop;
 use mb_base::{NoMemory, Point};
 use rows::{HARD, RANDOM};
@@ -58,41 +61,40 @@ pub(crate) fn can_fill(alloc: Global, loops: &[Loop], points: usize) -> Result<b
 {
     let vertices = all_vertices(alloc, loops)?;
     let long = loops.iter().all(|one| one.vertices().len() >= 3);
-    let below = vertices.iter().all(|v| (*v as usize) < points);
+    let below = are_below(&vertices, points);
     Ok(vertices.len() <= 60_000_000 && long && below && are_different(&vertices))
 }
 
 // The filling of loops that can be filled.
-fn filled(alloc: Global, drop: u8, loops: &[Loop], points: &[Point]) -> Result<Filled, Fail> {
+fn filled(alloc: Global, drop: u32, loops: &[Loop], points: &[Point]) -> Result<Filled, Fail> {
     if drop >= 3 || !can_fill(alloc, loops, points.len())? {
-        return Err(Fail::from("loops"));
+        return Err("loops".into());
     }
-    Ok(fill(alloc, FacePlane { drop }, loops, points)?)
+    Ok(fill(alloc, FacePlane { drop: drop as u8 }, loops, points)?)
 }
 
 // The vertex that a letter stands for.
 fn vertex(letter: u8) -> u32 {
-    u32::from(letter.wrapping_sub(b'a'))
+    letter.wrapping_sub(b'a') as u32
 }
 
 fn digit(byte: u8) -> i32 {
-    i32::from(byte) - 48
+    byte as i32 - 48
 }
 
-fn point_of(word: &str) -> Option<Point> {
+// The point of three digits, or of three numbers with commas between them.
+fn point_of_word(alloc: Global, word: &str) -> Result<Point, Fail> {
     if let [x, y, z] = word.as_bytes() {
-        return Point::of(digit(*x), digit(*y), digit(*z));
+        return point_of(&[digit(*x), digit(*y), digit(*z)]);
     }
-    let (x, rest) = word.split_once(",")?;
-    let (y, z) = rest.split_once(",")?;
-    Point::of(x.parse().ok()?, y.parse().ok()?, z.parse().ok()?)
+    point_of(&numbers_of(alloc, word, ",")?)
 }
 
 // The points of a text, with this sign between them.
-pub(crate) fn points_of(alloc: Global, text: &str, between: char) -> Result<Vec<Point>, Fail> {
+pub(crate) fn points_of(alloc: Global, text: &str, between: &str) -> Result<Vec<Point>, Fail> {
     let mut points = Vec::new(alloc);
     for word in text.split(between) {
-        points.push(point_of(word).ok_or("a point")?)?;
+        points.push(point_of_word(alloc, word)?)?;
     }
     Ok(points)
 }
@@ -106,96 +108,52 @@ fn lettered(alloc: Global, letters: &[u8]) -> Result<Vec<u32>, Fail> {
     Ok(vertices)
 }
 
-// The vertices of letters without spaces between, or of numbers with spaces.
-fn listed(alloc: Global, text: &str) -> Result<Vec<u32>, Fail> {
-    if text.contains(" ") {
-        return vertices_of(alloc, text);
-    }
-    lettered(alloc, text.as_bytes())
-}
-
-pub(crate) fn loops_of(alloc: Global, text: &str) -> Result<Vec<Loop>, Fail> {
+// Loops, with strokes between them, of letters or of numbers with blanks between them.
+pub(crate) fn loops_of(alloc: Global, text: &str, is_lettered: bool) -> Result<Vec<Loop>, Fail> {
     let mut loops = Vec::new(alloc);
     for part in text.split("/") {
-        loops.push(Loop::of(listed(alloc, part)?))?;
+        loops.push(Loop::of(if is_lettered {
+            lettered(alloc, part.as_bytes())?
+        } else {
+            vertices_of(alloc, part)?
+        }))?;
     }
     Ok(loops)
 }
 
-// The corners of triangles, one triangle after the other.
-fn corners(alloc: Global, triples: &[[u32; 3]]) -> Result<Vec<u32>, Fail> {
-    let mut corners = Vec::new(alloc);
-    for triple in triples {
-        corners.extend_from_slice(triple)?;
-    }
-    Ok(corners)
-}
-
-// Whether a filling has the triangles of the letters, and as many forced.
-fn is_filling(alloc: Global, filled: &Filled, letters: &str, forced: u64) -> Result<bool, Fail> {
-    let wanted = lettered(alloc, letters.as_bytes())?;
-    let corners = corners(alloc, &filled.triples)?;
-    Ok(corners.as_slice() == wanted.as_slice() && filled.forced == forced)
-}
-
-// The five parts of a line.
-fn parts(line: &str) -> Option<(&str, &str, &str, &str, &str)> {
-    let (drop, rest) = line.split_once(" ")?;
-    let (points, rest) = rest.split_once(" ")?;
-    let (loops, rest) = rest.split_once(" ")?;
-    let (triples, forced) = rest.split_once(" ")?;
-    Some((drop, points, loops, triples, forced))
-}
-
-fn agrees(alloc: Global, line: &str) -> Result<bool, Fail> {
-    let (drop, points, loops, triples, forced) = parts(line).ok_or("five parts")?;
-    let drop = drop.parse::<u8>().ok().ok_or("an axis")?;
-    let forced = forced.parse::<u64>().ok().ok_or("a count")?;
-    let points = points_of(alloc, points, ';')?;
-    let loops = loops_of(alloc, loops)?;
-    let filled = filled(alloc, drop, &loops, &points)?;
-    is_filling(alloc, &filled, triples, forced)
+/// Whether the loops of a line are filled as it tells.
+pub fn agrees(alloc: Global, line: &str) -> Result<bool, Fail> {
+    let parts = parts_of(alloc, line, " ")?;
+    let [drop, points, loops, triples, forced] = parts.as_slice() else {
+        return Err("five parts".into());
+    };
+    let points = points_of(alloc, points, ";")?;
+    let loops = loops_of(alloc, loops, true)?;
+    let filled = filled(alloc, drop.parse::<u32>()?, &loops, &points)?;
+    let wanted = lettered(alloc, triples.as_bytes())?;
+    is_filling(alloc, &filled, &wanted, forced.parse::<u32>()? as u64)
 }
 
 #[test]
 fn hard_loops_are_filled_by_the_rule(rt: HostRuntime) -> Result<(), Fail> {
-    assert!(rt; HARD.lines().count() == 25);
-    for line in HARD.lines() {
-        assert!(rt; agrees(rt.alloc(), line)?, "{line}");
-    }
-    Ok(())
+    expect_rows(&rt, rt.alloc(), &Kind::Fillings, HARD, 25)
 }
 
 #[test]
 fn random_loops_are_filled_by_the_rule(rt: HostRuntime) -> Result<(), Fail> {
-    assert!(rt; RANDOM.lines().count() == 300);
-    for line in RANDOM.lines() {
-        assert!(rt; agrees(rt.alloc(), line)?, "{line}");
-    }
-    Ok(())
-}
-
-// Whether a ring has these vertices, from its cursor on.
-pub(crate) fn is_ring(mut ring: Ring, wanted: &[u32]) -> bool {
-    for vertex in wanted {
-        if ring.get() != *vertex {
-            return false;
-        }
-        ring.step();
-    }
-    ring.len() == wanted.len()
+    expect_rows(&rt, rt.alloc(), &Kind::Fillings, RANDOM, 300)
 }
 
 // A triangle with a hole: its loops joined to one ring, and the ring cut.
 fn joined_and_cut(alloc: Global) -> Result<bool, Fail> {
-    let points = points_of(alloc, "0,0,0;10,0,0;10,10,0;520;640;720", ';')?;
-    let loops = loops_of(alloc, "abc/def")?;
+    let points = points_of(alloc, "0,0,0;10,0,0;10,10,0;520;640;720", ";")?;
+    let loops = loops_of(alloc, "abc/def", true)?;
     let plane = FacePlane { drop: 2 };
     if !can_fill(alloc, &loops, points.len())? {
         return Ok(false);
     }
-    for ring in join_holes(alloc, plane, &loops, &points)?.rings {
-        if !is_ring(ring, &[0, 1, 5, 3, 4, 5, 1, 2]) {
+    for mut ring in join_holes(alloc, plane, &loops, &points)?.rings {
+        if !has(&mut ring, &[0, 1, 5, 3, 4, 5, 1, 2]) {
             return Ok(false);
         }
     }
@@ -206,7 +164,8 @@ fn joined_and_cut(alloc: Global) -> Result<bool, Fail> {
             return Ok(false);
         }
         let filled = cut_ring(alloc, plane, joined.turned, ring, &points)?;
-        if !is_filling(alloc, &filled, "abfafdadecaeceffbc", 0)? {
+        let wanted = lettered(alloc, "abfafdadecaeceffbc".as_bytes())?;
+        if !is_filling(alloc, &filled, &wanted, 0)? {
             return Ok(false);
         }
         count = 1;

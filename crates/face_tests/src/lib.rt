@@ -14,4 +14,6 @@ mod planes;
 #[cfg(test)]
 mod rings;
 #[cfg(test)]
+mod rows;
+#[cfg(test)]
 mod words;

@@ -5,7 +5,8 @@ ghost use Rattle.face_loops.specs.Segments.{edges_of, is_once, IsOneToOne};
 
 mod table;
 
-use crate::words::vertices_of;
+use crate::rows::{Kind, expect_rows};
+use crate::words::{parts_of, vertices_of};
 use face_loops::loops;
 use mb_base::{NoMemory, Segment};
 use std::alloc::Global;
@@ -62,9 +63,12 @@ fn listed(alloc: Global, segments: &[Segment]) -> Result<Vec<u32>, Fail> {
     Ok(list)
 }
 
-// Whether the loops of a line are those of its segments.
-fn agrees(alloc: Global, line: &str) -> Result<bool, Fail> {
-    let (segments, wanted) = line.split_once(':').ok_or("no loops")?;
+/// Whether the loops of a line are those of its segments.
+pub fn agrees(alloc: Global, line: &str) -> Result<bool, Fail> {
+    let parts = parts_of(alloc, line, ":")?;
+    let [segments, wanted] = parts.as_slice() else {
+        return Err("two parts".into());
+    };
     let segments = segments_of(alloc, &vertices_of(alloc, segments)?)?;
     let list = listed(alloc, &segments)?;
     Ok(list.as_slice() == vertices_of(alloc, wanted)?.as_slice())
@@ -72,11 +76,5 @@ fn agrees(alloc: Global, line: &str) -> Result<bool, Fail> {
 
 #[test]
 fn segments_form_the_loops_of_the_table(rt: HostRuntime) -> Result<(), Fail> {
-    let mut count = 0u32;
-    for line in ROWS.lines() {
-        assert!(rt; agrees(rt.alloc(), line)?, "{line}");
-        count = count.saturating_add(1);
-    }
-    assert_eq!(rt; count, 72);
-    Ok(())
+    expect_rows(&rt, rt.alloc(), &Kind::Loops, ROWS, 72)
 }

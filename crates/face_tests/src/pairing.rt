@@ -5,7 +5,8 @@ ghost use Rattle.edge_pairing.specs.Entries.{starts_of, ends_of};
 
 mod table;
 
-use crate::words::numbers_of;
+use crate::rows::{Kind, expect_rows};
+use crate::words::{parts_of, points_of, vertices_of};
 use edge_pairing::{exchange_reverses, segments_of_edge, segments_of_pair};
 use mb_base::{Entry, Point, Segment};
 use std::alloc::Global;
@@ -34,24 +35,13 @@ fn are_below(entries: &[Entry], points: &[Point]) -> bool
     entries.iter().all(|e| (e.vertex as usize) < points.len())
 }
 
-// The points whose coordinates are the numbers of a text, three by three.
-fn points_of(alloc: Global, text: &str) -> Result<Vec<Point>, Fail> {
-    let mut points = Vec::new(alloc);
-    for three in numbers_of(alloc, text)?.chunks(3) {
-        if let [x, y, z] = three {
-            points.push(Point::of(*x, *y, *z).ok_or("outside the grid")?)?;
-        }
-    }
-    Ok(points)
-}
-
 // The entries of a text: of each its vertex, and 1 where it is a start.
 fn entries_of(alloc: Global, text: &str) -> Result<Vec<Entry>, Fail> {
     let mut entries = Vec::new(alloc);
-    for pair in numbers_of(alloc, text)?.chunks(2) {
+    for pair in vertices_of(alloc, text)?.chunks(2) {
         if let [vertex, start] = pair {
             entries.push(Entry {
-                vertex: u32::try_from(*vertex)?,
+                vertex: *vertex,
                 start: *start == 1,
             })?;
         }
@@ -60,11 +50,11 @@ fn entries_of(alloc: Global, text: &str) -> Result<Vec<Entry>, Fail> {
 }
 
 // The ends of the segments, two by two.
-fn listed(alloc: Global, segments: &[Segment]) -> Result<Vec<i32>, Fail> {
+fn listed(alloc: Global, segments: &[Segment]) -> Result<Vec<u32>, Fail> {
     let mut list = Vec::new(alloc);
     for segment in segments {
-        list.push(i32::try_from(segment.from)?)?;
-        list.push(i32::try_from(segment.to)?)?;
+        list.push(segment.from)?;
+        list.push(segment.to)?;
     }
     Ok(list)
 }
@@ -75,7 +65,7 @@ fn found(
     edge: &[Point],
     entries: &[Entry],
     points: &[Point],
-) -> Result<Vec<i32>, Fail> {
+) -> Result<Vec<u32>, Fail> {
     if !is_balanced(entries) || !are_below(entries, points) {
         return Err("not to be paired".into());
     }
@@ -85,25 +75,21 @@ fn found(
     listed(alloc, &segments_of_pair(alloc, entries, points)?)
 }
 
-// Whether the segments of a line are those of its entries.
-fn agrees(alloc: Global, line: &str) -> Result<bool, Fail> {
-    let (edge, rest) = line.split_once('|').ok_or("no entries")?;
-    let (entries, rest) = rest.split_once('|').ok_or("no points")?;
-    let (points, wanted) = rest.split_once('|').ok_or("no segments")?;
-    let edge = points_of(alloc, edge)?;
+/// Whether the segments of a line are those of its entries.
+pub fn agrees(alloc: Global, line: &str) -> Result<bool, Fail> {
+    let parts = parts_of(alloc, line, "|")?;
+    let [edge, entries, points, wanted] = parts.as_slice() else {
+        return Err("four parts".into());
+    };
+    let edge = points_of(alloc, edge, 3)?;
     let entries = entries_of(alloc, entries)?;
-    let list = found(alloc, &edge, &entries, &points_of(alloc, points)?)?;
-    Ok(list.as_slice() == numbers_of(alloc, wanted)?.as_slice())
+    let list = found(alloc, &edge, &entries, &points_of(alloc, points, 3)?)?;
+    Ok(list.as_slice() == vertices_of(alloc, wanted)?.as_slice())
 }
 
 #[test]
 fn entries_are_paired_as_in_the_table(rt: HostRuntime) -> Result<(), Fail> {
-    let mut count = 0u32;
-    for line in EDGES.lines().chain(PAIRS.lines()) {
-        assert!(rt; agrees(rt.alloc(), line)?, "{line}");
-        count = count.saturating_add(1);
-    }
-    assert_eq!(rt; count, 83);
     exchange_reverses();
-    Ok(())
+    expect_rows(&rt, rt.alloc(), &Kind::Pairs, EDGES, 41)?;
+    expect_rows(&rt, rt.alloc(), &Kind::Pairs, PAIRS, 42)
 }

@@ -1,0 +1,2 @@
+mod Conserved
+pub mod Counted

@@ -1,7 +1,15 @@
-//! Tests of what operations prescribe and give, by the public calls.
+//! Tests of what operations prescribe and give, of their source faces and of their sums, by the public calls.
 #![tactic(auto)]
 
+#[cfg(test)]
+mod faces;
+#[cfg(test)]
+mod handed;
 #[cfg(test)]
 mod prescribed;
 #[cfg(test)]
 mod results;
+#[cfg(test)]
+mod rows;
+#[cfg(test)]
+mod sums;

@@ -1,13 +1,13 @@
 // What numbers prescribe, on boxes and on pairs of small meshes.
-mod handed;
 mod table;
 mod text;
 
-use handed::prescribed;
+use crate::handed::are_of_sides;
+use crate::rows::{Kind, expect_rows};
 use lean::Side;
 use mb_base::{Limits, Op};
 use mesh_check::Mesh;
-use retained_verts::{PrescribeFault, Prescribed};
+use retained_verts::{PrescribeFault, Prescribed, prescribe};
 use sample_lines::{POST_IN_BOX, plain_side, read_meshes, read_numbers, read_pair};
 use std::alloc::Global;
 use std::process::Abort;
@@ -25,7 +25,10 @@ fn answer_of_sides(
     limits: &Limits,
 ) -> Result<Result<Prescribed, PrescribeFault>, Fail> {
     let (windings, hits) = read_numbers(alloc, numbers)?;
-    prescribed(alloc, op, p, q, &windings, &hits, limits)
+    if !are_of_sides(p, q, &windings, &hits) {
+        return Err("other numbers".into());
+    }
+    Ok(prescribe(alloc, op, p, q, &windings, &hits, limits))
 }
 
 // What they prescribe for two meshes without marks.
@@ -42,8 +45,8 @@ fn answer(
     answer_of_sides(alloc, op, &p, &q, numbers, limits)
 }
 
-// Compares what a pair prescribes with the line of a table.
-fn expect_line(
+/// Compares what a pair prescribes with the line of a table.
+pub fn expect_line(
     rt: &impl Abort,
     alloc: Global,
     meshes: &str,
@@ -59,48 +62,48 @@ fn expect_line(
 
 #[test]
 fn agrees_with_the_table(rt: HostRuntime) -> Result<(), Fail> {
-    let mut lines = PAIRS.lines();
-    for _ in 0..60 {
-        let meshes = lines.next().ok_or("no meshes")?;
-        let numbers = lines.next().ok_or("no numbers")?;
-        let expected = lines.next().ok_or("no answer")?;
-        expect_line(&rt, rt.alloc(), meshes, numbers, expected)?;
-    }
-    assert!(rt; lines.next().is_none());
-    Ok(())
+    expect_rows(&rt, rt.alloc(), &Kind::Prescribed, PAIRS, 60)
 }
 
 // The numbers of the box and the post.
 const NUMBERS: &str =
     "00000000 11110000 84144a 86-166a | d2154a e3-134a f2164a j3167a k2-165a p3137a q3-157a w3-135a";
 
-// What the boxes prescribe for an operation, with as many half-edges at most: the counts, or the half-edges alone where
-// they are too many.
-fn boxes(alloc: Global, op: Op, halfedges: u32) -> Result<Result<[u64; 4], u64>, Fail> {
-    let limits = Limits::of(1 << 30, 15_000_000, 10_000_000, halfedges).ok_or("no limits")?;
-    let (p, q) = read_meshes(alloc, POST_IN_BOX)?;
-    match answer(alloc, op, &p, &q, NUMBERS, &limits)? {
-        Ok(all) => Ok(Ok([all.kept[0], all.kept[1], all.crossings, all.halfedges])),
-        Err(PrescribeFault::TooLarge { seen }) => Ok(Err(seen)),
+// Whether what is prescribed is within its limits, and the counts, or the half-edges alone where they are too many.
+fn counts_of(all: &Result<Prescribed, PrescribeFault>) -> Result<(bool, [u64; 4]), Fail> {
+    match all {
+        Ok(all) => Ok((
+            true,
+            [all.kept[0], all.kept[1], all.crossings, all.halfedges],
+        )),
+        Err(PrescribeFault::TooLarge { seen }) => Ok((false, [0, 0, 0, *seen])),
         Err(PrescribeFault::NoMemory) => Err("no memory".into()),
     }
 }
 
+// That of the boxes for an operation, with as many half-edges at most.
+fn boxes(alloc: Global, op: Op, halfedges: u32) -> Result<(bool, [u64; 4]), Fail> {
+    let limits = Limits::of(1 << 30, 15_000_000, 10_000_000, halfedges).ok_or("no limits")?;
+    let (p, q) = read_meshes(alloc, POST_IN_BOX)?;
+    let all = answer(alloc, op, &p, &q, NUMBERS, &limits)?;
+    counts_of(&all)
+}
+
 // The counts at limits that are just enough, and the half-edges below them.
-const COUNTS: [(Op, u32, Result<[u64; 4], u64>); 6] = [
-    (Op::Union, 84, Ok([8, 4, 10, 84])),
-    (Op::Intersect, 48, Ok([0, 4, 10, 48])),
-    (Op::Subtract, 84, Ok([8, 4, 10, 84])),
-    (Op::Union, 83, Err(84)),
-    (Op::Intersect, 47, Err(48)),
-    (Op::Subtract, 0, Err(84)),
+const COUNTS: [(Op, u32, bool, [u64; 4]); 6] = [
+    (Op::Union, 84, true, [8, 4, 10, 84]),
+    (Op::Intersect, 48, true, [0, 4, 10, 48]),
+    (Op::Subtract, 84, true, [8, 4, 10, 84]),
+    (Op::Union, 83, false, [0, 0, 0, 84]),
+    (Op::Intersect, 47, false, [0, 0, 0, 48]),
+    (Op::Subtract, 0, false, [0, 0, 0, 84]),
 ];
 
 #[test]
 fn a_post_in_a_box_is_counted(rt: HostRuntime) -> Result<(), Fail> {
-    for (op, halfedges, wanted) in COUNTS {
-        let counts = boxes(rt.alloc(), op, halfedges)?;
-        assert!(rt; counts == wanted, "at {halfedges}");
+    for (op, halfedges, is_within, wanted) in COUNTS {
+        let (within, counts) = boxes(rt.alloc(), op, halfedges)?;
+        assert!(rt; within == is_within && counts == wanted, "at {halfedges}");
     }
     Ok(())
 }

@@ -5,13 +5,13 @@ mod table;
 mod text;
 mod volume;
 
-use edge_face::Kernels;
+use crate::rows::{Kind, expect_rows};
 use mb_base::{Limits, Op};
 use mesh_boolean::{Outcome, boolean};
 use mesh_check::Mesh;
 use retained_verts::PrescribeFault;
 use rounding::{Nearest, Rounding};
-use sample_lines::{Low, read_pair};
+use sample_lines::{Low, POST_IN_BOX, read_meshes, read_pair};
 use shadow_kernels::Grid;
 use std::alloc::Global;
 use std::marker::Brand;
@@ -23,13 +23,13 @@ use table::{LOOSE, SOLIDS, WORKED};
 use text::text_of;
 use volume::volume6;
 
-// What an operation gives.
-fn answer<K: Kernels, L: Ledger>(
+// What an operation gives under a rounding.
+fn answer<R: Rounding + Copy, L: Ledger>(
     alloc: Global,
     op: Op,
     p: &Mesh,
     q: &Mesh,
-    kernels: &K,
+    rounding: R,
     limits: &Limits,
     blank: Blank,
 ) -> Result<Outcome, PrescribeFault>
@@ -38,10 +38,10 @@ fn answer<K: Kernels, L: Ledger>(
     requires some { 0 < blank.parts }
 {
     let mut steps = Steps::<L>::over(blank);
-    boolean(alloc, op, p, q, kernels, limits, &mut steps)
+    boolean(alloc, op, p, q, &Grid { rounding }, limits, &mut steps)
 }
 
-// What it gives under a rounding.
+// That, with a counter of steps that begins anew.
 fn rounded<R: Rounding + Copy>(
     alloc: Global,
     op: Op,
@@ -50,24 +50,29 @@ fn rounded<R: Rounding + Copy>(
     rounding: R,
     limits: &Limits,
 ) -> Result<Outcome, PrescribeFault> {
-    let kernels = Grid { rounding };
-    answer::<Grid<R>, Brand>(alloc, op, p, q, &kernels, limits, Blank::new(1))
+    answer::<R, Brand>(alloc, op, p, q, rounding, limits, Blank::new(1))
 }
 
-// That, as the tables write it.
-fn written<R: Rounding + Copy>(
+// Compares what it gives, as the tables write it, with a line.
+fn expect_text<R: Rounding + Copy>(
+    rt: &impl Abort,
     alloc: Global,
     op: Op,
     p: &Mesh,
     q: &Mesh,
     rounding: R,
-) -> Result<String, Fail> {
+    expected: &str,
+    place: (&str, &str),
+) -> Result<(), Fail> {
     let outcome = rounded(alloc, op, p, q, rounding, &Limits::program())?;
-    text_of(alloc, &outcome)
+    let text = text_of(alloc, &outcome)?;
+    let (rule, meshes) = place;
+    assert_eq!(rt; text.as_str(), expected, "{rule}: {meshes}");
+    Ok(())
 }
 
-// Compares what a pair gives with two lines of a table.
-fn expect_lines(
+/// Compares what a pair gives with two lines of a table.
+pub fn expect_lines(
     rt: &impl Abort,
     alloc: Global,
     meshes: &str,
@@ -75,31 +80,23 @@ fn expect_lines(
     low: &str,
 ) -> Result<(), Fail> {
     let (op, p, q) = read_pair(alloc, meshes)?;
-    let text = written(alloc, op, &p, &q, Nearest)?;
-    assert_eq!(rt; text.as_str(), nearest, "to the nearest: {meshes}");
-    let text = written(alloc, op, &p, &q, Low)?;
-    assert_eq!(rt; text.as_str(), low, "to the first: {meshes}");
-    Ok(())
-}
-
-// Compares what all pairs of a table give with it, and tells how many there are.
-fn expect_table(rt: &impl Abort, alloc: Global, table: &str) -> Result<u64, Fail> {
-    let mut lines = table.lines();
-    let mut pairs: u64 = 0;
-    while let Some(meshes) = lines.next() {
-        let nearest = lines.next().ok_or("no answer")?;
-        let low = lines.next().ok_or("no answer")?;
-        expect_lines(rt, alloc, meshes, nearest, low)?;
-        pairs = pairs.wrapping_add(1);
-    }
-    Ok(pairs)
+    expect_text(
+        rt,
+        alloc,
+        op,
+        &p,
+        &q,
+        Nearest,
+        nearest,
+        ("to the nearest", meshes),
+    )?;
+    expect_text(rt, alloc, op, &p, &q, Low, low, ("to the first", meshes))
 }
 
 #[test]
 fn agrees_on_solids_and_on_loose_parts(rt: HostRuntime) -> Result<(), Fail> {
-    assert_eq!(rt; expect_table(&rt, rt.alloc(), SOLIDS)?, 100);
-    assert_eq!(rt; expect_table(&rt, rt.alloc(), LOOSE)?, 100);
-    Ok(())
+    expect_rows(&rt, rt.alloc(), &Kind::Results, SOLIDS, 100)?;
+    expect_rows(&rt, rt.alloc(), &Kind::Results, LOOSE, 100)
 }
 
 // The numbers of what an operation gives.
@@ -128,21 +125,25 @@ fn has_the_numbers_worked_out(rt: HostRuntime) -> Result<(), Fail> {
     Ok(())
 }
 
-// How many half-edges are too many where so many are the limit, if any are, for a pin through a cube.
+// How many half-edges are too many for a post through a box where so many are the limit, if any are.
 fn too_many(alloc: Global, halfedges: u32) -> Result<Option<u64>, Fail> {
-    let line = WORKED.lines().nth(7).ok_or("no line")?;
-    let (op, p, q) = read_pair(alloc, line)?;
+    let (p, q) = read_meshes(alloc, POST_IN_BOX)?;
     let limits = Limits::of(13_090, 210, 140, halfedges).ok_or("no limits")?;
-    match rounded(alloc, op, &p, &q, Nearest, &limits) {
+    seen_by(&rounded(alloc, Op::Union, &p, &q, Nearest, &limits))
+}
+
+// How many an operation saw, if they are too many.
+fn seen_by(outcome: &Result<Outcome, PrescribeFault>) -> Result<Option<u64>, Fail> {
+    match outcome {
         Ok(_) => Ok(None),
-        Err(PrescribeFault::TooLarge { seen }) => Ok(Some(seen)),
+        Err(PrescribeFault::TooLarge { seen }) => Ok(Some(*seen)),
         Err(PrescribeFault::NoMemory) => Err("no memory".into()),
     }
 }
 
 #[test]
 fn half_edges_above_the_limit_are_too_many(rt: HostRuntime) -> Result<(), Fail> {
-    assert_eq!(rt; too_many(rt.alloc(), 83)?, Some(84));
-    assert_eq!(rt; too_many(rt.alloc(), 84)?, None);
+    assert_eq!(rt; too_many(rt.alloc(), 83)?.ok_or("none too many")?, 84);
+    assert!(rt; too_many(rt.alloc(), 84)?.is_none());
     Ok(())
 }

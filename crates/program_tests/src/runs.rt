@@ -108,23 +108,51 @@ fn status_on<S: Shelf, L: Ledger>(
     Ok(run(alloc, &list, limits, shelf, out, err, &mut steps).number())
 }
 
-fn judge<R: Abort + AllocGlobal>(rt: &R, case: &Case<'_>) -> Result<(), NoMemory> {
+// Runs the program over a shelf, and judges how it ends and what it tells.
+fn expect_run<S: Shelf, R: Abort + AllocGlobal>(
+    rt: &R,
+    words: &[&str],
+    limits: &Limits,
+    shelf: &mut S,
+    out_fails: u64,
+    status: u8,
+    told: [&[u8]; 2],
+) -> Result<(), NoMemory>
+    requires reads { S.read_faults shelf.old < 2 ^ 64 - 1 }
+    requires writes { S.write_faults shelf.old < 2 ^ 64 - 1 }
+{
     let alloc = rt.alloc();
-    let mut shelf = shelf_of(alloc, case)?;
-    let mut out = sink(alloc, case.out_fails)?;
+    let mut out = sink(alloc, out_fails)?;
     let mut err = sink(alloc, 0)?;
-    let status = status_on::<_, Brand>(
-        alloc,
+    let blank = Blank::new(1);
+    let ended = status_on::<_, Brand>(alloc, words, limits, shelf, &mut out, &mut err, blank)?;
+    assert!(rt; ended == status);
+    assert!(rt; out.bytes() == told[0]);
+    assert!(rt; err.bytes() == told[1]);
+    Ok(())
+}
+
+// Whether a file holds these bytes, or is not there and is not wanted.
+fn is_same(found: Option<&[u8]>, wanted: Option<&[u8]>) -> bool {
+    match (found, wanted) {
+        (Some(bytes), Some(others)) => bytes == others,
+        (None, None) => true,
+        _ => false,
+    }
+}
+
+fn judge<R: Abort + AllocGlobal>(rt: &R, case: &Case<'_>) -> Result<(), NoMemory> {
+    let mut shelf = shelf_of(rt.alloc(), case)?;
+    let told = [case.out, case.err];
+    expect_run(
+        rt,
         case.words,
         &case.limits,
         &mut shelf,
-        &mut out,
-        &mut err,
-        Blank::new(1),
+        case.out_fails,
+        case.status,
+        told,
     )?;
-    assert!(rt; status == case.status);
-    assert!(rt; out.bytes() == case.out);
-    assert!(rt; err.bytes() == case.err);
     match shelf.get(case.to) {
         Some(bytes) => assert!(rt; case.is_saved && bytes == case.saved),
         None => assert!(rt; !case.is_saved),
@@ -437,36 +465,26 @@ fn the_size_is_asked_before_a_byte_is_read(rt: HostRuntime) -> Result<(), Fail> 
     Ok(())
 }
 
-// A copy of the tetrahedron to a file with room for so many bytes, and what it leaves there.
+// A copy of the tetrahedron to a file with room for so many bytes, and what it tells and leaves there.
 fn judge_with_room<R: Abort + AllocGlobal>(
     rt: &R,
     room: usize,
     status: u8,
+    told: [&[u8]; 2],
     saved: &[u8],
 ) -> Result<(), NoMemory> {
-    let alloc = rt.alloc();
-    let mut shelf = SureShelf::of(alloc, "t.obj", TETRAHEDRON, "u.obj", room)?;
-    let mut out = sink(alloc, 0)?;
-    let mut err = sink(alloc, 0)?;
-    let limits = Limits::program();
-    let ended = status_on::<_, Brand>(
-        alloc,
-        &["copy", "t.obj", "u.obj"],
-        &limits,
-        &mut shelf,
-        &mut out,
-        &mut err,
-        Blank::new(1),
-    )?;
-    assert!(rt; ended == status);
-    assert!(rt; shelf.get("u.obj") == Some(saved));
+    let mut shelf = SureShelf::of(rt.alloc(), "t.obj", TETRAHEDRON, "u.obj", room)?;
+    let words = ["copy", "t.obj", "u.obj"];
+    expect_run(rt, &words, &Limits::program(), &mut shelf, 0, status, told)?;
+    assert!(rt; is_same(shelf.get("u.obj"), Some(saved)));
     Ok(())
 }
 
 #[test]
 fn a_copy_needs_room_for_its_text_alone(rt: HostRuntime) -> Result<(), Fail> {
-    judge_with_room(&rt, 64, 0, TETRAHEDRON)?;
-    judge_with_room(&rt, 63, 7, b"")?;
+    let copied = b"copied u.obj: points 4, triangles 4, unused 0\n";
+    judge_with_room(&rt, 64, 0, [copied, b""], TETRAHEDRON)?;
+    judge_with_room(&rt, 63, 7, [b"", b"u.obj: write fault\n"], b"")?;
     Ok(())
 }
 

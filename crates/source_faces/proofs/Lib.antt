@@ -1,4 +1,3 @@
-mod Conserved
 mod Copies
 mod Flat
 mod Halves

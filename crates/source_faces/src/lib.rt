@@ -7,8 +7,6 @@ mod face;
 mod given;
 pub mod laws;
 mod plain;
-#[cfg(test)]
-mod tests;
 mod triangles;
 
 pub use all::triangles_of;

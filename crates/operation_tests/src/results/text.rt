@@ -1,22 +1,21 @@
 // What operations give, as the tables write it.
 use mb_base::{Origin, Point};
 use mesh_boolean::Outcome;
+use sample_lines::push_digit;
 use std::alloc::Global;
 use std::test::Fail;
-
-const DIGITS: &[u8; 61] = b"0123456789abcdefghijklmnopqrstuvwxyzABCDEFGHIJKLMNOPQRSTUVWXY";
 
 // A number below 61 is a digit, a small letter or a great one; a greater number is Z and then 61 less.
 fn push_number(text: &mut String, number: u64) -> Result<(), Fail> {
     for _ in 0..number / 61 {
         text.push('Z')?;
     }
-    Ok(text.push(char::from(DIGITS[(number % 61) as usize]))?)
+    push_digit(text, (number % 61) as u32)
 }
 
 fn push_numbers(text: &mut String, numbers: &[u32]) -> Result<(), Fail> {
     for number in numbers {
-        push_number(text, u64::from(*number))?;
+        push_number(text, *number as u64)?;
     }
     Ok(text.push('|')?)
 }
@@ -24,7 +23,7 @@ fn push_numbers(text: &mut String, numbers: &[u32]) -> Result<(), Fail> {
 fn push_origin(text: &mut String, kind: char, origin: &[u32]) -> Result<(), Fail> {
     text.push(kind)?;
     for number in origin {
-        push_number(text, u64::from(*number))?;
+        push_number(text, *number as u64)?;
     }
     Ok(())
 }
@@ -44,7 +43,10 @@ fn push_origins(text: &mut String, origins: &[Origin]) -> Result<(), Fail> {
 fn push_points(text: &mut String, points: &[Point]) -> Result<(), Fail> {
     for point in points {
         for coordinate in point.at() {
-            push_number(text, u64::try_from(coordinate).map_err(|_| "below 0")?)?;
+            if coordinate < 0 {
+                return Err("below 0".into());
+            }
+            push_number(text, coordinate as u64)?;
         }
     }
     Ok(text.push('|')?)
@@ -52,9 +54,9 @@ fn push_points(text: &mut String, points: &[Point]) -> Result<(), Fail> {
 
 fn push_triples(text: &mut String, triples: &[[u32; 3]]) -> Result<(), Fail> {
     for [a, b, c] in triples {
-        push_number(text, u64::from(*a))?;
-        push_number(text, u64::from(*b))?;
-        push_number(text, u64::from(*c))?;
+        push_number(text, *a as u64)?;
+        push_number(text, *b as u64)?;
+        push_number(text, *c as u64)?;
     }
     Ok(text.push('|')?)
 }

@@ -4,19 +4,19 @@ use mesh_check::Mesh;
 use std::test::Fail;
 
 // The difference of two products.
-fn minor(a: i64, b: i64, c: i64, d: i64) -> i64 {
-    a.wrapping_mul(d).wrapping_sub(b.wrapping_mul(c))
+fn minor(a: i64, b: i64, c: i64, d: i64) -> Option<i64> {
+    a.checked_mul(d)?.checked_sub(b.checked_mul(c)?)
 }
 
 // Six times the volume of the tetrahedron over the origin.
-fn part(a: Point, b: Point, c: Point) -> i64 {
+fn part(a: Point, b: Point, c: Point) -> Option<i64> {
     let ([x, y, z], [u, v, w], [r, s, t]) = (a.at(), b.at(), c.at());
-    let (u, v, w) = (i64::from(u), i64::from(v), i64::from(w));
-    let (r, s, t) = (i64::from(r), i64::from(s), i64::from(t));
-    let first = i64::from(x).wrapping_mul(minor(v, w, s, t));
-    let second = i64::from(y).wrapping_mul(minor(w, u, t, r));
-    let third = i64::from(z).wrapping_mul(minor(u, v, r, s));
-    first.wrapping_add(second).wrapping_add(third)
+    let (u, v, w) = (u as i64, v as i64, w as i64);
+    let (r, s, t) = (r as i64, s as i64, t as i64);
+    let first = (x as i64).checked_mul(minor(v, w, s, t)?)?;
+    let second = (y as i64).checked_mul(minor(w, u, t, r)?)?;
+    let third = (z as i64).checked_mul(minor(u, v, r, s)?)?;
+    first.checked_add(second)?.checked_add(third)
 }
 
 /// Six times the volume of a small mesh.
@@ -27,7 +27,8 @@ pub fn volume6(mesh: &Mesh) -> Result<i64, Fail> {
         let a = points.get(*a as usize).ok_or("no point")?;
         let b = points.get(*b as usize).ok_or("no point")?;
         let c = points.get(*c as usize).ok_or("no point")?;
-        volume = volume.wrapping_add(part(*a, *b, *c));
+        let part = part(*a, *b, *c).ok_or("a great part")?;
+        volume = volume.checked_add(part).ok_or("a great volume")?;
     }
     Ok(volume)
 }

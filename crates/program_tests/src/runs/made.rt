@@ -2,13 +2,11 @@
 ghost use Rattle.std.specs.Prelude.{◌≡◌, IfOk};
 
 use super::files::{CUBE_AND_FLAT, CUBES_AT_A_CORNER, MODELLED_CUBE};
-use super::{ROOM, put, sink, status_on};
+use super::{ROOM, expect_run, put};
 use mb_base::{Limits, NoMemory};
-use mb_outside::{MemoryShelf, Shelf};
+use mb_outside::MemoryShelf;
 use std::alloc::Global;
-use std::marker::Brand;
 use std::process::Abort;
-use std::sync::ledger::Blank;
 use std::test::Fail;
 
 // Puts a script and one mesh on a shelf, which raises no count of faults.
@@ -38,28 +36,13 @@ fn judge<R: Abort + AllocGlobal>(
     status: u8,
     told: &[u8],
 ) -> Result<(), NoMemory> {
-    let alloc = rt.alloc();
-    let mut shelf = shelf_of(alloc, script, mesh)?;
-    let mut out = sink(alloc, 0)?;
-    let mut err = sink(alloc, 0)?;
-    let limits = Limits::program();
-    let ended = status_on::<_, Brand>(
-        alloc,
-        words,
-        &limits,
-        &mut shelf,
-        &mut out,
-        &mut err,
-        Blank::new(1),
-    )?;
-    assert!(rt; ended == status);
-    if status == 0 {
-        assert!(rt; out.bytes() == told);
-        assert!(rt; err.bytes().is_empty());
+    let mut shelf = shelf_of(rt.alloc(), script, mesh)?;
+    let told = if status == 0 {
+        [told, b""]
     } else {
-        assert!(rt; err.bytes() == told);
-    }
-    Ok(())
+        [b"", told]
+    };
+    expect_run(rt, words, &Limits::program(), &mut shelf, 0, status, told)
 }
 
 const WHOLE_STEPS: [&str; 4] = ["run", "s.txt", "--digits", "0"];

@@ -2,13 +2,11 @@
 ghost use Rattle.std.specs.Prelude.{◌≡◌, IfOk};
 
 use super::files::{BOX, CUBE, UNION};
-use super::{ROOM, put, sink, status_on};
+use super::{ROOM, expect_run, is_same, put};
 use mb_base::{Limits, NoMemory};
 use mb_outside::{MemoryShelf, Shelf};
 use std::alloc::Global;
-use std::marker::Brand;
 use std::process::Abort;
-use std::sync::ledger::Blank;
 use std::test::Fail;
 
 const LOADED: &[u8] =
@@ -45,23 +43,11 @@ fn shelf_of(alloc: Global, script: &[u8]) -> Result<MemoryShelf, NoMemory>
 }
 
 fn judge<R: Abort + AllocGlobal>(rt: &R, case: &Case<'_>) -> Result<(), NoMemory> {
-    let alloc = rt.alloc();
-    let mut shelf = shelf_of(alloc, case.script)?;
-    let mut out = sink(alloc, 0)?;
-    let mut err = sink(alloc, 0)?;
-    let status = status_on::<_, Brand>(
-        alloc,
-        &["run", "s.txt", "--digits", "0"],
-        &case.limits,
-        &mut shelf,
-        &mut out,
-        &mut err,
-        Blank::new(1),
-    )?;
-    assert!(rt; status == case.status);
-    assert!(rt; out.bytes() == case.out);
-    assert!(rt; err.bytes() == case.err);
-    assert!(rt; shelf.get("u.obj") == case.saved);
+    let mut shelf = shelf_of(rt.alloc(), case.script)?;
+    let words = ["run", "s.txt", "--digits", "0"];
+    let told = [case.out, case.err];
+    expect_run(rt, &words, &case.limits, &mut shelf, 0, case.status, told)?;
+    assert!(rt; is_same(shelf.get("u.obj"), case.saved));
     Ok(())
 }
 

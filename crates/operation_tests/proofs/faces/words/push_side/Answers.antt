@@ -1,0 +1,38 @@
+use Rattle.std.proofs.Common.{◌≡◌, ◌+◌, List, length, arith, sym, ap, subst, ◌∙◌}
+use Rattle.std.proofs.lemmas.List.{length-map}
+use Rattle.face_lists.specs.Groups.{earlier}
+use Rattle.face_lists.specs.declared.stands.Stand.{Stand}
+use Rattle.mesh_terms.specs.Meshes.{triple_of}
+use Rattle.source_faces.specs.Parts.{CanBePart}
+use Rattle.source_faces.proofs.Groups.{end_there, group_there, next_there}
+use Rattle.operation_tests.proofs.faces.words.push_side.Goals as goal
+
+pub slice_bounds-records-end : goal.slice_bounds-records-end
+slice_bounds-records-end c =
+    end_there c.args.stands.now (c.args.first + c.loop-face.face) c.loop-face.begin c.group_end-end.result c.requires.parts.ascend c.loop-face.invariant c.group_end-end.ensures
+
+pub push_face-requires-clause-part : goal.push_face-requires-clause-part
+push_face-requires-clause-part c =
+    let f = c.loop-face.face in
+    let there = group_there c.args.stands.now (c.args.first + f) c.loop-face.begin c.group_end-end.result c.requires.parts.ascend c.loop-face.invariant c.group_end-end.ensures in
+    let below = c.loop-face-test.true in
+    let all : length c.triples.result.now ≡ length c.args.side.now.triples = sym (length-map c.triples.result.now triple_of) ∙ ap length c.triples.ensures.value in
+    subst (λ (ss : List Stand). CanBePart c.args.side.now c.args.runs.now c.args.points.now f ss) (sym there) (c.requires.parts.each f (omega (arith, below, all)))
+
+pub loop-face-preserved : goal.loop-face-preserved
+loop-face-preserved c =
+    let stands = c.args.stands.now in
+    let x = c.args.first in
+    let f = c.loop-face.face in
+    let next = next_there stands (x + f) c.loop-face.begin c.group_end-end.result c.requires.parts.ascend c.loop-face.invariant c.group_end-end.ensures in
+    let on : x + f + 1 ≡ x + (f + 1) = omega arith in
+    next ∙ ap (earlier stands) on
+
+-- all faces are done
+done : (c : goal.After-loop-face) → c.loop-face.face ≡ length c.args.side.now.triples
+done c =
+    let all : length c.triples.result.now ≡ length c.args.side.now.triples = sym (length-map c.triples.result.now triple_of) ∙ ap length c.triples.ensures.value in
+    omega (arith, c.loop-face-test.false, c.loop-face.auto.face-end, all)
+
+pub returns : goal.returns
+returns c = c.loop-face.invariant ∙ ap (λ n. earlier c.args.stands.now (c.args.first + n)) (done c)

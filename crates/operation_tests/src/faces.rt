@@ -1,0 +1,105 @@
+// The vertices, segments and loops of all source faces, on pairs of small meshes, as the crates below give them.
+ghost use Rattle.std.specs.Prelude.{IfOk};
+ghost use Rattle.mesh_check.specs.Reduced.{NoOpposite};
+
+mod conserved;
+mod given;
+mod handed;
+mod table;
+mod text;
+mod words;
+
+use crate::rows::{Kind, expect_rows};
+use handed::are_numbers;
+use lean::Side;
+use mb_base::{Hits, Limits, Op, Windings};
+use mesh_check::{Mesh, reduce};
+use retained_verts::prescribe;
+use sample_lines::{marked_side, plain_side, read_numbers, read_pair};
+use std::alloc::Global;
+use std::process::Abort;
+use std::test::Fail;
+use table::PAIRS;
+use text::push_prescribed;
+use words::push_faces;
+
+// What the numbers of two sides give, as the table writes it.
+fn written(
+    alloc: Global,
+    op: Op,
+    p: &Side,
+    q: &Side,
+    windings: &Windings,
+    hits: &Hits,
+) -> Result<String, Fail>
+    requires p_apart { NoOpposite p.now.triples }
+    requires q_apart { NoOpposite q.now.triples }
+{
+    if !are_numbers(p, q, windings, hits) {
+        return Err("other numbers".into());
+    }
+    let prescribed = prescribe(alloc, op, p, q, windings, hits, &Limits::program())?;
+    if prescribed.halfedges > 60_000_000 {
+        return Err("many half-edges".into());
+    }
+    let mut text = String::new(alloc);
+    push_prescribed(&mut text, &prescribed)?;
+    push_faces(alloc, &mut text, op, p, q, windings, hits, &prescribed)?;
+    Ok(text)
+}
+
+// The first side of an operation: its mesh reduced, with the marks for the operation.
+fn first_side(alloc: Global, mesh: &Mesh, op: Op) -> Result<Side, Fail>
+    ensures { IfOk result (λ side. NoOpposite side.triples) }
+{
+    let reduced = reduce(alloc, mesh)?;
+    let side = marked_side(alloc, &reduced, op)?;
+    Ok(side)
+}
+
+// The second side: its mesh reduced, without marks.
+fn second_side(alloc: Global, mesh: &Mesh) -> Result<Side, Fail>
+    ensures { IfOk result (λ side. NoOpposite side.triples) }
+{
+    let reduced = reduce(alloc, mesh)?;
+    let side = plain_side(alloc, &reduced)?;
+    Ok(side)
+}
+
+// What two meshes and the numbers of a line give.
+fn answer_of_meshes(
+    alloc: Global,
+    op: Op,
+    p: &Mesh,
+    q: &Mesh,
+    numbers: &str,
+) -> Result<String, Fail> {
+    let p = first_side(alloc, p, op)?;
+    let q = second_side(alloc, q)?;
+    let (windings, hits) = read_numbers(alloc, numbers)?;
+    written(alloc, op, &p, &q, &windings, &hits)
+}
+
+// What the meshes of a line and the numbers of the next give.
+fn answer(alloc: Global, meshes: &str, numbers: &str) -> Result<String, Fail> {
+    let (op, p, q) = read_pair(alloc, meshes)?;
+    answer_of_meshes(alloc, op, &p, &q, numbers)
+}
+
+/// Compares that with the line of the table.
+pub fn expect_line(
+    rt: &impl Abort,
+    alloc: Global,
+    meshes: &str,
+    numbers: &str,
+    expected: &str,
+) -> Result<(), Fail> {
+    let text = answer(alloc, meshes, numbers)?;
+    assert_eq!(rt; text.as_str(), expected, "{meshes}");
+    Ok(())
+}
+
+#[test]
+fn agrees_with_the_table(rt: HostRuntime) -> Result<(), Fail> {
+    expect_rows(&rt, rt.alloc(), &Kind::Faces, PAIRS, 100)
+}

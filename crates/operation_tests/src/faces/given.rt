@@ -1,0 +1,31 @@
+// What given numbers and prescribed vertices say of runs and records, as in `source_faces`.
+ghost use Rattle.source_faces.specs.Given.{AreFewGiven, AreGiven, GivenHaveParts};
+
+use face_lists::laws::{copies_have_lists, lists_give_segments};
+use filling_laws::laws::faces_form_loops;
+use lean::Side;
+use mb_base::{Hits, Op, Windings};
+use retained_verts::Prescribed;
+use segment_laws::laws::loops_are_long;
+
+/// The faces of both sides are filled from the runs and the records of what is given, and there are few copies. It does
+/// nothing.
+pub fn given_have_parts(
+    op: Op,
+    p: &Side,
+    q: &Side,
+    windings: &Windings,
+    hits: &Hits,
+    prescribed: &Prescribed,
+)
+    requires { AreGiven op p.now q.now windings.now hits.now prescribed.now }
+    ensures parts { GivenHaveParts op p.now q.now windings.now hits.now }
+    ensures few { AreFewGiven op windings.now hits.now }
+{
+    let _p = p.triples();
+    let _q = q.triples();
+    copies_have_lists();
+    lists_give_segments();
+    loops_are_long();
+    faces_form_loops();
+}

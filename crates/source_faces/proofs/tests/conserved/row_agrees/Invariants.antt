@@ -1,8 +1,0 @@
-use Rattle.chain_terms.specs.Chains.{all_edges}
-use Rattle.side_terms.specs.Conservation.{half_number}
-use Rattle.source_faces.proofs.Conserved.{RowAgrees}
-use Rattle.source_faces.proofs.tests.conserved.row_agrees.Given as goal
-
--- the pairs so far agree
-abbrev pub invariant-loop-g : goal.invariant-loop-g
-invariant-loop-g l = RowAgrees (half_number (all_edges l.p.triples) l.x12) (half_number (all_edges l.q.triples) l.x21) l.f l.g

@@ -1,7 +1,0 @@
-use Rattle.std.proofs.Common.{◌≡◌, ◌+◌}
-use Rattle.face_lists.specs.Groups.{earlier}
-use Rattle.source_faces.proofs.tests.faces.push_side.Given as goal
-
--- the records of the next face come next
-abbrev pub invariant-loop-face : goal.invariant-loop-face
-invariant-loop-face l = l.begin ≡ earlier l.stands (l.first + l.face)
