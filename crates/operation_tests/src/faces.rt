@@ -3,7 +3,6 @@ ghost use Rattle.std.specs.Prelude.{IfOk};
 ghost use Rattle.mesh_check.specs.Reduced.{NoOpposite};
 
 mod conserved;
-mod given;
 mod handed;
 mod table;
 mod text;

@@ -4,7 +4,7 @@
 
 mod all;
 mod face;
-mod given;
+pub mod given;
 pub mod laws;
 mod plain;
 mod triangles;

@@ -5,13 +5,13 @@ ghost use Rattle.face_lists.specs.Parts.{AreRuns};
 ghost use Rattle.source_faces.specs.Given.{AreGiven};
 ghost use Rattle.source_faces.specs.Parts.{CanBePart, HaveParts};
 
-use crate::faces::given::given_have_parts;
 use face_lists::{Run, Stand, group_end, runs_of, segments_of_face, stands_of};
 use face_loops::loops;
 use lean::Side;
 use mb_base::{Hits, Op, Point, Windings};
 use retained_verts::{Operand, Prescribed};
 use sample_lines::push_digit;
+use source_faces::given::given_have_parts;
 use std::alloc::Global;
 use std::test::Fail;
 
