@@ -1,4 +1,4 @@
-use Rattle.std.proofs.Common.{ℤ, List, [], get_or, ap, ◌≡◌, ◌∙◌}
+use Rattle.std.proofs.Common.{[], ◌∙◌}
 use Rattle.std.proofs.lemmas.List.{get_or_default}
 use Rattle.mesh_terms.specs.Meshes.{triple_of}
 use Rattle.lean.proofs.marks.face_normal.Goals as goal

@@ -1,4 +1,4 @@
-use Rattle.std.proofs.Common.{◌≤◌, ◌*◌, length, arith, ap, sym, subst}
+use Rattle.std.proofs.Common.{length, arith, ap, sym, subst}
 use Rattle.std.proofs.lemmas.List.{length-map}
 use Rattle.mesh_terms.specs.Meshes.{triple_of}
 use Rattle.pinch_split.specs.Back.{ComeFrom, named_by}

@@ -1,4 +1,4 @@
-use Rattle.std.proofs.Common.{◌≡◌, ◌≤◌, ◌-◌, ◌∙◌, ℕ, List, [], ◌∷◌, ◌++◌, append_assoc, take_all, length, length-drop, drop, arith, ap, sym}
+use Rattle.std.proofs.Common.{◌≤◌, ◌-◌, ◌∙◌, ℕ, List, [], ◌∷◌, ◌++◌, append_assoc, take_all, length, length-drop, drop, arith, ap, sym}
 use Rattle.text_terms.specs.Written.{three_numbers}
 use Rattle.mesh_writer.proofs.lines.put_numbers.Goals as goal
 
