@@ -13,6 +13,12 @@ use Rattle.crossings.proofs.Order.{all_listed, hits_in_order}
 use Rattle.crossings.proofs.Rounds.{pairs_agree}
 use Rattle.crossings.proofs.both.crossings.Goals as goal
 
+pub returns-clause-x12 : goal.returns-clause-x12
+returns-clause-x12 g c = c.in_ok-x12.ensures
+
+pub returns-clause-x21 : goal.returns-clause-x21
+returns-clause-x21 g c = c.in_ok-x21.ensures
+
 pub returns-clause-x12_listed : goal.returns-clause-x12_listed
 returns-clause-x12_listed g c =
     let p = c.args.p.now in

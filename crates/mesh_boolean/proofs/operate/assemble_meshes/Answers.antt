@@ -9,6 +9,9 @@ use Rattle.mesh_boolean.proofs.operate.assemble_meshes.Goals as goal
 abbrev tests : (g : Over) → g.row.K.Denot → Tests
 tests g k = record { vertex_face = g.K.Meets-5.meet_of k; face_vertex = g.K.Meets-6.meet_of k; edge_face = g.K.Crosses-1.cross_of k; face_edge = g.K.Crosses-2.cross_of k }
 
+pub assemble-requires-clause-known : goal.assemble-requires-clause-known
+assemble-requires-clause-known g c = c.in_ok-windings.ensures.known
+
 pub returns-clause-conserved : goal.returns-clause-conserved
 returns-clause-conserved g c =
     conserve_in (tests g c.args.kernels.now) c.args.op c.args.p.now c.args.q.now c.in_ok-p.p c.in_ok-q.q (numbers c.in_ok-windings.windings c.in_ok-windings.hits) c.assemble.result
