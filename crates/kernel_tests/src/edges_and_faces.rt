@@ -238,7 +238,7 @@ static FAR_ROWS: [&str; 4] = [
 ];
 
 #[test]
-fn far_rounding_keeps_the_laws(rt: HostRuntime) {
+fn far_rounding_crosses_as_the_reference_says(rt: HostRuntime) {
     for line in &FAR_ROWS {
         assert!(rt; agrees(&Grid { rounding: Far }, line), "{line}");
     }

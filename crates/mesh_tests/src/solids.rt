@@ -212,7 +212,7 @@ fn box_fault(
     Ok(make_box(alloc, point(low)?, point(high)?, limits).err())
 }
 
-// A prism at a corner, or why there is none.
+// Why there is no such prism.
 fn prism_fault(
     alloc: Global,
     at: [i32; 3],

@@ -117,6 +117,7 @@ fn fault_of(alloc: Global, count: u8, triples: &[[u32; 3]]) -> Result<Option<Twi
     Ok(Twins::of(alloc, soup.triples()).err())
 }
 
+// Open triangles over so many points, and the open edge that is named.
 static OPEN: [(&str, u8, &[[u32; 3]], TwinFault); 2] = [
     (
         "no last face",

@@ -108,7 +108,7 @@ fn status_on<S: Shelf, L: Ledger>(
     Ok(run(alloc, &list, limits, shelf, out, err, &mut steps).number())
 }
 
-// Runs the program over a shelf, and judges how it ends and what it tells.
+// Runs the program over a shelf, and judges how it ends and what it tells: on its output, and on its error line.
 fn expect_run<S: Shelf, R: Abort + AllocGlobal>(
     rt: &R,
     words: &[&str],

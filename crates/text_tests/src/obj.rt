@@ -25,6 +25,7 @@ const CORNERS: [[i32; 3]; 4] = [[0, 0, 0], [10_000, 0, 0], [0, 10_000, 0], [0, 0
 
 const SIDES: [[u32; 3]; 4] = [[0, 2, 1], [0, 1, 3], [1, 2, 3], [2, 0, 3]];
 
+// A face of five vertices, counted back but for the last, and a point that it leaves out; then its corners and its fan.
 const POLYGON: &[u8] = b"v 5 5 5\nv 0 0 0\nv 2.5 0 0\nv 2 2 0\nv 1 3 0\nv 0 2 0\nf -5 -4 -3 -2 6\n";
 
 const FIVE: [[i32; 3]; 5] = [[0, 0, 0], [3, 0, 0], [2, 2, 0], [1, 3, 0], [0, 2, 0]];

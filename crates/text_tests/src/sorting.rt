@@ -4,8 +4,8 @@ use mb_base::NoMemory;
 use std::alloc::Global;
 use std::test::Fail;
 
-// Whether bucket k has these places. No bucket has any where there are more than ten keys or k or a key is not below the count.
-// So few keys are plainly below 2^32, as `Buckets::of` requires.
+// Whether bucket k has these places; no, where there are more than ten keys, or k or a key is not below the count. So
+// few keys are plainly below 2^32, as `Buckets::of` requires.
 fn is_bucket(
     alloc: Global,
     keys: &[u32],

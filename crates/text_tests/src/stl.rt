@@ -42,7 +42,7 @@ endsolid t
 const SPACED: &[u8] =
     b"\xef\xbb\xbf\r\n \tSOLID facet\tendsolid \r\nFacet Normal a\r\nb c\tOUTER\r\n\r\nloop Vertex +0 -0 0e9 vertex 0 1. 0 vertex 1 0 0 endLOOP endfacet facet normal outer loop endloop outer loop vertex 0 0 0\r\nvertex 1.00001 0 0 vertex\t0\t0\r\n1 endloop endfacet endsolid solid facet\r\nsolid\r\nfacet normal 0 0 0 outer loop vertex 1 0 0 vertex 0 1 0 vertex 0 0 1 endloop endfacet\r\nfacet normal 0 0 0 outer loop vertex 0 1 0 vertex 0 0 0 vertex 0 0 1 endloop endfacet\r\nfacet normal 0 0 0 outer loop vertex 0 0 0 vertex 7 7 7 vertex 7 7 7 endloop endfacet endsolid";
 
-// The corners and the triangles of the tetrahedron, where so many points are left out.
+// The corners and the triangles of the tetrahedron.
 const CORNERS: [[i32; 3]; 4] = [[0, 0, 0], [0, 10_000, 0], [10_000, 0, 0], [0, 0, 10_000]];
 
 const SIDES: [[u32; 3]; 4] = [[0, 1, 2], [0, 2, 3], [2, 1, 3], [1, 0, 3]];
