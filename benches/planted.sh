@@ -1,6 +1,6 @@
 #!/bin/sh
 # Tries the planted bugs of crates, crates/NAME/planted/*.edit, in a copy of the repository as it is committed: the proofs
-# must refuse each. They are wrong bodies beyond those that every run of the gate tries (crates/NAME/must-fail). Run it for
+# must refuse each. They are wrong bodies beyond those that the gate tries (crates/NAME/must-fail). Run it for
 # a crate when its contracts change.
 # Usage: benches/planted.sh NAME..
 top=$(cd "$(dirname "$0")/.." && pwd) || exit 1

@@ -2,8 +2,8 @@
 use Rattle.std.specs.Prelude.{min}
 use Rattle.std.specs.List.{flat_map}
 use Rattle.std.specs.List.Sorted.{IsPermutation}
-use Rattle.std.proofs.Common.{◌≡◌, ◌∙◌, ℕ, ◌+◌, ◌-◌, ◌<◌, ◌≤◌, List, [], ◌∷◌, ◌++◌, append-nil, length, get_or, map, take, zero-add, sym, ap, arith, subst}
-use Rattle.std.proofs.lemmas.List.{append_assoc, map-append, map_push, take_more}
+use Rattle.std.proofs.Common.{◌≡◌, ◌∙◌, ℕ, ◌+◌, ◌-◌, ◌<◌, ◌≤◌, List, [], ◌∷◌, ◌++◌, append-nil, length, map, zero-add, sym, ap, arith, subst}
+use Rattle.std.proofs.lemmas.List.{append_assoc, map_push}
 use Rattle.std.proofs.lemmas.List.Concat.{flat_map-append}
 use Rattle.std.proofs.lemmas.List.Sorted.{IsPermutation-trans, IsPermutation-append_left, IsPermutation-append_right, IsPermutation-append_comm}
 use Rattle.chain_terms.specs.Sums.{up_from, upto}
@@ -17,10 +17,6 @@ use Rattle.box_tree.specs.Coarse.{coarse_box}
 use Rattle.box_tree.specs.Touching.{box_at}
 use Rattle.box_tree.specs.Keys.{numbers_of_run, numbers_of_runs, numbers_of_keys}
 use Rattle.box_tree.specs.Nodes.{entry_of}
-
--- a key that is not there
-abbrev pub no_key : Key
-no_key = record { at = []; first = 0 }
 
 -- one key more
 pub runs_push : (n run : ℕ) (keys : List Key) (key : Key) → numbers_of_runs n run (keys ++ key ∷ []) ≡ numbers_of_runs n run keys ++ numbers_of_run n run key.first
@@ -74,20 +70,6 @@ run_keeps n first end runs singles more key last within here push h =
     let Q : List ℕ → Type 0 = λ l. IsPermutation (upto first ++ own) (l ++ ss) in
     subst P (upto_more first end (omega (arith, last))) (subst Q (sym added)
     (IsPermutation-trans (upto first ++ own) ((rs ++ ss) ++ own) ((rs ++ own) ++ ss) (IsPermutation-append_left own (upto first) (rs ++ ss) h) moved))
-
--- the entries of the runs of keys, with those of one key more
-pub entries_of_key : (shift : ℕ) (boxes : List Box3) (run : ℕ) (keys : List Key) (i : ℕ) (front entries more : List Entry) → i < length keys →
-    entries ≡ front ++ map (entry_of shift boxes) (numbers_of_runs (length boxes) run (take i keys)) → more ≡ entries ++ map (entry_of shift boxes) (numbers_of_run (length boxes) run (get_or keys i no_key).first) →
-    more ≡ front ++ map (entry_of shift boxes) (numbers_of_runs (length boxes) run (take (i + 1) keys))
-entries_of_key shift boxes run keys i front entries more low before added =
-    let n = length boxes in
-    let d = no_key in
-    let old = map (entry_of shift boxes) (numbers_of_runs n run (take i keys)) in
-    let own = map (entry_of shift boxes) (numbers_of_run n run (get_or keys i d).first) in
-    added ∙ ap (λ l. l ++ own) before ∙ append_assoc front old own
-    ∙ ap (λ l. front ++ l)
-    (sym (map-append (entry_of shift boxes) (numbers_of_runs n run (take i keys)) (numbers_of_run n run (get_or keys i d).first))
-    ∙ ap (map (entry_of shift boxes)) (sym (runs_push n run (take i keys) (get_or keys i d)) ∙ ap (numbers_of_runs n run) (sym (take_more keys i d low))))
 
 -- the entries of a run, with one box more
 pub entry_pushed : (shift : ℕ) (boxes : List Box3) (front : List Entry) (first number : ℕ) (entries pushed : List Entry) (bounds : Bounds) → first ≤ number →

@@ -1,5 +1,5 @@
 -- Nodes on a stack.
-use Rattle.std.proofs.Common.{◌≡◌, ◌∙◌, ℕ, ◌+◌, ◌-◌, ◌*◌, ◌^◌, ◌<◌, ◌≤◌, List, [], ◌∷◌, ◌++◌, length, get_or, refl, sym, ap, arith, subst}
+use Rattle.std.proofs.Common.{◌≡◌, ◌∙◌, ℕ, ◌+◌, ◌-◌, ◌*◌, ◌^◌, ◌<◌, ◌≤◌, List, [], ◌∷◌, ◌++◌, length, get_or, sym, ap, arith, subst}
 use Rattle.std.proofs.Common.{inl, inr}
 use Rattle.std.proofs.lemmas.Bool.{cases_lt}
 use Rattle.std.proofs.lemmas.Nat.{pow-add}
@@ -13,19 +13,6 @@ use Rattle.box_tree.specs.Walks.{IsStack}
 -- the count of a node on the stack is small
 abbrev pub IsSmall : List Node → ℕ → ℕ → Type 0
 IsSmall nodes place depth = ((node_at nodes place).count - 1) * 2 ^ depth < 2 ^ 32
-
--- a stack without its last node
-pub stack_pop : (nodes : List Node) (stack : List ℕ) (place : ℕ) → IsStack nodes (stack ++ place ∷ []) → IsStack nodes stack
-stack_pop nodes stack place h = record {
-  there = λ i l. let P : ℕ → Type 0 = λ p. p < length nodes in subst P (get_or_append_left stack (place ∷ []) 0 i l) (h.there i (omega (arith, length_push stack place)));
-  small = λ i l. let P : ℕ → Type 0 = λ p. IsSmall nodes p i in subst P (get_or_append_left stack (place ∷ []) 0 i l) (h.small i (omega (arith, length_push stack place)));
-}
-
--- its last node
-pub stack_last : (nodes : List Node) (stack : List ℕ) (place : ℕ) → IsStack nodes (stack ++ place ∷ []) → (place < length nodes) × IsSmall nodes place (length stack)
-stack_last nodes stack place h =
-    let P : ℕ → Type 0 = λ p. (p < length nodes) × IsSmall nodes p (length stack) in
-    subst P (get_or_push stack place 0 (length stack) refl) (h.there (length stack) (omega (arith, length_push stack place)), h.small (length stack) (omega (arith, length_push stack place)))
 
 -- one more node on the stack
 pub stack_push : (nodes : List Node) (stack : List ℕ) (place : ℕ) → IsStack nodes stack → place < length nodes → IsSmall nodes place (length stack) → IsStack nodes (stack ++ place ∷ [])

@@ -1,17 +1,16 @@
 -- The boxes that a tree's entries stand for are the boxes from which it was built.
 use Rattle.std.proofs.Common.{◌≡◌, ◌∙◌, ℕ, zero, suc, ◌<◌, ◌==◌, List, [], ◌∷◌, length, get_or, map, ap, subst, inl, inr, zero-add, arith}
-use Rattle.std.specs.List.{All, Contains}
+use Rattle.std.specs.List.{Contains}
 use Rattle.std.proofs.lemmas.Bool.{cases_Bool}
 use Rattle.std.proofs.lemmas.Bool.Decides.{Decides-eqb}
 use Rattle.std.proofs.lemmas.List.{length-map, get_or-map, get_or_default, same_lists}
-use Rattle.std.proofs.lemmas.List.Elements.{Contains-get_or, All-get_or}
+use Rattle.std.proofs.lemmas.List.Elements.{Contains-get_or}
 use Rattle.std.proofs.lemmas.List.Sorted.{Contains-permutation}
 use Rattle.chain_terms.specs.Sums.{upto}
 use Rattle.chain_laws.proofs.Places.{get_or-up_from, length-up_from}
 use Rattle.mb_base.specs.declared.point.Box3.{Box3}
 use Rattle.box_tree.specs.declared.nodes.Entry.{Entry}
-use Rattle.box_tree.specs.Coarse.{IsShort, fine_box, coarse_box}
-use Rattle.box_tree.specs.Touching.{box_at, no_box}
+use Rattle.box_tree.specs.Touching.{no_box}
 use Rattle.box_tree.specs.Nodes.{AreEntries, AreStored, boxes_stored, entry_numbered, entry_of, numbers_of, stored_box}
 use Rattle.box_tree.proofs.Trees.{as_many}
 
@@ -49,12 +48,3 @@ boxes_there shift stored boxes entries h kept =
     ∙ ap f (get_or-up_from 0 (length entries) k 0 (omega (arith, below, many)) ∙ zero-add k)
     ∙ ap (stored_box stored) (entry_there shift boxes entries k h below)
     ∙ kept k below ∙ get_or_default boxes k no_box d below)
-
--- a copy of the boxes stores each
-pub copy_stores : (shift : ℕ) (copy boxes : List Box3) → copy ≡ boxes → AreStored shift copy boxes
-copy_stores shift copy boxes same k low =
-    ap (λ l. get_or l k (fine_box (coarse_box shift (box_at boxes k)))) same ∙ get_or_default boxes k (fine_box (coarse_box shift (box_at boxes k))) no_box low
-
--- none needs to be stored where their bounds show them
-pub none_stores : (shift : ℕ) (boxes : List Box3) → shift ≡ 0 → All IsShort boxes → AreStored shift [] boxes
-none_stores shift boxes fine short k low = ap (λ s. fine_box (coarse_box s (box_at boxes k))) fine ∙ All-get_or IsShort boxes k no_box low short

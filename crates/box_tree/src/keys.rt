@@ -88,7 +88,8 @@ fn push_singles<B: Boxes>(
     requires order { first ≤ end }
     requires there { end ≤ length (B.boxes boxes.now) }
     requires small { shift < 64 }
-    ensures { OnOk result (numbers_of_runs (length (B.boxes boxes.now)) 1 singles.new.items ≡ numbers_of_runs (length (B.boxes boxes.now)) 1 singles.old.items ++ up_from first (end - first)) }
+    ensures { OnOk result (numbers_of_runs (length (B.boxes boxes.now)) 1 singles.new.items ≡
+        numbers_of_runs (length (B.boxes boxes.now)) 1 singles.old.items ++ up_from first (end - first)) }
 {
     for number in first..end {
         singles.push(key_of(Bounds::of(&boxes.box_at(number), shift), number))?;
@@ -124,7 +125,8 @@ fn push_keys<B: Boxes>(
 pub fn keys_of<B: Boxes>(alloc: Global, boxes: &B, shift: u32) -> Result<Keys, NoMemory>
     requires few { length (B.boxes boxes.now) ≤ MOST_BOXES }
     requires small { shift < 64 }
-    ensures { IfOk result (λ keys. IsPermutation (upto (length (B.boxes boxes.now))) (numbers_of_keys (length (B.boxes boxes.now)) keys.runs.items keys.singles.items)) }
+    ensures { IfOk result (λ keys. IsPermutation (upto (length (B.boxes boxes.now)))
+        (numbers_of_keys (length (B.boxes boxes.now)) keys.runs.items keys.singles.items)) }
 {
     let count = boxes.count();
     let runs = Vec::with_capacity(alloc, count / BLOCK)?;

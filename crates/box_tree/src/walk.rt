@@ -93,7 +93,8 @@ impl<'t> Walk<'t> {
         ensures question { self.new.question ≡ self.old.question }
         ensures stack { self.new.stack ≡ self.old.stack }
         ensures walk { IsWalk self.new }
-        ensures number { MatchOption result ((self.new.at ≡ self.new.end) × (hits_left self.old ≡ hits_waiting self.old.question self.old.stack.items)) (λ n. hits_left self.old ≡ n ∷ hits_left self.new) }
+        ensures number { MatchOption result ((self.new.at ≡ self.new.end) × (hits_left self.old ≡ hits_waiting self.old.question self.old.stack.items))
+            (λ n. hits_left self.old ≡ n ∷ hits_left self.new) }
     {
         let place = self.question.next_hit(self.at, self.end);
         if place < self.end {
@@ -114,7 +115,8 @@ impl<'t> Walk<'t> {
         ensures question { self.new.question ≡ self.old.question }
         ensures walk { IsWalk self.new }
         ensures hits { hits_left self.new ≡ hits_below self.old.question place ++ hits_left self.old }
-        ensures less { nodes_below self.old.question.nodes.now self.new.stack.items + 2 ≤ nodes_below self.old.question.nodes.now self.old.stack.items + 2 * (node_at self.old.question.nodes.now place).count }
+        ensures less { nodes_below self.old.question.nodes.now self.new.stack.items + 2 ≤
+            nodes_below self.old.question.nodes.now self.old.stack.items + 2 * (node_at self.old.question.nodes.now place).count }
     {
         let node = self.question.nodes[place];
         if !node.bounds.meets(self.question.bounds) {

@@ -1,18 +1,17 @@
 -- What the code reads of clap's answers.
-use Rattle.std.proofs.Common.{◌≡◌, ◌∙◌, ℕ, List, [], ◌∷◌, Bool, true, false, cond, ◌⊎◌, inl, inr}
-use Rattle.std.proofs.Common.{length, map, Option, Some, None, option_map, unwrap_or, codes, refl, ap, ap₂, sym, subst}
+use Rattle.std.proofs.Common.{◌≡◌, ◌∙◌, ℕ, List, [], ◌∷◌, true, ◌⊎◌, inl, inr}
+use Rattle.std.proofs.Common.{length, map, Option, Some, None, unwrap_or, codes, refl, ap, ap₂, sym, subst}
 use Rattle.std.specs.Prelude.{String, string_bytes}
 use Rattle.std.specs.Option.{option_and_then}
-use Rattle.std.specs.Str.{bytes_eq}
 use Rattle.std.proofs.lemmas.Str.{IsUtf8-string_bytes}
 use Rattle.run_terms.specs.Files.{Bytes}
-use Rattle.clap.specs.Words.{App, HasMatchesOf, IsAmong, fault_of, found_of, is_simple, is_simple_and_free, matched_of, matches_of, raw_values, rows_of}
+use Rattle.clap.specs.Words.{App, HasMatchesOf, IsAmong, fault_of, found_of, is_simple, is_simple_and_free, matches_of, rows_of}
 use Rattle.clap.specs.declared.error.kind.ErrorKind.{ErrorKind}
 use Rattle.clap.specs.declared.error.kind.ErrorKind.TheVariants.{OutOfMemory}
 use Rattle.clap.specs.declared.parser.matches.ArgMatches.{ArgMatches}
 use Rattle.clap.specs.declared.parser.matches.Found.{Found}
 use Rattle.clap.proofs.WalkLemmas.{first_value-rows, raw_values-rows}
-use Rattle.play_terms.specs.Words.{Given, command, command_by, command_with, digits_of, inside_of}
+use Rattle.play_terms.specs.Words.{Given, command, command_by, command_with, inside_of}
 use Rattle.word_values.specs.Values.{listed}
 use Rattle.command_grammar.specs.Grammar.{grammar_app}
 use Rattle.command_words.specs.Grammar.{IsNoCommand, given_by, given_in}
@@ -62,37 +61,12 @@ refusal_read a ss k ours kinds memory =
           ]
     ]
 
-same_choice : {X : Type 0} (b : Bool) (x : X) → cond b x x ≡ x
-same_choice true x = refl
-same_choice false x = refl
-
--- no command is without operands
-pub no_operands : (w : Bytes) (k : ℕ) → command_with w [] k ≡ None
-no_operands w k =
-    ap (λ o. cond (bytes_eq w (codes "copy")) None (cond (bytes_eq w (codes "inside")) None o)) (same_choice (bytes_eq w (codes "run")) None)
-    ∙ ap (cond (bytes_eq w (codes "copy")) None) (same_choice (bytes_eq w (codes "inside")) None) ∙ same_choice (bytes_eq w (codes "copy")) None
-
 -- ---- the command
 
 -- the words by the first and the others
 pub command_named : {Z : Type 0} (ws : List Bytes) (ss : List (String Z)) (name : String Z) (rest : List (String Z)) → map string_bytes ss ≡ ws → ss ≡ name ∷ rest
     → command ws ≡ command_by (string_bytes name) (given_by (map string_bytes rest))
 command_named ws ss name rest same parts = ap command (sym same) ∙ ap (λ x. command (map string_bytes x)) parts
-
--- by what clap found
-pub command_found : {Z : Type 0} (ws : List Bytes) (ss : List (String Z)) (name : String Z) (rest : List (String Z)) (f : Found) → map string_bytes ss ≡ ws → ss ≡ name ∷ rest
-    → given_by (map string_bytes rest) ≡ Some (given_in f)
-    → command ws ≡ option_and_then (command_with (string_bytes name) (given_in f).operands) (digits_of (given_in f).digits)
-command_found ws ss name rest f same parts given = command_named ws ss name rest same parts ∙ ap (command_by (string_bytes name)) given
-
--- by these digits and operands
-pub command_read : {Z : Type 0} (ws : List Bytes) (ss : List (String Z)) (name : String Z) (rest : List (String Z)) (f : Found) (k : ℕ) (os : Option (List Bytes))
-    → map string_bytes ss ≡ ws → ss ≡ name ∷ rest → given_by (map string_bytes rest) ≡ Some (given_in f)
-    → Some k ≡ digits_of (given_in f).digits → os ≡ option_map raw_values (matched_of f (codes "operands"))
-    → command ws ≡ command_with (string_bytes name) (unwrap_or os []) k
-command_read ws ss name rest f k os same parts given digits operands =
-    command_found ws ss name rest f same parts given ∙ ap (option_and_then (command_with (string_bytes name) (given_in f).operands)) (sym digits)
-    ∙ ap (λ (a : Option (List Bytes)). command_with (string_bytes name) (unwrap_or a []) k) (sym operands)
 
 -- fewer or more operands than four
 pub not_four : (k : ℕ) (operands : List Bytes) → (length operands ≡ 4 → ⊥) → inside_of k operands ≡ None

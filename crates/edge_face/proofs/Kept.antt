@@ -1,5 +1,5 @@
 -- Pairs from known counts, and corners of lists of fine ones.
-use Rattle.std.proofs.Common.{arith, ◌≡◌, ◌≤◌, ℕ, ℤ, pos, unsigned_abs, ◌∙◌, Option, None, Some, IfSome, false, List, [], ◌∷◌, length, sym, inl, inr}
+use Rattle.std.proofs.Common.{arith, ◌≡◌, ℤ, pos, ◌∙◌, Option, None, Some, IfSome, false, List, [], ◌∷◌, length, sym, inl, inr}
 use Rattle.std.proofs.lemmas.Int.{ints}
 use Rattle.std.specs.Int.{w8}
 use Rattle.mb_base.specs.declared.point.Corner.{Corner}
@@ -20,11 +20,8 @@ none_at P None h e = tt
 none_at P (Some m) (inl h) e = absurd (omega (arith, ints, h, e))
 none_at P (Some m) (inr h) e = absurd (omega (arith, ints, h, e))
 
--- a number that is known to be the count of an answer is small, and 0 where there is none
+-- a number that is known to be the count of an answer reads back from eight bits, and is 0 where there is none
 module _ {m : Option Meet} {n : ℤ} (known : IsKnown m n) where
-  pub known_small : unsigned_abs n ≤ 1
-  known_small = let b = sized_bounds m known.sized in omega (arith, ints, b.0, b.1, known.count)
-
   pub known_kept : seen w8 n ≡ count_of m
   known_kept = let b = sized_bounds m known.sized in omega (arith, ints, b.0, b.1, known.count)
 

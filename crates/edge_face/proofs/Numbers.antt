@@ -1,4 +1,4 @@
--- Numbers of eight bits keep what they are as they are handed on.
+-- A number that fits eight bits reads back from them as itself, and so do small sums and differences.
 use Rattle.std.proofs.Common.{arith, ◌≡◌, ◌≤◌, unsigned_abs, ℤ, ◌+ℤ◌, ◌-ℤ◌, ◌<◌, ap, ◌∙◌}
 use Rattle.std.specs.Int.{w8}
 use Rattle.std.specs.Int.Signed.{mag}

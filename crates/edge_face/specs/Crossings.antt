@@ -59,17 +59,11 @@ unfoldable pub crossing : ShadowTest → ShadowTest → (Spot → Spot → List 
 crossing ends edges place a b u v w =
     let pairs = edge_pairs ends edges a b u v w in crossed (edge_number ends edges a b u v w) (place (first_spot false pairs) (first_spot true pairs))
 
--- on the grid: the pairs and the crossing of the two corners of p with the three of q
-abbrev pub edge_face_pairs : Between → List Corner → List Corner → List (Option Meet)
-edge_face_pairs w p q = edge_pairs (vertex_face w) (edge_edge w) (corner_at p 0) (corner_at p 1) (corner_at q 0) (corner_at q 1) (corner_at q 2)
-
+-- on the grid: the crossing of the two corners of p with the three of q
 abbrev pub edge_face_crossing : Between → Settle → List Corner → List Corner → Option Cross
 edge_face_crossing w settle p q = crossing (vertex_face w) (edge_edge w) (p_point w settle) (corner_at p 0) (corner_at p 1) (corner_at q 0) (corner_at q 1) (corner_at q 2)
 
 -- and of the three corners of p with the two of q
-abbrev pub face_edge_pairs : Between → List Corner → List Corner → List (Option Meet)
-face_edge_pairs w p q = edge_pairs (mirror (face_vertex w)) (mirror (edge_edge w)) (corner_at q 0) (corner_at q 1) (corner_at p 0) (corner_at p 1) (corner_at p 2)
-
 abbrev pub face_edge_crossing : Between → Settle → List Corner → List Corner → Option Cross
 face_edge_crossing w settle p q =
     crossing (mirror (face_vertex w)) (mirror (edge_edge w)) (q_point w settle) (corner_at q 0) (corner_at q 1) (corner_at p 0) (corner_at p 1) (corner_at p 2)

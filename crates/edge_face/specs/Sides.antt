@@ -1,8 +1,7 @@
 -- The tests of an edge of either side with a face of the other, on the grid.
-use Rattle.std.specs.Prelude.{◌≡◌, ℤ, Option, List, [], ◌∷◌}
-use Rattle.std.proofs.Common.{refl}
+use Rattle.std.specs.Prelude.{ℤ, Option, List}
 use Rattle.mb_base.specs.declared.point.Corner.{Corner}
-use Rattle.side_terms.specs.Corners.{corner_at, AllFine}
+use Rattle.side_terms.specs.Corners.{corner_at}
 use Rattle.shadow_kernels.specs.declared.Edge.{Edge}
 use Rattle.shadow_kernels.specs.declared.Edge.TheVariants.{OfP, OfQ}
 use Rattle.shadow_kernels.specs.declared.Spot.{Spot}
@@ -11,12 +10,10 @@ use Rattle.shadow_kernels.specs.Spots.{Between}
 use Rattle.shadow_kernels.specs.Shadows.{meet02, meet11, meet20}
 use Rattle.shadow_kernels.specs.ShadowLaws.{ShadowTest}
 use Rattle.shadow_kernels.specs.Edges.{own, other, edge_meet}
-use Rattle.shadow_kernels.specs.Sizes.{IsSized}
 use Rattle.shadow_kernels.specs.Hulls.{StaysBetween}
 use Rattle.edge_face.specs.declared.Cross.{Cross}
 use Rattle.edge_face.specs.Crossings.{Settle, edge_pairs, p_point, q_point, crossing}
 use Rattle.edge_face.specs.Boundaries.{AreMet, grid_edge_face, grid_face_edge}
-use Rattle.edge_face.specs.Parts.{itself}
 
 -- an edge of the other side
 abbrev pub flip : Edge → Edge

@@ -20,7 +20,8 @@ use shadow_kernels::{Edge, Grid, Meets, Spot, spot_of};
 impl<R: Rounding> Crosses<2, 3> for Grid<R> {
     ghost cross_of = { λ k. edge_face_crossing (R.between_of k.rounding) (R.settle_of k.rounding) };
 
-    ghost laws = { λ k. edge_face_laws (R.between_of k.rounding) (record { within = R.within k.rounding }) (R.settle_of k.rounding) (record { monotone = R.monotone k.rounding; units = R.units k.rounding }) };
+    ghost laws = { λ k. edge_face_laws (R.between_of k.rounding) (record { within = R.within k.rounding })
+        (R.settle_of k.rounding) (record { monotone = R.monotone k.rounding; units = R.units k.rounding }) };
 
     fn cross(&self, p: &[Corner; 2], q: &[Corner; 3]) -> Option<Cross> {
         crossing(self, Edge::OfP, p, q)
@@ -30,7 +31,8 @@ impl<R: Rounding> Crosses<2, 3> for Grid<R> {
 impl<R: Rounding> Crosses<3, 2> for Grid<R> {
     ghost cross_of = { λ k. face_edge_crossing (R.between_of k.rounding) (R.settle_of k.rounding) };
 
-    ghost laws = { λ k. face_edge_laws (R.between_of k.rounding) (record { within = R.within k.rounding }) (R.settle_of k.rounding) (record { monotone = R.monotone k.rounding; units = R.units k.rounding }) };
+    ghost laws = { λ k. face_edge_laws (R.between_of k.rounding) (record { within = R.within k.rounding })
+        (R.settle_of k.rounding) (record { monotone = R.monotone k.rounding; units = R.units k.rounding }) };
 
     fn cross(&self, p: &[Corner; 3], q: &[Corner; 2]) -> Option<Cross> {
         crossing(self, Edge::OfQ, q, p)

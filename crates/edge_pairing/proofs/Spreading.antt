@@ -1,5 +1,5 @@
 -- The spread of the first entries.
-use Rattle.std.proofs.Common.{◌≡◌, ◌<◌, ◌+◌, ℕ, ℤ, ◌-ℤ◌, List, [], ◌∷◌, length, map, take, get_or, refl, sym, ap, ◌∙◌, arith, take_all, to_z, of_z, w64}
+use Rattle.std.proofs.Common.{◌≡◌, ◌<◌, ◌+◌, ℕ, ℤ, ◌-ℤ◌, List, [], ◌∷◌, length, map, take, get_or, sym, ap, ◌∙◌, arith, take_all, to_z, of_z, w64}
 use Rattle.std.specs.Int.{int_max, int_min}
 use Rattle.std.specs.List.{fold}
 use Rattle.std.proofs.lemmas.Int.{ints, clamps}
@@ -22,10 +22,6 @@ pub record IsSpreadSoFar (axis : ℕ) (points : List (List ℤ)) (entries : List
   pub greatest : high ≡ fold int_max first (map (coordinate_at axis points) (take i entries))
   pub low_small : IsOnGrid low
   pub high_small : IsOnGrid high
-
--- at first
-pub spread_begins : (axis : ℕ) (points : List (List ℤ)) (entries : List Entry) (first : ℤ) → IsOnGrid first → IsSpreadSoFar axis points entries first 0 first first
-spread_begins axis points entries first small = record { least = refl; greatest = refl; low_small = small; high_small = small }
 
 -- one entry more
 folded_more : (f : ℤ → ℤ → ℤ) (g : Entry → ℤ) (a : ℤ) (entries : List Entry) (i : ℕ) → i < length entries → fold f a (map g (take (i + 1) entries)) ≡ f (fold f a (map g (take i entries))) (g (get_or entries i no_entry))

@@ -1,12 +1,12 @@
 -- Records in the order of their faces, face by face.
-use Rattle.std.proofs.Common.{is_lt, ◌≡◌, ℕ, suc, ◌+◌, ◌-◌, ◌<◌, ◌≤◌, ◌==◌, nat_lt, List, [], ◌∷◌, true, cond, length, take, drop, get_or, refl, sym, ap, ◌∙◌, subst, arith, inl, inr}
+use Rattle.std.proofs.Common.{is_lt, ◌≡◌, ℕ, suc, ◌+◌, ◌-◌, ◌<◌, ◌≤◌, ◌==◌, nat_lt, List, [], ◌∷◌, true, cond, length, take, drop, get_or, refl, ap, ◌∙◌, arith, inl, inr}
 use Rattle.std.specs.List.{All}
 use Rattle.std.specs.Ordering.{nat_cmp, ordering_then}
 use Rattle.std.specs.declared.cmp.Ordering.{Ordering}
 use Rattle.std.specs.declared.cmp.Ordering.TheVariants.{Greater}
 use Rattle.std.proofs.lemmas.Bool.{cases_lt}
-use Rattle.std.proofs.lemmas.List.{get_or-drop, get_or_default, length-drop}
-use Rattle.std.proofs.lemmas.List.Elements.{All-cons, All-head, All-nil, All-tail, All-weaker}
+use Rattle.std.proofs.lemmas.List.{get_or_default}
+use Rattle.std.proofs.lemmas.List.Elements.{All-cons, All-head, All-tail, All-weaker}
 use Rattle.std.proofs.lemmas.List.Sums.{count_by-le-length}
 use Rattle.chain_terms.specs.Chains.{one_if}
 use Rattle.chain_laws.specs.Counts.{count_by-cons}
@@ -126,26 +126,3 @@ group_slice ss x up =
 -- a group ends within the list
 pub group_within : (ss : List Stand) (x : ℕ) → FacesAscend ss → group_end ss (earlier ss x) x ≤ length ss
 group_within ss x up = omega (arith, group_ends ss x up, count_by-le-length (λ (s : Stand). nat_lt s.face (x + 1)) ss)
-
--- behind the records of earlier faces
-pub rest_ascends : (ss : List Stand) (n : ℕ) → FacesAscend ss → FacesAscend (drop n ss)
-rest_ascends ss n up i j l m =
-    rw (get_or-drop n ss i no_stand, get_or-drop n ss j no_stand) (up (n + i) (n + j) (omega (arith, l)) (omega (arith, m, length-drop n ss)))
-
--- there are none of earlier ones
-pub rest_from : (ss : List Stand) (x : ℕ) → FacesAscend ss → AreFrom x (drop (earlier ss x) ss)
-rest_from [] x up = All-nil (λ (t : Stand). x ≤ t.face)
-rest_from (s ∷ ss) x up = elim (cases_lt s.face x) as (λ _. AreFrom x (drop (earlier (s ∷ ss) x) (s ∷ ss))) [
-  | inl l ↦ subst (λ n. AreFrom x (drop n (s ∷ ss))) (sym (earlier_more s ss x l)) (rest_from ss x (faces_tail s ss up))
-  | inr l ↦ let from = from_first s ss x up l in subst (λ n. AreFrom x (drop n (s ∷ ss))) (sym (earlier_none (s ∷ ss) x from)) from
-]
-
--- and all of the others
-pub rest_records : (ss : List Stand) (x y : ℕ) → FacesAscend ss → x ≤ y → records_of (drop (earlier ss x) ss) y ≡ records_of ss y
-rest_records [] x y up h = refl
-rest_records (s ∷ ss) x y up h = elim (cases_lt s.face x) as (λ _. records_of (drop (earlier (s ∷ ss) x) (s ∷ ss)) y ≡ records_of (s ∷ ss) y) [
-  | inl l ↦
-      let other : records_of (s ∷ ss) y ≡ records_of ss y = rw (not_same s.face y (λ e. omega (arith, e, l, h))) refl in
-      ap (λ n. records_of (drop n (s ∷ ss)) y) (earlier_more s ss x l) ∙ rest_records ss x y (faces_tail s ss up) h ∙ sym other
-  | inr l ↦ ap (λ n. records_of (drop n (s ∷ ss)) y) (earlier_none (s ∷ ss) x (from_first s ss x up l))
-]

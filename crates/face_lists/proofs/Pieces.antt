@@ -1,10 +1,10 @@
 -- The parts of a face's records: those of each half-edge, and those of each pair.
-use Rattle.std.proofs.Common.{◌≡◌, ℕ, suc, ◌+◌, ◌-◌, ◌<◌, ◌≤◌, ◌==◌, List, [], ◌∷◌, ◌++◌, Bool, true, false, cond, map, length, take, drop, get_or, ℤ, refl, sym, ap, ◌∙◌, arith, subst}
+use Rattle.std.proofs.Common.{◌≡◌, ℕ, suc, ◌+◌, ◌-◌, ◌<◌, ◌==◌, List, [], ◌∷◌, ◌++◌, Bool, true, false, cond, map, length, take, drop, get_or, ℤ, refl, sym, ap, ◌∙◌, arith, subst}
 use Rattle.std.specs.List.{All, flat_map}
 use Rattle.std.proofs.lemmas.Bool.{eqb-true}
 use Rattle.std.proofs.lemmas.List.Concat.{flat_map-cons}
 use Rattle.std.proofs.lemmas.List.Elements.{All-head, All-tail}
-use Rattle.std.proofs.lemmas.List.{drop-drop, drop_more, length-drop, map-append}
+use Rattle.std.proofs.lemmas.List.{drop-drop, drop_more, map-append}
 use Rattle.edge_pairing.specs.Entries.{edge_of}
 use Rattle.mb_base.specs.declared.results.Segment.{Segment}
 use Rattle.face_lists.specs.Entries.{list_count, list_end}
@@ -15,19 +15,6 @@ use Rattle.face_lists.proofs.Tests.{same}
 -- the edges of a list of segments that grew
 pub edges_more : (new old slice more : List Segment) (made : List (ℕ × ℕ)) → new ≡ old ++ slice → slice ≡ more → map edge_of more ≡ made → map edge_of new ≡ map edge_of old ++ made
 edges_more new old slice more made e f g = ap (map edge_of) e ∙ map-append edge_of old slice ∙ ap (λ l. map edge_of old ++ l) (ap (map edge_of) f ∙ g)
-
--- no more records are of a list than there are
-pub list_count_at_most : (ss : List Stand) (l : ℕ) → list_count ss l ≤ length ss
-list_count_at_most [] l = omega arith
-list_count_at_most (s ∷ ss) l = at_most (s.list == l) (list_count ss l) (length ss) (list_count_at_most ss l)
-  where
-    at_most : (b : Bool) (m n : ℕ) → m ≤ n → cond b (suc m) 0 ≤ suc n
-    at_most true m n h = omega (arith, h)
-    at_most false m n h = omega arith
-
--- where a list ends
-pub end_within : (ss : List Stand) (begin l : ℕ) → begin ≤ length ss → list_end ss begin l ≤ length ss
-end_within ss begin l h = omega (arith, h, list_count_at_most (drop begin ss) l, length-drop begin ss)
 
 -- the first record is of its list
 pub count_first : (s : Stand) (ss : List Stand) → list_count (s ∷ ss) s.list ≡ suc (list_count ss s.list)

@@ -20,11 +20,6 @@ pub rises_higher : (k m n : ℕ) (xs : List ℕ) → m ≤ n → Rises k m xs �
 rises_higher k m n [] l h = omega (arith, l, h)
 rises_higher k m n (x ∷ xs) l h = (h.0, rises_higher (suc x) m n xs l h.1)
 
--- the last number is above the first
-pub rises_up : (k m : ℕ) (xs : List ℕ) → Rises k m xs → k ≤ m
-rises_up k m [] h = h
-rises_up k m (x ∷ xs) h = let low = h.0 in omega (arith, low, rises_up (suc x) m xs h.1)
-
 -- one behind the other
 pub rises_append : (k m n : ℕ) (xs ys : List ℕ) → Rises k m xs → Rises m n ys → Rises k n (xs ++ ys)
 rises_append k m n [] ys h r = rises_lower k m n ys h r

@@ -133,7 +133,8 @@ fn push_copies(
     requires upper { crossing.upper < 300000000 }
     requires face { crossing.face < most_triangles }
     requires fits { first + times < 2 ^ 32 }
-    ensures { OnOk result (stands.new.items ≡ stands.old.items ++ copy_stands bases.edges bases.faces crossing.lower crossing.upper crossing.face crossing.positive first times) }
+    ensures { OnOk result (stands.new.items ≡ stands.old.items ++
+        copy_stands bases.edges bases.faces crossing.lower crossing.upper crossing.face crossing.positive first times) }
 {
     for i in 0..times {
         stands.extend_from_slice(&six_stands(bases, crossing, first + i))?;

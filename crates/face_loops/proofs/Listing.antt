@@ -103,7 +103,3 @@ none_listed index v at rise point other k d below same =
           let here : (get_or index k (0, 0)).0 ≡ v = ap (λ (s : ℕ × ℕ). s.0) (get_or_default index k (0, 0) d below) ∙ same in
           other (omega (arith, after, below)) (omega (arith, first, up, here))
     ]
-
--- where it does, its place stands behind it
-pub some_listed : (index : List (ℕ × ℕ)) (v at : ℕ) → at < length index → (get_or index at (0, 0)).0 ≡ v → Contains index (v, (get_or index at (0, 0)).1)
-some_listed index v at below here = (at, below, get_or_default index at (v, (get_or index at (0, 0)).1) (0, 0) below ∙ ap (λ u. (u, (get_or index at (0, 0)).1)) here)

@@ -47,12 +47,16 @@ pub fn point_of(coordinates: &[i32]) -> Result<Point, Fail> {
     Ok(point.ok_or("no point of the grid")?)
 }
 
-/// The points of a text, whose coordinates have blanks between them and are so many for each.
+/// The points of a text, whose coordinates have blanks between them and are so many for each. It fails where a point lacks a coordinate.
 pub fn points_of(alloc: Global, text: &str, axes: usize) -> Result<Vec<Point>, Fail>
     requires { 0 < axes }
 {
+    let numbers = numbers_of(alloc, text, " ")?;
+    if numbers.len() % axes != 0 {
+        return Err("a point lacks a coordinate".into());
+    }
     let mut points = Vec::new(alloc);
-    for part in numbers_of(alloc, text, " ")?.chunks(axes) {
+    for part in numbers.chunks(axes) {
         points.push(point_of(part)?)?;
     }
     Ok(points)

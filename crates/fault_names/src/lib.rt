@@ -26,7 +26,7 @@ pub fn kind_text(kind: TextKind) -> (u64, &'static [u8])
     }
 }
 
-/// The name of what is counted, past its limit.
+/// The name of what is counted against a limit.
 pub fn limit_text(what: Counted) -> &'static [u8]
     ensures text { result.now ≡ limit_name (counted_of what) }
     ensures short { length result.now ≤ 10 }

@@ -4,14 +4,13 @@ use Rattle.mesh_terms.specs.Limits.{Limits}
 use Rattle.run_terms.specs.Files.{Bytes, Files, Grew, length_of}
 use Rattle.run_terms.specs.Runs.{World}
 use Rattle.run_terms.specs.Tasks.{Refusal}
-use Rattle.run_terms.specs.Meets.{Refused, Unread, Starved, Why, Meets}
+use Rattle.run_terms.specs.Meets.{Refused, Unread, Why, Meets}
 use Rattle.play_terms.specs.Commands.{ask_file, bytes_in}
 use Rattle.mb_outside.specs.Seen.{OnShelf, ShelfMeets, seen}
 use Rattle.file_stops.specs.Sizes.{IsSizeStop}
 use Rattle.file_stops.specs.Stops.{ended_by, is_reading_stop, why_of}
 use Rattle.file_stops.specs.declared.stop.Stop.{Stop}
 use Rattle.file_reading.proofs.Texts.{bytes_of_long, bytes_of_none}
-use Rattle.run_laws.proofs.Tasks.{meets_starved}
 
 abbrev world_of : Files → Option Bytes → World
 world_of files told = record { files = files; out = told }
@@ -51,12 +50,6 @@ size_refused limits name before now most (Some n) stop same tells files read sho
 pub is_reading : (most : ℕ) (size : Option ℕ) (stop : Stop) → IsSizeStop most size stop → IsTrue (is_reading_stop stop)
 is_reading most None stop is = rw is refl
 is_reading most (Some n) stop is = rw is.0 refl
-
--- memory ran out
-pub starved : (limits : Limits) (name : Bytes) (before now : OnShelf) → now ≡ before → ShelfMeets (ask_file limits name) before now (Err Starved)
-starved limits name before now same told outs =
-    let P : OnShelf → Type 0 = λ on. Meets (ask_file limits name) (seen before told outs) (seen on told outs) (Err Starved) in
-    subst P (sym same) (meets_starved (ask_file limits name) (seen before told outs))
 
 -- the file was read
 pub read_whole : (limits : Limits) (name bytes : Bytes) (before now : OnShelf) → now ≡ before → (IsTrue before.tells → bytes_in limits name (before.files name) ≡ Ok bytes)

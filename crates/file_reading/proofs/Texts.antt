@@ -14,11 +14,6 @@ use Rattle.file_reading.specs.Pieces.{ReadsOn}
 pub all_of : (text bytes : Bytes) (have size : ℕ) → length bytes ≡ size → length text ≡ size → size ≤ have → take have bytes ≡ take have text → text ≡ bytes
 all_of text bytes have size long_bytes long_text full same = grind (arith, common_steps)
 
--- a file of a known size is that long
-pub whole_text : (o : Option Bytes) (size : ℕ) → length_of o ≡ Some size → length (text_of o) ≡ size
-whole_text None size is = cc
-whole_text (Some text) size is = cc
-
 -- one piece more was read
 pub reads_on : (text old new : Bytes) (have n : ℕ) → ReadsOn text have n old new → take have old ≡ take have text → take (have + n) new ≡ take (have + n) text
 reads_on text old new have n is was = is ∙ ap (λ x. x ++ take n (drop have text)) was ∙ sym (take-add have n text)

@@ -64,7 +64,8 @@ fn read_piece<S: Shelf>(
     Ok(count)
 }
 
-// Reads the next piece of a file into its place among its bytes, and answers how many came, which are some.
+// Reads the next piece of a file into its place among its bytes, and answers how many came, which are some. A read that fails
+// or gives nothing is a `ReadFault`.
 fn read_some<S: Shelf>(
     shelf: &mut S,
     name: &str,

@@ -19,17 +19,6 @@ pub record IsWalked (s : ℕ → ℕ) (n h number : ℕ) (old of : List ℕ) (g 
   pub passed : (j : ℕ) → j < count → get_or of (times s j h) 0 ≡ number
   pub each : (x : ℕ) → x < n → ((get_or of x 0 ≡ number) × IsPassed s h count x) ⊎ (get_or of x 0 ≡ get_or old x 0)
 
--- nothing was passed
-pub walk_start : (s : ℕ → ℕ) (n h number : ℕ) (old : List ℕ) → length old ≡ n → IsWalked s n h number old old h
-walk_start s n h number old full = record {
-  count = 0;
-  at = refl;
-  not_back = λ j some few. absurd (omega (arith, few));
-  full = full;
-  passed = λ j few. absurd (omega (arith, few));
-  each = λ x below. inr refl;
-}
-
 -- the place of the walk is one of the numbers below n
 pub walk_below : (s t : ℕ → ℕ) (n : ℕ) → AreInverse s t n → (h number : ℕ) (old of : List ℕ) (g : ℕ) → h < n → IsWalked s n h number old of g → g < n
 walk_below s t n inverse h number old of g hn walk = subst (λ x. x < n) (sym walk.at) (times_below s t n inverse walk.count h hn)

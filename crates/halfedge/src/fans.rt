@@ -30,7 +30,8 @@ impl Twins {
     /// once.
     pub fn fans(&self, alloc: Global) -> Result<Fans, NoMemory>
         ensures fans { IfOk result (λ fans. AreFans (all_edges self.now.triples) fans.of.items fans.first.items) }
-        ensures only { IfOk result (λ fans. (of first : List ℕ) → AreFans (all_edges self.now.triples) of first → (of ≡ fans.of.items) × (first ≡ fans.first.items)) }
+        ensures only { IfOk result (λ fans. (of first : List ℕ) →
+            AreFans (all_edges self.now.triples) of first → (of ≡ fans.of.items) × (first ≡ fans.first.items)) }
     {
         let order = self.by_start(alloc)?;
         let mut of = vec![in alloc; NO_FAN; 3 * self.triples().len()]?;

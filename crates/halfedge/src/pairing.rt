@@ -26,7 +26,8 @@ pub fn paired(alloc: Global, triples: &[[u32; 3]]) -> Result<Option<(Vec<u32>, b
     requires three { All HasThree (triples_of triples.now) }
     ensures none { IfOk result (λ r. IsNone r → IsClosed (all_edges (triples_of triples.now)) → ⊥) }
     ensures closed { IfOk result (λ r. IfSome r (λ _. IsClosed (all_edges (triples_of triples.now)))) }
-    ensures twins { IfOk result (λ r. IfSome r (λ p. p.0.items ≡ map (twin (all_edges (triples_of triples.now))) (upto (length (all_edges (triples_of triples.now)))))) }
+    ensures twins { IfOk result (λ r. IfSome r (λ p. p.0.items ≡
+        map (twin (all_edges (triples_of triples.now))) (upto (length (all_edges (triples_of triples.now)))))) }
     ensures single { IfOk result (λ r. IfSome r (λ p. IsTrue p.1 ↔ AreSingle (all_edges (triples_of triples.now)))) }
 {
     let count = triples.len() as u32 + 1;
@@ -49,10 +50,12 @@ fn pair_buckets(
     twins: &mut [u32],
 ) -> Result<Option<bool>, NoMemory>
     requires few { length triples.now ≤ most_triangles }
-    requires gathered { buckets.now ≡ map (places_of (map (bucket_of (length triples.now + 1)) (all_edges (triples_of triples.now)))) (upto (length triples.now + 1)) }
+    requires gathered { buckets.now ≡
+        map (places_of (map (bucket_of (length triples.now + 1)) (all_edges (triples_of triples.now)))) (upto (length triples.now + 1)) }
     requires full { length twins.old ≡ length (all_edges (triples_of triples.now)) }
     ensures none { IfOk result (λ r. IsNone r → IsClosed (all_edges (triples_of triples.now)) → ⊥) }
-    ensures paired { IfOk result (λ r. IfSome r (λ single. ArePaired (all_edges (triples_of triples.now)) (λ a. a % (length triples.now + 1)) (length triples.now + 1) twins.new single)) }
+    ensures paired { IfOk result (λ r. IfSome r (λ single.
+        ArePaired (all_edges (triples_of triples.now)) (λ a. a % (length triples.now + 1)) (length triples.now + 1) twins.new single)) }
 {
     let mut lists = (Vec::new(alloc), Vec::new(alloc));
     let mut single = true;
@@ -76,7 +79,8 @@ fn pair_ways(ups: &[Half], downs: &[Half], twins: &mut [u32]) -> Option<bool>
     ensures none { IsNone result → (ends_of ups.now ≡ ends_of downs.now) → ⊥ }
     ensures same { IfSome result (λ _. ends_of ups.now ≡ ends_of downs.now) }
     ensures length { length twins.new ≡ length twins.old }
-    ensures written { IfSome result (λ _. (partner : ℕ → ℕ) → ArePartners partner ups.now downs.now → AreWritten partner ups.now downs.now twins.old twins.new) }
+    ensures written { IfSome result (λ _. (partner : ℕ → ℕ) →
+        ArePartners partner ups.now downs.now → AreWritten partner ups.now downs.now twins.old twins.new) }
     ensures single { IfSome result (λ alone. IsTrue alone ↔ AreSingle (ends_of ups.now)) }
 {
     if !run_alike(ups, downs) {

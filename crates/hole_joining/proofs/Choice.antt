@@ -34,10 +34,6 @@ later_decides l i j m k n =
 later_chain : (a b c l i j m k n : ℕ) → IsLater a b c l i j → IsLater l i j m k n → IsLater a b c m k n
 later_chain a b c l i j m k n p q = grind arith
 
--- where neither is later, the two are at the same place
-not_later : (l i j m k n : ℕ) → (IsLater l i j m k n → ⊥) → (IsLater m k n l i j → ⊥) → (l ≡ m) × (i ≡ k) × (j ≡ n)
-not_later l i j m k n p q = grind arith
-
 -- what a filter keeps stands in the list and passes
 kept : (p : Bridge → Bool) (bs : List Bridge) (c : Bridge) → Member c (filter p bs) → Member c bs × (p c ≡ true)
 kept p [] c h = elim h [ ]

@@ -189,8 +189,10 @@ impl Rounding for Far {
     ghost settle_of = { λ r. settle_nearest };
 
     ghost within = { λ r u v a b p q s t.
-        let first : LiesBetween u v u = by_lt_z u v (λ l. inl (Prim.omega (arith, ints), Prim.omega (arith, ints))) (λ l. inr (Prim.omega (arith, ints), Prim.omega (arith, ints))) in
-        let second : LiesBetween u v v = by_lt_z u v (λ l. inl (Prim.omega (arith, ints), Prim.omega (arith, ints))) (λ l. inr (Prim.omega (arith, ints), Prim.omega (arith, ints))) in
+        let first : LiesBetween u v u = by_lt_z u v (λ l. inl (Prim.omega (arith, ints), Prim.omega (arith, ints)))
+        (λ l. inr (Prim.omega (arith, ints), Prim.omega (arith, ints))) in
+        let second : LiesBetween u v v = by_lt_z u v (λ l. inl (Prim.omega (arith, ints), Prim.omega (arith, ints)))
+        (λ l. inr (Prim.omega (arith, ints), Prim.omega (arith, ints))) in
         elim (int_eq a (pos 0)) as (λ x. LiesBetween u v (if x then u else (if int_eq b (pos 0) then v else (if int_lt a b then v else u)))) [
           | true ↦ first
           | false ↦ elim (int_eq b (pos 0)) as (λ x. LiesBetween u v (if x then v else (if int_lt a b then v else u))) [

@@ -1,4 +1,4 @@
-//! Tests of the shadow tests, of the crossings of edges and faces, and of winding numbers, by their public calls.
+//! Tests of rounding, of the step counter, of the shadow tests, of the crossings of edges and faces, and of winding numbers, by their public calls.
 #![tactic(auto)]
 
 #[cfg(test)]

@@ -1,4 +1,4 @@
-// What rounding to the nearest gives.
+// What rounding to the nearest gives, by its formula.
 use mb_base::UNIT;
 use rounding::{Nearest, Rounding};
 

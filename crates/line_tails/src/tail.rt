@@ -81,7 +81,7 @@ fn edge_tail(from: u32, to: u32) -> Tail
     tail
 }
 
-// The line of a count past its limit.
+// The line of something that was counted past its limit.
 fn limit_tail(what: Counted, seen: u64) -> Tail
     ensures { result.items ≡ codes "limit " ++ limit_name (counted_of what) ++ codes " " ++ decimal seen ++ codes "\n" }
 {

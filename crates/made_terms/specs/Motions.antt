@@ -1,5 +1,5 @@
 -- Motions of points, and the triangles of a mirrored mesh.
-use Rattle.std.specs.Prelude.{ℕ, ℤ, neg_ℤ, ◌*ℤ◌, List, map, if◌then◌else◌, ◌==◌}
+use Rattle.std.specs.Prelude.{ℕ, ℤ, neg_ℤ, ◌*ℤ◌, List, if◌then◌else◌, ◌==◌}
 use Rattle.mesh_terms.specs.Meshes.{Triple}
 use Rattle.mesh_terms.specs.Points.{coordinate_of}
 use Rattle.made_terms.specs.Solids.{point, moved}

@@ -105,7 +105,8 @@ impl MemoryShelf {
 
     // Counts a call, and adds a piece to a file, or makes a new one of it, where the call is not listed.
     fn append_unlisted(&mut self, name: &[u8], piece: &[u8]) -> Result<(), Failed>
-        ensures exact { is_err result ≡ (is_listed self.old.calls || is_unplaced self.old.store name.now || is_past self.old.store name.now (length piece.now)) }
+        ensures exact { is_err result ≡
+            (is_listed self.old.calls || is_unplaced self.old.store name.now || is_past self.old.store name.now (length piece.now)) }
         ensures added { OnOk result (
             self.new ≡ holding (written name.now (text_of (files_of self.old.store.files name.now) ++ piece.now) self.old.store) self.old) }
         ensures kept { OnErr result (self.new ≡ record self.old { calls = next self.old.calls }) }

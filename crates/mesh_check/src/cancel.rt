@@ -44,7 +44,8 @@ pub fn uncancelled(alloc: Global, triples: &[[u32; 3]]) -> Result<Vec<bool>, NoM
 fn cancel(ones: &[Oriented], others: &[Oriented], mut left: Vec<bool>) -> Vec<bool>
     requires ones { All (λ o. o.place < length left.items) ones.now }
     requires others { All (λ o. o.place < length left.items) others.now }
-    ensures { (es : List (ℕ × ℕ)) (key : ℕ → ℕ) (k : ℕ) → AreWays es key k (halves_of ones.now) (halves_of others.now) → EndsDiffer es → AreMarked es key k left.items → AreMarked es key (k + 1) result.items }
+    ensures { (es : List (ℕ × ℕ)) (key : ℕ → ℕ) (k : ℕ) → AreWays es key k (halves_of ones.now) (halves_of others.now) →
+        EndsDiffer es → AreMarked es key k left.items → AreMarked es key (k + 1) result.items }
 {
     let mut i = 0;
     let mut j = 0;

@@ -36,7 +36,8 @@ pub fn oriented_ways(
 ) -> Result<(Vec<Oriented>, Vec<Oriented>), NoMemory>
     requires { All (λ place. place < length triples.now) bucket.now }
     ensures ones { IfOk result (λ r. IsSortOf (filter runs_up (map (half_of (orientation_edges (triples_of triples.now))) bucket.now)) (halves_of r.0.items)) }
-    ensures others { IfOk result (λ r. IsSortOf (filter runs_up (map turned (map (half_of (orientation_edges (triples_of triples.now))) bucket.now))) (halves_of r.1.items)) }
+    ensures others { IfOk result (λ r. IsSortOf
+        (filter runs_up (map turned (map (half_of (orientation_edges (triples_of triples.now))) bucket.now))) (halves_of r.1.items)) }
 {
     let (mut ones, mut others) = split(triples, bucket, lists)?;
     ones.sort_unstable();
@@ -52,7 +53,8 @@ fn split(
 ) -> Result<(Vec<Oriented>, Vec<Oriented>), NoMemory>
     requires { All (λ place. place < length triples.now) bucket.now }
     ensures ones { IfOk result (λ r. halves_of r.0.items ≡ filter runs_up (map (half_of (orientation_edges (triples_of triples.now))) bucket.now)) }
-    ensures others { IfOk result (λ r. halves_of r.1.items ≡ filter runs_up (map turned (map (half_of (orientation_edges (triples_of triples.now))) bucket.now))) }
+    ensures others { IfOk result (λ r. halves_of r.1.items ≡
+        filter runs_up (map turned (map (half_of (orientation_edges (triples_of triples.now))) bucket.now))) }
     ensures ones_narrow { IfOk result (λ r. All (λ o. IsNarrow (vertices_of o)) r.0.items) }
     ensures others_narrow { IfOk result (λ r. All (λ o. IsNarrow (vertices_of o)) r.1.items) }
 {

@@ -1,10 +1,9 @@
 -- Rows on the grid: all of them, the rest of them, and one of them.
-use Rattle.std.proofs.Common.{◌≡◌, ◌<◌, ◌≤◌, ◌+◌, ◌^◌, ℕ, zero, suc, ℤ, ◌+ℤ◌, ◌*ℤ◌, pos, unsigned_abs, Bool, true, false, List, [], ◌∷◌, length, get_or, drop, map, refl, sym, ◌∙◌, ap, arith, to_z, of_z}
-use Rattle.std.specs.Prelude.{◌&&◌, if◌then◌else◌, Option, Some, None}
+use Rattle.std.proofs.Common.{◌≡◌, ◌<◌, ◌≤◌, ◌+◌, ◌^◌, ℕ, zero, suc, ℤ, ◌+ℤ◌, ◌*ℤ◌, pos, unsigned_abs, Bool, true, false, List, [], ◌∷◌, length, get_or, drop, map, refl, ◌∙◌, ap, arith, to_z, of_z}
+use Rattle.std.specs.Prelude.{if◌then◌else◌, Option, Some, None}
 use Rattle.std.specs.Int.{w64}
 use Rattle.std.proofs.lemmas.Bool.{and_parts}
 use Rattle.std.proofs.lemmas.Int.{ints, to_z-of_z, fits_signed_mul}
-use Rattle.std.proofs.lemmas.List.{get_or-map}
 use Rattle.made_terms.specs.Refusals.{is_grid_point, all_on_grid}
 
 -- where all moved rows are on the grid, each is

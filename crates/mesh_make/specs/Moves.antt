@@ -1,5 +1,5 @@
 -- The motions that may leave the grid.
-use Rattle.std.specs.Prelude.{ℕ, ◌≤◌, ℤ, pos, List}
+use Rattle.std.specs.Prelude.{◌≤◌, ℤ, pos, List}
 use Rattle.made_terms.specs.Motions.{shifted, scaled}
 use Rattle.mesh_make.specs.declared.motions.grid.GridMotion.{GridMotion}
 use Rattle.mesh_make.specs.declared.motions.grid.GridMotion.TheVariants.{Shift, Scale}

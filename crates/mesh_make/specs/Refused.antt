@@ -1,5 +1,5 @@
 -- Which answers a reason stands for.
-use Rattle.std.specs.Prelude.{◌≡◌, ◌⊎◌, ℕ, Option, Some, None, Result, IsOk, IsErrOf}
+use Rattle.std.specs.Prelude.{◌⊎◌, Option, Some, None, Result, IsOk, IsErrOf}
 use Rattle.mesh_terms.specs.Faults as terms
 use Rattle.made_terms.specs.Refusals.{MadeFault, Flat, Outside, Exceeds}
 use Rattle.mb_base.specs.declared.fault.Counted.{Counted}

@@ -147,8 +147,3 @@ ended_in_part text page told_old told_mid told_new room_old room_mid p last =
 pub last_fits : (text page : Bytes) (told_old told_mid : Option Bytes) (room_old room_mid : Option ℕ)
     → (p : Passed text [] page told_old told_mid room_old room_mid) (free : ℕ) → length text ≤ free → length page ≤ free - length p.sent
 last_fits text page told_old told_mid room_old room_mid p free fits = omega (arith, fits, sizes p.sent page [] text p.split)
-
--- three texts put one after the other
-pub three_put : (a b c p0 p1 p2 p3 : Bytes) → p1 ≡ p0 ++ a → p2 ≡ p1 ++ b → p3 ≡ p2 ++ c → p3 ≡ p0 ++ ((a ++ b) ++ c)
-three_put a b c p0 p1 p2 p3 h1 h2 h3 =
-    h3 ∙ ap (λ x. x ++ c) h2 ∙ ap (λ x. (x ++ b) ++ c) h1 ∙ ap (λ x. x ++ c) (append_assoc p0 a b) ∙ append_assoc p0 (a ++ b) c

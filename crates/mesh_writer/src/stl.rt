@@ -117,7 +117,8 @@ fn write_facets<K: Sink>(
     requires below { All (λ t. IsBelow (length points.now) (triple_of t)) triples.now }
     requires digits { digits ≤ 6 }
     requires free { array_vec_len page.old ≤ 3968 }
-    ensures wrote { OnOk result (Wrote K.Sink (flat_map (λ t. facet_text digits points.now (triple_of t)) triples.now) (page.old.items, page.new.items) (sink.old, sink.new)) }
+    ensures wrote { OnOk result (Wrote K.Sink (flat_map (λ t. facet_text digits points.now (triple_of t)) triples.now)
+        (page.old.items, page.new.items) (sink.old, sink.new)) }
     ensures broke { OnErr result (Broke K.Sink (flat_map (λ t. facet_text digits points.now (triple_of t)) triples.now) page.old.items (sink.old, sink.new)) }
     ensures free { OnOk result (array_vec_len page.new ≤ 3968) }
 {

@@ -1,5 +1,5 @@
 -- Decimal numbers are words of digits that spell them.
-use Rattle.std.proofs.Common.{◌≡◌, ℕ, ◌+◌, ◌*◌, ◌/◌, ◌%◌, ◌^◌, ◌-◌, ◌<◌, ◌&&◌, ◌==◌, if◌then◌else◌, Bool, List, [], ◌∷◌, ◌++◌, true, false, decimal, ap, ◌∙◌, arith, length-append, Option, Some, None}
+use Rattle.std.proofs.Common.{◌≡◌, ℕ, ◌+◌, ◌*◌, ◌/◌, ◌%◌, ◌^◌, ◌-◌, ◌<◌, ◌==◌, if◌then◌else◌, Bool, List, [], ◌∷◌, ◌++◌, true, false, decimal, ap, ◌∙◌, arith, length-append, Option, Some, None}
 use Rattle.std.proofs.lemmas.Bool.Decides.{nat_tests}
 use Rattle.std.proofs.lemmas.Fmt.{decimal_by_steps}
 use Rattle.text_laws.proofs.Digits.{all_digits-append, value_from-append}
@@ -12,10 +12,6 @@ pub record IsSpelled (n : ℕ) (ds : List ℕ) : Type 0 where
   pub word : IsWord ds
   pub digits : all_digits ds ≡ true
   pub value : digits_value ds ≡ n
-
--- both tests hold
-both : (a b : Bool) → a ≡ true → b ≡ true → (a && b) ≡ true
-both a b p q = grind arith
 
 -- one digit
 IsSpelled-digit : (d : ℕ) → d < 10 → IsSpelled d ((48 + d) ∷ [])

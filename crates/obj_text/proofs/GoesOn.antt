@@ -21,10 +21,6 @@ begins_word-before_blank : (xs ys : List ℕ) → begins_word (xs ++ 32 ∷ ys) 
 begins_word-before_blank [] ys = refl
 begins_word-before_blank (x ∷ xs) ys = refl
 
--- a byte goes into the first of some words
-add_first-append : (c : ℕ) (w : List ℕ) (vs ws : List (List ℕ)) → add_first c ((w ∷ vs) ++ ws) ≡ add_first c (w ∷ vs) ++ ws
-add_first-append c w vs ws = refl
-
 -- a blank parts the words before it from those after it
 pub words_of-parted : (xs ys : List ℕ) → words_of (xs ++ 32 ∷ ys) ≡ words_of xs ++ words_of ys
 words_of-parted [] ys = refl
@@ -52,10 +48,6 @@ words_of-blank_last line = words_of-parted (take (length line - 1) line) [] ∙ 
 -- a line that goes on has the words of its part and those of the text in which it goes on
 pub words_left-continued : (line after : List ℕ) → is_continued line ≡ true → words_left (take (length line - 1) line) after ≡ first_words (line ∷ lines_of after)
 words_left-continued line after e = rw e (ap (λ (ws : List (List ℕ)). ws ++ first_words (lines_of after)) (sym (words_of-blank_last line)))
-
--- another has its own
-pub words_left-alone : (line after : List ℕ) → is_continued line ≡ false → words_left line [] ≡ first_words (line ∷ lines_of after)
-words_left-alone line after e = rw e (append-nil (words_of line))
 
 -- a line that ends in another byte is at its end
 pub is_continued-end : (line front : List ℕ) (last : ℕ) → line ≡ front ++ last ∷ [] → is_continued line ≡ ((last == 92) && not (begins_comment (words_of line)))

@@ -81,21 +81,7 @@ ends_dropped k whole kept count carry text rest after s back full d = record {
       ∙ sym (sized_by k ds (take count text) d.lost (omega (arith, full, length-take-le count text s.within)) d.digits);
 }
 
--- a number without a point
-pub begins_whole : (k value count : ℕ) (text rest : List ℕ) → SpellsOn 0 text value count → 0 < count → rest ≡ drop count text → BeginsSize k text (value * 10 ^ k) rest
-begins_whole k value count text rest s some back = record {
-  whole = take count text;
-  fraction = None;
-  split = sym (take-append-drop count text) ∙ ap (λ (t : List ℕ). take count text ++ t) (sym back);
-  some = omega (arith, some, length-take-le count text s.within);
-  digits = s.digits;
-  more = refl;
-  sized =
-      ap (λ (v : ℕ). v * 10 ^ k) (s.spelled ∙ ap (λ (l : List ℕ). digits_value l) (sym (append-nil (take count text))))
-      ∙ sym (size-kept k k (take count text) [] (omega arith));
-}
-
--- and with one
+-- a number with a point
 pub begins_with : (k whole size count : ℕ) (text rest fraction after : List ℕ) → SpellsOn 0 text whole count → 0 < count → rest ≡ drop count text → rest ≡ 46 ∷ fraction → EndsSize k whole fraction size after → BeginsSize k text size after
 begins_with k whole size count text rest fraction after s some back point e = record {
   whole = take count text;

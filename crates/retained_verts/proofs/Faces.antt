@@ -1,5 +1,5 @@
 -- A copy stands in none or two of the lists of a source face.
-use Rattle.std.proofs.Common.{◌≡◌, ℕ, zero, suc, ◌+◌, ◌*◌, ◌/◌, ◌<◌, ◌≤◌, inl, inr, Bool, true, false, cond, ◌==◌, ℤ, pos, negsuc, neg_ℤ, ◌-ℤ◌, List, ◌++◌, map, length, get_or, int_lt, count_by, refl, arith, ap, sym, ◌∙◌}
+use Rattle.std.proofs.Common.{◌≡◌, ℕ, ◌+◌, ◌*◌, ◌/◌, ◌<◌, ◌≤◌, inl, inr, Bool, true, false, cond, ◌==◌, ℤ, pos, negsuc, neg_ℤ, ◌-ℤ◌, List, ◌++◌, map, length, get_or, int_lt, count_by, refl, arith, ap, sym, ◌∙◌}
 use Rattle.std.proofs.lemmas.Int.{ints}
 use Rattle.std.proofs.lemmas.Bool.{cases_eq, eq-eqb, ne_eqb, le-ltb}
 use Rattle.chain_terms.specs.Chains.{all_edges}
@@ -34,12 +34,6 @@ counted_none value half pair n halves pairs =
     let down : (i : ℕ) → below (value (half i)) ≡ 0 = λ i. ap below (halves i) in
     counted value half pair n 0 0 0 (count_none (λ k. int_lt (pos 0) (value (pair k))) n (λ k. ap (int_lt (pos 0)) (pairs k))) (count_none (λ k. int_lt (value (pair k)) (pos 0)) n (λ k. ap (λ z. int_lt z (pos 0)) (pairs k)))
     (omega (arith, up 0, up 1, up 2)) (omega (arith, down 0, down 1, down 2))
-
--- the vertex of a face at a place round it
-abbrev pub corner : Triple → ℕ → ℕ
-corner t zero = t.0
-corner t (suc zero) = t.1
-corner t (suc (suc i)) = t.2
 
 -- the half-edges of a face against a vertex
 pub ends_at : (ts : List Triple) (f a : ℕ) → f < length ts → (let t = get_or ts f (0, 0, 0) in let es = all_edges ts in

@@ -46,10 +46,6 @@ grown field new old before is is' i n x pushed stood more times same =
     let step : map field (flat_map copies_of is') ≡ rows ++ copies = ap (λ l. map field (flat_map copies_of l)) more ∙ field_more field is i in
     let these : replicate n x ≡ copies = ap (λ k. replicate k x) times ∙ ap (replicate (nat_abs i.number)) same in cc
 
--- one copy more of the same
-pub one_more : {A : Type 0} (new old before : List A) (n : ℕ) (x : A) → new ≡ old ++ x ∷ [] → old ≡ before ++ replicate n x → replicate (n + 1) x ≡ replicate n x ++ x ∷ [] → new ≡ before ++ replicate (n + 1) x
-one_more new old before n x e f g = let a = append_assoc before (replicate n x) (x ∷ []) in cc
-
 -- the copies of four lists, one after the other
 pub in_order : {A : Type 0} (field : Copy → A) (is js ks ls : List Included) (a b c d e : List A) →
     a ≡ [] → b ≡ a ++ map field (flat_map copies_of is) → c ≡ b ++ map field (flat_map copies_of js) → d ≡ c ++ map field (flat_map copies_of ks) → e ≡ d ++ map field (flat_map copies_of ls) →

@@ -1,7 +1,7 @@
 -- Vertices that stand in a list.
 use Rattle.std.specs.Prelude.{◌≡◌, ℕ, List, [], ◌∷◌, ◌++◌, true, false, ◌==◌, ◌⊎◌}
 use Rattle.std.specs.List.{All}
-use Rattle.std.proofs.Common.{refl, sym, subst, ◌∙◌, inl, inr}
+use Rattle.std.proofs.Common.{refl, sym, subst, inl, inr}
 use Rattle.std.proofs.lemmas.Bool.{cases_eq, eqb-true, eq-eqb, or_cases, or_left, or_right, false_from_ne_true}
 use Rattle.std.proofs.lemmas.List.Elements.{All-head, All-tail}
 use Rattle.chain_terms.specs.Paths.{last_of}
@@ -90,13 +90,6 @@ true-in_list v (x ∷ xs) h = elim (or_cases (x == v) (in_list v xs) h) as (λ _
 
 pub in_list-false : (v : ℕ) (xs : List ℕ) → (In v xs → ⊥) → in_list v xs ≡ false
 in_list-false v xs n = false_from_ne_true (in_list v xs) (λ y. n (true-in_list v xs y))
-
--- lists with the same vertices answer the test alike
-pub in_list-same : (v : ℕ) (xs ys : List ℕ) → (In v xs → In v ys) → (In v ys → In v xs) → in_list v xs ≡ in_list v ys
-in_list-same v xs ys f g = elim (in_or_not v xs) as (λ _. in_list v xs ≡ in_list v ys) [
-  | inl i ↦ in_list-true v xs i ∙ sym (in_list-true v ys (f i))
-  | inr n ↦ in_list-false v xs n ∙ sym (in_list-false v ys (λ i. n (g i)))
-]
 
 -- three different vertices stand in every list that has all of them
 pub three_within : (r s : List ℕ) → ((v : ℕ) → In v r → In v s) → Three r → Three s

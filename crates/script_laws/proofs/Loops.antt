@@ -2,9 +2,9 @@
 use Rattle.std.proofs.Common.{◌≡◌, ℕ, ◌+◌, ◌<◌, ◌≤◌, List, length, get_or, drop, Result, Ok, Err, ap, subst, ◌∙◌, refl}
 use Rattle.std.proofs.Math.ListN.{drop_of_length-le}
 use Rattle.std.proofs.lemmas.List.{drop_more}
-use Rattle.run_terms.specs.Meets.{Why, Refused, Starved, Seen, Meets}
+use Rattle.run_terms.specs.Meets.{Why, Refused, Seen, Meets}
 use Rattle.run_terms.specs.Tasks.{Refusal, Task, give, then_task}
-use Rattle.run_laws.proofs.Tasks.{meets_then, meets_stop, meets_starved}
+use Rattle.run_laws.proofs.Tasks.{meets_then, meets_stop}
 use Rattle.script_terms.specs.Plays.{in_order}
 use Rattle.script_laws.specs.SoFar.{SoFar}
 
@@ -48,7 +48,3 @@ module _ {L A : Type 0} (whole : Task A) (start here : Seen) (task : L → A →
       let P : Task A → Type 0 = λ t. (now : Seen) (r : Result A Why) → Meets t here now r → Meets whole start now r in
       let last : in_order task (drop at ls) a ≡ give (Ok a) = ap (λ (rest : List L). in_order task rest a) (drop_of_length-le ls past) in
       subst P last far.ends here (Ok a) (meets_give a here)
-
--- memory ran out here: the whole stopped so
-pub starves : {A : Type 0} (whole rest : Task A) (start here : Seen) → SoFar whole start rest here → Meets whole start here (Err Starved)
-starves whole rest start here far = far.ends here (Err Starved) (meets_starved rest here)

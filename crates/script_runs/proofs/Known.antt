@@ -1,12 +1,10 @@
 -- Which names have meshes after steps.
-use Rattle.std.proofs.Common.{◌≡◌, ◌++◌, ◌⊎◌, Bool, true, false, List, [], ◌∷◌, Option, Some, None, IsSome, IsTrue, All, inl, inr, refl, ap, sym, subst, ◌∙◌}
+use Rattle.std.proofs.Common.{◌≡◌, ◌++◌, ◌⊎◌, Bool, true, false, List, [], ◌∷◌, Option, Some, IsSome, IsTrue, inl, inr, refl, sym, subst, ◌∙◌}
 use Rattle.std.specs.Prelude.{◌||◌, if◌then◌else◌, bytes_eq}
-use Rattle.std.specs.List.{list_any}
 use Rattle.std.proofs.lemmas.List.Elements.{All-weaker}
 use Rattle.std.proofs.lemmas.List.Folds.{list_any-append}
-use Rattle.mesh_terms.specs.Meshes.{Mesh}
 use Rattle.run_terms.specs.Files.{Bytes}
-use Rattle.script_terms.specs.Plays.{Named, no_names, with_name}
+use Rattle.script_terms.specs.Plays.{Named}
 use Rattle.script_terms.specs.Sound.{IsSound}
 use Rattle.script_terms.specs.Steps.{Line, Step, gives, is_given, is_that, new_name}
 use Rattle.script_runs.specs.Names.{HasTaken, IsNamed, KeepsNames}
@@ -26,11 +24,6 @@ named_keeps step name old new is (m, now) w has =
     by : (b : Bool) → bytes_eq w name ≡ b → IsSome (if b then Some m else old w)
     by true here = refl
     by false other = elim has [ inl some ↦ some | inr more ↦ let wrong = given more in absurd (cc) ]
-
--- where it gives none, and the names stay
-pub same_keeps : (step : Step) (named : Named) → new_name step ≡ None → KeepsNames step named named
-same_keeps step named is w (inl some) = some
-same_keeps step named is w (inr more) = let wrong = subst (λ (n : Option Bytes). IsTrue (is_that w n)) is more in absurd (cc)
 
 -- the names of one line more
 pub named_next : (old new : Named) (lines : List Line) (l : Line) → AreNamed old lines → KeepsNames l.1 old new → AreNamed new (lines ++ l ∷ [])

@@ -1,5 +1,5 @@
 -- Meshes that are made or moved, or why they are not.
-use Rattle.std.proofs.Common.{◌≡◌, ℕ, Option, Some, None, Result, Ok, Err, inl, inr, refl, ap, sym, subst}
+use Rattle.std.proofs.Common.{◌≡◌, ℕ, Option, Some, None, Ok, Err, inl, inr, refl, ap, sym, subst}
 use Rattle.made_terms.specs.Refusals.{MadeFault, Flat, Outside, Exceeds}
 use Rattle.mb_base.specs.Faults.{counted_of}
 use Rattle.mesh_make.specs.Refused.{IsRefusedFor, counted, fault}

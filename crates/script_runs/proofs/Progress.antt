@@ -1,12 +1,11 @@
 -- How far a script has come: the lines that are done, the names, and the steps that were counted.
-use Rattle.std.proofs.Common.{◌≡◌, ◌+◌, ◌<◌, ◌≤◌, ◌++◌, ℕ, Bool, List, [], ◌∷◌, length, get_or, take, drop, Result, Ok, Err, IsTrue, refl, ap, sym, subst, ◌∙◌, arith}
-use Rattle.std.proofs.Math.ListN.{drop_of_length-le}
+use Rattle.std.proofs.Common.{◌≡◌, ◌+◌, ◌<◌, ◌≤◌, ◌++◌, ℕ, Bool, List, [], ◌∷◌, length, get_or, take, drop, Ok, Err, IsTrue, refl, ap, sym, subst, ◌∙◌, arith}
 use Rattle.std.proofs.lemmas.List.{drop_more, take_more}
 use Rattle.mesh_terms.specs.Limits.{Limits}
 use Rattle.run_terms.specs.Files.{Bytes, Files}
 use Rattle.run_terms.specs.Meets.{Meets, Seen, Why}
 use Rattle.run_terms.specs.Runs.{World}
-use Rattle.run_terms.specs.Tasks.{Part, Task, changed_all}
+use Rattle.run_terms.specs.Tasks.{Task, changed_all}
 use Rattle.run_laws.proofs.Tasks.{files_done}
 use Rattle.script_terms.specs.Plays.{Meanings, Named, in_order, step_task, steps_task}
 use Rattle.script_terms.specs.Sound.{AreSound, HasNumbers, IsSound}

@@ -1,12 +1,12 @@
 -- A script by its parts: its file is read, its text is read, and its lines are done.
-use Rattle.std.proofs.Common.{◌≡◌, ◌+◌, ◌≤◌, ℕ, Bool, List, Result, Ok, Err, IsTrue, refl, ap, sym, subst, ◌∙◌, arith}
+use Rattle.std.proofs.Common.{◌≡◌, ◌+◌, ◌≤◌, ℕ, Bool, List, Result, Ok, Err, IsTrue, refl, ap, sym, subst, arith}
 use Rattle.mesh_terms.specs.Limits.{Limits}
 use Rattle.mb_outside.specs.Seen.{OnOutput, OnShelf, ShelfMeets, seen}
 use Rattle.play_terms.specs.Commands.{ask_file}
 use Rattle.report_lines.specs.Halts.{halted, halted_by}
 use Rattle.report_lines.specs.declared.halt.Halt.{Halt}
 use Rattle.run_terms.specs.Files.{Bytes, Files}
-use Rattle.run_terms.specs.Meets.{Meets, Refused, Seen, Starved, Why}
+use Rattle.run_terms.specs.Meets.{Meets, Refused, Seen, Why}
 use Rattle.run_terms.specs.Runs.{World}
 use Rattle.run_terms.specs.Tasks.{Refusal, Task, give, then_task}
 use Rattle.run_laws.proofs.Tasks.{meets_starved, meets_stop, meets_then}
@@ -14,7 +14,6 @@ use Rattle.script_lang.specs.Faults.{IsFaultOf}
 use Rattle.script_lang.specs.declared.fault.ScriptFault.{ScriptFault}
 use Rattle.script_lang.specs.declared.fault.ScriptFault.TheVariants.{Bad, NoMemory}
 use Rattle.script_laws.proofs.Loops.{meets_give}
-use Rattle.script_terms.specs.Lines.{script_refusal}
 use Rattle.script_terms.specs.Plays.{Meanings, Named, no_names, script_checked, script_task, steps_task}
 use Rattle.script_terms.specs.Scripts.{script}
 use Rattle.script_terms.specs.Steps.{Line}

@@ -1,5 +1,5 @@
 -- Tasks one after the other, of which each touches the shelf or the output alone, and the steps of a script by them.
-use Rattle.std.proofs.Common.{◌≡◌, ℕ, Result, Ok, Err, ap, refl, sym, subst}
+use Rattle.std.proofs.Common.{◌≡◌, ℕ, Result, Ok, Err, refl, sym, subst}
 use Rattle.mesh_terms.specs.Limits.{Limits}
 use Rattle.mesh_terms.specs.Meshes.{Mesh, Soup}
 use Rattle.mb_base.specs.declared.op.Op.{Op}

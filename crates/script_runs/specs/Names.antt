@@ -1,5 +1,5 @@
 -- The meshes of names, from a list of names with their meshes.
-use Rattle.std.specs.Prelude.{◌≡◌, List, [], ◌∷◌, if◌then◌else◌, bytes_eq, ◌⊎◌, Option, Some, None, IsSome, IsTrue}
+use Rattle.std.specs.Prelude.{◌≡◌, List, [], ◌∷◌, if◌then◌else◌, bytes_eq, ◌⊎◌, Some, None, IsSome, IsTrue}
 use Rattle.std.specs.List.{All}
 use Rattle.mesh_terms.specs.Meshes.{Mesh}
 use Rattle.run_terms.specs.Files.{Bytes}

@@ -34,7 +34,8 @@ fn operate<'a, L: Ledger>(
     limits: &Limits,
     steps: &mut Steps<L>,
 ) -> Result<Outcome, Halt<'a>>
-    ensures meets { (now : Seen) → Meets (give (within limits.now (meanings.operation op p.now q.now))) now now (halted_by (λ _. meanings.operation op p.now q.now) result) }
+    ensures meets { (now : Seen) → Meets (give (within limits.now (meanings.operation op p.now q.now))) now now
+        (halted_by (λ _. meanings.operation op p.now q.now) result) }
     ensures outcome { IfOk result (IsOutcome (meanings.operation op p.now q.now)) }
     ensures halts { IfErr result IsHaltOfStep }
     ensures cost { steps.new ≤ steps.old + operation_cost op p.now q.now }
@@ -67,7 +68,8 @@ pub fn combine<'a, O: Sink, L: Ledger>(
 ) -> Result<(), Halt<'a>>
     requires left { IsSome (named_in names.old left.now) }
     requires right { IsSome (named_in names.old right.now) }
-    ensures meets { MeetsOnOutput O.Sink (combine_task meanings limits.now op name.now left.now right.now (named_in names.old)) out.old out.new (halted_by (λ _. named_in names.new) result) }
+    ensures meets { MeetsOnOutput O.Sink (combine_task meanings limits.now op name.now left.now right.now (named_in names.old)) out.old out.new
+        (halted_by (λ _. named_in names.new) result) }
     ensures halts { IfErr result IsHaltOfStep }
     ensures named { OnOk result (IsNamed name.now (named_in names.old) (named_in names.new)) }
     ensures kept { OnErr result (names.new ≡ names.old) }

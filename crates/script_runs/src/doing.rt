@@ -42,7 +42,8 @@ fn do_step<'a, S: Shelf, O: Sink, L: Ledger>(
     requires digits { digits ≤ 6 }
     requires taken { HasTaken (named_in names.old) (step_of step.now) }
     requires numbers { HasNumbers (step_of step.now) }
-    ensures meets { MeetsOn S.Shelf O.Sink (step_task meanings digits limits.now script.now line (step_of step.now) (named_in names.old)) (shelf.old, out.old) (shelf.new, out.new) (halted_by (λ _. named_in names.new) result) }
+    ensures meets { MeetsOn S.Shelf O.Sink (step_task meanings digits limits.now script.now line (step_of step.now) (named_in names.old))
+        (shelf.old, out.old) (shelf.new, out.new) (halted_by (λ _. named_in names.new) result) }
     ensures halts { IfErr result IsHaltOfStep }
     ensures named { OnOk result (KeepsNames (step_of step.now) (named_in names.old) (named_in names.new)) }
     ensures kept { OnErr result (names.new ≡ names.old) }
@@ -81,9 +82,11 @@ pub fn do_lines<'a, S: Shelf, O: Sink, L: Ledger>(
 ) -> Result<(), Halt<'a>>
     requires digits { digits ≤ 6 }
     requires sound { AreSound [] (map line_of lines.now) }
-    ensures meets { MeetsOn S.Shelf O.Sink (steps_task meanings digits limits.now script.now (map line_of lines.now) (named_in names.old)) (shelf.old, out.old) (shelf.new, out.new) (halted_by (λ _. named_in names.new) result) }
+    ensures meets { MeetsOn S.Shelf O.Sink (steps_task meanings digits limits.now script.now (map line_of lines.now) (named_in names.old))
+        (shelf.old, out.old) (shelf.new, out.new) (halted_by (λ _. named_in names.new) result) }
     ensures halts { IfErr result IsHaltOfStep }
-    ensures cost { IsTrue (S.tells shelf.old) → steps.new ≤ steps.old + lines_cost meanings digits limits.now script.now (map line_of lines.now) (named_in names.old) (S.files shelf.old) }
+    ensures cost { IsTrue (S.tells shelf.old) → steps.new ≤ steps.old +
+        lines_cost meanings digits limits.now script.now (map line_of lines.now) (named_in names.old) (S.files shelf.old) }
 {
     for line in lines {
         do_step(

@@ -25,7 +25,8 @@ pub fn load<'a, S: Shelf, O: Sink>(
     out: &mut O,
 ) -> Result<(), Halt<'a>>
     requires digits { digits ≤ 6 }
-    ensures meets { MeetsOn S.Shelf O.Sink (load_task digits limits.now name.now file.now (named_in names.old)) (shelf.old, out.old) (shelf.new, out.new) (halted_by (λ _. named_in names.new) result) }
+    ensures meets { MeetsOn S.Shelf O.Sink (load_task digits limits.now name.now file.now (named_in names.old))
+        (shelf.old, out.old) (shelf.new, out.new) (halted_by (λ _. named_in names.new) result) }
     ensures halts { IfErr result IsHaltOfStep }
     ensures named { OnOk result (IsNamed name.now (named_in names.old) (named_in names.new)) }
     ensures kept { OnErr result (names.new ≡ names.old) }

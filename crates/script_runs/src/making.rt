@@ -59,7 +59,8 @@ pub fn make<'a>(
     names: &mut Names<'a>,
 ) -> Result<(), Halt<'a>>
     requires { IsSolid (solid_of solid) }
-    ensures meets { (now : Seen) → Meets (make_task limits.now script.now line name.now (solid_of solid) (named_in names.old)) now now (halted_by (λ _. named_in names.new) result) }
+    ensures meets { (now : Seen) → Meets (make_task limits.now script.now line name.now (solid_of solid) (named_in names.old)) now now
+        (halted_by (λ _. named_in names.new) result) }
     ensures halts { IfErr result IsHaltOfStep }
     ensures named { OnOk result (IsNamed name.now (named_in names.old) (named_in names.new)) }
     ensures kept { OnErr result (names.new ≡ names.old) }

@@ -20,7 +20,8 @@ pub fn measure_mesh<'a, O: Sink>(
     out: &mut O,
 ) -> Result<(), Halt<'a>>
     requires { IsSome (named_in names.now name.now) }
-    ensures meets { MeetsOnOutput O.Sink (measure_task name.now (mesh_at (named_in names.now) name.now) (named_in names.now)) out.old out.new (halted_by (λ _. named_in names.now) result) }
+    ensures meets { MeetsOnOutput O.Sink (measure_task name.now (mesh_at (named_in names.now) name.now) (named_in names.now)) out.old out.new
+        (halted_by (λ _. named_in names.now) result) }
     ensures halts { IfErr result IsHaltOfStep }
 {
     let Some(mesh) = names.mesh(name) else {

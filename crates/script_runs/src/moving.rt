@@ -44,7 +44,8 @@ pub fn move_mesh<'a>(
 ) -> Result<(), Halt<'a>>
     requires source { IsSome (named_in names.old source.now) }
     requires motion { IsMotion (motion_of motion) }
-    ensures meets { (now : Seen) → Meets (move_task script.now line name.now source.now (motion_of motion) (named_in names.old)) now now (halted_by (λ _. named_in names.new) result) }
+    ensures meets { (now : Seen) → Meets (move_task script.now line name.now source.now (motion_of motion) (named_in names.old)) now now
+        (halted_by (λ _. named_in names.new) result) }
     ensures halts { IfErr result IsHaltOfStep }
     ensures named { OnOk result (IsNamed name.now (named_in names.old) (named_in names.new)) }
     ensures kept { OnErr result (names.new ≡ names.old) }

@@ -22,7 +22,8 @@ pub fn save<'a, S: Shelf, O: Sink>(
 ) -> Result<(), Halt<'a>>
     requires digits { digits ≤ 6 }
     requires named { IsSome (named_in names.now name.now) }
-    ensures meets { MeetsOn S.Shelf O.Sink (save_task digits name.now file.now (mesh_at (named_in names.now) name.now) (named_in names.now)) (shelf.old, out.old) (shelf.new, out.new) (halted_by (λ _. named_in names.now) result) }
+    ensures meets { MeetsOn S.Shelf O.Sink (save_task digits name.now file.now (mesh_at (named_in names.now) name.now) (named_in names.now))
+        (shelf.old, out.old) (shelf.new, out.new) (halted_by (λ _. named_in names.now) result) }
     ensures halts { IfErr result IsHaltOfStep }
 {
     let Some(mesh) = names.mesh(name) else {

@@ -1,10 +1,7 @@
 -- The steps of a script without a fault are sound.
-use Rattle.std.proofs.Common.{◌≡◌, ℕ, zero, suc, ◌+◌, ◌<◌, Bool, true, false, List, [], ◌∷◌, ◌++◌, length, take, get_or, Option, Some, None, Result, Ok, Err, All, IsTrue, refl, ap, sym, subst, ◌∙◌, arith, append-nil, append_assoc}
-use Rattle.std.specs.Prelude.{◌==◌, ◌||◌, if◌then◌else◌, bytes_eq}
-use Rattle.std.proofs.Math.Bool.{or-false}
+use Rattle.std.proofs.Common.{◌≡◌, ℕ, ◌<◌, Bool, true, false, List, [], ◌∷◌, ◌++◌, length, get_or, Option, Some, None, Result, Ok, Err, All, IsTrue, refl, sym, subst, arith, append-nil, append_assoc}
+use Rattle.std.specs.Prelude.{◌==◌, if◌then◌else◌, bytes_eq}
 use Rattle.std.proofs.lemmas.Bool.{eqb-true}
-use Rattle.std.proofs.lemmas.List.{take_more}
-use Rattle.std.proofs.lemmas.List.Folds.{list_any-append}
 use Rattle.std.proofs.lemmas.List.Elements.{All-nil, All-cons}
 use Rattle.mesh_terms.specs.Faults.{Fault}
 use Rattle.mb_base.specs.declared.op.Op.{Op}
@@ -17,7 +14,7 @@ use Rattle.script_terms.specs.Making.{Solid, Motion}
 use Rattle.script_terms.specs.Operands.{NewName, is_name, new_name_fault, old_name_fault, operand_fault, operands_fault}
 use Rattle.script_terms.specs.Scripts.{unless_refused, command_step, step_by, script_line, script_lines, numbered_words, script}
 use Rattle.script_terms.specs.Sound.{IsSolid, IsMotion, IsSound, AreSound}
-use Rattle.script_terms.specs.Steps.{Line, Step, Make, Move, gives, is_given}
+use Rattle.script_terms.specs.Steps.{Line, Step, Make, Move, is_given}
 use Rattle.script_terms.proofs.Taken.{name_taken, old_taken, file_taken, number_taken, within_taken, axis_taken, point_taken, none_at}
 
 abbrev IsGiven : List Line → Bytes → Type 0
@@ -202,21 +199,3 @@ lines_sound k (l ∷ ls) before after e sound = by_line (script_line k l.0 l.1 b
 -- the steps of a script without a fault are sound
 pub script_sound : (k : ℕ) (bytes : Bytes) (lines : List Line) → script k bytes ≡ Ok lines → AreSound [] lines
 script_sound k bytes lines e = lines_sound k (numbered_words bytes) [] lines e tt
-
--- a line of sound lines is sound after those before it
-pub sound_at : (before ls : List Line) (at : ℕ) (d : Line) → at < length ls → AreSound before ls → IsSound (before ++ take at ls) (get_or ls at d).1
-sound_at before [] at d inside sound = absurd (omega arith)
-sound_at before (l ∷ ls) zero d inside sound =
-    let P : List Line → Type 0 = λ xs. IsSound xs l.1 in
-    subst P (sym (append-nil before)) sound.0
-sound_at before (l ∷ ls) (suc at) d inside sound =
-    let P : List Line → Type 0 = λ xs. IsSound xs (get_or ls at d).1 in
-    subst P (append_assoc before (l ∷ []) (take at ls)) (sound_at (before ++ l ∷ []) ls at d (omega arith) sound.1)
-
--- the names that lines give, with one line more
-pub given_more : (w : Bytes) (ls : List Line) (at : ℕ) (d : Line) → at < length ls → is_given w (take (at + 1) ls) ≡ (is_given w (take at ls) || gives w (get_or ls at d).1)
-given_more w ls at d inside =
-    let P : Line → Bool = λ l. gives w l.1 in
-    ap (is_given w) (take_more ls at d inside)
-    ∙ list_any-append P (take at ls) (get_or ls at d ∷ [])
-    ∙ ap (λ (b : Bool). is_given w (take at ls) || b) (or-false (gives w (get_or ls at d).1))

@@ -7,9 +7,8 @@ use Rattle.shadow_kernels.specs.declared.Spot.{Spot}
 use Rattle.shadow_kernels.specs.declared.Meet.{Meet}
 use Rattle.shadow_kernels.specs.declared.tally.Tally.{Tally}
 use Rattle.shadow_kernels.specs.Spots.{Between, no_spot}
-use Rattle.shadow_kernels.specs.Counts.{shadow_of, turned, chosen, first_spot, joined, lifted}
-use Rattle.shadow_kernels.specs.Bounds.{IsFineSpot, IsFinePair, IsTallyOf, IsFineTally}
-use Rattle.shadow_kernels.specs.Sizes.{turned_sized, turned_holds}
+use Rattle.shadow_kernels.specs.Counts.{shadow_of, chosen, first_spot, joined, lifted}
+use Rattle.shadow_kernels.specs.Bounds.{IsFineSpot, IsTallyOf, IsFineTally}
 use Rattle.shadow_kernels.specs.Entries.{Each, first_holds}
 
 -- the tally of no pairs
@@ -54,7 +53,3 @@ fine_tally ms s each h = record { below = fine_first false ms s.below each h.bel
 -- the tally of equal pairs
 pub same_tally : (s : Tally) (ms ns : List (Option Meet)) → IsTallyOf ms s → ms ≡ ns → IsTallyOf ns s
 same_tally s ms ns h e = subst (λ (l : List (Option Meet)). IsTallyOf l s) e h
-
--- a pair equal to one turned is fine where that is
-pub fine_turned : (r m : Option Meet) → r ≡ turned m → IsFinePair m → IsFinePair r
-fine_turned r m e h = subst IsFinePair (sym e) (record { sized = turned_sized m h.sized; fine = turned_holds (λ s above. IsFineSpot s) m h.fine })

@@ -1,6 +1,6 @@
 -- The answers of edges with vertices are sized and have fine spots.
-use Rattle.std.specs.Prelude.{◌≡◌, List, [], ◌∷◌, Option, None, Some, IfSome}
-use Rattle.std.proofs.Common.{arith, refl, sym, subst}
+use Rattle.std.specs.Prelude.{List, [], ◌∷◌, Option, None, Some, IfSome}
+use Rattle.std.proofs.Common.{arith}
 use Rattle.std.proofs.lemmas.List.Elements.{All-cons, All-nil}
 use Rattle.mb_base.specs.declared.point.Corner.{Corner}
 use Rattle.side_terms.specs.Corners.{IsFineCorner, AllFine}

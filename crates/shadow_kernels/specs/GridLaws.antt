@@ -1,9 +1,9 @@
 -- The six shadow tests are lawful, under any rounding that stays between, and count as their boundary pairs do.
-use Rattle.std.specs.Prelude.{◌≡◌, ℕ, ◌<◌, pos, ◌+ℤ◌, ◌-ℤ◌, Bool, true, false, if◌then◌else◌, List, length}
+use Rattle.std.specs.Prelude.{◌≡◌, ℕ, ◌<◌, pos, ◌+ℤ◌, ◌-ℤ◌, Bool, true, false, if◌then◌else◌}
 use Rattle.std.proofs.Common.{arith, refl, inl, ◌∙◌}
 use Rattle.std.proofs.lemmas.Int.{ints}
 use Rattle.mb_base.specs.declared.point.Corner.{Corner}
-use Rattle.side_terms.specs.Corners.{axis, up_on, corner_at, AllFine}
+use Rattle.side_terms.specs.Corners.{axis, up_on, corner_at}
 use Rattle.chain_laws.specs.Squares.{less}
 use Rattle.shadow_kernels.specs.Spots.{Between, beyond}
 use Rattle.shadow_kernels.specs.Counts.{count_of, shadow_of}

@@ -12,14 +12,6 @@ use Rattle.source_faces.specs.Adding.{IsAdded}
 use Rattle.source_faces.specs.Parts.{AreAdded, AreAll}
 use Rattle.source_faces.specs.declared.triangles.SourceTriangles.{SourceTriangles}
 
--- no filling was added
-pub none_joined : (x : ℕ) (all : SourceTriangles) → AreAdded x [] all all
-none_joined x all = record {
-  triples = sym (append-nil (triples_of all.triples.items));
-  source = sym (append-nil all.source.items);
-  forced = omega arith;
-}
-
 -- one filling was added
 one_joined : (x : ℕ) (c : Cut) (old new : SourceTriangles) → IsAdded x c old new → AreAdded x (c ∷ []) old new
 one_joined x c old new h = record {

@@ -51,7 +51,8 @@ fn enter_ends(
 ) -> Result<(), NoMemory>
     requires within { All (λ h. h < 3 * length triples.now) halves.now }
     requires below { All (IsBelow (length seen.old)) (triples_of triples.now) }
-    requires starts { All (λ h. Contains (vertices_of (all_edges (triples_of triples.now)) entrances.old.items) (start (all_edges (triples_of triples.now)) h)) halves.now }
+    requires starts { All (λ h.
+        Contains (vertices_of (all_edges (triples_of triples.now)) entrances.old.items) (start (all_edges (triples_of triples.now)) h)) halves.now }
     requires entered { AreEntered (all_edges (triples_of triples.now)) seen.old entrances.old.items }
     ensures { OnOk result (AreReached (all_edges (triples_of triples.now)) halves.now seen.old entrances.old.items seen.new entrances.new.items) }
 {

@@ -41,9 +41,16 @@ impl Model for Reading {
 
     ghost Value = { Gathered };
 
-    ghost view = { λ r. record { points = r.points; triples = triples_of r.triples.items; corners = r.corners.items; numbers = r.numbers.items; place = place_of r.place } };
+    ghost view = { λ r. record {
+      points = r.points;
+      triples = triples_of r.triples.items;
+      corners = r.corners.items;
+      numbers = r.numbers.items;
+      place = place_of r.place;
+    } };
 
-    ghost invariant = { λ r. IsSound (length r.points) (triples_of r.triples.items) × All (λ v. v < length r.points) r.corners.items × All IsOnGrid r.numbers.items × HasCorners (place_of r.place) (length r.corners.items) };
+    ghost invariant = { λ r. IsSound (length r.points) (triples_of r.triples.items) ×
+        All (λ v. v < length r.points) r.corners.items × All IsOnGrid r.numbers.items × HasCorners (place_of r.place) (length r.corners.items) };
 }
 
 impl Reading {

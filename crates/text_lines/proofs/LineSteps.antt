@@ -1,8 +1,7 @@
 -- The lines of a text by the places of its line feeds.
-use Rattle.std.proofs.Common.{◌≡◌, ℕ, zero, suc, ◌<◌, ◌≤◌, Bool, true, false, List, [], ◌∷◌, ◌++◌, length, refl, ap, ◌∙◌, arith, drop, take, get_or}
+use Rattle.std.proofs.Common.{◌≡◌, ℕ, zero, suc, ◌<◌, true, false, List, [], ◌∷◌, ◌++◌, length, refl, ap, ◌∙◌, arith, drop, take, get_or}
 use Rattle.std.specs.Prelude.{◌==◌}
-use Rattle.std.proofs.lemmas.List.{length-map}
-use Rattle.text_terms.specs.Lines.{raw_lines, add_first, without_cr, lines_of}
+use Rattle.text_terms.specs.Lines.{raw_lines, add_first, without_cr}
 
 -- a line feed ends an empty line
 raw_lines-feed : (c : ℕ) (cs : List ℕ) → (c == 10) ≡ true → raw_lines (c ∷ cs) ≡ [] ∷ raw_lines cs
@@ -24,23 +23,6 @@ pub raw_lines-last : (c : ℕ) (cs : List ℕ) → ((k : ℕ) → k < length (c 
 raw_lines-last c [] none = raw_lines-byte c [] (none 0 (omega arith))
 raw_lines-last c (d ∷ cs) none =
     raw_lines-byte c (d ∷ cs) (none 0 (omega arith)) ∙ ap (add_first c) (raw_lines-last d cs (λ k h. none (suc k) (omega arith)))
-
--- a byte adds at most one line
-length-add_first : (c : ℕ) (ls : List (List ℕ)) → length (add_first c ls) ≤ suc (length ls)
-length-add_first c [] = omega arith
-length-add_first c (l ∷ ls) = omega arith
-
--- there are no more lines than bytes
-length-raw_lines : (cs : List ℕ) → length (raw_lines cs) ≤ length cs
-length-raw_lines [] = omega arith
-length-raw_lines (c ∷ cs) = by_feed (c == 10) refl (length-raw_lines cs) where
-  by_feed : (b : Bool) → (c == 10) ≡ b → length (raw_lines cs) ≤ length cs → length (raw_lines (c ∷ cs)) ≤ suc (length cs)
-  by_feed true e h = rw (raw_lines-feed c cs e) (omega arith)
-  by_feed false e h = rw (raw_lines-byte c cs e) (omega (arith, length-add_first c (raw_lines cs)))
-
--- the same without CRs
-pub length-lines_of : (bytes : List ℕ) → length (lines_of bytes) ≤ length bytes
-length-lines_of bytes = omega (arith, length-map (raw_lines bytes) without_cr, length-raw_lines bytes)
 
 -- a CR at the end is dropped
 pub without_cr-drops : (front : List ℕ) → without_cr (front ++ 13 ∷ []) ≡ front

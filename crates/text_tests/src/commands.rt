@@ -47,7 +47,7 @@ fn reads_as(alloc: Global, words: &[&str], wanted: &Parts<'_>) -> Result<bool, N
 }
 
 // Each row of words is no command.
-fn are_nothing(rt: &impl Abort, alloc: Global, rows: &[&[&str]]) -> Result<(), Fail> {
+fn assert_none(rt: &impl Abort, alloc: Global, rows: &[&[&str]]) -> Result<(), Fail> {
     for words in rows {
         assert!(rt; reads_as(alloc, words, &NOTHING)?, "at {words:?}");
     }
@@ -55,7 +55,7 @@ fn are_nothing(rt: &impl Abort, alloc: Global, rows: &[&[&str]]) -> Result<(), F
 }
 
 // Each row of words is this command.
-fn are_commands(
+fn assert_commands(
     rt: &impl Abort,
     alloc: Global,
     rows: &[(&[&str], Parts<'static>)],
@@ -92,7 +92,7 @@ static OTHER_WORDS: [&[&str]; 21] = [
 
 #[test]
 fn other_words_are_no_command(rt: HostRuntime) -> Result<(), Fail> {
-    are_nothing(&rt, rt.alloc(), &OTHER_WORDS)
+    assert_none(&rt, rt.alloc(), &OTHER_WORDS)
 }
 
 static OTHER_DIGITS: [&[&str]; 16] = [
@@ -124,7 +124,7 @@ static OTHER_DIGITS: [&[&str]; 16] = [
 
 #[test]
 fn other_digits_are_no_command(rt: HostRuntime) -> Result<(), Fail> {
-    are_nothing(&rt, rt.alloc(), &OTHER_DIGITS)
+    assert_none(&rt, rt.alloc(), &OTHER_DIGITS)
 }
 
 static OTHER_POINTS: [&[&str]; 9] = [
@@ -141,7 +141,7 @@ static OTHER_POINTS: [&[&str]; 9] = [
 
 #[test]
 fn a_point_has_three_numbers_on_the_grid(rt: HostRuntime) -> Result<(), Fail> {
-    are_nothing(&rt, rt.alloc(), &OTHER_POINTS)
+    assert_none(&rt, rt.alloc(), &OTHER_POINTS)
 }
 
 static NAMED: [(&[&str], Parts<'static>); 4] = [
@@ -165,7 +165,7 @@ static NAMED: [(&[&str], Parts<'static>); 4] = [
 
 #[test]
 fn names_of_both_formats_are_taken(rt: HostRuntime) -> Result<(), Fail> {
-    are_commands(&rt, rt.alloc(), &NAMED)
+    assert_commands(&rt, rt.alloc(), &NAMED)
 }
 
 static POINTS: [(&[&str], Parts<'static>); 8] = [
@@ -205,7 +205,7 @@ static POINTS: [(&[&str], Parts<'static>); 8] = [
 
 #[test]
 fn a_point_is_read_as_the_digits_say(rt: HostRuntime) -> Result<(), Fail> {
-    are_commands(&rt, rt.alloc(), &POINTS)
+    assert_commands(&rt, rt.alloc(), &POINTS)
 }
 
 static DIGITS: [(&[&str], Parts<'static>); 8] = [
@@ -245,7 +245,7 @@ static DIGITS: [(&[&str], Parts<'static>); 8] = [
 
 #[test]
 fn digits_stand_anywhere_before_the_end_of_options(rt: HostRuntime) -> Result<(), Fail> {
-    are_commands(&rt, rt.alloc(), &DIGITS)
+    assert_commands(&rt, rt.alloc(), &DIGITS)
 }
 
 static SCRIPTS: [(&[&str], Parts<'static>); 5] = [
@@ -264,5 +264,5 @@ static SCRIPTS: [(&[&str], Parts<'static>); 5] = [
 
 #[test]
 fn a_script_has_any_name(rt: HostRuntime) -> Result<(), Fail> {
-    are_commands(&rt, rt.alloc(), &SCRIPTS)
+    assert_commands(&rt, rt.alloc(), &SCRIPTS)
 }

@@ -239,7 +239,12 @@ static MIXED_LINES: [&[u8]; 2] = [
 ];
 
 // Each text after FRONT gives these lists.
-fn give(rt: &impl Abort, alloc: Global, rows: &[&[u8]], wanted: &Lists<'_>) -> Result<(), Fail> {
+fn assert_given(
+    rt: &impl Abort,
+    alloc: Global,
+    rows: &[&[u8]],
+    wanted: &Lists<'_>,
+) -> Result<(), Fail> {
     for after in rows {
         assert!(rt; gives(alloc, FRONT, after, 4, wanted)?, "at {after:?}");
     }
@@ -248,9 +253,9 @@ fn give(rt: &impl Abort, alloc: Global, rows: &[&[u8]], wanted: &Lists<'_>) -> R
 
 #[test]
 fn reads_plain_lines_among_others(rt: HostRuntime) -> Result<(), Fail> {
-    give(&rt, rt.alloc(), &PLAIN, &(&THREE, 0, &BOTH))?;
-    give(&rt, rt.alloc(), &PLAIN_BESIDE, &(&THREE, 1, &BOTH))?;
-    give(&rt, rt.alloc(), &MIXED_LINES, &(&FOUR, 0, &MIXED))
+    assert_given(&rt, rt.alloc(), &PLAIN, &(&THREE, 0, &BOTH))?;
+    assert_given(&rt, rt.alloc(), &PLAIN_BESIDE, &(&THREE, 1, &BOTH))?;
+    assert_given(&rt, rt.alloc(), &MIXED_LINES, &(&FOUR, 0, &MIXED))
 }
 
 // What stands after FRONT, with the line and the fault that refuse the file.

@@ -1,10 +1,10 @@
 -- The cuttings of several rings.
-use Rattle.std.specs.Prelude.{◌≡◌, ℕ, ◌+◌, ◌*◌, ◌<◌, ◌≤◌, ℤ, List, [], ◌∷◌, ◌++◌, true, false, Bool, cond, length, get_or, drop, filter}
+use Rattle.std.specs.Prelude.{◌≡◌, ℕ, ◌*◌, ◌<◌, ◌≤◌, ℤ, List, [], ◌∷◌, true, false, Bool, cond, length, drop, filter}
 use Rattle.std.specs.List.{All, concat, flat_map}
-use Rattle.std.proofs.Common.{arith, refl, sym, ap, ◌∙◌, inl, inr}
+use Rattle.std.proofs.Common.{arith, refl, ap, inl, inr}
 use Rattle.std.proofs.lemmas.Bool.{cases_Bool}
 use Rattle.std.proofs.lemmas.Int.{ints}
-use Rattle.std.proofs.lemmas.List.{append_assoc, append-nil, length-append, drop_more, drop_all}
+use Rattle.std.proofs.lemmas.List.{length-append}
 use Rattle.std.proofs.lemmas.List.Concat.{flat_map-append}
 use Rattle.std.proofs.lemmas.List.Elements.{All-head, All-tail, All-nil, All-append, All-cons}
 use Rattle.chain_terms.specs.Sums.{total}
@@ -74,39 +74,6 @@ settled drop_axis points loops = by (is_turned (plane_of drop_axis (point_at poi
 pub record AreUnderWay (at : Plane) (rings : List (List ℕ)) (k : ℕ) (ts : List Triple) (n : ℕ) : Type 0 where
   pub most : n ≤ length ts
   pub cut : cuts at rings ≡ both (record { triples = ts; forced = n }) (cuts at (drop k rings))
-
-same_cut : (ts us : List Triple) (n m : ℕ) → ts ≡ us → n ≡ m → ◌≡◌ {A = Cut} (record { triples = ts; forced = n }) (record { triples = us; forced = m })
-same_cut ts us n m e f = λ i. record { triples = e i; forced = f i }
-
-both_grouped : (c d e : Cut) → both c (both d e) ≡ both (both c d) e
-both_grouped c d e =
-    let f : c.forced + (d.forced + e.forced) ≡ c.forced + d.forced + e.forced = omega arith in
-    same_cut (c.triples ++ (d.triples ++ e.triples)) (c.triples ++ d.triples ++ e.triples) (c.forced + (d.forced + e.forced)) (c.forced + d.forced + e.forced) (sym (append_assoc c.triples d.triples e.triples)) f
-
-pub begun : (at : Plane) (rings : List (List ℕ)) → AreUnderWay at rings 0 [] 0
-begun at rings =
-    let c = cuts at rings in
-    let e : c.forced ≡ 0 + c.forced = omega arith in
-    record { most = omega arith; cut = same_cut c.triples c.triples c.forced (0 + c.forced) refl e }
-
--- one ring more
-pub cut_more : (at : Plane) (rings : List (List ℕ)) (k : ℕ) (ts : List Triple) (n : ℕ) (r : List ℕ) (c : Cut) → AreUnderWay at rings k ts n → k < length rings → r ≡ get_or rings k r → c ≡ cut_ring at r → c.forced ≤ length c.triples →
-    AreUnderWay at rings (k + 1) (ts ++ c.triples) (n + c.forced)
-cut_more at rings k ts n r c h low is made most =
-    let sofar : Cut = record { triples = ts; forced = n } in
-    record {
-      most = omega (arith, h.most, most, length-append ts c.triples);
-      cut =
-          h.cut ∙ ap (λ (l : List (List ℕ)). both sofar (cuts at l)) (drop_more rings k r low) ∙ ap (λ (s : List ℕ). both sofar (both (cut_ring at s) (cuts at (drop (k + 1) rings)))) (sym is)
-          ∙ ap (λ (d : Cut). both sofar (both d (cuts at (drop (k + 1) rings)))) (sym made) ∙ both_grouped sofar c (cuts at (drop (k + 1) rings));
-    }
-
--- after the last
-pub ended : (at : Plane) (rings : List (List ℕ)) (k : ℕ) (ts : List Triple) (n : ℕ) → AreUnderWay at rings k ts n → length rings ≤ k → ◌≡◌ {A = Cut} (record { triples = ts; forced = n }) (cuts at rings)
-ended at rings k ts n h all =
-    let sofar : Cut = record { triples = ts; forced = n } in
-    let e : n ≡ n + 0 = omega arith in
-    same_cut ts (ts ++ []) n (n + 0) (sym (append-nil ts)) e ∙ sym (h.cut ∙ ap (λ (l : List (List ℕ)). both sofar (cuts at l)) (drop_all k rings all))
 
 -- some loops of three or more places have at least three times as many places
 pub three_each : (p : List ℕ → Bool) (loops : List (List ℕ)) → All (λ l. 3 ≤ length l) loops → 3 * length (filter p loops) ≤ length (concat loops)

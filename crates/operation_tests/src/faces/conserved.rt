@@ -73,7 +73,9 @@ fn sum_over_faces(side: &Side, hits: &[Hit], half: u32, faces: u32) -> Option<i6
 fn edge_agrees(side: &Side, windings: &[i64], hits: &[Hit], half: u32, faces: u32) -> bool
     requires half { half < 3 * length side.now.triples }
     requires windings { length windings.now ≡ length side.now.corners }
-    ensures { IsTrue result → (get_or windings.now (finish (all_edges side.now.triples) half) (pos 0) -ℤ get_or windings.now (start (all_edges side.now.triples) half) (pos 0)) ≡ neg_ℤ (total (half_number (all_edges side.now.triples) hits.now half) (upto faces)) }
+    ensures { IsTrue result →
+        (get_or windings.now (finish (all_edges side.now.triples) half) (pos 0) -ℤ get_or windings.now (start (all_edges side.now.triples) half) (pos 0))
+        ≡ neg_ℤ (total (half_number (all_edges side.now.triples) hits.now half) (upto faces)) }
 {
     let from = windings[side.start(half) as usize];
     let to = windings[side.start(side.twins().next(half)) as usize];
@@ -96,7 +98,8 @@ fn changes_by(from: i64, to: i64, sum: i64) -> bool
 // Whether it does along each half-edge.
 fn edges_agree(side: &Side, windings: &[i64], hits: &[Hit], faces: u32) -> bool
     requires { length windings.now ≡ length side.now.corners }
-    ensures { IsTrue result → EdgeIdentity (all_edges side.now.triples) faces (λ v. get_or windings.now v (pos 0)) (half_number (all_edges side.now.triples) hits.now) }
+    ensures { IsTrue result → EdgeIdentity (all_edges side.now.triples) faces
+        (λ v. get_or windings.now v (pos 0)) (half_number (all_edges side.now.triples) hits.now) }
 {
     for half in 0..3 * side.triples().len() as u32 {
         if !edge_agrees(side, windings, hits, half, faces) {
@@ -123,7 +126,8 @@ fn pair_number(side: &Side, hits: &[Hit], face: u32, other: u32) -> Option<i64>
 fn pair_agrees(p: &Side, q: &Side, x12: &[Hit], x21: &[Hit], f: u32, g: u32) -> bool
     requires f { f < length p.now.triples }
     requires g { g < length q.now.triples }
-    ensures { IsTrue result → total (λ i. half_number (all_edges p.now.triples) x12.now (3 * f + i) g) (upto 3) ≡ total (λ i. half_number (all_edges q.now.triples) x21.now (3 * g + i) f) (upto 3) }
+    ensures { IsTrue result → total (λ i. half_number (all_edges p.now.triples) x12.now (3 * f + i) g) (upto 3) ≡
+        total (λ i. half_number (all_edges q.now.triples) x21.now (3 * g + i) f) (upto 3) }
 {
     match (pair_number(p, x12, f, g), pair_number(q, x21, g, f)) {
         (Some(one), Some(other)) => one == other,
@@ -134,7 +138,9 @@ fn pair_agrees(p: &Side, q: &Side, x12: &[Hit], x21: &[Hit], f: u32, g: u32) -> 
 // Whether those of a face of the first side have, with each of the second's.
 fn row_agrees(p: &Side, q: &Side, x12: &[Hit], x21: &[Hit], f: u32) -> bool
     requires { f < length p.now.triples }
-    ensures { IsTrue result → ((g : ℕ) → g < length q.now.triples → total (λ i. half_number (all_edges p.now.triples) x12.now (3 * f + i) g) (upto 3) ≡ total (λ i. half_number (all_edges q.now.triples) x21.now (3 * g + i) f) (upto 3)) }
+    ensures { IsTrue result → ((g : ℕ) → g < length q.now.triples →
+        total (λ i. half_number (all_edges p.now.triples) x12.now (3 * f + i) g) (upto 3)
+        ≡ total (λ i. half_number (all_edges q.now.triples) x21.now (3 * g + i) f) (upto 3)) }
 {
     for g in 0..q.triples().len() as u32 {
         if !pair_agrees(p, q, x12, x21, f, g) {
@@ -146,7 +152,8 @@ fn row_agrees(p: &Side, q: &Side, x12: &[Hit], x21: &[Hit], f: u32) -> bool
 
 // Whether all pairs of faces have.
 fn pairs_agree(p: &Side, q: &Side, x12: &[Hit], x21: &[Hit]) -> bool
-    ensures { IsTrue result → PairIdentity (length p.now.triples) (length q.now.triples) (half_number (all_edges p.now.triples) x12.now) (half_number (all_edges q.now.triples) x21.now) }
+    ensures { IsTrue result → PairIdentity (length p.now.triples) (length q.now.triples)
+        (half_number (all_edges p.now.triples) x12.now) (half_number (all_edges q.now.triples) x21.now) }
 {
     for f in 0..p.triples().len() as u32 {
         if !row_agrees(p, q, x12, x21, f) {

@@ -1,6 +1,6 @@
 use Rattle.std.proofs.Common.{arith}
 use Rattle.std.proofs.lemmas.Int.{ints}
-use Rattle.edge_face.proofs.Kept.{known_small, known_kept, known_none}
+use Rattle.edge_face.proofs.Kept.{known_kept, known_none}
 use Rattle.edge_face.proofs.pairs.face_pair.Goals as goal
 
 pub returns-then-count-eq0 : goal.returns-then-count-eq0

@@ -1,5 +1,5 @@
-use Rattle.std.proofs.Common.{◌≡◌, ◌*◌, sym, ◌∙◌, ap}
-use Rattle.made_terms.specs.Refusals.{excess, lattice_fault}
+use Rattle.std.proofs.Common.{◌*◌, sym, ◌∙◌, ap}
+use Rattle.made_terms.specs.Refusals.{excess}
 use Rattle.mesh_make.specs.Refused.{refusal}
 use Rattle.made_laws.proofs.Lattices.{lattice_refused}
 use Rattle.mesh_make.proofs.lattice.lattice_fault.Goals as goal

@@ -1,5 +1,5 @@
 use Rattle.std.proofs.Common.{◌≡◌, length, subst, sym, ◌∙◌, ap, ◌*◌}
-use Rattle.made_terms.specs.Lattice.{boxes_triples, lattice_points}
+use Rattle.made_terms.specs.Lattice.{boxes_triples}
 use Rattle.mesh_terms.specs.Meshes.{IsAccepted, triples_of}
 use Rattle.made_laws.proofs.Lattices.{boxes_accepted, points_of_boxes}
 use Rattle.mesh_make.proofs.lattice.lattice_of.Goals as goal

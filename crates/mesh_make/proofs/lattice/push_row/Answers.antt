@@ -1,6 +1,4 @@
-use Rattle.std.proofs.Common.{◌++◌, append_assoc, sym, ◌∙◌, ap}
-use Rattle.std.specs.List.{flat_map}
-use Rattle.chain_terms.specs.Sums.{upto}
+use Rattle.std.proofs.Common.{◌++◌, ◌∙◌, ap}
 use Rattle.made_terms.specs.Lattice.{lattice_box}
 use Rattle.made_laws.proofs.Lattices.{pushed_more}
 use Rattle.mesh_make.proofs.lattice.push_row.Goals as goal

@@ -1,4 +1,3 @@
-use Rattle.std.proofs.Common.{arith}
 use Rattle.mesh_terms.specs.Points.{coordinate_of}
 use Rattle.mesh_make.proofs.GridRows.{three, kept_sum}
 use Rattle.mesh_make.proofs.rows.moved_row.Goals as goal

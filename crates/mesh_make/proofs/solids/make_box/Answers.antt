@@ -1,4 +1,4 @@
-use Rattle.std.proofs.Common.{◌≡◌, IfOk, length, subst, sym, ◌∙◌, ap}
+use Rattle.std.proofs.Common.{◌≡◌, length, subst, sym, ◌∙◌, ap}
 use Rattle.made_terms.specs.Refusals.{is_flat_box}
 use Rattle.made_terms.specs.Solids.{box_points, box_triples}
 use Rattle.made_laws.specs.Solids.{IsSolid}

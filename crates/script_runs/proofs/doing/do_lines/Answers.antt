@@ -1,9 +1,9 @@
-use Rattle.std.proofs.Common.{◌≡◌, ◌<◌, ◌≤◌, ◌∙◌, ℕ, List, arith, ap, get_or, length, map, sym}
+use Rattle.std.proofs.Common.{◌≡◌, ◌<◌, ◌∙◌, ℕ, List, arith, ap, get_or, length, map, sym}
 use Rattle.std.proofs.lemmas.List.{get_or-map, length-map}
 use Rattle.std.proofs.lemmas.Result.{err_from_is_err_and}
 use Rattle.mb_outside.specs.Seen.{seen_of}
 use Rattle.script_lang.specs.declared.steps.Line.{Line}
-use Rattle.script_lang.specs.Steps.{line_of, step_of}
+use Rattle.script_lang.specs.Steps.{line_of}
 use Rattle.script_runs.specs.Names.{named_in}
 use Rattle.script_runs.specs.Operations.{meanings}
 use Rattle.script_runs.proofs.Progress.{ends, line_done, next_numbers, next_taken, stop_spent, stops}
