@@ -1,5 +1,5 @@
 -- Triangles as triples of vertices: their edges under turning, reversal and renaming.
-use Rattle.std.specs.Prelude.{◌≡◌, ℕ, ℤ, pos, ◌-ℤ◌, List, [], ◌∷◌, ◌++◌, map, slice_index}
+use Rattle.std.specs.Prelude.{◌≡◌, ℕ, ℤ, pos, ◌-ℤ◌, List, [], ◌∷◌, ◌++◌, map}
 use Rattle.std.proofs.Common.{◌⊎◌, inl, inr, arith, ap, refl, sym, ◌∙◌}
 use Rattle.std.proofs.lemmas.Int.{ints}
 use Rattle.std.proofs.lemmas.List.{append_assoc}
@@ -8,10 +8,6 @@ use Rattle.chain_terms.specs.Chains.{IsClosed, edges, all_edges}
 use Rattle.chain_laws.specs.Sums.{total-append}
 use Rattle.chain_terms.specs.Odd.{along, backward, SameChain}
 use Rattle.chain_laws.specs.Chains.{renamed, total-backward, closed-append, closed-renamed, closed_same, closed-backward}
-
--- the triple that an array of three holds
-abbrev pub triple_of : List ℕ → ℕ × ℕ × ℕ
-triple_of t = (slice_index t 0, slice_index t 1, slice_index t 2)
 
 -- the triple from its second vertex on
 abbrev pub turned_triple : (ℕ × ℕ × ℕ) → ℕ × ℕ × ℕ

@@ -4,7 +4,7 @@ use Rattle.mesh_terms.specs.Limits.{Limits}
 use Rattle.mesh_terms.specs.Meshes.{Triple}
 use Rattle.run_terms.specs.Files.{Bytes, Files, Grew, put}
 use Rattle.run_terms.specs.Runs.{Write, Partial}
-use Rattle.run_terms.specs.Tasks.{Refusal, give}
+use Rattle.run_terms.specs.Tasks.{give}
 use Rattle.run_terms.specs.Meets.{Unwritten, Seen, Meets}
 use Rattle.play_terms.specs.Commands.{ask_file, ask_mesh, checked, write_mesh}
 use Rattle.play_terms.specs.Formats.{mesh_soup, mesh_text}
@@ -15,10 +15,6 @@ use Rattle.file_stops.specs.declared.stop.Stop.{Stop}
 use Rattle.mesh_files.specs.declared.reading.Read.{Read}
 use Rattle.mesh_files.proofs.Saved.{IsSavedInPart}
 use Rattle.run_laws.proofs.Tasks.{meets_then, meets_stop}
-
--- a value or a refusal that was to be had
-pub taken : {A : Type 0} (result : Result A Refusal) (a : A) (now : Seen) → result ≡ Ok a → Meets (give result) now now (Ok a)
-taken result a now is = record { tells = refl; faults = refl; does = λ told. record { gives = is; all_done = refl } }
 
 -- a mesh was read or not, after its file
 pub mesh_read : (k : ℕ) (limits : Limits) (name bytes : Bytes) (before now : OnShelf) (r : Result Read Stop)

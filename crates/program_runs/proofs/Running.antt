@@ -103,9 +103,9 @@ module _ {S O E : Type 0} (s : OfShelf S) (o : OfSink O) (e : OfSink E) (limits 
       })
 
   -- where memory is wanting to read the words, nothing is done
-  pub starved_run : (shelf : S) (out : O) (err told : E) → IsReported no_memory (on_output e err) (on_output e told)
+  pub unread_words_run : (shelf : S) (out : O) (err told : E) → IsReported no_memory (on_output e err) (on_output e told)
       → IsRunOf s o e limits words (shelf, out, err) (shelf, out, told) steps steps statuses.NoMemory
-  starved_run shelf out err told line = record {
+  unread_words_run shelf out err told line = record {
     usage = λ is. absurd cc;
     no_command = λ _. inr refl;
     refused = λ is. absurd cc;

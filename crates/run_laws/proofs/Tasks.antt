@@ -1,8 +1,8 @@
--- Tasks one after the other: the two outcomes of the first, and what stands before any.
+-- Tasks one after the other: the two outcomes of the first, what stands before any, and a task without actions.
 use Rattle.std.proofs.Common.{◌≡◌, Bool, List, [], ◌∷◌, ◌++◌, Result, Ok, Err, IsTrue, append_assoc, ap, sym, subst, ◌∙◌, refl}
 use Rattle.run_terms.specs.Files.{Files}
 use Rattle.run_terms.specs.Runs.{Action, Ask, Write, Say, World, done, done_all, Partial, StopsAt, StopsBefore}
-use Rattle.run_terms.specs.Tasks.{Refusal, Part, Task, changed, changed_all, joined, then_task}
+use Rattle.run_terms.specs.Tasks.{Refusal, Part, Task, changed, changed_all, give, joined, then_task}
 use Rattle.run_terms.specs.Meets.{Why, Refused, Unread, Unwritten, Unsaid, Starved, Faults, Seen, Does, Rises, Meets}
 
 -- actions one after the other
@@ -149,3 +149,10 @@ meets_stop t next why before now first =
 -- memory ran out before anything was done
 pub meets_starved : {A : Type 0} (t : Task A) (now : Seen) → Meets t now now (Err Starved)
 meets_starved t now = record { tells = refl; faults = refl; does = λ told. record { whole = []; later = (t now.world.files).actions; split = refl; same = refl } }
+
+-- a value or a refusal is given as it is, without an action
+pub meets_given : {A : Type 0} (r : Result A Refusal) (a : A) (now : Seen) → r ≡ Ok a → Meets (give r) now now (Ok a)
+meets_given r a now is = record { tells = refl; faults = refl; does = λ told. record { gives = is; all_done = refl } }
+
+pub meets_refused : {A : Type 0} (r : Result A Refusal) (why : Refusal) (now : Seen) → r ≡ Err why → Meets (give r) now now (Err (Refused why))
+meets_refused r why now is = record { tells = refl; faults = refl; does = λ told. record { gives = is; all_done = refl } }

@@ -2,18 +2,11 @@
 use Rattle.std.proofs.Common.{◌≡◌, ℕ, ◌+◌, ◌<◌, ◌≤◌, List, length, get_or, drop, Result, Ok, Err, ap, subst, ◌∙◌, refl}
 use Rattle.std.proofs.Math.ListN.{drop_of_length-le}
 use Rattle.std.proofs.lemmas.List.{drop_more}
-use Rattle.run_terms.specs.Meets.{Why, Refused, Seen, Meets}
-use Rattle.run_terms.specs.Tasks.{Refusal, Task, give, then_task}
-use Rattle.run_laws.proofs.Tasks.{meets_then, meets_stop}
+use Rattle.run_terms.specs.Meets.{Why, Seen, Meets}
+use Rattle.run_terms.specs.Tasks.{Task, give, then_task}
+use Rattle.run_laws.proofs.Tasks.{meets_given, meets_then, meets_stop}
 use Rattle.script_terms.specs.Plays.{in_order}
 use Rattle.script_laws.specs.SoFar.{SoFar}
-
--- a value or a refusal that is given as it is
-pub meets_give : {A : Type 0} (a : A) (now : Seen) → Meets (give (Ok a)) now now (Ok a)
-meets_give a now = record { tells = refl; faults = refl; does = λ told. record { gives = refl; all_done = refl } }
-
-pub meets_refused : {A : Type 0} (why : Refusal) (now : Seen) → Meets {A = A} (give (Err why)) now now (Err (Refused why))
-meets_refused why now = record { tells = refl; faults = refl; does = λ told. record { gives = refl; all_done = refl } }
 
 -- at the start the rest is the whole
 pub begins : {A : Type 0} (whole : Task A) (start : Seen) → SoFar whole start whole start
@@ -47,4 +40,4 @@ module _ {L A : Type 0} (whole : Task A) (start here : Seen) (task : L → A →
   all_done at a past far =
       let P : Task A → Type 0 = λ t. (now : Seen) (r : Result A Why) → Meets t here now r → Meets whole start now r in
       let last : in_order task (drop at ls) a ≡ give (Ok a) = ap (λ (rest : List L). in_order task rest a) (drop_of_length-le ls past) in
-      subst P last far.ends here (Ok a) (meets_give a here)
+      subst P last far.ends here (Ok a) (meets_given (Ok a) a here refl)

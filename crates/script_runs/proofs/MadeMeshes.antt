@@ -8,11 +8,10 @@ use Rattle.mesh_make.specs.declared.fault.MakeFault.TheVariants.{NoMemory}
 use Rattle.mesh_terms.specs.Faults as terms
 use Rattle.mesh_terms.specs.Meshes.{Mesh}
 use Rattle.play_terms.specs.Lines.{over}
-use Rattle.run_laws.proofs.Tasks.{meets_starved, meets_stop, meets_then}
+use Rattle.run_laws.proofs.Tasks.{meets_given, meets_refused, meets_starved, meets_stop, meets_then}
 use Rattle.run_terms.specs.Files.{Bytes}
 use Rattle.run_terms.specs.Meets.{Meets, Refused, Seen}
 use Rattle.run_terms.specs.Tasks.{Task, give, then_task}
-use Rattle.script_laws.proofs.Loops.{meets_give, meets_refused}
 use Rattle.script_terms.specs.Lines.{made_refusal}
 use Rattle.script_terms.specs.Making.{Motion, motion_fault, moved_mesh}
 use Rattle.script_terms.specs.Plays.{Named, made, mesh_at, move_task, with_name}
@@ -41,7 +40,7 @@ module _ (script : Bytes) (line : ℕ) (name : Bytes) (mesh : Mesh) (named : Nam
   unmade X (Some why) e is now =
       let same : e ≡ fault why = cc in
       let refusal = made_refusal script line why in
-      let stopped = meets_stop (give (made script line (Some why) mesh)) (λ m. give (Ok (with_name name m named))) (Refused refusal) now now (meets_refused refusal now) in
+      let stopped = meets_stop (give (made script line (Some why) mesh)) (λ m. give (Ok (with_name name m named))) (Refused refusal) now now (meets_refused (Err refusal) refusal now refl) in
       rw (same, told script line why) stopped
   unmade X None e (inl done) now = absurd (cc)
   unmade X None e (inr is) now =
@@ -53,7 +52,7 @@ module _ (script : Bytes) (line : ℕ) (name : Bytes) (mesh : Mesh) (named : Nam
   made_so (Some why) x is after same now = absurd (cc)
   made_so None x is after same now =
       rw same
-      (meets_then (give (Ok mesh)) (λ m. give (Ok (with_name name m named))) mesh (Ok (with_name name mesh named)) now now now (meets_give mesh now) (meets_give (with_name name mesh named) now))
+      (meets_then (give (Ok mesh)) (λ m. give (Ok (with_name name m named))) mesh (Ok (with_name name mesh named)) now now now (meets_given (Ok mesh) mesh now refl) (meets_given (Ok (with_name name mesh named)) (with_name name mesh named) now refl))
 
 -- the mesh of a name, which is this one, after a motion
 module _ (script : Bytes) (line : ℕ) (name old : Bytes) (motion : Motion) (named : Named) (m : Mesh) (is : mesh_at named old ≡ m) where

@@ -6,26 +6,18 @@ use Rattle.play_terms.specs.Commands.{ask_file}
 use Rattle.report_lines.specs.Halts.{halted, halted_by}
 use Rattle.report_lines.specs.declared.halt.Halt.{Halt}
 use Rattle.run_terms.specs.Files.{Bytes, Files}
-use Rattle.run_terms.specs.Meets.{Meets, Refused, Seen, Why}
+use Rattle.run_terms.specs.Meets.{Meets, Seen, Why}
 use Rattle.run_terms.specs.Runs.{World}
-use Rattle.run_terms.specs.Tasks.{Refusal, Task, give, then_task}
-use Rattle.run_laws.proofs.Tasks.{meets_starved, meets_stop, meets_then}
+use Rattle.run_terms.specs.Tasks.{Task, give, then_task}
+use Rattle.run_laws.proofs.Tasks.{meets_given, meets_refused, meets_starved, meets_stop, meets_then}
 use Rattle.script_lang.specs.Faults.{IsFaultOf}
 use Rattle.script_lang.specs.declared.fault.ScriptFault.{ScriptFault}
 use Rattle.script_lang.specs.declared.fault.ScriptFault.TheVariants.{Bad, NoMemory}
-use Rattle.script_laws.proofs.Loops.{meets_give}
 use Rattle.script_terms.specs.Plays.{Meanings, Named, no_names, script_checked, script_task, steps_task}
 use Rattle.script_terms.specs.Scripts.{script}
 use Rattle.script_terms.specs.Steps.{Line}
 use Rattle.script_runs.specs.Costs.{cost_of_value, lines_cost, script_cost, text_cost}
 use Rattle.script_runs.specs.Texts.{text_task, why_of_fault}
-
--- a value or a refusal that is given
-given : {A : Type 0} (r : Result A Refusal) (a : A) (now : Seen) → r ≡ Ok a → Meets (give r) now now (Ok a)
-given r a now is = record { tells = refl; faults = refl; does = λ told. record { gives = is; all_done = refl } }
-
-refused : {A : Type 0} (r : Result A Refusal) (why : Refusal) (now : Seen) → r ≡ Err why → Meets (give r) now now (Err (Refused why))
-refused r why now is = record { tells = refl; faults = refl; does = λ told. record { gives = is; all_done = refl } }
 
 module _ (means : Meanings) (k : ℕ) (limits : Limits) (name : Bytes) where
   -- the steps of the lines, and no value
@@ -35,17 +27,17 @@ module _ (means : Meanings) (k : ℕ) (limits : Limits) (name : Bytes) where
   -- a faulty text, or want of memory
   pub text_refused : (text : Bytes) (fault : ScriptFault) (now : Seen) → IsFaultOf (script k text) fault → Meets (text_task means k limits name text) now now (Err (why_of_fault name fault))
   text_refused text (Bad line kind) now is =
-      meets_stop (give (script_checked name (script k text))) doing (why_of_fault name (Bad line kind)) now now (refused (script_checked name (script k text)) _ now (ap (script_checked name) is))
+      meets_stop (give (script_checked name (script k text))) doing (why_of_fault name (Bad line kind)) now now (meets_refused (script_checked name (script k text)) _ now (ap (script_checked name) is))
   text_refused text NoMemory now is = meets_starved (text_task means k limits name text) now
 
   -- the lines of a text were done, or one of them stopped
   pub text_done : (text : Bytes) (lines : List Line) (after : Named) (before now : Seen) (r : Result (Unit {0}) Halt) → script k text ≡ Ok lines
       → Meets (steps_task means k limits name lines no_names) before now (halted_by (λ _. after) r) → Meets (text_task means k limits name text) before now (halted r)
   text_done text lines after before now r is met =
-      meets_then (give (script_checked name (script k text))) doing lines (halted r) before before now (given (script_checked name (script k text)) lines before (ap (script_checked name) is)) (by r met)
+      meets_then (give (script_checked name (script k text))) doing lines (halted r) before before now (meets_given (script_checked name (script k text)) lines before (ap (script_checked name) is)) (by r met)
     where
       by : (r : Result (Unit {0}) Halt) → Meets (steps_task means k limits name lines no_names) before now (halted_by (λ _. after) r) → Meets (doing lines) before now (halted r)
-      by (Ok done) met = meets_then (steps_task means k limits name lines no_names) (λ _. give (Ok tt)) after (Ok tt) before now now met (meets_give tt now)
+      by (Ok done) met = meets_then (steps_task means k limits name lines no_names) (λ _. give (Ok tt)) after (Ok tt) before now now met (meets_given (Ok tt) tt now refl)
       by (Err halt) met = meets_stop (steps_task means k limits name lines no_names) (λ _. give (Ok tt)) _ before now met
 
   -- what the text costs is what its lines do

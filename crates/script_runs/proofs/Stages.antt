@@ -8,7 +8,7 @@ use Rattle.play_terms.specs.Commands.{ask_mesh, say_line, write_mesh}
 use Rattle.run_terms.specs.Files.{Bytes}
 use Rattle.run_terms.specs.Meets.{Meets, Seen, Starved, Why}
 use Rattle.run_terms.specs.Tasks.{Task, give, then_task}
-use Rattle.run_laws.proofs.Tasks.{meets_starved, meets_stop, meets_then}
+use Rattle.run_laws.proofs.Tasks.{meets_given, meets_starved, meets_stop, meets_then}
 use Rattle.script_terms.specs.Combined.{Combined}
 use Rattle.script_terms.specs.Lines.{combine_line, load_line, measure_line, save_line}
 use Rattle.script_terms.specs.Plays.{Meanings, Named, combine_task, load_task, measure_task, mesh_at, save_task, with_name, within}
@@ -16,10 +16,6 @@ use Rattle.script_terms.specs.Plays.{Meanings, Named, combine_task, load_task, m
 -- the shelf and the output together
 abbrev pub beside : OnShelf → OnOutput → Seen
 beside on out = seen on out.told out.faults
-
--- a value that is given as it is
-meets_give : {A : Type 0} (a : A) (now : Seen) → Meets (give (Ok a)) now now (Ok a)
-meets_give a now = record { tells = refl; faults = refl; does = λ told. record { gives = refl; all_done = refl } }
 
 module _ {A B : Type 0} (t : Task A) (next : A → Task B) where
   -- a first task that touched the shelf, and the rest
@@ -56,7 +52,7 @@ module _ (line name : Bytes) (m : Mesh) (named : Named) (on : OnShelf) (out told
   named_so : (now : Named) → now ≡ with_name name m named → OutputMeets (say_line line) out told (Ok tt) → Meets naming (beside on out) (beside on told) (Ok now)
   named_so now is met =
       let P : Named → Type 0 = λ n. Meets naming (beside on out) (beside on told) (Ok n) in
-      subst P (sym is) (output_then (say_line line) (λ _. give (Ok (with_name name m named))) tt (Ok (with_name name m named)) on out told (beside on told) met (meets_give (with_name name m named) (beside on told)))
+      subst P (sym is) (output_then (say_line line) (λ _. give (Ok (with_name name m named))) tt (Ok (with_name name m named)) on out told (beside on told) met (meets_given (Ok (with_name name m named)) (with_name name m named) (beside on told) refl))
 
 -- a mesh is loaded
 module _ (k : ℕ) (limits : Limits) (name file : Bytes) (named : Named) (before now : OnShelf) (out told : OnOutput) where
@@ -115,7 +111,7 @@ module _ (k : ℕ) (name file : Bytes) (of m : Mesh) (named : Named) (is : of �
       let P : Mesh → Type 0 = λ mesh. Meets (saving mesh) (beside before out) (beside now told) (Ok named) in
       subst P (sym is)
       (shelf_then (write_mesh k file m.points m.triples) after_writing tt (Ok named) before now out (beside now told) write
-      (output_then (say_line (save_line name file m)) (λ _. give (Ok named)) tt (Ok named) now out told (beside now told) line (meets_give named (beside now told))))
+      (output_then (say_line (save_line name file m)) (λ _. give (Ok named)) tt (Ok named) now out told (beside now told) line (meets_given (Ok named) named (beside now told) refl)))
 
 -- the mesh of a name, which is this one, is measured
 module _ (name : Bytes) (of m : Mesh) (named : Named) (is : of ≡ m) (out told : OnOutput) where
@@ -130,7 +126,7 @@ module _ (name : Bytes) (of m : Mesh) (named : Named) (is : of ≡ m) (out told 
   pub measure_told : OutputMeets (say_line (measure_line name m)) out told (Ok tt) → OutputMeets (measuring of) out told (Ok named)
   measure_told line on =
       let P : Mesh → Type 0 = λ mesh. Meets (measuring mesh) (beside on out) (beside on told) (Ok named) in
-      subst P (sym is) (output_then (say_line (measure_line name m)) (λ _. give (Ok named)) tt (Ok named) on out told (beside on told) line (meets_give named (beside on told)))
+      subst P (sym is) (output_then (say_line (measure_line name m)) (λ _. give (Ok named)) tt (Ok named) on out told (beside on told) line (meets_given (Ok named) named (beside on told) refl))
 
 -- an operation on two meshes is within the limit, or not, or ended otherwise
 abbrev pub Operates : Limits → Combined → Result Combined Why → Type 0

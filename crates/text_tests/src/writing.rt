@@ -144,5 +144,6 @@ fn a_page_goes_out_where_fewer_than_128_bytes_are_free(rt: HostRuntime) -> Resul
 fn a_text_that_fits_a_page_goes_out_in_one_write(rt: HostRuntime) -> Result<(), Fail> {
     let mesh = tetrahedron(rt.alloc())?.ok_or("the tetrahedron is closed")?;
     assert!(rt; taken_at_once(rt.alloc(), &mesh, false, 4)?.is_none());
+    assert!(rt; taken_at_once(rt.alloc(), &mesh, true, 4)?.is_none());
     Ok(())
 }

@@ -34,7 +34,8 @@ fn a_mesh_is_copied_to_stl(rt: HostRuntime) -> Result<(), Fail> {
         bytes: TETRAHEDRON,
         to: "t.stl",
         most: ROOM,
-        shelf_fails: 0,
+        // The size, one read, the beginning and one piece: a fifth call would fail.
+        shelf_fails: 5,
         out_fails: 0,
         limits: Limits::program(),
         status: 0,

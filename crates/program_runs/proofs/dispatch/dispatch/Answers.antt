@@ -2,7 +2,7 @@ use Rattle.std.proofs.Common.{◌∙◌, ap, sym, Some}
 use Rattle.std.specs.Option.{option_map}
 use Rattle.command_words.specs.Commands.{command_of}
 use Rattle.play_terms.specs.Words.{command}
-use Rattle.program_runs.proofs.Running.{copy_run, point_run, refused_run, script_run, starved_run}
+use Rattle.program_runs.proofs.Running.{copy_run, point_run, refused_run, script_run, unread_words_run}
 use Rattle.program_runs.proofs.dispatch.dispatch.Goals as goal
 
 pub returns-in-Ok-None : goal.returns-in-Ok-None
@@ -12,7 +12,7 @@ returns-in-Ok-None g c =
 
 pub returns-in-Err : goal.returns-in-Err
 returns-in-Err g c =
-    starved_run g.S.Shelf g.O.Sink g.E.Sink c.args.limits.now (command c.args.words.now) c.args.steps.now c.args.shelf.now c.args.out.now c.args.err.now c.tell_stop-in-Err.new.sink c.tell_stop-in-Err.ensures
+    unread_words_run g.S.Shelf g.O.Sink g.E.Sink c.args.limits.now (command c.args.words.now) c.args.steps.now c.args.shelf.now c.args.out.now c.args.err.now c.tell_stop-in-Err.new.sink c.tell_stop-in-Err.ensures
 
 pub returns-in-CopyFile : goal.returns-in-CopyFile
 returns-in-CopyFile g c =
