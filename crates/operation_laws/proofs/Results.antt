@@ -1,5 +1,5 @@
 -- Operations under the tests of the grid on accepted meshes give accepted meshes within lawful limits, which are read of their texts.
-use Rattle.std.proofs.Common.{◌≡◌, ◌≤◌, ℕ, false, [], ◌∷◌, length, replicate, map, ◌∙◌, arith}
+use Rattle.std.proofs.Common.{◌≡◌, ◌≤◌, ℕ, false, [], ◌∷◌, length, replicate, map, refl, ◌∙◌, arith}
 use Rattle.std.proofs.lemmas.Bool.{ltb-false}
 use Rattle.std.proofs.lemmas.List.{length-map, length-replicate}
 use Rattle.chain_terms.specs.Sums.{upto}
@@ -12,12 +12,15 @@ use Rattle.rounding.specs.Lawful.{nearest_within, settle_monotone, settle_units}
 use Rattle.rounding.specs.Nearest.{nearest, settle_nearest}
 use Rattle.shadow_kernels.specs.Hulls.{StaysBetween}
 use Rattle.edge_face.specs.CrossLaws.{IsSettling}
+use Rattle.filling_laws.specs.Laws.{FacesAreFilled}
 use Rattle.made_laws.specs.Laws.{IsGiven, IsGivenWithin}
 use Rattle.script_laws.specs.ReadingBack.{MeshReadable}
 use Rattle.script_laws.proofs.Readable.{readable_within, within_of_readable}
 use Rattle.mesh_boolean.specs.Operation.{Outcome, first_side, numbers_of, operation, reduced_mesh, second_side}
 use Rattle.operation_laws.specs.Grid.{grid_tests, told_of}
 use Rattle.operation_laws.specs.Laws.{OperationsAreAccepted, OperationsAreReadable}
+use Rattle.operation_laws.specs.Results.{OperationsAreResults}
+use Rattle.operation_laws.proofs.Come.{comes}
 use Rattle.operation_laws.proofs.GridNumbers.{are_numbers}
 use Rattle.operation_laws.proofs.Made.{AreFilled, IsMade, is_made}
 use Rattle.operation_laws.proofs.ReducedSides.{IsKnown, reduced_side}
@@ -87,3 +90,14 @@ pub results_readable : AreFilled → OperationsAreReadable
 results_readable laws k limits few lawful op p q p_readable q_readable within =
     operations_are_readable laws k limits few lawful op p q (within_of_readable k limits p lawful p_readable).given (within_of_readable k limits q lawful q_readable).given
     (ltb-false limits.halfedges (operation grid_tests op p q).halfedges within)
+
+-- and what an operation gives is a result of its meshes
+pub operations_are_results : AreFilled → FacesAreFilled → OperationsAreResults
+operations_are_results laws filled op p q p_given q_given few =
+    let one = first_known op p p_given in
+    let other = second_known q q_given in
+    let first = first_side op p in
+    let second = second_side q in
+    let known = are_numbers nearest nearest_stays settle_nearest nearest_settles first second one.kept other.kept in
+    let made = comes laws filled op first second (numbers_of grid_tests first second) one other known few in
+    record { conserved = known.conserved; prescribed = refl; from = made.from; faces = made.faces; clean = made.clean }

@@ -6,6 +6,7 @@ ghost use Rattle.play_terms.specs.Words.{IsCopy, IsInside, IsRun, command};
 ghost use Rattle.program_terms.specs.Commands.{play};
 ghost use Rattle.run_terms.specs.Files.{Files};
 ghost use Rattle.mb_outside.specs.Seen.{on_output};
+ghost use Rattle.operation_laws.specs.Results.{OperationsAreResults};
 ghost use Rattle.report_lines.specs.Reports.{IsReported};
 ghost use Rattle.program_runs.specs.Counting.{play_cost};
 ghost use Rattle.program_runs.specs.Playing.{IsUntroubled, RiseOn, RunMeets, meanings};
@@ -16,6 +17,7 @@ use crate::dispatch::dispatch;
 use command_ends::Status;
 use mb_base::{ArgList, Limits};
 use mb_outside::{Shelf, Sink};
+use operation_laws::laws::operations_are_results;
 use std::alloc::Global;
 use std::sync::ledger::Ledger;
 use steps::Steps;
@@ -39,6 +41,8 @@ use steps::Steps;
 /// fault came, ends with 0, or for want of memory. Whatever the files and however the run ended, each file that the play writes holds the text of a mesh in the format of its name,
 /// and the mesh is read of its OBJ text under the same digits and limits; for a copy this mesh is the one that was read of IN, in either format, without its
 /// unused points. An STL text reads as the mesh welded, its points in another order; that is a law of `stl_laws` and no clause here.
+/// The mesh that the play has of an operation, whichever accepted meshes it is done on, is closed, has one fan at each vertex and the vertices that winding
+/// numbers and crossings prescribe, and the triangles of each source face are bounded by its segments.
 ///
 /// The read faults of the shelf rise with status 6 alone, its write faults and the faults of `out` with 7 alone, and one of the two does. With
 /// 6 the read faults rose, or the shelf tells no files and a read into some space gave nothing below the size that was stated. The shelf
@@ -66,6 +70,7 @@ pub fn run<S: Shelf, O: Sink, E: Sink, L: Ledger>(
     ensures complete { IsUntroubled S.Shelf O.Sink limits.now words.now (shelf.old, out.old) (shelf.new, out.new) → IsDoneOrStarved result }
     ensures mesh_back { CopiesReadable limits.now (command words.now) }
     ensures back { (files : Files) → All (WritesReadable (digits_in (command words.now)) limits.now) (play meanings limits.now words.now files).actions }
+    ensures results { OperationsAreResults }
     ensures copies_uncounted { IsCopy (command words.now) → steps.new ≡ steps.old }
     ensures counted { IsInside (command words.now) → result ≡ Status.Done → steps.new ≡ steps.old + 1 }
     ensures most { (IsRun (command words.now) → ⊥) → steps.new ≤ steps.old + 1 }
@@ -73,7 +78,8 @@ pub fn run<S: Shelf, O: Sink, E: Sink, L: Ledger>(
     ensures uncounted { (IsRun (command words.now) → ⊥) →
         (result ≡ Status.Done → ⊥) → (result ≡ Status.WriteFault → ⊥) → steps.new ≡ steps.old }
 {
-    // The law of what a play writes.
+    // The laws of what a play writes, and of what its operations give.
     plays_are_readable(limits, words);
+    operations_are_results();
     dispatch(alloc, words, limits, shelf, out, err, steps)
 }

@@ -58,6 +58,9 @@ returns-in-Ok-clause-back g c =
     (λ l. (files : Files) → All (WritesReadable (digits_in (command c.in-Ok.words)) l) (play meanings l c.in-Ok.words files).actions)
     c.program.ensures.value c.run.ensures.back)
 
+pub returns-in-Ok-clause-results : goal.returns-in-Ok-clause-results
+returns-in-Ok-clause-results g c = if_words _ c.args.words c.in-Ok.words c.in-Ok.is c.run.ensures.results
+
 pub returns-in-Ok-clause-copies_uncounted : goal.returns-in-Ok-clause-copies_uncounted
 returns-in-Ok-clause-copies_uncounted g c = if_words _ c.args.words c.in-Ok.words c.in-Ok.is c.run.ensures.copies_uncounted
 
@@ -114,6 +117,9 @@ returns-in-Err-clause-mesh_back g c = rw c.in-Err.is tt
 
 pub returns-in-Err-clause-back : goal.returns-in-Err-clause-back
 returns-in-Err-clause-back g c = rw c.in-Err.is tt
+
+pub returns-in-Err-clause-results : goal.returns-in-Err-clause-results
+returns-in-Err-clause-results g c = rw c.in-Err.is tt
 
 pub returns-in-Err-clause-copies_uncounted : goal.returns-in-Err-clause-copies_uncounted
 returns-in-Err-clause-copies_uncounted g c = rw c.in-Err.is tt

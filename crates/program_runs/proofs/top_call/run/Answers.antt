@@ -37,6 +37,9 @@ returns-clause-mesh_back g c = c.plays_are_readable.ensures.mesh_back
 pub returns-clause-back : goal.returns-clause-back
 returns-clause-back g c = c.plays_are_readable.ensures.back
 
+pub returns-clause-results : goal.returns-clause-results
+returns-clause-results g c = c.operations_are_results.ensures
+
 pub returns-clause-copies_uncounted : goal.returns-clause-copies_uncounted
 returns-clause-copies_uncounted g c = c.dispatch.ensures.steps.copies_uncounted
 

@@ -1,0 +1,46 @@
+-- What an operation makes of two sides with conserved numbers comes from the prescribed vertices, face by face, and is clean.
+use Rattle.std.proofs.Common.{◌≡◌, ◌≤◌, List, length, map, refl, sym, subst}
+use Rattle.std.proofs.lemmas.List.{length-map}
+use Rattle.chain_terms.specs.Chains.{all_edges}
+use Rattle.halfedge.specs.Clean.{IsClean}
+use Rattle.mb_base.specs.declared.op.Op.{Op}
+use Rattle.mesh_terms.specs.Limits.{most_halfedges}
+use Rattle.mesh_terms.specs.Meshes.{IsAccepted, Triple}
+use Rattle.mesh_terms.specs.Twins.{twins_of}
+use Rattle.side_terms.specs.Sides.{Side}
+use Rattle.assembly_terms.specs.Lists.{Copy}
+use Rattle.assembly_terms.specs.Prescribed.{Numbers, prescribed, prescribed_halfedges}
+use Rattle.filling_terms.specs.Filled.{all_filled, all_triples, points_of_copies, sources_of}
+use Rattle.filling_laws.specs.Laws.{FacesAreFilled}
+use Rattle.pinch_split.specs.Back.{ComeFrom, named_by}
+use Rattle.pinch_split.specs.Split.{split_from, split_points, split_triples}
+use Rattle.mesh_boolean.specs.Operation.{Outcome, outcome_of}
+use Rattle.mesh_boolean.specs.Results.{AreBounded, IsCleanOver}
+use Rattle.mesh_boolean.proofs.Faces.{are_bounded}
+use Rattle.mesh_boolean.proofs.Pairs.{is_clean_over}
+use Rattle.operation_laws.proofs.Made.{AreFilled, AreNumbersOf, can_be_assembled}
+use Rattle.operation_laws.proofs.ReducedSides.{IsKnown}
+use Rattle.operation_laws.proofs.SplitMesh.{is_split}
+
+-- where its vertices come from, what bounds its faces, and its fans
+pub record Comes (p q : Side) (o : Outcome) : Type 0 where
+  pub from : ComeFrom o.points (points_of_copies o.copies) o.from
+  pub faces : AreBounded p q o.copies o.from o.source o.triples
+  pub clean : IsCleanOver o.from o.triples
+
+pub comes : AreFilled → FacesAreFilled → (op : Op) (p q : Side) (n : Numbers) → IsKnown p → IsKnown q → AreNumbersOf p q n → prescribed_halfedges op p q n ≤ most_halfedges → Comes p q (outcome_of op p q n)
+comes laws filled op p q n p_known q_known known few =
+    let cs : List Copy = prescribed op p q n in
+    let ts : List Triple = all_triples (all_filled p q cs) in
+    let points = points_of_copies cs in
+    let count : length points ≡ length cs = length-map cs (λ c. c.point) in
+    let can = can_be_assembled op p q n p_known q_known known few in
+    let split = is_split points ts (subst (λ k. IsAccepted k ts) (sym count) (laws.accepted p q cs can)) in
+    let back : map (named_by (split_from (length cs) ts)) (split_triples (length cs) ts) ≡ ts = subst (λ k. map (named_by (split_from k ts)) (split_triples k ts) ≡ ts) count split.back in record {
+      from = subst (λ k. ComeFrom (split_points points ts) points (split_from k ts)) count split.from;
+      faces = are_bounded p q cs (split_from (length cs) ts) (sources_of 0 (all_filled p q cs)) (split_triples (length cs) ts) (filled p q cs can) refl back;
+      clean =
+          is_clean_over (length (split_points points ts)) (split_from (length cs) ts) (split_triples (length cs) ts) ts
+          (subst (λ k. IsAccepted (length (split_points points ts)) (split_triples k ts)) count split.accepted)
+          (subst (λ k. IsClean (all_edges (split_triples k ts))) count split.clean) (subst (λ k. twins_of (split_triples k ts) ≡ twins_of ts) count split.twins) back;
+    }
