@@ -67,14 +67,6 @@ pub record AreFilled (p q : Side) (cs : List Copy) (mesh : Mesh) (old face : Lis
   pub source : face ≡ sources_of 0 (all_filled p q cs)
   pub forced : count ≡ forced_of (all_filled p q cs)
 
--- all of these, for two sides with numbers
-pub record IsResult (op : Op) (p q : Side) (n : Numbers) (mesh : Mesh) (r : Prescribed) (old face : List ℕ) (count : ℕ) : Type 0 where
-  pub prescribed : ArePrescribed op p q n r
-  pub from : ComeFrom mesh.points r.points.items old
-  pub faces : AreBounded p q (copies_of_numbers op p q n) old face mesh.triples
-  pub clean : IsCleanOver old mesh.triples
-  pub filled : AreFilled p q (copies_of_numbers op p q n) mesh old face count
-
 -- the numbers of two meshes, and the copies that they prescribe
 abbrev pub numbers_in : Tests → Op → Mesh → Mesh → Numbers
 numbers_in t op p q = numbers_of t (first_side op p) (second_side q)

@@ -1,9 +1,9 @@
-pub mod Come
 pub mod FanLists
 pub mod FanNumbers
 pub mod GridNumbers
 pub mod HitPoints
 pub mod Made
+pub mod OfSides
 pub mod ReducedSides
 pub mod Results
 pub mod SplitMesh

@@ -1,4 +1,5 @@
--- Operations under the tests of the grid on accepted meshes give accepted meshes within lawful limits, which are read of their texts.
+-- Operations under the tests of the grid on accepted meshes give accepted meshes within lawful limits, which are read of their texts, and are results
+-- of these meshes.
 use Rattle.std.proofs.Common.{◌≡◌, ◌≤◌, ℕ, false, [], ◌∷◌, length, replicate, map, refl, ◌∙◌, arith}
 use Rattle.std.proofs.lemmas.Bool.{ltb-false}
 use Rattle.std.proofs.lemmas.List.{length-map, length-replicate}
@@ -16,11 +17,13 @@ use Rattle.filling_laws.specs.Laws.{FacesAreFilled}
 use Rattle.made_laws.specs.Laws.{IsGiven, IsGivenWithin}
 use Rattle.script_laws.specs.ReadingBack.{MeshReadable}
 use Rattle.script_laws.proofs.Readable.{readable_within, within_of_readable}
+use Rattle.script_laws.proofs.ReadingBack.{steps_keep}
+use Rattle.script_terms.specs.Plays.{mesh_at}
 use Rattle.mesh_boolean.specs.Operation.{Outcome, first_side, numbers_of, operation, reduced_mesh, second_side}
-use Rattle.operation_laws.specs.Grid.{grid_tests, told_of}
+use Rattle.operation_laws.specs.Grid.{grid_meanings, grid_tests, told_of}
 use Rattle.operation_laws.specs.Laws.{OperationsAreAccepted, OperationsAreReadable}
-use Rattle.operation_laws.specs.Results.{OperationsAreResults}
-use Rattle.operation_laws.proofs.Come.{comes}
+use Rattle.operation_laws.specs.Results.{OperationsAreResults, ScriptsGiveResults}
+use Rattle.operation_laws.proofs.OfSides.{result_of_sides}
 use Rattle.operation_laws.proofs.GridNumbers.{are_numbers}
 use Rattle.operation_laws.proofs.Made.{AreFilled, IsMade, is_made}
 use Rattle.operation_laws.proofs.ReducedSides.{IsKnown, reduced_side}
@@ -73,9 +76,7 @@ made_within limits o lawful made within = record {
 -- under lawful limits an operation on accepted meshes gives an accepted mesh within the limits, where its half-edges are
 pub operations_are_accepted : AreFilled → OperationsAreAccepted
 operations_are_accepted laws limits lawful op p q p_given q_given within =
-    let made = made_of laws limits lawful op p q p_given q_given within in
-    let inside = made_within limits (operation grid_tests op p q) lawful made within in
-    record { accepted = made.accepted; on_grid = made.on_grid; few_points = inside.few_points; few_triples = inside.few_triples }
+    made_within limits (operation grid_tests op p q) lawful (made_of laws limits lawful op p q p_given q_given within) within
 
 -- which is read of its text
 pub operations_are_readable : AreFilled → (k : ℕ) (limits : Limits) → k ≤ 6 → IsLawful limits → (op : Op) (p q : Mesh) → IsGiven p → IsGiven q → (operation grid_tests op p q).halfedges ≤ limits.halfedges →
@@ -99,5 +100,14 @@ operations_are_results laws filled op p q p_given q_given few =
     let first = first_side op p in
     let second = second_side q in
     let known = are_numbers nearest nearest_stays settle_nearest nearest_settles first second one.kept other.kept in
-    let made = comes laws filled op first second (numbers_of grid_tests first second) one other known few in
+    let made = result_of_sides laws filled op first second (numbers_of grid_tests first second) one other known few in
     record { conserved = known.conserved; prescribed = refl; from = made.from; faces = made.faces; clean = made.clean }
+
+-- so is what a script has of an operation on the meshes of two names
+pub scripts_give_results : AreFilled → FacesAreFilled → ScriptsGiveResults
+scripts_give_results laws filled k limits few lawful script files lines named is op left right within =
+    let p = mesh_at named left in
+    let q = mesh_at named right in
+    let all = (steps_keep grid_meanings k limits few lawful (results_readable laws k limits few lawful) script lines).value files named is in
+    operations_are_results laws filled op p q (within_of_readable k limits p lawful (all left)).given (within_of_readable k limits q lawful (all right)).given
+    (few_halfedges limits (operation grid_tests op p q).halfedges lawful within)

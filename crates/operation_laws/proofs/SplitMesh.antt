@@ -75,5 +75,6 @@ module _ (points : List (List ℤ)) (ts : List Triple) (accepted : IsAccepted (l
     clean = subst (λ l. IsClean (all_edges l)) same (clean_anew ts of first known);
     twins = subst (λ l. twins_of l ≡ twins_of ts) same (twins_stay ts of first known);
     from = subst (λ f. ComeFrom (points_of points f) points f) same_from (fans_come_from points ts of first accepted known);
-    back = subst (λ f. map (named_by f) (split_triples (length points) ts) ≡ ts) same_from (subst (λ l. map (named_by (starts_of ts first)) l ≡ ts) same (triples_back ts of first known));
+    back = subst (λ f. map (named_by f) (split_triples (length points) ts) ≡ ts) same_from
+        (subst (λ l. map (named_by (starts_of ts first)) l ≡ ts) same (triples_back ts of first known));
   }

@@ -1,7 +1,7 @@
 //! The laws, each as the contract of a function that does nothing.
 
 ghost use Rattle.operation_laws.specs.Laws.{OperationsAreAccepted, OperationsAreReadable};
-ghost use Rattle.operation_laws.specs.Results.{OperationsAreResults};
+ghost use Rattle.operation_laws.specs.Results.{OperationsAreResults, ScriptsGiveResults};
 
 use filling_laws::laws::{faces_are_filled, fillings_close};
 
@@ -15,12 +15,14 @@ pub fn operations_are_readable()
     fillings_close();
 }
 
-/// Under the tests of the grid what an operation gives of two accepted meshes is a result of them, where its half-edges are no more than any
-/// limit on them: winding numbers change along each half-edge by its signed crossings; the vertices are the prescribed ones, each as often,
-/// before pinched ones are split; the triangles of each source face are bounded by its segments; and the mesh is closed, with one fan at each
-/// vertex.
+/// Under the tests of the grid what an operation gives of two accepted meshes is a result of them, where its half-edges are at most
+/// `most_halfedges`, which no lawful limit passes: along each half-edge of both, reduced, the winding number in the other changes by its signed
+/// crossings; the vertices, before pinched ones are split, are the prescribed ones, each as often; the triangles of each source face are bounded
+/// by its segments; and the mesh is closed, its half-edges are paired, and each vertex has one fan. The meshes of the names of a script are such
+/// meshes, whatever lines of it were done.
 pub fn operations_are_results()
-    ensures { OperationsAreResults }
+    ensures results { OperationsAreResults }
+    ensures scripts { ScriptsGiveResults }
 {
     // The laws of fillings.
     faces_are_filled();

@@ -11,10 +11,12 @@ use Rattle.play_terms.specs.Words.{Command, CopyFile, Given, InsideFile, RunScri
 use Rattle.play_terms.specs.Words.{digits_of, given, inside_at, inside_of, run_of, with_more}
 use Rattle.play_laws.proofs.ReadingBack.{copy_keeps, inside_keeps, mesh_given}
 use Rattle.operation_laws.specs.Laws.{OperationsAreReadable}
+use Rattle.operation_laws.specs.Results.{ScriptsGiveResults}
 use Rattle.program_terms.specs.Commands.{command_task}
 use Rattle.script_laws.proofs.ReadingBack.{script_keeps}
 use Rattle.mesh_commands.specs.Windings.{windings}
 use Rattle.program_runs.specs.Playing.{meanings}
+use Rattle.program_runs.specs.Results.{CommandGivesResults}
 
 -- ---- the digits of words are at most 6
 
@@ -100,3 +102,10 @@ writes_back limits (Some (CopyFile k from to)) lawful few law files = (copy_keep
 writes_back limits (Some (InsideFile k file point)) lawful few law files = (inside_keeps k windings limits file point few lawful).actions files
 writes_back limits (Some (RunScript k script)) lawful few law files =
     (script_keeps meanings.scripts k limits few lawful (law k limits few lawful) script).actions files
+
+-- what its operations give, by the law of operations in scripts
+pub gives_results : (limits : Limits) (what : Option Command) → IsLawful limits → digits_in what ≤ 6 → ScriptsGiveResults → CommandGivesResults limits what
+gives_results limits None lawful few law = tt
+gives_results limits (Some (CopyFile k from to)) lawful few law = tt
+gives_results limits (Some (InsideFile k file point)) lawful few law = tt
+gives_results limits (Some (RunScript k script)) lawful few law = law k limits few lawful script

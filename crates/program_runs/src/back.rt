@@ -5,9 +5,10 @@ ghost use Rattle.play_terms.specs.Words.{command};
 ghost use Rattle.program_terms.specs.Commands.{play};
 ghost use Rattle.run_terms.specs.Files.{Files};
 ghost use Rattle.program_runs.specs.Playing.{meanings};
+ghost use Rattle.program_runs.specs.Results.{CommandGivesResults};
 
 use mb_base::{ArgList, Limits};
-use operation_laws::laws::operations_are_readable;
+use operation_laws::laws::{operations_are_readable, operations_are_results};
 
 /// Whatever the words and the files, each file that their play writes holds the text of a mesh, which is read of its OBJ text, and so is the mesh that a copy
 /// reads. The contract is this law, and the call does nothing.
@@ -18,4 +19,14 @@ pub fn plays_are_readable(limits: &Limits, words: &ArgList)
     // The limits are lawful, and the law of what operations give.
     let _ = limits.file_bytes();
     operations_are_readable();
+}
+
+/// Whatever lines of the script that the words ask for were done, over whatever files, an operation on the meshes of two names is a result of these. The
+/// contract is this law, and the call does nothing.
+pub fn plays_give_results(limits: &Limits, words: &ArgList)
+    ensures results { CommandGivesResults limits.now (command words.now) }
+{
+    // The limits are lawful, and the law of operations in scripts.
+    let _ = limits.file_bytes();
+    operations_are_results();
 }

@@ -8,10 +8,10 @@ ghost use Rattle.program_terms.specs.Commands.{play};
 ghost use Rattle.run_terms.specs.Files.{Files};
 ghost use Rattle.mb_outside.specs.Seen.{on_output};
 ghost use Rattle.mesh_files.specs.Stops.{why_of};
-ghost use Rattle.operation_laws.specs.Results.{OperationsAreResults};
 ghost use Rattle.report_lines.specs.Reports.{IsReported};
 ghost use Rattle.program_runs.specs.Counting.{play_cost};
 ghost use Rattle.program_runs.specs.Playing.{IsUntroubled, ProgramMeets, RiseOn, meanings, program_limits};
+ghost use Rattle.program_runs.specs.Results.{CommandGivesResults};
 ghost use Rattle.command_ends.specs.Statuses.{IsDoneOrStarved, IsUsageOrStarved, status_number};
 
 use crate::top_call::run;
@@ -51,7 +51,7 @@ pub fn start<S: Shelf, O: Sink, E: Sink, L: Ledger>(
     ensures mesh_back { IfOk words (λ words. CopiesReadable program_limits (command words)) }
     ensures back { IfOk words (λ words. (files : Files) →
         All (WritesReadable (digits_in (command words)) program_limits) (play meanings program_limits words files).actions) }
-    ensures results { IfOk words (λ _. OperationsAreResults) }
+    ensures results { IfOk words (λ words. CommandGivesResults program_limits (command words)) }
     ensures copies_uncounted { IfOk words (λ words. IsCopy (command words) → steps.new ≡ steps.old) }
     ensures counted { IfOk words (λ words. IsInside (command words) → result ≡ Status.Done → steps.new ≡ steps.old + 1) }
     ensures most { IfOk words (λ words. (IsRun (command words) → ⊥) → steps.new ≤ steps.old + 1) }

@@ -6,18 +6,17 @@ ghost use Rattle.play_terms.specs.Words.{IsCopy, IsInside, IsRun, command};
 ghost use Rattle.program_terms.specs.Commands.{play};
 ghost use Rattle.run_terms.specs.Files.{Files};
 ghost use Rattle.mb_outside.specs.Seen.{on_output};
-ghost use Rattle.operation_laws.specs.Results.{OperationsAreResults};
 ghost use Rattle.report_lines.specs.Reports.{IsReported};
 ghost use Rattle.program_runs.specs.Counting.{play_cost};
 ghost use Rattle.program_runs.specs.Playing.{IsUntroubled, RiseOn, RunMeets, meanings};
+ghost use Rattle.program_runs.specs.Results.{CommandGivesResults};
 ghost use Rattle.command_ends.specs.Statuses.{IsDoneOrStarved, IsUsageOrStarved, status_number};
 
-use crate::back::plays_are_readable;
+use crate::back::{plays_are_readable, plays_give_results};
 use crate::dispatch::dispatch;
 use command_ends::Status;
 use mb_base::{ArgList, Limits};
 use mb_outside::{Shelf, Sink};
-use operation_laws::laws::operations_are_results;
 use std::alloc::Global;
 use std::sync::ledger::Ledger;
 use steps::Steps;
@@ -41,8 +40,10 @@ use steps::Steps;
 /// fault came, ends with 0, or for want of memory. Whatever the files and however the run ended, each file that the play writes holds the text of a mesh in the format of its name,
 /// and the mesh is read of its OBJ text under the same digits and limits; for a copy this mesh is the one that was read of IN, in either format, without its
 /// unused points. An STL text reads as the mesh welded, its points in another order; that is a law of `stl_laws` and no clause here.
-/// The mesh that the play has of an operation, whichever accepted meshes it is done on, is closed, has one fan at each vertex and the vertices that winding
-/// numbers and crossings prescribe, and the triangles of each source face are bounded by its segments.
+/// Whatever lines of a script were done, what the play has of an operation on the meshes of two names is a result of these: along each half-edge of both, reduced,
+/// the winding number in the other changes by its signed crossings; the vertices, before pinched ones are split, are those that these numbers prescribe, each as
+/// often; the triangles made in each face of either are bounded by the segments prescribed there; and half-edges pair, none with itself, with one fan at each
+/// vertex.
 ///
 /// The read faults of the shelf rise with status 6 alone, its write faults and the faults of `out` with 7 alone, and one of the two does. With
 /// 6 the read faults rose, or the shelf tells no files and a read into some space gave nothing below the size that was stated. The shelf
@@ -70,7 +71,7 @@ pub fn run<S: Shelf, O: Sink, E: Sink, L: Ledger>(
     ensures complete { IsUntroubled S.Shelf O.Sink limits.now words.now (shelf.old, out.old) (shelf.new, out.new) → IsDoneOrStarved result }
     ensures mesh_back { CopiesReadable limits.now (command words.now) }
     ensures back { (files : Files) → All (WritesReadable (digits_in (command words.now)) limits.now) (play meanings limits.now words.now files).actions }
-    ensures results { OperationsAreResults }
+    ensures results { CommandGivesResults limits.now (command words.now) }
     ensures copies_uncounted { IsCopy (command words.now) → steps.new ≡ steps.old }
     ensures counted { IsInside (command words.now) → result ≡ Status.Done → steps.new ≡ steps.old + 1 }
     ensures most { (IsRun (command words.now) → ⊥) → steps.new ≤ steps.old + 1 }
@@ -80,6 +81,6 @@ pub fn run<S: Shelf, O: Sink, E: Sink, L: Ledger>(
 {
     // The laws of what a play writes, and of what its operations give.
     plays_are_readable(limits, words);
-    operations_are_results();
+    plays_give_results(limits, words);
     dispatch(alloc, words, limits, shelf, out, err, steps)
 }

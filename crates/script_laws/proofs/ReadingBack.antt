@@ -130,7 +130,8 @@ module _ (means : Meanings) (k : ℕ) (limits : Limits) (few : k ≤ 6) (lawful 
   step_keeps script line (Make name solid) named all = make_keeps script line name solid named all
   step_keeps script line (Move name old motion) named all = move_keeps script line name old motion named all
 
-  steps_keep : (script : Bytes) (lines : List Line) → Keeps Writes Names (steps_task means k limits script lines no_names)
+  -- whatever lines are done, each name has a mesh that is read where it is written
+  pub steps_keep : (script : Bytes) (lines : List Line) → Keeps Writes Names (steps_task means k limits script lines no_names)
   steps_keep script lines =
       keeps_in_order Writes Names (λ l n. step_task means k limits script l.0 l.1 n) lines no_names (λ l named all. step_keeps script l.0 l.1 named all) (λ name. empty_readable)
 

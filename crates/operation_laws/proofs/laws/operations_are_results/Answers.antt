@@ -1,5 +1,8 @@
-use Rattle.operation_laws.proofs.Results.{operations_are_results}
+use Rattle.operation_laws.proofs.Results.{operations_are_results, scripts_give_results}
 use Rattle.operation_laws.proofs.laws.operations_are_results.Goals as goal
 
-pub returns : goal.returns
-returns c = operations_are_results (record { accepted = c.fillings_close.ensures.accepted; few = c.fillings_close.ensures.few }) c.faces_are_filled.ensures.filled
+pub returns-clause-results : goal.returns-clause-results
+returns-clause-results c = operations_are_results (record { accepted = c.fillings_close.ensures.accepted; few = c.fillings_close.ensures.few }) c.faces_are_filled.ensures.filled
+
+pub returns-clause-scripts : goal.returns-clause-scripts
+returns-clause-scripts c = scripts_give_results (record { accepted = c.fillings_close.ensures.accepted; few = c.fillings_close.ensures.few }) c.faces_are_filled.ensures.filled

@@ -9,6 +9,7 @@ use Rattle.file_stops.specs.declared.stop.Stop.{Stop}
 use Rattle.command_ends.specs.Statuses.{IsDoneOrStarved, status_number}
 use Rattle.program_runs.specs.Counting.{play_cost}
 use Rattle.program_runs.specs.Playing.{IsUntroubled, RunMeets, meanings}
+use Rattle.program_runs.specs.Results.{CommandGivesResults}
 use Rattle.program_runs.proofs.starting.start.Goals as goal
 
 -- what holds of the words that are there holds if they are
@@ -59,7 +60,10 @@ returns-in-Ok-clause-back g c =
     c.program.ensures.value c.run.ensures.back)
 
 pub returns-in-Ok-clause-results : goal.returns-in-Ok-clause-results
-returns-in-Ok-clause-results g c = if_words _ c.args.words c.in-Ok.words c.in-Ok.is c.run.ensures.results
+returns-in-Ok-clause-results g c =
+    if_words _ c.args.words c.in-Ok.words c.in-Ok.is (subst
+    (λ l. CommandGivesResults l (command c.in-Ok.words))
+    c.program.ensures.value c.run.ensures.results)
 
 pub returns-in-Ok-clause-copies_uncounted : goal.returns-in-Ok-clause-copies_uncounted
 returns-in-Ok-clause-copies_uncounted g c = if_words _ c.args.words c.in-Ok.words c.in-Ok.is c.run.ensures.copies_uncounted

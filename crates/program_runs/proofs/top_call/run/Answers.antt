@@ -38,7 +38,7 @@ pub returns-clause-back : goal.returns-clause-back
 returns-clause-back g c = c.plays_are_readable.ensures.back
 
 pub returns-clause-results : goal.returns-clause-results
-returns-clause-results g c = c.operations_are_results.ensures
+returns-clause-results g c = c.plays_give_results.ensures.results
 
 pub returns-clause-copies_uncounted : goal.returns-clause-copies_uncounted
 returns-clause-copies_uncounted g c = c.dispatch.ensures.steps.copies_uncounted

@@ -23,20 +23,22 @@ use Rattle.operation_laws.proofs.ReducedSides.{IsKnown}
 use Rattle.operation_laws.proofs.SplitMesh.{is_split}
 
 -- where its vertices come from, what bounds its faces, and its fans
-pub record Comes (p q : Side) (o : Outcome) : Type 0 where
+pub record IsResultOfSides (p q : Side) (o : Outcome) : Type 0 where
   pub from : ComeFrom o.points (points_of_copies o.copies) o.from
   pub faces : AreBounded p q o.copies o.from o.source o.triples
   pub clean : IsCleanOver o.from o.triples
 
-pub comes : AreFilled → FacesAreFilled → (op : Op) (p q : Side) (n : Numbers) → IsKnown p → IsKnown q → AreNumbersOf p q n → prescribed_halfedges op p q n ≤ most_halfedges → Comes p q (outcome_of op p q n)
-comes laws filled op p q n p_known q_known known few =
+pub result_of_sides : AreFilled → FacesAreFilled → (op : Op) (p q : Side) (n : Numbers) → IsKnown p → IsKnown q → AreNumbersOf p q n
+    → prescribed_halfedges op p q n ≤ most_halfedges → IsResultOfSides p q (outcome_of op p q n)
+result_of_sides laws filled op p q n p_known q_known known few =
     let cs : List Copy = prescribed op p q n in
     let ts : List Triple = all_triples (all_filled p q cs) in
     let points = points_of_copies cs in
     let count : length points ≡ length cs = length-map cs (λ c. c.point) in
     let can = can_be_assembled op p q n p_known q_known known few in
     let split = is_split points ts (subst (λ k. IsAccepted k ts) (sym count) (laws.accepted p q cs can)) in
-    let back : map (named_by (split_from (length cs) ts)) (split_triples (length cs) ts) ≡ ts = subst (λ k. map (named_by (split_from k ts)) (split_triples k ts) ≡ ts) count split.back in record {
+    let back : map (named_by (split_from (length cs) ts)) (split_triples (length cs) ts) ≡ ts =
+    subst (λ k. map (named_by (split_from k ts)) (split_triples k ts) ≡ ts) count split.back in record {
       from = subst (λ k. ComeFrom (split_points points ts) points (split_from k ts)) count split.from;
       faces = are_bounded p q cs (split_from (length cs) ts) (sources_of 0 (all_filled p q cs)) (split_triples (length cs) ts) (filled p q cs can) refl back;
       clean =
