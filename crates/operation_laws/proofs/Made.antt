@@ -29,7 +29,7 @@ use Rattle.filling_laws.specs.Laws.{FillingsAreAccepted, FillingsAreFew}
 use Rattle.mesh_boolean.specs.Operation.{Outcome, outcome_of}
 use Rattle.pinch_split.specs.Split.{split_points, split_triples}
 use Rattle.operation_laws.proofs.ReducedSides.{IsKnown}
-use Rattle.operation_laws.proofs.SplitMesh.{is_split}
+use Rattle.operation_laws.proofs.SplitMesh.{IsSplit, is_split}
 
 -- what the numbers of two sides are known to be
 pub record AreNumbersOf (p q : Side) (n : Numbers) : Type 0 where
@@ -94,6 +94,15 @@ prescribed_at op p q n p_known q_known known =
     let all = All-append On (p_vertices op p n) (q_vertices op q n ++ (p_hits op n ++ q_hits op n)) pv (All-append On (q_vertices op q n) (p_hits op n ++ q_hits op n) qv (All-append On (p_hits op n) (q_hits op n) ph qh)) in
     All-map IsPoint (λ c. c.point) (prescribed op p q n) (copies_at (p_vertices op p n ++ (q_vertices op q n ++ (p_hits op n ++ q_hits op n))) all)
 
+-- the fillings of all faces, over one vertex for each fan
+pub fillings_split : AreFilled → (op : Op) (p q : Side) (n : Numbers) → IsKnown p → IsKnown q → AreNumbersOf p q n → prescribed_halfedges op p q n ≤ most_halfedges
+    → IsSplit (points_of_copies (prescribed op p q n)) (all_triples (all_filled p q (prescribed op p q n)))
+fillings_split laws op p q n p_known q_known known few =
+    let cs : List Copy = prescribed op p q n in
+    let ts : List Triple = all_triples (all_filled p q cs) in
+    let count : length (points_of_copies cs) ≡ length cs = length-map cs (λ c. c.point) in
+    is_split (points_of_copies cs) ts (subst (λ k. IsAccepted k ts) (sym count) (laws.accepted p q cs (can_be_assembled op p q n p_known q_known known few)))
+
 -- what is made of the sides
 pub is_made : AreFilled → (op : Op) (p q : Side) (n : Numbers) → IsKnown p → IsKnown q → AreNumbersOf p q n → prescribed_halfedges op p q n ≤ most_halfedges → IsMade (outcome_of op p q n)
 is_made laws op p q n p_known q_known known few =
@@ -102,7 +111,7 @@ is_made laws op p q n p_known q_known known few =
     let points = points_of_copies cs in
     let count : length points ≡ length cs = length-map cs (λ c. c.point) in
     let can = can_be_assembled op p q n p_known q_known known few in
-    let split = is_split points ts (subst (λ k. IsAccepted k ts) (sym count) (laws.accepted p q cs can)) in
+    let split = fillings_split laws op p q n p_known q_known known few in
     let same : split_triples (length points) ts ≡ split_triples (length cs) ts = ap (λ k. split_triples k ts) count in record {
       accepted = subst (IsAccepted (length (split_points points ts))) same split.accepted;
       on_grid = split.on_grid (prescribed_at op p q n p_known q_known known);

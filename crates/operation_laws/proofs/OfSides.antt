@@ -1,5 +1,5 @@
 -- What an operation makes of two sides with conserved numbers comes from the prescribed vertices, face by face, and is clean.
-use Rattle.std.proofs.Common.{◌≡◌, ◌≤◌, List, length, map, refl, sym, subst}
+use Rattle.std.proofs.Common.{◌≡◌, ◌≤◌, List, length, map, refl, subst}
 use Rattle.std.proofs.lemmas.List.{length-map}
 use Rattle.chain_terms.specs.Chains.{all_edges}
 use Rattle.halfedge.specs.Clean.{IsClean}
@@ -18,9 +18,8 @@ use Rattle.mesh_boolean.specs.Operation.{Outcome, outcome_of}
 use Rattle.mesh_boolean.specs.Results.{AreBounded, IsCleanOver}
 use Rattle.mesh_boolean.proofs.Faces.{are_bounded}
 use Rattle.mesh_boolean.proofs.Pairs.{is_clean_over}
-use Rattle.operation_laws.proofs.Made.{AreFilled, AreNumbersOf, can_be_assembled}
+use Rattle.operation_laws.proofs.Made.{AreFilled, AreNumbersOf, can_be_assembled, fillings_split}
 use Rattle.operation_laws.proofs.ReducedSides.{IsKnown}
-use Rattle.operation_laws.proofs.SplitMesh.{is_split}
 
 -- where its vertices come from, what bounds its faces, and its fans
 pub record IsResultOfSides (p q : Side) (o : Outcome) : Type 0 where
@@ -35,12 +34,12 @@ result_of_sides laws filled op p q n p_known q_known known few =
     let ts : List Triple = all_triples (all_filled p q cs) in
     let points = points_of_copies cs in
     let count : length points ≡ length cs = length-map cs (λ c. c.point) in
-    let can = can_be_assembled op p q n p_known q_known known few in
-    let split = is_split points ts (subst (λ k. IsAccepted k ts) (sym count) (laws.accepted p q cs can)) in
+    let split = fillings_split laws op p q n p_known q_known known few in
     let back : map (named_by (split_from (length cs) ts)) (split_triples (length cs) ts) ≡ ts =
     subst (λ k. map (named_by (split_from k ts)) (split_triples k ts) ≡ ts) count split.back in record {
       from = subst (λ k. ComeFrom (split_points points ts) points (split_from k ts)) count split.from;
-      faces = are_bounded p q cs (split_from (length cs) ts) (sources_of 0 (all_filled p q cs)) (split_triples (length cs) ts) (filled p q cs can) refl back;
+      faces = are_bounded p q cs (split_from (length cs) ts) (sources_of 0 (all_filled p q cs)) (split_triples (length cs) ts)
+          (filled p q cs (can_be_assembled op p q n p_known q_known known few)) refl back;
       clean =
           is_clean_over (length (split_points points ts)) (split_from (length cs) ts) (split_triples (length cs) ts) ts
           (subst (λ k. IsAccepted (length (split_points points ts)) (split_triples k ts)) count split.accepted)

@@ -40,7 +40,8 @@ module _ (script : Bytes) (line : ℕ) (name : Bytes) (mesh : Mesh) (named : Nam
   unmade X (Some why) e is now =
       let same : e ≡ fault why = cc in
       let refusal = made_refusal script line why in
-      let stopped = meets_stop (give (made script line (Some why) mesh)) (λ m. give (Ok (with_name name m named))) (Refused refusal) now now (meets_refused (Err refusal) refusal now refl) in
+      let stopped = meets_stop (give (made script line (Some why) mesh)) (λ m. give (Ok (with_name name m named))) (Refused refusal) now now
+      (meets_refused (Err refusal) refusal now refl) in
       rw (same, told script line why) stopped
   unmade X None e (inl done) now = absurd (cc)
   unmade X None e (inr is) now =
@@ -52,7 +53,8 @@ module _ (script : Bytes) (line : ℕ) (name : Bytes) (mesh : Mesh) (named : Nam
   made_so (Some why) x is after same now = absurd (cc)
   made_so None x is after same now =
       rw same
-      (meets_then (give (Ok mesh)) (λ m. give (Ok (with_name name m named))) mesh (Ok (with_name name mesh named)) now now now (meets_given (Ok mesh) mesh now refl) (meets_given (Ok (with_name name mesh named)) (with_name name mesh named) now refl))
+      (meets_then (give (Ok mesh)) (λ m. give (Ok (with_name name m named))) mesh (Ok (with_name name mesh named)) now now now
+      (meets_given (Ok mesh) mesh now refl) (meets_given (Ok (with_name name mesh named)) (with_name name mesh named) now refl))
 
 -- the mesh of a name, which is this one, after a motion
 module _ (script : Bytes) (line : ℕ) (name old : Bytes) (motion : Motion) (named : Named) (m : Mesh) (is : mesh_at named old ≡ m) where

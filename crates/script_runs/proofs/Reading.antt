@@ -27,14 +27,16 @@ module _ (means : Meanings) (k : ℕ) (limits : Limits) (name : Bytes) where
   -- a faulty text, or want of memory
   pub text_refused : (text : Bytes) (fault : ScriptFault) (now : Seen) → IsFaultOf (script k text) fault → Meets (text_task means k limits name text) now now (Err (why_of_fault name fault))
   text_refused text (Bad line kind) now is =
-      meets_stop (give (script_checked name (script k text))) doing (why_of_fault name (Bad line kind)) now now (meets_refused (script_checked name (script k text)) _ now (ap (script_checked name) is))
+      meets_stop (give (script_checked name (script k text))) doing (why_of_fault name (Bad line kind)) now now
+      (meets_refused (script_checked name (script k text)) _ now (ap (script_checked name) is))
   text_refused text NoMemory now is = meets_starved (text_task means k limits name text) now
 
   -- the lines of a text were done, or one of them stopped
   pub text_done : (text : Bytes) (lines : List Line) (after : Named) (before now : Seen) (r : Result (Unit {0}) Halt) → script k text ≡ Ok lines
       → Meets (steps_task means k limits name lines no_names) before now (halted_by (λ _. after) r) → Meets (text_task means k limits name text) before now (halted r)
   text_done text lines after before now r is met =
-      meets_then (give (script_checked name (script k text))) doing lines (halted r) before before now (meets_given (script_checked name (script k text)) lines before (ap (script_checked name) is)) (by r met)
+      meets_then (give (script_checked name (script k text))) doing lines (halted r) before before now
+      (meets_given (script_checked name (script k text)) lines before (ap (script_checked name) is)) (by r met)
     where
       by : (r : Result (Unit {0}) Halt) → Meets (steps_task means k limits name lines no_names) before now (halted_by (λ _. after) r) → Meets (doing lines) before now (halted r)
       by (Ok done) met = meets_then (steps_task means k limits name lines no_names) (λ _. give (Ok tt)) after (Ok tt) before now now met (meets_given (Ok tt) tt now refl)

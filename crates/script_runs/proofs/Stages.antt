@@ -52,7 +52,8 @@ module _ (line name : Bytes) (m : Mesh) (named : Named) (on : OnShelf) (out told
   named_so : (now : Named) → now ≡ with_name name m named → OutputMeets (say_line line) out told (Ok tt) → Meets naming (beside on out) (beside on told) (Ok now)
   named_so now is met =
       let P : Named → Type 0 = λ n. Meets naming (beside on out) (beside on told) (Ok n) in
-      subst P (sym is) (output_then (say_line line) (λ _. give (Ok (with_name name m named))) tt (Ok (with_name name m named)) on out told (beside on told) met (meets_given (Ok (with_name name m named)) (with_name name m named) (beside on told) refl))
+      subst P (sym is) (output_then (say_line line) (λ _. give (Ok (with_name name m named))) tt (Ok (with_name name m named)) on out told (beside on told) met
+      (meets_given (Ok (with_name name m named)) (with_name name m named) (beside on told) refl))
 
 -- a mesh is loaded
 module _ (k : ℕ) (limits : Limits) (name file : Bytes) (named : Named) (before now : OnShelf) (out told : OnOutput) where
@@ -111,7 +112,8 @@ module _ (k : ℕ) (name file : Bytes) (of m : Mesh) (named : Named) (is : of �
       let P : Mesh → Type 0 = λ mesh. Meets (saving mesh) (beside before out) (beside now told) (Ok named) in
       subst P (sym is)
       (shelf_then (write_mesh k file m.points m.triples) after_writing tt (Ok named) before now out (beside now told) write
-      (output_then (say_line (save_line name file m)) (λ _. give (Ok named)) tt (Ok named) now out told (beside now told) line (meets_given (Ok named) named (beside now told) refl)))
+      (output_then (say_line (save_line name file m)) (λ _. give (Ok named)) tt (Ok named) now out told (beside now told) line
+      (meets_given (Ok named) named (beside now told) refl)))
 
 -- the mesh of a name, which is this one, is measured
 module _ (name : Bytes) (of m : Mesh) (named : Named) (is : of ≡ m) (out told : OnOutput) where
@@ -126,7 +128,8 @@ module _ (name : Bytes) (of m : Mesh) (named : Named) (is : of ≡ m) (out told 
   pub measure_told : OutputMeets (say_line (measure_line name m)) out told (Ok tt) → OutputMeets (measuring of) out told (Ok named)
   measure_told line on =
       let P : Mesh → Type 0 = λ mesh. Meets (measuring mesh) (beside on out) (beside on told) (Ok named) in
-      subst P (sym is) (output_then (say_line (measure_line name m)) (λ _. give (Ok named)) tt (Ok named) on out told (beside on told) line (meets_given (Ok named) named (beside on told) refl))
+      subst P (sym is) (output_then (say_line (measure_line name m)) (λ _. give (Ok named)) tt (Ok named) on out told (beside on told) line
+      (meets_given (Ok named) named (beside on told) refl))
 
 -- an operation on two meshes is within the limit, or not, or ended otherwise
 abbrev pub Operates : Limits → Combined → Result Combined Why → Type 0
