@@ -2,6 +2,7 @@
 use Rattle.std.proofs.Common.{◌≡◌, ℤ, pos, negsuc, false, Bool, List, [], ◌∷◌, refl}
 use Rattle.mesh_terms.specs.Meshes.{Triple}
 use Rattle.rounding.specs.Nearest.{nearest, settle_nearest}
+use Rattle.shadow_kernels.specs.Rules.{grid}
 use Rattle.shadow_kernels.specs.Counts.{met, by_ends, joined, lifted}
 use Rattle.shadow_kernels.specs.Shadows.{meet01, meet10, meet11, meet02, meet20}
 use Rattle.shadow_kernels.specs.Spots.{spot01, spot10, spot_between}
@@ -30,10 +31,10 @@ abbrev high : Side
 high = tetrahedron (point (pos 1) (pos 1) (negsuc 1)) (point (pos 5) (pos 1) (negsuc 1)) (point (pos 1) (pos 5) (negsuc 1)) (point (pos 1) (pos 1) (pos 2))
 
 abbrev edge_test : CrossTest
-edge_test edge face = edge_face_crossing nearest settle_nearest edge face
+edge_test edge face = edge_face_crossing grid nearest settle_nearest edge face
 
 abbrev face_test : CrossTest
-face_test edge face = face_edge_crossing nearest settle_nearest face edge
+face_test edge face = face_edge_crossing grid nearest settle_nearest face edge
 
 -- the edge of the bottom under the slanted face goes in and out of the other
 low_hits : hits_of edge_test low high ≡ record { edge = 1; face = 1; number = pos 1; at = point (pos 3) (pos 1) (pos 0) } ∷ record { edge = 1; face = 3; number = negsuc 0; at = point (pos 1) (pos 3) (pos 0) } ∷ []

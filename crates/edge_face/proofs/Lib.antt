@@ -3,3 +3,4 @@ mod Numbers
 pub mod Placed
 pub mod Five
 mod Upright
+mod Faced

@@ -3,6 +3,7 @@ use Rattle.std.proofs.Common.{◌≡◌, ℤ, pos, negsuc, ◌*ℤ◌, Bool, tru
 use Rattle.mb_base.specs.declared.TheConstants.{UNIT}
 use Rattle.mb_base.specs.declared.point.Corner.{Corner}
 use Rattle.rounding.specs.Nearest.{nearest, settle_nearest}
+use Rattle.shadow_kernels.specs.Rules.{grid}
 use Rattle.shadow_kernels.specs.Counts.{met, by_ends, joined, lifted}
 use Rattle.shadow_kernels.specs.Shadows.{meet01, meet10, meet11, meet02, meet20}
 use Rattle.shadow_kernels.specs.Spots.{spot01, spot10, spot_between}
@@ -23,10 +24,10 @@ upright x a b up = corner x x a up ∷ corner x x b up ∷ []
 
 -- the crossing of an edge of P and the face of Q, and of the face of P and an edge of Q
 abbrev edge_crossing : List Corner → Option Cross
-edge_crossing edge = edge_face_crossing nearest settle_nearest edge (face false)
+edge_crossing edge = edge_face_crossing grid nearest settle_nearest edge (face false)
 
 abbrev face_crossing : Bool → List Corner → Option Cross
-face_crossing up edge = face_edge_crossing nearest settle_nearest (face up) edge
+face_crossing up edge = face_edge_crossing grid nearest settle_nearest (face up) edge
 
 -- a crossing at (1, 1, 0)
 abbrev once : ℤ → Option Cross

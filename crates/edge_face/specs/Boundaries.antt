@@ -13,10 +13,11 @@ use Rattle.shadow_kernels.specs.ShadowLaws.{ShadowTest, ShadowLaws}
 use Rattle.shadow_kernels.specs.Shadows.{vertex_edge, edge_vertex, edge_edge, vertex_face, face_vertex}
 use Rattle.shadow_kernels.specs.Sizes.{turned_count, turned_shadow}
 use Rattle.shadow_kernels.specs.Entries.{Each}
-use Rattle.shadow_kernels.specs.Hulls.{StaysBetween}
+use Rattle.shadow_kernels.specs.Rules.{Rule}
+use Rattle.shadow_kernels.specs.Lawful.{IsRule}
 use Rattle.shadow_kernels.specs.Decided.{IsDecided, turned_decided}
 use Rattle.shadow_kernels.specs.Lifted.{chosen_turned}
-use Rattle.shadow_kernels.specs.GridLaws.{laws11, laws02, laws20, lift11, lift02, lift20}
+use Rattle.shadow_kernels.specs.RuleLaws.{laws11, laws02, laws20, lift11, lift02, lift20}
 use Rattle.edge_face.specs.Crossings.{face_edges, mirror, edge_pairs, edge_number}
 use Rattle.edge_face.specs.Parts.{IsPart, itself, start_of, end_of, first_edge, second_edge, third_edge, decided_in}
 
@@ -59,12 +60,13 @@ face_edge fv ee ve ev laws31 laws22 lift31 lift22 = record {
   turns = λ e g two also fe fg. laws22.reverse_q g e 0 1 (omega arith) (omega arith) also two fg fe;
 }
 
--- those on the grid
-pub grid_edge_face : (w : Between) → StaysBetween w → AreMet (λ e f. e) (λ e f. f) (vertex_face w) (edge_edge w) (vertex_edge w) (edge_vertex w)
-grid_edge_face w stays = edge_face (vertex_face w) (edge_edge w) (vertex_edge w) (edge_vertex w) (laws02 w stays) (laws11 w stays) (λ p u v t fp fq. lift02 w p u v t) (λ a b c d fp fq. lift11 w a b c d)
+-- those under a lawful rule
+module _ {k : Rule} {w : Between} (rule : IsRule k w) where
+  pub rule_edge_face : AreMet (λ e f. e) (λ e f. f) (vertex_face k w) (edge_edge k w) (vertex_edge k w) (edge_vertex k w)
+  rule_edge_face = edge_face (vertex_face k w) (edge_edge k w) (vertex_edge k w) (edge_vertex k w) (laws02 rule) (laws11 rule) (λ p u v t fp fq. lift02 k w p u v t) (λ a b c d fp fq. lift11 k w a b c d)
 
-pub grid_face_edge : (w : Between) → StaysBetween w → AreMet (λ e f. f) (λ e f. e) (mirror (face_vertex w)) (mirror (edge_edge w)) (mirror (edge_vertex w)) (mirror (vertex_edge w))
-grid_face_edge w stays = face_edge (face_vertex w) (edge_edge w) (vertex_edge w) (edge_vertex w) (laws20 w stays) (laws11 w stays) (λ u v t q fp fq. lift20 w u v t q) (λ a b c d fp fq. lift11 w a b c d)
+  pub rule_face_edge : AreMet (λ e f. f) (λ e f. e) (mirror (face_vertex k w)) (mirror (edge_edge k w)) (mirror (edge_vertex k w)) (mirror (vertex_edge k w))
+  rule_face_edge = face_edge (face_vertex k w) (edge_edge k w) (vertex_edge k w) (edge_vertex k w) (laws20 rule) (laws11 rule) (λ u v t q fp fq. lift20 k w u v t q) (λ a b c d fp fq. lift11 k w a b c d)
 
 -- the pairs, each turned where it counts with the other sign
 abbrev pub signed_pairs : ShadowTest → ShadowTest → Corner → Corner → Corner → Corner → Corner → List (Option Meet)

@@ -7,6 +7,7 @@ use Rattle.side_terms.specs.Corners.{corner_at}
 use Rattle.shadow_kernels.specs.declared.Spot.{Spot}
 use Rattle.shadow_kernels.specs.declared.Meet.{Meet}
 use Rattle.shadow_kernels.specs.Spots.{Between, gap}
+use Rattle.shadow_kernels.specs.Rules.{Rule}
 use Rattle.shadow_kernels.specs.Counts.{shadow_of, first_spot}
 use Rattle.shadow_kernels.specs.ShadowLaws.{ShadowTest}
 use Rattle.shadow_kernels.specs.Shadows.{edge_edge, vertex_face, face_vertex}
@@ -59,11 +60,11 @@ unfoldable pub crossing : ShadowTest → ShadowTest → (Spot → Spot → List 
 crossing ends edges place a b u v w =
     let pairs = edge_pairs ends edges a b u v w in crossed (edge_number ends edges a b u v w) (place (first_spot false pairs) (first_spot true pairs))
 
--- on the grid: the crossing of the two corners of p with the three of q
-abbrev pub edge_face_crossing : Between → Settle → List Corner → List Corner → Option Cross
-edge_face_crossing w settle p q = crossing (vertex_face w) (edge_edge w) (p_point w settle) (corner_at p 0) (corner_at p 1) (corner_at q 0) (corner_at q 1) (corner_at q 2)
+-- under a rule: the crossing of the two corners of p with the three of q
+abbrev pub edge_face_crossing : Rule → Between → Settle → List Corner → List Corner → Option Cross
+edge_face_crossing k w settle p q = crossing (vertex_face k w) (edge_edge k w) (p_point w settle) (corner_at p 0) (corner_at p 1) (corner_at q 0) (corner_at q 1) (corner_at q 2)
 
 -- and of the three corners of p with the two of q
-abbrev pub face_edge_crossing : Between → Settle → List Corner → List Corner → Option Cross
-face_edge_crossing w settle p q =
-    crossing (mirror (face_vertex w)) (mirror (edge_edge w)) (q_point w settle) (corner_at q 0) (corner_at q 1) (corner_at p 0) (corner_at p 1) (corner_at p 2)
+abbrev pub face_edge_crossing : Rule → Between → Settle → List Corner → List Corner → Option Cross
+face_edge_crossing k w settle p q =
+    crossing (mirror (face_vertex k w)) (mirror (edge_edge k w)) (q_point w settle) (corner_at q 0) (corner_at q 1) (corner_at p 0) (corner_at p 1) (corner_at p 2)

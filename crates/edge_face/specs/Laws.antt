@@ -12,12 +12,13 @@ use Rattle.shadow_kernels.specs.ShadowLaws.{IsInHull, ShadowTest}
 use Rattle.shadow_kernels.specs.Shadows.{edge_edge, vertex_face, face_vertex}
 use Rattle.shadow_kernels.specs.Sizes.{IsSized, any_none, any_holds, any_number}
 use Rattle.shadow_kernels.specs.Entries.{each_map, five_size}
-use Rattle.shadow_kernels.specs.Hulls.{StaysBetween}
+use Rattle.shadow_kernels.specs.Rules.{Rule}
+use Rattle.shadow_kernels.specs.Lawful.{IsRule}
 use Rattle.shadow_kernels.specs.Decided.{IsDecided, apart_none, first_hull}
 use Rattle.edge_face.specs.declared.Cross.{Cross}
 use Rattle.edge_face.specs.Crossings.{Settle, number_of, mirror, edge_pairs, edge_number, p_point, q_point, crossed, crossing, edge_face_crossing, face_edge_crossing}
 use Rattle.edge_face.specs.CrossLaws.{CrossLaws, IsSettling}
-use Rattle.edge_face.specs.Boundaries.{AreMet, grid_edge_face, grid_face_edge, signed_pairs, number_signed, spots_signed, pairs_decided, pairs_whole, number_turned}
+use Rattle.edge_face.specs.Boundaries.{AreMet, rule_edge_face, rule_face_edge, signed_pairs, number_signed, spots_signed, pairs_decided, pairs_whole, number_turned}
 use Rattle.edge_face.specs.Settled.{p_point_inside, q_point_inside}
 
 -- there is no answer at number 0
@@ -96,32 +97,32 @@ by_lists X each (a ∷ b ∷ []) (u ∷ []) two three fe ff = absurd (omega (ari
 by_lists X each (a ∷ b ∷ []) (u ∷ v ∷ []) two three fe ff = absurd (omega (arith, three))
 by_lists X each (a ∷ b ∷ []) (u ∷ v ∷ w ∷ x ∷ f) two three fe ff = absurd (omega (arith, three))
 
--- the crossings on the grid are lawful
-module _ (w : Between) (stays : StaysBetween w) (settle : Settle) (settling : IsSettling settle) where
-  pub edge_face_laws : CrossLaws 2 3 (edge_face_crossing w settle)
+-- the crossings under a lawful rule are lawful
+module _ {k : Rule} {w : Between} (rule : IsRule k w) (settle : Settle) (settling : IsSettling settle) where
+  pub edge_face_laws : CrossLaws 2 3 (edge_face_crossing k w settle)
   edge_face_laws =
-      let vf = vertex_face w in
-      let ee = edge_edge w in
-      let h = grid_edge_face w stays in
+      let vf = vertex_face k w in
+      let ee = edge_edge k w in
+      let h = rule_edge_face rule in
       let place = p_point w settle in
-      let test = edge_face_crossing w settle in record {
+      let test = edge_face_crossing k w settle in record {
         present = λ p q l m fp fq. present vf ee place (corner_at p 0) (corner_at p 1) (corner_at q 0) (corner_at q 1) (corner_at q 2);
         size = by_lists (λ p q. (negsuc 1 ≤ℤ number_of (test p q)) × (number_of (test p q) ≤ℤ pos 2)) (number_size h place);
         turn_p = λ p q two. by_lists (λ p q. number_of (test (swap p 0 1) q) ≡ neg_ℤ (number_of (test p q))) (turned_crossing h place) p q;
         turn_q = λ p q two. absurd (omega (arith, two));
         apart = λ p q i l m fp fq. by_lists (λ p q. i < 3 → AreApart i p q → test p q ≡ None) (λ a b u v t fe ff. apart_crossing h place a b u v t fe ff i) p q l m fp fq;
         inside_p = λ p q two l m fp fq whole also. by_lists (λ p q. AllWhole p → IfSome (test p q) (λ c. IsPointIn p c.at))
-            (λ a b u v t fe ff we. point_holds h place a b u v t fe ff (IsPointIn (a ∷ b ∷ [])) (λ d s. p_point_inside w stays settle settling a b (u ∷ v ∷ t ∷ []) d s fe ff we)) p q l m fp fq whole;
+            (λ a b u v t fe ff we. point_holds h place a b u v t fe ff (IsPointIn (a ∷ b ∷ [])) (λ d s. p_point_inside w rule.stays settle settling a b (u ∷ v ∷ t ∷ []) d s fe ff we)) p q l m fp fq whole;
         inside_q = λ p q two. absurd (omega (arith, two));
       }
 
-  pub face_edge_laws : CrossLaws 3 2 (face_edge_crossing w settle)
+  pub face_edge_laws : CrossLaws 3 2 (face_edge_crossing k w settle)
   face_edge_laws =
-      let vf = mirror (face_vertex w) in
-      let ee = mirror (edge_edge w) in
-      let h = grid_face_edge w stays in
+      let vf = mirror (face_vertex k w) in
+      let ee = mirror (edge_edge k w) in
+      let h = rule_face_edge rule in
       let place = q_point w settle in
-      let test = face_edge_crossing w settle in record {
+      let test = face_edge_crossing k w settle in record {
         present = λ p q l m fp fq. present vf ee place (corner_at q 0) (corner_at q 1) (corner_at p 0) (corner_at p 1) (corner_at p 2);
         size = λ p q l m fp fq. by_lists (λ q p. (negsuc 1 ≤ℤ number_of (test p q)) × (number_of (test p q) ≤ℤ pos 2)) (number_size h place) q p m l fq fp;
         turn_p = λ p q two. absurd (omega (arith, two));
@@ -129,5 +130,5 @@ module _ (w : Between) (stays : StaysBetween w) (settle : Settle) (settling : Is
         apart = λ p q i l m fp fq. by_lists (λ q p. i < 3 → AreApart i p q → test p q ≡ None) (λ a b u v t fe ff. apart_crossing h place a b u v t fe ff i) q p m l fq fp;
         inside_p = λ p q two. absurd (omega (arith, two));
         inside_q = λ p q two l m fp fq also whole. by_lists (λ q p. AllWhole q → IfSome (test p q) (λ c. IsPointIn q c.at))
-            (λ a b u v t fe ff we. point_holds h place a b u v t fe ff (IsPointIn (a ∷ b ∷ [])) (λ d s. q_point_inside w stays settle settling a b (u ∷ v ∷ t ∷ []) d s ff fe we)) q p m l fq fp whole;
+            (λ a b u v t fe ff we. point_holds h place a b u v t fe ff (IsPointIn (a ∷ b ∷ [])) (λ d s. q_point_inside w rule.stays settle settling a b (u ∷ v ∷ t ∷ []) d s ff fe we)) q p m l fq fp whole;
       }

@@ -14,9 +14,11 @@ ghost use Rattle.edge_face.specs.Crossings.{number_of, face_edges, mirror, edge_
 ghost use Rattle.edge_face.specs.CrossLaws.{CrossLaws};
 
 use mb_base::{Corner, Point};
+pub use numbered::crossing;
 use shadow_kernels::{Flats, Meets};
 
 mod grid;
+mod numbered;
 mod pair;
 mod pairs;
 mod points;

@@ -4,17 +4,13 @@
 ghost use Rattle.std.specs.Prelude.{◌≡◌, ◌+◌, ◌≤◌, ◌+ℤ◌, ◌-ℤ◌, unsigned_abs, map};
 ghost use Rattle.side_terms.specs.Corners.{IsFineCorner, AllFine};
 ghost use Rattle.shadow_kernels.specs.Counts.{shadow_of};
-ghost use Rattle.edge_face.specs.Sides.{ends_on, edges_on, one_on, other_on, pairs_on};
+ghost use Rattle.edge_face.specs.Sides.{flip, ends_on, edges_on, one_on, other_on, pairs_on};
 ghost use Rattle.edge_face.specs.Pairs.{IsKnown, IsPairOf, ArePairsOf, pair_shadow, pair_on, pairs_number, first_place};
 ghost use Rattle.edge_face.specs.Pairs.{number_at, AreSmall, AreCounts, vertex_rim, edge_corners};
 
 use crate::pair::{Pair, Pairs};
 use mb_base::Corner;
-use rounding::Rounding;
-use shadow_kernels::{
-    Edge, edge_vertex_shadow, is_edge_above_edge, is_face_above_vertex, is_vertex_above_face,
-    vertex_edge_shadow,
-};
+use shadow_kernels::{Edge, Sights, edge_vertex_shadow, vertex_edge_shadow};
 
 impl Pair {
     /// The shadow: the count where P is beyond Q, else 0.
@@ -72,26 +68,26 @@ impl Pairs {
 }
 
 /// The pairs of an edge and a face of the other side.
-pub(crate) fn pairs_of<R: Rounding>(
-    rounding: &R,
+pub(crate) fn pairs_of<K: Sights>(
+    kernel: &K,
     of: Edge,
     edge: &[Corner; 2],
     face: &[Corner; 3],
 ) -> Pairs
     requires edge_fine { AllFine edge.now }
     requires face_fine { AllFine face.now }
-    ensures { ArePairsOf (pairs_on of (R.between_of rounding.now) edge.now face.now) result }
+    ensures { ArePairsOf (pairs_on of (K.rule_of kernel.now) (K.between_of kernel.now) edge.now face.now) result }
 {
-    let start = vertex_edges(rounding, of, &edge[0], face);
-    let end = vertex_edges(rounding, of, &edge[1], face);
-    let at = edge_vertices(rounding, of, edge, face);
+    let start = vertex_edges(kernel, of, &edge[0], face);
+    let end = vertex_edges(kernel, of, &edge[1], face);
+    let at = edge_vertices(kernel, of, edge, face);
     let counts = counts(&start, &end, &at);
     Pairs {
-        start: face_pair(rounding, of, counts[0], &[edge[0]], face),
-        end: face_pair(rounding, of, counts[1], &[edge[1]], face),
-        first: edge_pair(rounding, of, counts[2], edge, &[face[0], face[1]]),
-        second: edge_pair(rounding, of, counts[3], edge, &[face[1], face[2]]),
-        third: edge_pair(rounding, of, counts[4], edge, &[face[2], face[0]]),
+        start: face_pair(kernel, of, counts[0], &[edge[0]], face),
+        end: face_pair(kernel, of, counts[1], &[edge[1]], face),
+        first: edge_pair(kernel, of, counts[2], edge, &[face[0], face[1]]),
+        second: edge_pair(kernel, of, counts[3], edge, &[face[1], face[2]]),
+        third: edge_pair(kernel, of, counts[4], edge, &[face[2], face[0]]),
     }
 }
 
@@ -144,67 +140,72 @@ fn lifted(start: i8, end: i8, from: i8, to: i8) -> i8
 }
 
 /// The shadows of a vertex of the edge's side with the three edges of a face.
-fn vertex_edges<R: Rounding>(rounding: &R, of: Edge, vertex: &Corner, face: &[Corner; 3]) -> [i8; 3]
+fn vertex_edges<K: Sights>(kernel: &K, of: Edge, vertex: &Corner, face: &[Corner; 3]) -> [i8; 3]
     requires vertex_fine { IsFineCorner vertex.now }
     requires face_fine { AllFine face.now }
-    ensures value { result ≡ map shadow_of (vertex_rim (one_on of (R.between_of rounding.now)) vertex.now face.now) }
+    ensures value { result ≡ map shadow_of (vertex_rim (one_on of (K.rule_of kernel.now) (K.between_of kernel.now)) vertex.now face.now) }
     ensures small { AreSmall result }
 {
     let [u, v, w] = face;
     match of {
         Edge::OfP => [
-            vertex_edge_shadow(rounding, vertex, u, v),
-            vertex_edge_shadow(rounding, vertex, v, w),
-            vertex_edge_shadow(rounding, vertex, w, u),
+            vertex_edge_shadow(kernel, vertex, u, v),
+            vertex_edge_shadow(kernel, vertex, v, w),
+            vertex_edge_shadow(kernel, vertex, w, u),
         ],
         Edge::OfQ => [
-            edge_vertex_shadow(rounding, u, v, vertex),
-            edge_vertex_shadow(rounding, v, w, vertex),
-            edge_vertex_shadow(rounding, w, u, vertex),
+            edge_vertex_shadow(kernel, u, v, vertex),
+            edge_vertex_shadow(kernel, v, w, vertex),
+            edge_vertex_shadow(kernel, w, u, vertex),
         ],
     }
 }
 
 /// The shadows of an edge with the three corners of a face.
-fn edge_vertices<R: Rounding>(
-    rounding: &R,
-    of: Edge,
-    edge: &[Corner; 2],
-    face: &[Corner; 3],
-) -> [i8; 3]
+fn edge_vertices<K: Sights>(kernel: &K, of: Edge, edge: &[Corner; 2], face: &[Corner; 3]) -> [i8; 3]
     requires edge_fine { AllFine edge.now }
     requires face_fine { AllFine face.now }
-    ensures value { result ≡ map shadow_of (edge_corners (other_on of (R.between_of rounding.now)) edge.now face.now) }
+    ensures value { result ≡ map shadow_of (edge_corners (other_on of (K.rule_of kernel.now) (K.between_of kernel.now)) edge.now face.now) }
     ensures small { AreSmall result }
 {
     let [a, b] = edge;
     let [u, v, w] = face;
     match of {
         Edge::OfP => [
-            edge_vertex_shadow(rounding, a, b, u),
-            edge_vertex_shadow(rounding, a, b, v),
-            edge_vertex_shadow(rounding, a, b, w),
+            edge_vertex_shadow(kernel, a, b, u),
+            edge_vertex_shadow(kernel, a, b, v),
+            edge_vertex_shadow(kernel, a, b, w),
         ],
         Edge::OfQ => [
-            vertex_edge_shadow(rounding, u, a, b),
-            vertex_edge_shadow(rounding, v, a, b),
-            vertex_edge_shadow(rounding, w, a, b),
+            vertex_edge_shadow(kernel, u, a, b),
+            vertex_edge_shadow(kernel, v, a, b),
+            vertex_edge_shadow(kernel, w, a, b),
         ],
     }
 }
 
+/// The other side.
+pub(crate) fn other(of: Edge) -> Edge
+    ensures { result ≡ flip of }
+{
+    match of {
+        Edge::OfP => Edge::OfQ,
+        Edge::OfQ => Edge::OfP,
+    }
+}
+
 /// The pair of a vertex of the edge's side and a face, of which the count is known.
-fn face_pair<R: Rounding>(
-    rounding: &R,
+fn face_pair<K: Sights>(
+    kernel: &K,
     of: Edge,
     count: i8,
     vertex: &[Corner; 1],
     face: &[Corner; 3],
 ) -> Pair
-    requires known { IsKnown (ends_on of (R.between_of rounding.now) vertex.now face.now) count }
+    requires known { IsKnown (ends_on of (K.rule_of kernel.now) (K.between_of kernel.now) vertex.now face.now) count }
     requires vertex_fine { AllFine vertex.now }
     requires face_fine { AllFine face.now }
-    ensures { IsPairOf (ends_on of (R.between_of rounding.now) vertex.now face.now) result }
+    ensures { IsPairOf (ends_on of (K.rule_of kernel.now) (K.between_of kernel.now) vertex.now face.now) result }
 {
     if count == 0 {
         return Pair {
@@ -212,25 +213,22 @@ fn face_pair<R: Rounding>(
             above: false,
         };
     }
-    let above = match of {
-        Edge::OfP => is_vertex_above_face(rounding, vertex, face),
-        Edge::OfQ => is_face_above_vertex(rounding, face, vertex),
-    };
+    let above = kernel.is_over_face(other(of), &vertex[0], face);
     Pair { count, above }
 }
 
 /// The pair of two edges, the second one of the face, of which the count is known.
-fn edge_pair<R: Rounding>(
-    rounding: &R,
+fn edge_pair<K: Sights>(
+    kernel: &K,
     of: Edge,
     count: i8,
     edge: &[Corner; 2],
     other: &[Corner; 2],
 ) -> Pair
-    requires known { IsKnown (edges_on of (R.between_of rounding.now) edge.now other.now) count }
+    requires known { IsKnown (edges_on of (K.rule_of kernel.now) (K.between_of kernel.now) edge.now other.now) count }
     requires edge_fine { AllFine edge.now }
     requires other_fine { AllFine other.now }
-    ensures { IsPairOf (edges_on of (R.between_of rounding.now) edge.now other.now) result }
+    ensures { IsPairOf (edges_on of (K.rule_of kernel.now) (K.between_of kernel.now) edge.now other.now) result }
 {
     if count == 0 {
         return Pair {
@@ -239,8 +237,8 @@ fn edge_pair<R: Rounding>(
         };
     }
     let above = match of {
-        Edge::OfP => is_edge_above_edge(rounding, edge, other),
-        Edge::OfQ => is_edge_above_edge(rounding, other, edge),
+        Edge::OfP => kernel.is_over_edges(edge, other),
+        Edge::OfQ => kernel.is_over_edges(other, edge),
     };
     Pair { count, above }
 }

@@ -25,7 +25,7 @@ pub use soup::Soup;
 use std::alloc::{AllocError, AllocFailed};
 
 /// Fine steps per grid step. A coordinate of a corner is a point's times this.
-pub const UNIT: i64 = 1;
+pub const UNIT: i64 = 256;
 
 /// Want of memory.
 #[derive(Clone, Copy, Debug, PartialEq, Eq, Drop)]

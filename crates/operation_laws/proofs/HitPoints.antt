@@ -19,7 +19,8 @@ use Rattle.side_terms.specs.Sides.{IsSide, Side, edge_at, edge_of, face_at, face
 use Rattle.lean.proofs.Corners.{edge_fine, face_fine}
 use Rattle.shadow_kernels.specs.declared.Spot.{Spot}
 use Rattle.shadow_kernels.specs.Counts.{first_spot}
-use Rattle.shadow_kernels.specs.Hulls.{StaysBetween}
+use Rattle.shadow_kernels.specs.Rules.{Rule}
+use Rattle.shadow_kernels.specs.Lawful.{IsRule}
 use Rattle.shadow_kernels.specs.ShadowLaws.{ShadowTest}
 use Rattle.shadow_kernels.specs.Shadows.{edge_edge, face_vertex, vertex_face}
 use Rattle.shadow_kernels.specs.Sizes.{any_holds}
@@ -106,11 +107,11 @@ unfolding q_point
 q_point_three w settle d s = refl
 
 -- on the grid, under lawful rounding
-module _ (w : Between) (stays : StaysBetween w) (settle : Settle) (settling : IsSettling settle) (p q : Side) (p_known : IsSide p) (q_known : IsSide q) where
-  pub p_hits_on_grid : All (λ x. IsPoint x.at) (hits_of (edge_face_crossing w settle) p q)
-  p_hits_on_grid = hits_hold IsPoint (edge_face_crossing w settle) p q each
+module _ {k : Rule} {w : Between} (rule : IsRule k w) (settle : Settle) (settling : IsSettling settle) (p q : Side) (p_known : IsSide p) (q_known : IsSide q) where
+  pub p_hits_on_grid : All (λ x. IsPoint x.at) (hits_of (edge_face_crossing k w settle) p q)
+  p_hits_on_grid = hits_hold IsPoint (edge_face_crossing k w settle) p q each
     where
-      each : (h f : ℕ) → IfSome (edge_face_crossing w settle (edge_at p h) (face_at q f)) (λ c. IsPoint c.at)
+      each : (h f : ℕ) → IfSome (edge_face_crossing k w settle (edge_at p h) (face_at q f)) (λ c. IsPoint c.at)
       each h f =
           let a = start (all_edges p.triples) h in
           let b = finish (all_edges p.triples) h in
@@ -118,14 +119,14 @@ module _ (w : Between) (stays : StaysBetween w) (settle : Settle) (settling : Is
           let e = edge_at p h in
           let g = face_at q f in
           let fine = edge_fine p.corners p_known.fine a b in
-          answer_boxed e (edge_face_crossing w settle e g) fine
-          (crossing_at (vertex_face w) (edge_edge w) (p_point w settle) (corner_at e 0) (corner_at e 1) (corner_at g 0) (corner_at g 1) (corner_at g 2) (p_point_three w settle))
-          ((edge_face_laws w stays settle settling).inside_p e g refl refl refl fine (face_fine q.corners q_known.fine t) (edge_whole p.corners p_known.whole a b) (face_whole q.corners q_known.whole t))
+          answer_boxed e (edge_face_crossing k w settle e g) fine
+          (crossing_at (vertex_face k w) (edge_edge k w) (p_point w settle) (corner_at e 0) (corner_at e 1) (corner_at g 0) (corner_at g 1) (corner_at g 2) (p_point_three w settle))
+          ((edge_face_laws rule settle settling).inside_p e g refl refl refl fine (face_fine q.corners q_known.fine t) (edge_whole p.corners p_known.whole a b) (face_whole q.corners q_known.whole t))
 
-  pub q_hits_on_grid : All (λ x. IsPoint x.at) (hits_of (λ edge face. face_edge_crossing w settle face edge) q p)
-  q_hits_on_grid = hits_hold IsPoint (λ edge face. face_edge_crossing w settle face edge) q p each
+  pub q_hits_on_grid : All (λ x. IsPoint x.at) (hits_of (λ edge face. face_edge_crossing k w settle face edge) q p)
+  q_hits_on_grid = hits_hold IsPoint (λ edge face. face_edge_crossing k w settle face edge) q p each
     where
-      each : (h f : ℕ) → IfSome (face_edge_crossing w settle (face_at p f) (edge_at q h)) (λ c. IsPoint c.at)
+      each : (h f : ℕ) → IfSome (face_edge_crossing k w settle (face_at p f) (edge_at q h)) (λ c. IsPoint c.at)
       each h f =
           let a = start (all_edges q.triples) h in
           let b = finish (all_edges q.triples) h in
@@ -133,6 +134,6 @@ module _ (w : Between) (stays : StaysBetween w) (settle : Settle) (settling : Is
           let e = edge_at q h in
           let g = face_at p f in
           let fine = edge_fine q.corners q_known.fine a b in
-          answer_boxed e (face_edge_crossing w settle g e) fine
-          (crossing_at (mirror (face_vertex w)) (mirror (edge_edge w)) (q_point w settle) (corner_at e 0) (corner_at e 1) (corner_at g 0) (corner_at g 1) (corner_at g 2) (q_point_three w settle))
-          ((face_edge_laws w stays settle settling).inside_q g e refl refl refl (face_fine p.corners p_known.fine t) fine (face_whole p.corners p_known.whole t) (edge_whole q.corners q_known.whole a b))
+          answer_boxed e (face_edge_crossing k w settle g e) fine
+          (crossing_at (mirror (face_vertex k w)) (mirror (edge_edge k w)) (q_point w settle) (corner_at e 0) (corner_at e 1) (corner_at g 0) (corner_at g 1) (corner_at g 2) (q_point_three w settle))
+          ((face_edge_laws rule settle settling).inside_q g e refl refl refl (face_fine p.corners p_known.fine t) fine (face_whole p.corners p_known.whole t) (edge_whole q.corners q_known.whole a b))

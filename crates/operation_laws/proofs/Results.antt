@@ -12,6 +12,7 @@ use Rattle.lean.specs.Leans.{is_up, leans_of, normals_of, vertex_normal}
 use Rattle.rounding.specs.Lawful.{nearest_within, settle_monotone, settle_units}
 use Rattle.rounding.specs.Nearest.{nearest, settle_nearest}
 use Rattle.shadow_kernels.specs.Hulls.{StaysBetween}
+use Rattle.shadow_kernels.specs.Lawful.{grid_rule}
 use Rattle.edge_face.specs.CrossLaws.{IsSettling}
 use Rattle.filling_laws.specs.Laws.{FacesAreFilled}
 use Rattle.made_laws.specs.Laws.{IsGiven, IsGivenWithin}
@@ -55,7 +56,7 @@ operation_made laws op p q p_given q_given few =
     let other = second_known q q_given in
     let first = first_side op p in
     let second = second_side q in
-    is_made laws op first second (numbers_of grid_tests first second) one other (are_numbers nearest nearest_stays settle_nearest nearest_settles first second one.kept other.kept) few
+    is_made laws op first second (numbers_of grid_tests first second) one other (are_numbers (grid_rule nearest nearest_stays) settle_nearest nearest_settles first second one.kept other.kept) few
 
 -- the half-edges of a lawful limit are at most sixty million
 few_halfedges : (limits : Limits) (n : ℕ) → IsLawful limits → n ≤ limits.halfedges → n ≤ most_halfedges
@@ -99,7 +100,7 @@ operations_are_results laws filled op p q p_given q_given few =
     let other = second_known q q_given in
     let first = first_side op p in
     let second = second_side q in
-    let known = are_numbers nearest nearest_stays settle_nearest nearest_settles first second one.kept other.kept in
+    let known = are_numbers (grid_rule nearest nearest_stays) settle_nearest nearest_settles first second one.kept other.kept in
     let made = result_of_sides laws filled op first second (numbers_of grid_tests first second) one other known few in
     record { conserved = known.conserved; prescribed = refl; from = made.from; faces = made.faces; clean = made.clean }
 

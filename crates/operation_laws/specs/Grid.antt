@@ -4,16 +4,18 @@ use Rattle.mesh_boolean.specs.Operation.{Outcome, Tests, operation}
 use Rattle.rounding.specs.Nearest.{nearest, settle_nearest}
 use Rattle.script_terms.specs.Combined.{Combined}
 use Rattle.script_terms.specs.Plays.{Meanings}
+use Rattle.shadow_kernels.specs.Rules.{Rule, grid}
 use Rattle.shadow_kernels.specs.Shadows.{face_vertex, vertex_face}
 use Rattle.shadow_kernels.specs.Spots.{Between}
 
--- the tests of the grid, under a rule of rounding
-abbrev pub tests_of : Between → Settle → Tests
-tests_of w settle = record { vertex_face = vertex_face w; face_vertex = face_vertex w; edge_face = edge_face_crossing w settle; face_edge = face_edge_crossing w settle }
+-- the tests under a rule, with a rounding
+abbrev pub tests_of : Rule → Between → Settle → Tests
+tests_of k w settle =
+    record { vertex_face = vertex_face k w; face_vertex = face_vertex k w; edge_face = edge_face_crossing k w settle; face_edge = face_edge_crossing k w settle }
 
 -- rounded to the nearest
 abbrev pub grid_tests : Tests
-grid_tests = tests_of nearest settle_nearest
+grid_tests = tests_of grid nearest settle_nearest
 
 -- what an operation gives, as far as a script tells it
 abbrev pub told_of : Outcome → Combined

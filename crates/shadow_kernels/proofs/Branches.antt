@@ -3,10 +3,11 @@ use Rattle.std.proofs.Common.{◌≡◌, ℤ, Bool, true, false, not, pos, negsu
 use mathlib.Core.Bool.{beq}
 use Rattle.shadow_kernels.specs.declared.Spot.{Spot}
 use Rattle.shadow_kernels.specs.declared.Meet.{Meet}
-use Rattle.shadow_kernels.specs.Spots.{Between, above_y, above_z}
+use Rattle.shadow_kernels.specs.Spots.{Between}
+use Rattle.shadow_kernels.specs.Rules.{Rule, sight}
 use Rattle.mb_base.specs.declared.point.Corner.{Corner}
 use Rattle.shadow_kernels.specs.declared.Edge.{Edge}
-use Rattle.shadow_kernels.specs.Edges.{past, edge_meet, edge_spot, edge_ends}
+use Rattle.shadow_kernels.specs.Edges.{past, edge_meet, edge_ends, met_at}
 use Rattle.shadow_kernels.specs.Counts.{shadow_of}
 use Rattle.shadow_kernels.specs.Ends.{ends_same, ends_first, ends_second}
 
@@ -31,34 +32,29 @@ first_alone {a} {b} e f h is = let k = beq_other a b h in (sym e ∙ is, sym f �
 pub second_alone : {a b s t : Bool} → a ≡ s → b ≡ t → beq a b ≡ false → a ≡ false → (t ≡ true) × (s ≡ false)
 second_alone {a} {b} e f h is = let k = beq_other a b h in (sym f ∙ k ∙ ap not is, sym e ∙ is)
 
--- an answer of a count where y decides, at a spot
-abbrev pub met_at : ℤ → Spot → Meet
-met_at n s = record { count = n; above = above_y s; spot = s }
-
-module _ (e : Edge) (w : Between) (v c d : Corner) where
+module _ (e : Edge) (k : Rule) (w : Between) (v c d : Corner) where
   -- the tests at both ends answer alike
-  pub at_neither : {a b : Bool} → a ≡ past e v c → b ≡ past e v d → beq a b ≡ true → None ≡ edge_meet e w v c d
-  at_neither {a} {b} f g h = let k = beq_same a b h in sym (edge_ends e w v c d ∙ ends_same (past e v c) (past e v d) (edge_spot e w v c d) (edge_spot e w v d c) (cc))
+  pub at_neither : {a b : Bool} → a ≡ past e k v c → b ≡ past e k v d → beq a b ≡ true → None ≡ edge_meet e k w v c d
+  at_neither {a} {b} f g h = let j = beq_same a b h in sym (edge_ends e k w v c d ∙ ends_same (past e k v c) (past e k v d) (sight k w e v c d) (sight k w e v d c) (cc))
 
   -- the vertex is past the first end alone, or past the second
-  pub at_first : (past e v c ≡ true) × (past e v d ≡ false) → edge_meet e w v c d ≡ Some (met_at (pos 1) (edge_spot e w v c d))
-  at_first h = edge_ends e w v c d ∙ ends_first (past e v c) (past e v d) (edge_spot e w v c d) (edge_spot e w v d c) h.0 h.1
+  pub at_first : (past e k v c ≡ true) × (past e k v d ≡ false) → edge_meet e k w v c d ≡ Some (met_at (pos 1) (sight k w e v c d))
+  at_first h = edge_ends e k w v c d ∙ ends_first (past e k v c) (past e k v d) (sight k w e v c d) (sight k w e v d c) h.0 h.1
 
-  pub at_second : (past e v d ≡ true) × (past e v c ≡ false) → edge_meet e w v c d ≡ Some (met_at (negsuc 0) (edge_spot e w v d c))
-  at_second h = edge_ends e w v c d ∙ ends_second (past e v c) (past e v d) (edge_spot e w v c d) (edge_spot e w v d c) h.1 h.0
+  pub at_second : (past e k v d ≡ true) × (past e k v c ≡ false) → edge_meet e k w v c d ≡ Some (met_at (negsuc 0) (sight k w e v d c))
+  at_second h = edge_ends e k w v c d ∙ ends_second (past e k v c) (past e k v d) (sight k w e v c d) (sight k w e v d c) h.1 h.0
 
 -- such an answer as the code makes it
-pub made_at : {n : ℤ} {s z : Spot} {m : Meet} {o : Option Meet} → o ≡ Some (met_at n s) → z ≡ s → m ≡ met_at n z → Some m ≡ o
-made_at {n} h same made = ap (λ (x : Meet). Some x) (made ∙ ap (met_at n) same) ∙ sym h
+pub made_at : {n : ℤ} {s : Bool × Spot} {m : Meet} {o : Option Meet} → o ≡ Some (met_at n s) → m ≡ met_at n s → Some m ≡ o
+made_at h made = ap (λ (x : Meet). Some x) made ∙ sym h
 
 -- and its shadow
-pub shadow_at : {n r : ℤ} {above : Bool} {o : Option Meet} (s : Spot) → o ≡ Some (met_at n s) → above ≡ above_y s → r ≡ (if above then n else pos 0) → r ≡ shadow_of o
+pub shadow_at : {n r : ℤ} {above : Bool} {o : Option Meet} (s : Bool × Spot) → o ≡ Some (met_at n s) → above ≡ s.0 → r ≡ (if above then n else pos 0) → r ≡ shadow_of o
 shadow_at {n} s h same made = made ∙ ap (λ (u : Bool). if u then n else pos 0) same ∙ sym (ap shadow_of h)
 
--- an answer of equal count at an equal spot
-pub at_spot : (n k : ℤ) (s z : Spot) (m : Meet) → k ≡ n → z ≡ s → m ≡ record { count = k; above = above_z z; spot = z } →
-    ◌≡◌ {A = Option Meet} (Some m) (Some (record { count = n; above = above_z s; spot = s }))
-at_spot n k s z m e f made =
-    ap (λ (x : Meet). Some x) made
-    ∙ ap (λ (i : ℤ). Some (record { count = i; above = above_z z; spot = z })) e
-    ∙ ap (λ (x : Spot). Some (record { count = n; above = above_z x; spot = x })) f
+-- an answer of equal count at an equal spot with an equal mark
+pub at_spot : (n k : ℤ) (s z : Spot) (t u : Bool) → k ≡ n → z ≡ s → u ≡ t → ◌≡◌ {A = Option Meet} (Some (record { count = k; above = u; spot = z })) (Some (record { count = n; above = t; spot = s }))
+at_spot n k s z t u e f g =
+    ap (λ (i : ℤ). Some (record { count = i; above = u; spot = z })) e
+    ∙ ap (λ (x : Spot). Some (record { count = n; above = u; spot = x })) f
+    ∙ ap (λ (b : Bool). Some (record { count = n; above = b; spot = s })) g

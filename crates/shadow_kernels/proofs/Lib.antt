@@ -1,4 +1,4 @@
 pub mod Values
 pub mod Branches
 pub mod Steps
-pub mod Sights
+pub mod Decisions

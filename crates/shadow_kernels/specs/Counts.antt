@@ -5,7 +5,7 @@ use Rattle.chain_terms.specs.Sums.{total}
 use Rattle.chain_terms.specs.Chains.{one_if}
 use Rattle.shadow_kernels.specs.declared.Spot.{Spot}
 use Rattle.shadow_kernels.specs.declared.Meet.{Meet}
-use Rattle.shadow_kernels.specs.Spots.{Between, spot_between, no_spot, above_y, above_z}
+use Rattle.shadow_kernels.specs.Spots.{Between, spot_between, no_spot}
 
 -- the count of an answer, 0 where there is none
 abbrev pub count_of : Option Meet → ℤ
@@ -26,10 +26,10 @@ turned (Some m) = Some (record { count = neg_ℤ m.count; above = m.above; spot 
 unfoldable pub met : ℤ → Bool → Spot → Option Meet
 met count above spot = if int_eq count (pos 0) then None else Some (record { count = count; above = above; spot = spot })
 
--- the answer of an edge and a vertex: whether P is beyond Q at the two ends, and the spot for either end being the one where it is
-unfoldable pub by_ends : Bool → Bool → Spot → Spot → Option Meet
+-- the answer of an edge and a vertex: whether the vertex is past the two ends, and, for either end being the one that it is past, whether P is beyond Q, and the spot
+unfoldable pub by_ends : Bool → Bool → Bool × Spot → Bool × Spot → Option Meet
 by_ends first second at_first at_second =
-    let spot = if first then at_first else at_second in met (pos (one_if first) -ℤ pos (one_if second)) (above_y spot) spot
+    let sight = if first then at_first else at_second in met (pos (one_if first) -ℤ pos (one_if second)) sight.0 sight.1
 
 -- the spot of an answer that is above, or is not; else the other spot
 abbrev pub chosen : Bool → Option Meet → Spot → Spot
@@ -46,10 +46,10 @@ first_spot want (m ∷ ms) = chosen want m (first_spot want ms)
 abbrev pub lifted_count : List (Option Meet) → ℤ
 lifted_count ms = total shadow_of ms
 
--- the answer of a count at the spot between one that is not above and one that is
-unfoldable pub joined : Between → ℤ → Spot → Spot → Option Meet
-joined between count below above = let spot = spot_between between below above in met count (above_z spot) spot
+-- the answer of a count at the spot between one that is not above and one that is, where `over` says whether P is beyond Q
+unfoldable pub joined : Between → (Spot → Bool) → ℤ → Spot → Spot → Option Meet
+joined between over count below above = let spot = spot_between between below above in met count (over spot) spot
 
 -- the answer from boundary pairs: the spot lies between those of the first pair not above and the first above
-unfoldable pub lifted : Between → List (Option Meet) → Option Meet
-lifted between ms = joined between (lifted_count ms) (first_spot false ms) (first_spot true ms)
+unfoldable pub lifted : Between → (Spot → Bool) → List (Option Meet) → Option Meet
+lifted between over ms = joined between over (lifted_count ms) (first_spot false ms) (first_spot true ms)

@@ -13,7 +13,7 @@ use Rattle.shadow_kernels.specs.ShadowLaws.{IsInHull, ShadowTest, ShadowLaws}
 use Rattle.shadow_kernels.specs.Sizes.{IsSized, sized_bounds, sized_present, turned_sized, turned_holds}
 use Rattle.shadow_kernels.specs.Ends.{ends_sized, ends_same, ends_hold}
 use Rattle.shadow_kernels.specs.Entries.{Each, each_map, total_none, total_alike, first_own}
-use Rattle.shadow_kernels.specs.Hulls.{IsBeyond, hull_y, by_greater, both_ways}
+use Rattle.shadow_kernels.specs.Hulls.{IsBeyond, by_greater, both_ways}
 
 -- an answer of simplices in two boxes: its count is 1 or -1, and, but for two vertices, its spot lies in the boxes; boxes strictly apart on
 -- one of the first k axes give none, and such on the next axis say whether it is above
@@ -32,14 +32,15 @@ turned_decided k ps qs m h = record {
   side = λ b beyond. turned_holds (λ s above. above ≡ b) m (h.side b beyond);
 }
 
--- the answer of two ends is decided in y, where either spot lies in the boxes and boxes strictly apart in x decide both tests
-pub ends_decided : (ps qs : List Corner) (s t : Bool) (x y : Spot) → (s ≡ true → t ≡ false → IsInHull ps qs x) → (s ≡ false → t ≡ true → IsInHull ps qs y) →
-    ((b : Bool) → IsBeyond 0 ps qs b → s ≡ t) → IsDecided 1 ps qs (by_ends s t x y)
-ends_decided ps qs s t x y f g same = record {
+-- the answer of two ends is decided in y, where either spot lies in the boxes, boxes strictly apart in x decide both tests, and such in y either mark
+pub ends_decided : (ps qs : List Corner) (s t : Bool) (x y : Bool × Spot) → (s ≡ true → t ≡ false → IsInHull ps qs x.1) → (s ≡ false → t ≡ true → IsInHull ps qs y.1) →
+    ((b : Bool) → IsBeyond 0 ps qs b → s ≡ t) → ((b : Bool) → IsBeyond 1 ps qs b → s ≡ true → t ≡ false → x.0 ≡ b) → ((b : Bool) → IsBeyond 1 ps qs b → s ≡ false → t ≡ true → y.0 ≡ b) →
+    IsDecided 1 ps qs (by_ends s t x y)
+ends_decided ps qs s t x y f g same first second = record {
   sized = ends_sized s t x y;
   hull = λ some. ends_hold (λ m. IsInHull ps qs m.spot) s t x y f g;
   apart = apart;
-  side = λ b beyond. ends_hold (λ m. m.above ≡ b) s t x y (λ d e. hull_y b ps qs x beyond (f d e)) (λ d e. hull_y b ps qs y beyond (g d e));
+  side = λ b beyond. ends_hold (λ m. m.above ≡ b) s t x y (first b beyond) (second b beyond);
 }
   where
     apart : (i : ℕ) → i < 1 → AreApart i ps qs → by_ends s t x y ≡ None

@@ -7,8 +7,10 @@ use Rattle.side_terms.specs.Corners.{IsFineCorner, AllFine}
 use Rattle.shadow_kernels.specs.ShadowLaws.{IsInHull}
 use Rattle.shadow_kernels.specs.declared.Meet.{Meet}
 use Rattle.shadow_kernels.specs.Spots.{Between}
+use Rattle.shadow_kernels.specs.Rules.{Rule}
 use Rattle.shadow_kernels.specs.Bounds.{IsFineSpot, IsFinePair, hull_fine}
-use Rattle.shadow_kernels.specs.Hulls.{StaysBetween, placed}
+use Rattle.shadow_kernels.specs.Hulls.{placed}
+use Rattle.shadow_kernels.specs.Lawful.{IsRule}
 use Rattle.shadow_kernels.specs.declared.Edge.{Edge}
 use Rattle.shadow_kernels.specs.declared.Edge.TheVariants.{OfP, OfQ}
 use Rattle.shadow_kernels.specs.Edges.{edge_meet}
@@ -37,12 +39,12 @@ pub fine_pair : (ps qs : List Corner) → AllFine ps → AllFine qs → (m : Opt
 fine_pair ps qs fp fq m h = record { sized = h.sized; fine = fine_spot ps qs fp fq m (h.hull (omega arith)) }
 
 -- so the answer of an edge and a vertex is sized and has a fine spot
-pub edge_fine : (e : Edge) (w : Between) → StaysBetween w → (v c d : Corner) → IsFineCorner v → IsFineCorner c → IsFineCorner d → IsFinePair (edge_meet e w v c d)
-edge_fine OfP w stays v c d hv hc hd =
+pub edge_fine : (e : Edge) {k : Rule} {w : Between} → IsRule k w → (v c d : Corner) → IsFineCorner v → IsFineCorner c → IsFineCorner d → IsFinePair (edge_meet e k w v c d)
+edge_fine OfP {k} {w} rule v c d hv hc hd =
     let fe = fine_two c d hc hd in
     let fv = fine_one v hv in
-    fine_pair (c ∷ d ∷ []) (v ∷ []) fe fv (edge_meet OfP w v c d) (edge_decided OfP w stays (c ∷ d ∷ []) (v ∷ []) v c d (placed (v ∷ []) 0 fv (omega arith)) (placed (c ∷ d ∷ []) 0 fe (omega arith)) (placed (c ∷ d ∷ []) 1 fe (omega arith)))
-edge_fine OfQ w stays v c d hv hc hd =
+    fine_pair (c ∷ d ∷ []) (v ∷ []) fe fv (edge_meet OfP k w v c d) (edge_decided rule OfP (c ∷ d ∷ []) (v ∷ []) v c d (placed (v ∷ []) 0 fv (omega arith)) (placed (c ∷ d ∷ []) 0 fe (omega arith)) (placed (c ∷ d ∷ []) 1 fe (omega arith)))
+edge_fine OfQ {k} {w} rule v c d hv hc hd =
     let fe = fine_two c d hc hd in
     let fv = fine_one v hv in
-    fine_pair (v ∷ []) (c ∷ d ∷ []) fv fe (edge_meet OfQ w v c d) (edge_decided OfQ w stays (v ∷ []) (c ∷ d ∷ []) v c d (placed (v ∷ []) 0 fv (omega arith)) (placed (c ∷ d ∷ []) 0 fe (omega arith)) (placed (c ∷ d ∷ []) 1 fe (omega arith)))
+    fine_pair (v ∷ []) (c ∷ d ∷ []) fv fe (edge_meet OfQ k w v c d) (edge_decided rule OfQ (v ∷ []) (c ∷ d ∷ []) v c d (placed (v ∷ []) 0 fv (omega arith)) (placed (c ∷ d ∷ []) 0 fe (omega arith)) (placed (c ∷ d ∷ []) 1 fe (omega arith)))

@@ -10,10 +10,11 @@ use Rattle.shadow_kernels.specs.ShadowLaws.{IsInHull}
 use Rattle.shadow_kernels.specs.declared.Spot.{Spot}
 use Rattle.shadow_kernels.specs.declared.Meet.{Meet}
 use Rattle.shadow_kernels.specs.Spots.{Between, beats, flag, above_y, above_z, edge_value, spot01, spot10}
-use Rattle.shadow_kernels.specs.Order.{beats_greater, beats_smaller}
+use Rattle.shadow_kernels.specs.Order.{beats_greater, beats_smaller, IsOrdered, beyond_greater, beyond_smaller}
 use Rattle.shadow_kernels.specs.declared.Edge.{Edge}
 use Rattle.shadow_kernels.specs.declared.Edge.TheVariants.{OfP, OfQ}
-use Rattle.shadow_kernels.specs.Edges.{own, other, past, edge_spot, past_le, not_past_le}
+use Rattle.shadow_kernels.specs.Edges.{own, other, past, past_le, not_past_le}
+use Rattle.shadow_kernels.specs.Rules.{Rule, edge_spot}
 use Rattle.shadow_kernels.specs.Bounds.{corner_in_box, box_between, box_below}
 
 -- the values between two stay between them
@@ -57,8 +58,8 @@ module _ (w : Between) (stays : StaysBetween w) (l r : Corner) (x : ℤ) (h : Is
       (distance_weight (axis 0 l) x h.left_fine.x h.fine h.after) (distance_weight x (axis 0 r) h.fine h.right_fine.x h.before)
 
 -- a vertex past an end of an edge and not past the other is at a place of the edge
-pub past_along : (e : Edge) (v l r : Corner) → IsFineCorner v → IsFineCorner l → IsFineCorner r → past e v l ≡ true → past e v r ≡ false → IsAlong l r (axis 0 v)
-past_along e v l r hv hl hr h k = record { left_fine = hl; right_fine = hr; fine = hv.x; after = past_le e v l h; before = not_past_le e v r k }
+pub past_along : {k : Rule} → IsOrdered k → (e : Edge) (v l r : Corner) → IsFineCorner v → IsFineCorner l → IsFineCorner r → past e k v l ≡ true → past e k v r ≡ false → IsAlong l r (axis 0 v)
+past_along o e v l r hv hl hr h g = record { left_fine = hl; right_fine = hr; fine = hv.x; after = past_le o e v l h; before = not_past_le o e v r g }
 
 -- there the edge's values lie in its box
 in_edge : (w : Between) → StaysBetween w → (cs : List Corner) (l r : Corner) (x : ℤ) → IsPlaced cs l → IsPlaced cs r → IsAlong l r x →
@@ -70,14 +71,14 @@ in_edge w stays cs l r x hl hr at = (
 )
 
 -- so the spot lies in the boxes of both
-pub edge_hull : (e : Edge) (w : Between) → StaysBetween w → (ps qs : List Corner) (v l r : Corner) → IsPlaced (other e ps qs) v → IsPlaced (own e ps qs) l → IsPlaced (own e ps qs) r →
-    past e v l ≡ true → past e v r ≡ false → IsInHull ps qs (edge_spot e w v l r)
+pub edge_hull : {k : Rule} → IsOrdered k → (w : Between) → StaysBetween w → (e : Edge) (ps qs : List Corner) (v l r : Corner) → IsPlaced (other e ps qs) v → IsPlaced (own e ps qs) l → IsPlaced (own e ps qs) r →
+    past e k v l ≡ true → past e k v r ≡ false → IsInHull ps qs (edge_spot e w v l r)
 unfolding spot01 spot10
-edge_hull OfP w stays ps qs v l r hv hl hr h k =
-    let on = in_edge w stays ps l r (axis 0 v) hl hr (past_along OfP v l r hv.fine hl.fine hr.fine h k) in
+edge_hull o w stays OfP ps qs v l r hv hl hr h g =
+    let on = in_edge w stays ps l r (axis 0 v) hl hr (past_along o OfP v l r hv.fine hl.fine hr.fine h g) in
     record { px = on.0; py = on.1; pz = on.2; qx = hv.x; qy = hv.y; qz = hv.z }
-edge_hull OfQ w stays ps qs v l r hv hl hr h k =
-    let on = in_edge w stays qs l r (axis 0 v) hl hr (past_along OfQ v l r hv.fine hl.fine hr.fine h k) in
+edge_hull o w stays OfQ ps qs v l r hv hl hr h g =
+    let on = in_edge w stays qs l r (axis 0 v) hl hr (past_along o OfQ v l r hv.fine hl.fine hr.fine h g) in
     record { px = hv.x; py = hv.y; pz = hv.z; qx = on.0; qy = on.1; qz = on.2 }
 
 -- on axis i one of the boxes is strictly the greater one, P's where the mark says so
@@ -89,6 +90,11 @@ IsBeyond i ps qs false = IsBelow i ps qs
 pub beats_boxes : (b : Bool) (i : ℕ) (ps qs : List Corner) (p q : ℤ) (up : Bool) → IsBeyond i ps qs b → IsInBox i ps p → IsInBox i qs q → beats p q up ≡ b
 beats_boxes true i ps qs p q up h k l = beats_greater p q up (box_below i qs ps q p h l k)
 beats_boxes false i ps qs p q up h k l = beats_smaller p q up (box_below i ps qs p q h k l)
+
+-- vertices in boxes strictly apart in x are beyond as the boxes are
+pub beyond_boxes : {k : Rule} → IsOrdered k → (b : Bool) (ps qs : List Corner) (p q : Corner) → IsBeyond 0 ps qs b → IsInBox 0 ps (axis 0 p) → IsInBox 0 qs (axis 0 q) → k.beyond_in_x p q ≡ b
+beyond_boxes o true ps qs p q h l m = beyond_greater o p q (box_below 0 qs ps (axis 0 q) (axis 0 p) h m l)
+beyond_boxes o false ps qs p q h l m = beyond_smaller o p q (box_below 0 ps qs (axis 0 p) (axis 0 q) h l m)
 
 -- so a spot in the boxes is beyond in y or in z where P's box is the greater one there
 pub hull_y : (b : Bool) (ps qs : List Corner) (s : Spot) → IsBeyond 1 ps qs b → IsInHull ps qs s → above_y s ≡ b

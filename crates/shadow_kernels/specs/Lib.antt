@@ -1,4 +1,5 @@
 pub mod Spots
+pub mod Rules
 pub mod Counts
 pub mod ShadowLaws
 pub mod Shadows
@@ -10,7 +11,8 @@ pub mod Entries
 pub mod Bounds
 pub mod Hulls
 pub mod Decided
+pub mod Lawful
 pub mod Lifted
 pub mod Levels
-pub mod GridLaws
+pub mod RuleLaws
 pub mod FinePairs

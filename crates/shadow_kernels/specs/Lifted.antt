@@ -13,12 +13,12 @@ use Rattle.chain_laws.specs.Counted.{first_at-permutation}
 use Rattle.shadow_kernels.specs.ShadowLaws.{IsInHull}
 use Rattle.shadow_kernels.specs.declared.Spot.{Spot}
 use Rattle.shadow_kernels.specs.declared.Meet.{Meet}
-use Rattle.shadow_kernels.specs.Spots.{Between, gap, spot_between, no_spot, above_z}
-use Rattle.shadow_kernels.specs.Counts.{count_of, shadow_of, turned, chosen, first_spot, joined, lifted}
+use Rattle.shadow_kernels.specs.Spots.{Between, gap, spot_between, no_spot}
+use Rattle.shadow_kernels.specs.Counts.{count_of, shadow_of, turned, chosen, first_spot, met, joined, lifted}
 use Rattle.shadow_kernels.specs.Sizes.{IsSized, by_zero, met_none, met_count, met_sized, met_holds, met_turned, turned_shadow}
 use Rattle.shadow_kernels.specs.Entries.{Each, IsBalanced, balanced_size, entry, spot_of, number_is, whole_is, first_is}
 use Rattle.shadow_kernels.specs.Bounds.{box_between, hull_fine}
-use Rattle.shadow_kernels.specs.Hulls.{StaysBetween, hull_z}
+use Rattle.shadow_kernels.specs.Hulls.{StaysBetween, IsBeyond}
 use Rattle.shadow_kernels.specs.Decided.{IsDecided, apart_none, first_hull}
 
 -- the gap of two fine values is a weight
@@ -47,24 +47,25 @@ between_hull w stays ps qs d u fp fq hd hu =
     }
 
 -- the count is the sum of the shadows
-pub lifted_is : (w : Between) (ms : List (Option Meet)) → count_of (lifted w ms) ≡ total shadow_of ms
+pub lifted_is : (w : Between) (over : Spot → Bool) (ms : List (Option Meet)) → count_of (lifted w over ms) ≡ total shadow_of ms
 unfolding lifted joined
-lifted_is w ms = let s = spot_between w (first_spot false ms) (first_spot true ms) in met_count (total shadow_of ms) (above_z s) s
+lifted_is w over ms = let s = spot_between w (first_spot false ms) (first_spot true ms) in met_count (total shadow_of ms) (over s) s
 
--- balanced boundary pairs that are decided in y make an answer that is decided in z
-pub lifted_decided : (w : Between) → StaysBetween w → (ps qs : List Corner) → AllFine ps → AllFine qs → (ms : List (Option Meet)) → IsBalanced ms → Each (IsDecided 1 ps qs) ms → IsDecided 2 ps qs (lifted w ms)
+-- balanced boundary pairs that are decided in y make an answer that is decided in z, where the boxes decide its mark
+pub lifted_decided : (w : Between) → StaysBetween w → (over : Spot → Bool) (ps qs : List Corner) → AllFine ps → AllFine qs → (ms : List (Option Meet)) → IsBalanced ms → Each (IsDecided 1 ps qs) ms →
+    ((b : Bool) → IsBeyond 2 ps qs b → total shadow_of ms ≢ pos 0 → (s : Spot) → IsInHull ps qs s → over s ≡ b) → IsDecided 2 ps qs (lifted w over ms)
 unfolding lifted joined
-lifted_decided w stays ps qs fp fq ms h each =
+lifted_decided w stays over ps qs fp fq ms h each side =
     let sum = total shadow_of ms in
     let s = spot_between w (first_spot false ms) (first_spot true ms) in
     let size = balanced_size ms h in
     let first = first_hull 1 ps qs ms each h.whole (omega arith) in
     let hull : sum ≢ pos 0 → IsInHull ps qs s = λ some. between_hull w stays ps qs (first_spot false ms) (first_spot true ms) fp fq (first some false) (first some true) in
     record {
-      sized = met_sized sum (above_z s) s size.0 size.1;
-      hull = λ more. met_holds (λ m. IsInHull ps qs m.spot) sum (above_z s) s hull;
-      apart = λ i less a. met_none sum (above_z s) s (apart_none 1 ps qs ms each h.whole i less a);
-      side = λ b beyond. met_holds (λ m. m.above ≡ b) sum (above_z s) s (λ some. hull_z b ps qs s beyond (hull some));
+      sized = met_sized sum (over s) s size.0 size.1;
+      hull = λ more. met_holds (λ m. IsInHull ps qs m.spot) sum (over s) s hull;
+      apart = λ i less a. met_none sum (over s) s (apart_none 1 ps qs ms each h.whole i less a);
+      side = λ b beyond. met_holds (λ m. m.above ≡ b) sum (over s) s (λ some. side b beyond some s (hull some));
     }
 
 -- turning an answer keeps its spot
@@ -83,32 +84,36 @@ total_turned : (ms : List (Option Meet)) → total shadow_of (map turned ms) ≡
 total_turned [] = refl
 total_turned (m ∷ ms) = omega (arith, ints, turned_shadow m, total_turned ms)
 
--- an answer of equal sums and spots
-same_joined : (w : Between) (n n' : ℤ) (d d' u u' : Spot) → n ≡ n' → d ≡ d' → u ≡ u' → joined w n d u ≡ joined w n' d' u'
-same_joined w n n' d d' u u' e f g = cc
+-- an answer of equal sums, spots and marks
+same_joined : (w : Between) (over over' : Spot → Bool) (n n' : ℤ) (d d' u u' : Spot) → ((s : Spot) → over' s ≡ over s) → n ≡ n' → d ≡ d' → u ≡ u' → joined w over n d u ≡ joined w over' n' d' u'
+unfolding joined
+same_joined w over over' n n' d d' u u' h e f g =
+    ap (λ (z : ℤ). joined w over z d u) e ∙ ap (λ (x : Spot). joined w over n' x u) f ∙ ap (λ (x : Spot). joined w over n' d' x) g
+    ∙ ap (λ (t : Bool). met n' t (spot_between w d' u')) (sym (h (spot_between w d' u')))
 
 -- turning all boundary pairs turns the answer
-lifted_turned : (w : Between) (ms : List (Option Meet)) → lifted w (map turned ms) ≡ turned (lifted w ms)
+lifted_turned : (w : Between) (over : Spot → Bool) (ms : List (Option Meet)) → lifted w over (map turned ms) ≡ turned (lifted w over ms)
 unfolding lifted joined
-lifted_turned w ms =
+lifted_turned w over ms =
     let s = spot_between w (first_spot false ms) (first_spot true ms) in
-    same_joined w (total shadow_of (map turned ms)) (neg_ℤ (total shadow_of ms)) (first_spot false (map turned ms)) (first_spot false ms) (first_spot true (map turned ms)) (first_spot true ms)
-    (total_turned ms) (spot_turned false ms) (spot_turned true ms)
-    ∙ met_turned (total shadow_of ms) (above_z s) s
+    same_joined w over over (total shadow_of (map turned ms)) (neg_ℤ (total shadow_of ms)) (first_spot false (map turned ms)) (first_spot false ms) (first_spot true (map turned ms)) (first_spot true ms)
+    (λ x. refl) (total_turned ms) (spot_turned false ms) (spot_turned true ms)
+    ∙ met_turned (total shadow_of ms) (over s) s
 
--- balanced pairs give the same answer in every order
-lifted_moved : (w : Between) (ms ns : List (Option Meet)) → IsBalanced ms → Each IsSized ns → IsPermutation ms ns → lifted w ns ≡ lifted w ms
+-- balanced pairs give the same answer in every order, also by a test that says the same
+lifted_moved : (w : Between) (over over' : Spot → Bool) (ms ns : List (Option Meet)) → ((s : Spot) → over' s ≡ over s) → IsBalanced ms → Each IsSized ns → IsPermutation ms ns → lifted w over' ns ≡ lifted w over ms
 unfolding lifted joined
-lifted_moved w ms ns h sized moved =
+lifted_moved w over over' ms ns like h sized moved =
     let same = total-permutation shadow_of ms ns moved in
     let s = spot_between w (first_spot false ms) (first_spot true ms) in
     let t = spot_between w (first_spot false ns) (first_spot true ns) in
     let spot : total shadow_of ms ≢ pos 0 → (want : Bool) → first_spot want ns ≡ first_spot want ms = λ some want.
     first_is want ns sized ∙ first_at-permutation entry spot_of no_spot ms ns (sym (whole_is ms) ∙ h.whole) h.few (λ z. some (number_is ms ∙ z)) moved want ∙ sym (first_is want ms h.sized) in
     by_zero (total shadow_of ms)
-    (λ z. met_none (total shadow_of ns) (above_z t) t (same ∙ z) ∙ sym (met_none (total shadow_of ms) (above_z s) s z))
-    (λ some. same_joined w (total shadow_of ns) (total shadow_of ms) (first_spot false ns) (first_spot false ms) (first_spot true ns) (first_spot true ms) same (spot some false) (spot some true))
+    (λ z. met_none (total shadow_of ns) (over' t) t (same ∙ z) ∙ sym (met_none (total shadow_of ms) (over s) s z))
+    (λ some. same_joined w over' over (total shadow_of ns) (total shadow_of ms) (first_spot false ns) (first_spot false ms) (first_spot true ns) (first_spot true ms) (λ x. sym (like x)) same (spot some false) (spot some true))
 
 -- so those of the same pairs turned, in whatever order, make the answer turned
-pub lifted_reverse : (w : Between) (ms ns turns : List (Option Meet)) → IsBalanced ms → Each IsSized ns → IsPermutation ms ns → turns ≡ map turned ns → lifted w turns ≡ turned (lifted w ms)
-lifted_reverse w ms ns turns h sized moved e = ap (lifted w) e ∙ lifted_turned w ns ∙ ap turned (lifted_moved w ms ns h sized moved)
+pub lifted_reverse : (w : Between) (over over' : Spot → Bool) (ms ns turns : List (Option Meet)) → ((s : Spot) → over' s ≡ over s) → IsBalanced ms → Each IsSized ns → IsPermutation ms ns → turns ≡ map turned ns →
+    lifted w over' turns ≡ turned (lifted w over ms)
+lifted_reverse w over over' ms ns turns like h sized moved e = ap (lifted w over') e ∙ lifted_turned w over' ns ∙ ap turned (lifted_moved w over over' ms ns like h sized moved)

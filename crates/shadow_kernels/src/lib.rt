@@ -13,17 +13,19 @@ ghost use Rattle.shadow_kernels.specs.ShadowLaws.{ShadowLaws};
 
 pub use grid::Grid;
 use mb_base::Corner;
-pub use shadows::{
-    edge_vertex_shadow, is_edge_above_edge, is_face_above_vertex, is_vertex_above_face,
-    vertex_edge_shadow,
-};
+pub use rules::{Rules, Sights};
+pub use shadows::{edge_vertex_shadow, vertex_edge_shadow};
 pub use spots::{gap_of, spot_of};
+pub use tests::{edges_meet, end_meet, face_meet};
 
 mod edges;
 mod grid;
+mod grid_rule;
+mod rules;
 mod shadows;
 mod spots;
 mod tally;
+mod tests;
 
 /// The values of P and of Q where the shadows of a pair of simplices meet, in fine steps, and on which axes P counts as
 /// moved up there.

@@ -3,9 +3,9 @@
 ghost use Rattle.std.specs.Prelude.{◌≡◌, ◌<◌};
 ghost use Rattle.side_terms.specs.Fine.{IsFine, IsWeight};
 ghost use Rattle.side_terms.specs.Corners.{axis};
-ghost use Rattle.shadow_kernels.specs.Spots.{beats, beyond, mark, marks, gap, edge_value, spot00, spot_between};
+ghost use Rattle.shadow_kernels.specs.Spots.{beats, mark, marks, gap, edge_value, spot00, spot_between};
 ghost use Rattle.shadow_kernels.specs.Bounds.{IsFineSpot, IsGapOf};
-ghost use Rattle.shadow_kernels.specs.Edges.{edge_spot};
+ghost use Rattle.shadow_kernels.specs.Rules.{edge_spot};
 ghost use Rattle.shadow_kernels.specs.Entries.{spot_of};
 ghost use Rattle.shadow_kernels.specs.Hulls.{IsAlong};
 
@@ -18,13 +18,6 @@ pub(crate) fn exceeds(p: i64, q: i64, up: bool) -> bool
     ensures { result ≡ beats p q up }
 {
     q < p || (p == q && up)
-}
-
-/// Whether a vertex of P is beyond one of Q in x.
-pub(crate) fn is_beyond(p: &Corner, q: &Corner) -> bool
-    ensures { result ≡ beyond p.now q.now }
-{
-    exceeds(p.at[0], q.at[0], p.up[0])
 }
 
 /// A mark between two: the first at weight a = 0, the second at weight b = 0, else up where both are.

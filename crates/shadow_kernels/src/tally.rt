@@ -3,15 +3,15 @@
 ghost use Rattle.std.specs.Prelude.{◌≡◌, ◌≤◌, ◌∷◌, [], ◌+ℤ◌, pos, unsigned_abs, true, false};
 ghost use Rattle.side_terms.specs.Corners.{corner_at, IsFineCorner, AllFine};
 ghost use Rattle.shadow_kernels.specs.Spots.{no_spot, spot_between, above_z};
-ghost use Rattle.shadow_kernels.specs.Counts.{shadow_of, turned, chosen, joined};
+ghost use Rattle.shadow_kernels.specs.Counts.{shadow_of, turned, chosen};
 ghost use Rattle.shadow_kernels.specs.Bounds.{IsFinePair, IsTallyOf, IsFineTally};
-ghost use Rattle.shadow_kernels.specs.Levels.{rim};
+ghost use Rattle.shadow_kernels.specs.Edges.{rim};
 ghost use Rattle.shadow_kernels.specs.Shadows.{boundary11};
 ghost use Rattle.shadow_kernels.specs.Sizes.{IsSized};
 
 use crate::edges::edge_meet;
 use crate::spots::{exceeds, gap_in_y, mark_between, spot_between_spots, spot_of};
-use crate::{Edge, Meet, Spot};
+use crate::{Edge, Meet, Rules, Spot};
 use mb_base::Corner;
 use rounding::Rounding;
 
@@ -87,69 +87,66 @@ fn tally_of_three(first: &Option<Meet>, second: &Option<Meet>, third: &Option<Me
 }
 
 /// The tally of a vertex with the three edges of a face.
-pub(crate) fn face_tally<R: Rounding>(
-    rounding: &R,
+pub(crate) fn face_tally<K: Rules>(
+    kernel: &K,
     edge: Edge,
     vertex: &Corner,
     face: &[Corner; 3],
 ) -> Tally
     requires vertex_fine { IsFineCorner vertex.now }
     requires face_fine { AllFine face.now }
-    ensures tally { IsTallyOf (rim edge (R.between_of rounding.now) vertex.now (corner_at face.now 0) (corner_at face.now 1) (corner_at face.now 2)) result }
+    ensures tally { IsTallyOf (rim edge (K.rule_of kernel.now) (K.between_of kernel.now) vertex.now (corner_at face.now 0) (corner_at face.now 1) (corner_at face.now 2)) result }
     ensures fine { IsFineTally result }
 {
     tally_of_three(
-        &edge_meet(rounding, edge, vertex, &face[0], &face[1]),
-        &edge_meet(rounding, edge, vertex, &face[1], &face[2]),
-        &edge_meet(rounding, edge, vertex, &face[2], &face[0]),
+        &edge_meet(kernel, edge, vertex, &face[0], &face[1]),
+        &edge_meet(kernel, edge, vertex, &face[1], &face[2]),
+        &edge_meet(kernel, edge, vertex, &face[2], &face[0]),
     )
 }
 
 /// The tally of the ends of two edges with the other edge. The first pair goes last, since it is put before the others.
-pub(crate) fn edge_edge_tally<R: Rounding>(rounding: &R, p: &[Corner; 2], q: &[Corner; 2]) -> Tally
+pub(crate) fn edge_edge_tally<K: Rules>(kernel: &K, p: &[Corner; 2], q: &[Corner; 2]) -> Tally
     requires p_fine { AllFine p.now }
     requires q_fine { AllFine q.now }
-    ensures tally { IsTallyOf (boundary11 (R.between_of rounding.now) (corner_at p.now 0) (corner_at p.now 1) (corner_at q.now 0) (corner_at q.now 1)) result }
+    ensures tally { IsTallyOf (boundary11 (K.rule_of kernel.now) (K.between_of kernel.now) (corner_at p.now 0) (corner_at p.now 1) (corner_at q.now 0) (corner_at q.now 1)) result }
     ensures fine { IsFineTally result }
 {
-    let start = edge_meet(rounding, Edge::OfQ, &p[0], &q[0], &q[1]);
-    let to = edge_meet(rounding, Edge::OfP, &q[1], &p[0], &p[1]);
-    let from = edge_meet(rounding, Edge::OfP, &q[0], &p[0], &p[1]);
+    let start = edge_meet(kernel, Edge::OfQ, &p[0], &q[0], &q[1]);
+    let to = edge_meet(kernel, Edge::OfP, &q[1], &p[0], &p[1]);
+    let from = edge_meet(kernel, Edge::OfP, &q[0], &p[0], &p[1]);
     let mut tally = tally_of_three(&turned(&start), &to, &turned(&from));
-    tally.put(&edge_meet(rounding, Edge::OfQ, &p[1], &q[0], &q[1]));
+    tally.put(&edge_meet(kernel, Edge::OfQ, &p[1], &q[0], &q[1]));
     tally
 }
 
-/// The answer of boundary pairs: none where their shadows add up to nothing, else at the spot between the two spots.
-pub(crate) fn joined<R: Rounding>(rounding: &R, tally: &Tally) -> Option<Meet>
-    requires { IsFineTally tally.now }
-    ensures { result ≡ joined (R.between_of rounding.now) tally.now.count tally.now.below tally.now.above }
-{
-    if tally.count == 0 {
-        return None;
+impl Tally {
+    /// The sum of the shadows.
+    pub(crate) fn count(&self) -> i8
+        ensures { result ≡ self.now.count }
+    {
+        self.count
     }
-    let spot = spot_between_spots(rounding, &tally.below, &tally.above);
-    Some(met_in_z(tally.count, spot))
-}
 
-/// The answer of a count that is not 0 at a spot where z decides.
-fn met_in_z(count: i8, spot: Spot) -> Meet
-    ensures { result ≡ record { count = count; above = above_z spot; spot = spot } }
-{
-    let above = exceeds(spot.pz, spot.qz, spot.up[2]);
-    Meet { count, above, spot }
-}
+    /// The spot between the two spots.
+    pub(crate) fn spot<K: Rounding>(&self, rounding: &K) -> Spot
+        requires { IsFineTally self.now }
+        ensures { result ≡ spot_between (K.between_of rounding.now) self.now.below self.now.above }
+    {
+        spot_between_spots(rounding, &self.below, &self.above)
+    }
 
-/// Whether P is beyond Q in z at the spot between the two spots.
-pub(crate) fn is_above_between<R: Rounding>(rounding: &R, tally: &Tally) -> bool
-    requires { IsFineTally tally.now }
-    ensures { result ≡ above_z (spot_between (R.between_of rounding.now) tally.now.below tally.now.above) }
-{
-    let below = &tally.below;
-    let above = &tally.above;
-    let a = gap_in_y(below);
-    let b = gap_in_y(above);
-    let pz = rounding.between(below.pz, above.pz, a, b);
-    let qz = rounding.between(below.qz, above.qz, a, b);
-    exceeds(pz, qz, mark_between(a, b, below.up[2], above.up[2]))
+    /// Whether on the grid P is beyond Q in z there.
+    pub(crate) fn is_above<K: Rounding>(&self, rounding: &K) -> bool
+        requires { IsFineTally self.now }
+        ensures { result ≡ above_z (spot_between (K.between_of rounding.now) self.now.below self.now.above) }
+    {
+        let below = &self.below;
+        let above = &self.above;
+        let a = gap_in_y(below);
+        let b = gap_in_y(above);
+        let pz = rounding.between(below.pz, above.pz, a, b);
+        let qz = rounding.between(below.qz, above.qz, a, b);
+        exceeds(pz, qz, mark_between(a, b, below.up[2], above.up[2]))
+    }
 }

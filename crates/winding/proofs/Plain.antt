@@ -8,6 +8,7 @@ use Rattle.mesh_terms.specs.Meshes.{Mesh, Triple, IsBelow}
 use Rattle.mb_base.specs.declared.point.Corner.{Corner}
 use Rattle.side_terms.specs.Corners.{corner_at}
 use Rattle.rounding.specs.Nearest.{nearest}
+use Rattle.shadow_kernels.specs.Rules.{grid}
 use Rattle.shadow_kernels.specs.Shadows.{meet02}
 use Rattle.shadow_kernels.specs.ShadowLaws.{ShadowTest}
 use Rattle.side_terms.specs.Sides.{corner_of, corners_of, face_of}
@@ -19,7 +20,7 @@ no_marks = false ∷ false ∷ false ∷ []
 
 -- the shadow test of a vertex and a face on the grid
 abbrev pub nearest_test : ShadowTest
-nearest_test p q = meet02 nearest (corner_at p 0) (corner_at q 0) (corner_at q 1) (corner_at q 2)
+nearest_test p q = meet02 grid nearest (corner_at p 0) (corner_at q 0) (corner_at q 1) (corner_at q 2)
 
 -- a corner without marks
 pub plain_at : (points : List (List ℤ)) (i : ℕ) → i < length points → corner_at (corners_of points (replicate (length points) no_marks)) i ≡ plain_corner (get_or points i [])

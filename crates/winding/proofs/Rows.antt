@@ -5,6 +5,7 @@ use Rattle.mesh_terms.specs.Meshes.{Triple}
 use Rattle.side_terms.specs.Corners.{corner_at}
 use Rattle.rounding.specs.Nearest.{nearest}
 use Rattle.shadow_kernels.specs.Counts.{met, by_ends, joined, lifted}
+use Rattle.shadow_kernels.specs.Rules.{grid}
 use Rattle.shadow_kernels.specs.Shadows.{meet01, meet10, meet02, meet20}
 use Rattle.shadow_kernels.specs.Spots.{spot01, spot10, spot_between}
 use Rattle.shadow_kernels.specs.ShadowLaws.{ShadowTest}
@@ -31,7 +32,7 @@ over z up = corner_of (pos 1 ∷ pos 1 ∷ z ∷ []) (false ∷ false ∷ up ∷
 
 -- the shadow test of a face and a vertex on the grid
 abbrev test_back : ShadowTest
-test_back p q = meet20 nearest (corner_at p 0) (corner_at p 1) (corner_at p 2) (corner_at q 0)
+test_back p q = meet20 grid nearest (corner_at p 0) (corner_at p 1) (corner_at p 2) (corner_at q 0)
 
 abbrev number : Corner → ℤ
 number p = winding nearest_test p tetrahedron

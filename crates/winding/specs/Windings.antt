@@ -7,6 +7,7 @@ use Rattle.mesh_terms.specs.Meshes.{Mesh}
 use Rattle.mb_base.specs.declared.point.Corner.{Corner}
 use Rattle.rounding.specs.Nearest.{nearest}
 use Rattle.shadow_kernels.specs.Counts.{shadow_of}
+use Rattle.shadow_kernels.specs.Rules.{grid}
 use Rattle.shadow_kernels.specs.Shadows.{meet02}
 use Rattle.shadow_kernels.specs.ShadowLaws.{ShadowTest}
 use Rattle.mb_base.specs.declared.results.Hit.{Hit}
@@ -44,7 +45,7 @@ plain_corner point = corner_of point (false ∷ false ∷ false ∷ [])
 
 -- the shadow of a point over a triangle of points, spots placed to the nearest fine step, nothing moved up
 abbrev pub plain_shadow : List ℤ → List ℤ → List ℤ → List ℤ → ℤ
-plain_shadow p a b c = shadow_of (meet02 nearest (plain_corner p) (plain_corner a) (plain_corner b) (plain_corner c))
+plain_shadow p a b c = shadow_of (meet02 grid nearest (plain_corner p) (plain_corner a) (plain_corner b) (plain_corner c))
 
 -- the winding number of a point in a mesh: minus the sum of its shadows over all triangles
 abbrev pub winding_at : List ℤ → Mesh → ℤ

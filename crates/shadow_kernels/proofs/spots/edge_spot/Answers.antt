@@ -2,7 +2,7 @@ use Rattle.std.proofs.Common.{rules, arith, refl, sym, ap, ◌∙◌}
 use Rattle.std.proofs.lemmas.Int.{ints}
 use Rattle.side_terms.specs.Corners.{axis}
 use Rattle.shadow_kernels.specs.declared.Edge.{Edge}
-use Rattle.shadow_kernels.specs.Edges.{edge_spot}
+use Rattle.shadow_kernels.specs.Rules.{edge_spot}
 use Rattle.shadow_kernels.specs.Spots.{Between, spot01, spot10}
 use Rattle.shadow_kernels.proofs.Values.{kept_value, kept_less, same_marks, same_spot}
 use Rattle.shadow_kernels.proofs.spots.edge_spot.Goals as goal

@@ -1,13 +1,13 @@
-use Rattle.std.proofs.Common.{ap, ◌∙◌}
+use Rattle.std.proofs.Common.{◌≡◌, ap, ◌∙◌}
 use Rattle.side_terms.specs.Corners.{corner_at}
 use Rattle.shadow_kernels.specs.Counts.{count_of}
-use Rattle.shadow_kernels.specs.GridLaws.{lift20}
+use Rattle.shadow_kernels.specs.Rules.{grid}
+use Rattle.shadow_kernels.specs.RuleLaws.{lift20}
 use Rattle.shadow_kernels.specs.Shadows.{meet20}
-use Rattle.shadow_kernels.proofs.Steps.{from_tally}
 use Rattle.shadow_kernels.proofs.grid.GridMeets31.meet.Goals as goal
 
 pub returns : goal.returns
 unfolding meet20
 returns g c =
-    let value = from_tally _ _ _ _ c.face_tally.ensures.tally c.joined.ensures in
-    record { value = value; lift = ap count_of value ∙ lift20 _ (corner_at c.args.p.now 0) (corner_at c.args.p.now 1) (corner_at c.args.p.now 2) (corner_at c.args.q.now 0) }
+    let value : c.face_meet.result ≡ meet20 grid (g.R.Rounding.between_of c.args.self.now.rounding) (corner_at c.args.p.now 0) (corner_at c.args.p.now 1) (corner_at c.args.p.now 2) (corner_at c.args.q.now 0) = c.face_meet.ensures in
+    record { value = value; lift = ap count_of value ∙ lift20 grid _ (corner_at c.args.p.now 0) (corner_at c.args.p.now 1) (corner_at c.args.p.now 2) (corner_at c.args.q.now 0) }
