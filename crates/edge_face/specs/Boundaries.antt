@@ -9,7 +9,7 @@ use Rattle.shadow_kernels.specs.declared.Spot.{Spot}
 use Rattle.shadow_kernels.specs.declared.Meet.{Meet}
 use Rattle.shadow_kernels.specs.Spots.{Between}
 use Rattle.shadow_kernels.specs.Counts.{count_of, shadow_of, turned, chosen, first_spot}
-use Rattle.shadow_kernels.specs.ShadowLaws.{ShadowTest, ShadowLaws}
+use Rattle.shadow_kernels.specs.ShadowLaws.{ShadowTest, HasCounts, ShadowLaws}
 use Rattle.shadow_kernels.specs.Shadows.{vertex_edge, edge_vertex, edge_edge, vertex_face, face_vertex}
 use Rattle.shadow_kernels.specs.Sizes.{turned_count, turned_shadow}
 use Rattle.shadow_kernels.specs.Entries.{Each}
@@ -17,7 +17,7 @@ use Rattle.shadow_kernels.specs.Rules.{Rule}
 use Rattle.shadow_kernels.specs.Lawful.{IsRule}
 use Rattle.shadow_kernels.specs.Decided.{IsDecided, turned_decided}
 use Rattle.shadow_kernels.specs.Lifted.{chosen_turned}
-use Rattle.shadow_kernels.specs.RuleLaws.{laws11, laws02, laws20, lift11, lift02, lift20}
+use Rattle.shadow_kernels.specs.RuleLaws.{laws11, laws02, laws20, counts11, counts02, counts20, lift11, lift02, lift20}
 use Rattle.edge_face.specs.Crossings.{face_edges, mirror, edge_pairs, edge_number}
 use Rattle.edge_face.specs.Parts.{IsPart, itself, start_of, end_of, first_edge, second_edge, third_edge, decided_in}
 
@@ -33,28 +33,28 @@ pub record AreMet (P Q : List Corner → List Corner → List Corner) (ends edge
   pub turns : (e g : List Corner) → length e ≡ 2 → length g ≡ 2 → AllFine e → AllFine g → edges (swap e 0 1) g ≡ turned (edges e g)
 
 -- an edge of P and a face of Q, by the laws of the tests of vertices with faces and of edges
-pub edge_face : (vf ee ve ev : ShadowTest) → ShadowLaws 1 3 vf → ShadowLaws 2 2 ee →
+pub edge_face : (vf ee ve ev : ShadowTest) → ShadowLaws 1 3 vf → HasCounts 1 3 vf → ShadowLaws 2 2 ee → HasCounts 2 2 ee →
     ((p u v w : Corner) → AllFine (p ∷ []) → AllFine (u ∷ v ∷ w ∷ []) → count_of (vf (p ∷ []) (u ∷ v ∷ w ∷ [])) ≡ total (λ e. shadow_of (ve (p ∷ []) e)) (face_edges u v w)) →
     ((a b c d : Corner) → AllFine (a ∷ b ∷ []) → AllFine (c ∷ d ∷ []) → count_of (ee (a ∷ b ∷ []) (c ∷ d ∷ []))
     ≡ shadow_of (ve (b ∷ []) (c ∷ d ∷ [])) -ℤ shadow_of (ve (a ∷ []) (c ∷ d ∷ [])) +ℤ shadow_of (ev (a ∷ b ∷ []) (d ∷ [])) -ℤ shadow_of (ev (a ∷ b ∷ []) (c ∷ []))) →
     AreMet (λ e f. e) (λ e f. f) vf ee ve ev
-edge_face vf ee ve ev laws13 laws22 lift13 lift22 = record {
-  ends_decided = λ v e f part one three fe ff. decided_in 1 3 vf laws13 refl v e f f part (itself f) one three fe ff;
-  edges_decided = λ e g f part two also fe ff. decided_in 2 2 ee laws22 refl e e g f (itself e) part two also fe ff;
+edge_face vf ee ve ev laws13 counts13 laws22 counts22 lift13 lift22 = record {
+  ends_decided = λ v e f part one three fe ff. decided_in 1 3 vf laws13 counts13 refl v e f f part (itself f) one three fe ff;
+  edges_decided = λ e g f part two also fe ff. decided_in 2 2 ee laws22 counts22 refl e e g f (itself e) part two also fe ff;
   ends_count = lift13;
   edges_count = λ a b c d fe fg. omega (arith, ints, lift22 a b c d fe fg);
   turns = λ e g two also fe fg. laws22.reverse_p e g 0 1 (omega arith) (omega arith) two also fe fg;
 }
 
 -- an edge of Q and a face of P, by the same tests of edges and those of faces with vertices
-pub face_edge : (fv ee ve ev : ShadowTest) → ShadowLaws 3 1 fv → ShadowLaws 2 2 ee →
+pub face_edge : (fv ee ve ev : ShadowTest) → ShadowLaws 3 1 fv → HasCounts 3 1 fv → ShadowLaws 2 2 ee → HasCounts 2 2 ee →
     ((u v w q : Corner) → AllFine (u ∷ v ∷ w ∷ []) → AllFine (q ∷ []) → count_of (fv (u ∷ v ∷ w ∷ []) (q ∷ [])) ≡ total (λ e. shadow_of (ev e (q ∷ []))) (face_edges u v w)) →
     ((a b c d : Corner) → AllFine (a ∷ b ∷ []) → AllFine (c ∷ d ∷ []) → count_of (ee (a ∷ b ∷ []) (c ∷ d ∷ []))
     ≡ shadow_of (ve (b ∷ []) (c ∷ d ∷ [])) -ℤ shadow_of (ve (a ∷ []) (c ∷ d ∷ [])) +ℤ shadow_of (ev (a ∷ b ∷ []) (d ∷ [])) -ℤ shadow_of (ev (a ∷ b ∷ []) (c ∷ []))) →
     AreMet (λ e f. f) (λ e f. e) (mirror fv) (mirror ee) (mirror ev) (mirror ve)
-face_edge fv ee ve ev laws31 laws22 lift31 lift22 = record {
-  ends_decided = λ v e f part one three fe ff. decided_in 3 1 fv laws31 refl f f v e (itself f) part three one ff fe;
-  edges_decided = λ e g f part two also fe ff. decided_in 2 2 ee laws22 refl g f e e part (itself e) also two ff fe;
+face_edge fv ee ve ev laws31 counts31 laws22 counts22 lift31 lift22 = record {
+  ends_decided = λ v e f part one three fe ff. decided_in 3 1 fv laws31 counts31 refl f f v e (itself f) part three one ff fe;
+  edges_decided = λ e g f part two also fe ff. decided_in 2 2 ee laws22 counts22 refl g f e e part (itself e) also two ff fe;
   ends_count = λ p u v w fe ff. lift31 u v w p ff fe;
   edges_count = λ a b c d fe fg. omega (arith, ints, lift22 c d a b fg fe);
   turns = λ e g two also fe fg. laws22.reverse_q g e 0 1 (omega arith) (omega arith) also two fg fe;
@@ -63,10 +63,10 @@ face_edge fv ee ve ev laws31 laws22 lift31 lift22 = record {
 -- those under a lawful rule
 module _ {k : Rule} {w : Between} (rule : IsRule k w) where
   pub rule_edge_face : AreMet (λ e f. e) (λ e f. f) (vertex_face k w) (edge_edge k w) (vertex_edge k w) (edge_vertex k w)
-  rule_edge_face = edge_face (vertex_face k w) (edge_edge k w) (vertex_edge k w) (edge_vertex k w) (laws02 rule) (laws11 rule) (λ p u v t fp fq. lift02 k w p u v t) (λ a b c d fp fq. lift11 k w a b c d)
+  rule_edge_face = edge_face (vertex_face k w) (edge_edge k w) (vertex_edge k w) (edge_vertex k w) (laws02 rule) (counts02 rule) (laws11 rule) (counts11 rule) (λ p u v t fp fq. lift02 k w p u v t) (λ a b c d fp fq. lift11 k w a b c d)
 
   pub rule_face_edge : AreMet (λ e f. f) (λ e f. e) (mirror (face_vertex k w)) (mirror (edge_edge k w)) (mirror (edge_vertex k w)) (mirror (vertex_edge k w))
-  rule_face_edge = face_edge (face_vertex k w) (edge_edge k w) (vertex_edge k w) (edge_vertex k w) (laws20 rule) (laws11 rule) (λ u v t q fp fq. lift20 k w u v t q) (λ a b c d fp fq. lift11 k w a b c d)
+  rule_face_edge = face_edge (face_vertex k w) (edge_edge k w) (vertex_edge k w) (edge_vertex k w) (laws20 rule) (counts20 rule) (laws11 rule) (counts11 rule) (λ u v t q fp fq. lift20 k w u v t q) (λ a b c d fp fq. lift11 k w a b c d)
 
 -- the pairs, each turned where it counts with the other sign
 abbrev pub signed_pairs : ShadowTest → ShadowTest → Corner → Corner → Corner → Corner → Corner → List (Option Meet)

@@ -8,7 +8,7 @@ use Rattle.side_terms.specs.Corners.{axis, IsFineCorner, AllFine}
 use Rattle.shadow_kernels.specs.declared.Spot.{Spot}
 use Rattle.side_terms.specs.Boxes.{IsInBox, IsBelow, AreApart}
 use Rattle.shadow_kernels.specs.declared.Meet.{Meet}
-use Rattle.shadow_kernels.specs.ShadowLaws.{IsInHull, ShadowTest, ShadowLaws}
+use Rattle.shadow_kernels.specs.ShadowLaws.{IsInHull, ShadowTest, HasCounts, ShadowLaws}
 use Rattle.shadow_kernels.specs.Sizes.{sized_from}
 use Rattle.shadow_kernels.specs.Hulls.{IsBeyond}
 use Rattle.shadow_kernels.specs.Decided.{IsDecided}
@@ -82,14 +82,14 @@ decide p ps q qs sub_p sub_q None h b s = tt
 decide p ps q qs sub_p sub_q (Some a) h true s = h.1 (parts_below 2 q qs p ps sub_q sub_p s)
 decide p ps q qs sub_p sub_q (Some a) h false s = h.0 (parts_below 2 p ps q qs sub_p sub_q s)
 
--- so the answer of parts to a lawful test is decided in the boxes of the wholes
-pub decided_in : (m n : ℕ) (test : ShadowTest) → ShadowLaws m n test → m + n ≡ 4 → (p ps q qs : List Corner) → IsPart p ps → IsPart q qs → length p ≡ m → length q ≡ n → AllFine ps → AllFine qs →
+-- so the answer of parts to a lawful test that answers only where the count is not 0 is decided in the boxes of the wholes
+pub decided_in : (m n : ℕ) (test : ShadowTest) → ShadowLaws m n test → HasCounts m n test → m + n ≡ 4 → (p ps q qs : List Corner) → IsPart p ps → IsPart q qs → length p ≡ m → length q ≡ n → AllFine ps → AllFine qs →
     IsDecided 2 ps qs (test p q)
-decided_in m n test h four p ps q qs sub_p sub_q k l fine_p fine_q =
+decided_in m n test h counts four p ps q qs sub_p sub_q k l fine_p fine_q =
     let fp = sub_p IsFineCorner fine_p in
     let fq = sub_q IsFineCorner fine_q in
     record {
-      sized = sized_from (test p q) (h.size p q k l fp fq) (h.present p q k l fp fq);
+      sized = sized_from (test p q) (h.size p q k l fp fq) (counts p q k l fp fq);
       hull = λ some. widen p ps q qs sub_p sub_q (test p q) (h.hull p q (omega (arith, four)) k l fp fq);
       apart = λ i less apart. h.apart p q i k l fp fq (omega (arith, four, less)) (parts_apart i p ps q qs sub_p sub_q apart);
       side = λ b s. decide p ps q qs sub_p sub_q (test p q) (h.side p q 2 k l fp fq (omega (arith, four))) b s;

@@ -9,7 +9,7 @@ use Rattle.side_terms.specs.Boxes.{IsBelow, AreApart}
 use Rattle.shadow_kernels.specs.declared.Spot.{Spot}
 use Rattle.shadow_kernels.specs.declared.Meet.{Meet}
 use Rattle.shadow_kernels.specs.Counts.{count_of, shadow_of, turned, by_ends, first_spot}
-use Rattle.shadow_kernels.specs.ShadowLaws.{IsInHull, ShadowTest, ShadowLaws}
+use Rattle.shadow_kernels.specs.ShadowLaws.{IsInHull, ShadowTest, HasCounts, ShadowLaws}
 use Rattle.shadow_kernels.specs.Sizes.{IsSized, sized_bounds, sized_present, turned_sized, turned_holds}
 use Rattle.shadow_kernels.specs.Ends.{ends_sized, ends_same, ends_hold}
 use Rattle.shadow_kernels.specs.Entries.{Each, each_map, total_none, total_alike, first_own}
@@ -64,16 +64,23 @@ module _ (k : ℕ) (ps qs : List Corner) (ms : List (Option Meet)) (each : Each 
   first_hull some sum want =
       first_own (IsInHull ps qs) want ms (each_map (IsDecided k ps qs) (λ m. IfSome m (λ n. IsInHull ps qs n.spot)) (λ m h. h.hull some) ms each) whole sum
 
+-- the boxes of the corners that a test is asked for decide its answers
+abbrev pub IsDecidedBy : ℕ → ℕ → ℕ → ShadowTest → Type 0
+IsDecidedBy m n k test = (p q : List Corner) → length p ≡ m → length q ≡ n → AllFine p → AllFine q → IsDecided k p q (test p q)
+
+-- then it answers only where the count is not 0
+pub has_counts : (m n k : ℕ) (test : ShadowTest) → IsDecidedBy m n k test → HasCounts m n test
+has_counts m n k test each p q mp nq fp fq = sized_present (test p q) (each p q mp nq fp fq).sized
+
 -- a test that exchanges turn and whose answers their own boxes decide is lawful
 pub laws_of : (m n k : ℕ) (test : ShadowTest) → k + 2 ≡ m + n →
     ((p q : List Corner) (i j : ℕ) → i < j → j < m → length p ≡ m → length q ≡ n → AllFine p → AllFine q → test (swap p i j) q ≡ turned (test p q)) →
     ((p q : List Corner) (i j : ℕ) → i < j → j < n → length p ≡ m → length q ≡ n → AllFine p → AllFine q → test p (swap q i j) ≡ turned (test p q)) →
-    ((p q : List Corner) → length p ≡ m → length q ≡ n → AllFine p → AllFine q → IsDecided k p q (test p q)) → ShadowLaws m n test
+    IsDecidedBy m n k test → ShadowLaws m n test
 laws_of m n k test level turn_p turn_q each = record {
   reverse_p = turn_p;
   reverse_q = turn_q;
   size = λ p q mp nq fp fq. sized_bounds (test p q) (each p q mp nq fp fq).sized;
-  present = λ p q mp nq fp fq. sized_present (test p q) (each p q mp nq fp fq).sized;
   hull = λ p q more mp nq fp fq. (each p q mp nq fp fq).hull (omega (arith, level, more));
   apart = λ p q i mp nq fp fq less a. (each p q mp nq fp fq).apart i (omega (arith, level, less)) a;
   side = λ p q i mp nq fp fq same. subst (λ (j : ℕ). IfSome (test p q) (λ a. (IsBelow j p q → a.above ≡ false) × (IsBelow j q p → a.above ≡ true))) (next k i (m + n) level same)

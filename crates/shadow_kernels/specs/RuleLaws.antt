@@ -8,12 +8,12 @@ use Rattle.chain_laws.specs.Squares.{less}
 use Rattle.shadow_kernels.specs.Spots.{Between}
 use Rattle.shadow_kernels.specs.Rules.{Rule}
 use Rattle.shadow_kernels.specs.Counts.{count_of, shadow_of}
-use Rattle.shadow_kernels.specs.ShadowLaws.{ShadowLaws}
+use Rattle.shadow_kernels.specs.ShadowLaws.{HasCounts, ShadowLaws}
 use Rattle.shadow_kernels.specs.Shadows.{meet00, meet01, meet10, meet11, meet02, meet20, boundary11, boundary02, boundary20, vertex_vertex, vertex_edge, edge_vertex, edge_edge, vertex_face, face_vertex}
 use Rattle.shadow_kernels.specs.Sizes.{turned_shadow}
 use Rattle.shadow_kernels.specs.Hulls.{placed, beyond_boxes}
 use Rattle.shadow_kernels.specs.Lawful.{IsRule}
-use Rattle.shadow_kernels.specs.Decided.{laws_of}
+use Rattle.shadow_kernels.specs.Decided.{IsDecidedBy, has_counts, laws_of}
 use Rattle.shadow_kernels.specs.Lifted.{lifted_is}
 use Rattle.shadow_kernels.specs.declared.Edge.TheVariants.{OfP, OfQ}
 use Rattle.shadow_kernels.specs.Edges.{edge_meet}
@@ -53,25 +53,45 @@ module _ {k : Rule} {w : Between} (rule : IsRule k w) where
       (λ p q i j l m x y fp fq. edge_turned (edge_meet OfP k w (corner_at q 0)) (edge_reverse OfP k w (corner_at q 0)) p i j l m x) (λ p q i j l m x y fp fq. no_two i j l m)
       (λ p q x y fp fq. edge_decided rule OfP p q (corner_at q 0) (corner_at p 0) (corner_at p 1) (placed q 0 fq (omega (arith, y))) (placed p 0 fp (omega (arith, x))) (placed p 1 fp (omega (arith, x))))
 
-  -- two edges
+  -- two edges: their boxes decide, so the test answers only where the count is not 0
+  decided11 : IsDecidedBy 2 2 2 (edge_edge k w)
+  decided11 p q x y fp fq = edges_decided rule (corner_at p 0) (corner_at p 1) (corner_at q 0) (corner_at q 1) p q fp fq
+      (placed p 0 fp (omega (arith, x))) (placed p 1 fp (omega (arith, x))) (placed q 0 fq (omega (arith, y))) (placed q 1 fq (omega (arith, y)))
+
+  pub counts11 : HasCounts 2 2 (edge_edge k w)
+  counts11 = has_counts 2 2 2 (edge_edge k w) decided11
+
   pub laws11 : ShadowLaws 2 2 (edge_edge k w)
   laws11 = laws_of 2 2 2 (edge_edge k w) refl
       (λ p q i j l m x y fp fq. edge_turned (λ a b. meet11 k w a b (corner_at q 0) (corner_at q 1)) (λ a b. edges_turned_p rule a b (corner_at q 0) (corner_at q 1)) p i j l m x)
       (λ p q i j l m x y fp fq. edge_turned (meet11 k w (corner_at p 0) (corner_at p 1)) (edges_turned_q rule (corner_at p 0) (corner_at p 1)) q i j l m y)
-      (λ p q x y fp fq. edges_decided rule (corner_at p 0) (corner_at p 1) (corner_at q 0) (corner_at q 1) p q fp fq
-      (placed p 0 fp (omega (arith, x))) (placed p 1 fp (omega (arith, x))) (placed q 0 fq (omega (arith, y))) (placed q 1 fq (omega (arith, y))))
+      decided11
 
   -- a vertex and a face
+  decided02 : IsDecidedBy 1 3 2 (vertex_face k w)
+  unfolding meet02
+  decided02 p q x y fp fq = face_decided OfQ k w (corner_at p 0) rule p q fp fq (placed p 0 fp (omega (arith, x))) y fq
+
+  pub counts02 : HasCounts 1 3 (vertex_face k w)
+  counts02 = has_counts 1 3 2 (vertex_face k w) decided02
+
   pub laws02 : ShadowLaws 1 3 (vertex_face k w)
   unfolding meet02
   laws02 = laws_of 1 3 2 (vertex_face k w) refl (λ p q i j l m x y fp fq. no_two i j l m)
-      (λ p q i j l m x y fp fq. face_turned OfQ k w (corner_at p 0) rule q i j l m y) (λ p q x y fp fq. face_decided OfQ k w (corner_at p 0) rule p q fp fq (placed p 0 fp (omega (arith, x))) y fq)
+      (λ p q i j l m x y fp fq. face_turned OfQ k w (corner_at p 0) rule q i j l m y) decided02
 
   -- a face and a vertex
+  decided20 : IsDecidedBy 3 1 2 (face_vertex k w)
+  unfolding meet20
+  decided20 p q x y fp fq = face_decided OfP k w (corner_at q 0) rule p q fp fq (placed q 0 fq (omega (arith, y))) x fp
+
+  pub counts20 : HasCounts 3 1 (face_vertex k w)
+  counts20 = has_counts 3 1 2 (face_vertex k w) decided20
+
   pub laws20 : ShadowLaws 3 1 (face_vertex k w)
   unfolding meet20
   laws20 = laws_of 3 1 2 (face_vertex k w) refl
-      (λ p q i j l m x y fp fq. face_turned OfP k w (corner_at q 0) rule p i j l m x) (λ p q i j l m x y fp fq. no_two i j l m) (λ p q x y fp fq. face_decided OfP k w (corner_at q 0) rule p q fp fq (placed q 0 fq (omega (arith, y))) x fp)
+      (λ p q i j l m x y fp fq. face_turned OfP k w (corner_at q 0) rule p i j l m x) (λ p q i j l m x y fp fq. no_two i j l m) decided20
 
 -- the counts, which a rounding leaves alone but for the shadows
 module _ (k : Rule) (w : Between) where

@@ -20,6 +20,10 @@ pub record IsInHull (ps qs : List Corner) (s : Spot) : Type 0 where
   pub qy : IsInBox 1 qs s.qy
   pub qz : IsInBox 2 qs s.qz
 
+-- a test answers only where the count is not 0. This is no law: only what counts answers by their number needs it
+abbrev pub HasCounts : ℕ → ℕ → ShadowTest → Type 0
+HasCounts m n test = (p q : List Corner) → length p ≡ m → length q ≡ n → AllFine p → AllFine q → IfSome (test p q) (λ a. a.count ≢ pos 0)
+
 -- the laws of a test of simplices of P with m corners and of Q with n
 pub record ShadowLaws (m n : ℕ) (test : ShadowTest) : Type 0 where
   -- exchanging two corners of p turns the sign of the count, and keeps the rest
@@ -28,8 +32,6 @@ pub record ShadowLaws (m n : ℕ) (test : ShadowTest) : Type 0 where
   pub reverse_q : (p q : List Corner) (i j : ℕ) → i < j → j < n → length p ≡ m → length q ≡ n → AllFine p → AllFine q → test p (swap q i j) ≡ turned (test p q)
   -- the count is -1, 0 or 1
   pub size : (p q : List Corner) → length p ≡ m → length q ≡ n → AllFine p → AllFine q → (negsuc 0 ≤ℤ count_of (test p q)) × (count_of (test p q) ≤ℤ pos 1)
-  -- the count of an answer is not 0
-  pub present : (p q : List Corner) → length p ≡ m → length q ≡ n → AllFine p → AllFine q → IfSome (test p q) (λ a. a.count ≢ pos 0)
   -- but for two vertices, P's values at the spot lie in the box of p, and Q's in the box of q
   pub hull : (p q : List Corner) → 2 < m + n → length p ≡ m → length q ≡ n → AllFine p → AllFine q → IfSome (test p q) (λ a. IsInHull p q a.spot)
   -- where the boxes are strictly apart on one of the first m + n - 2 axes, there is no answer

@@ -96,14 +96,13 @@ sized_bounds None h = (omega (arith, ints), omega (arith, ints))
 sized_bounds (Some m) (inl e) = (omega (arith, ints), omega (arith, ints))
 sized_bounds (Some m) (inr e) = (omega (arith, ints), omega (arith, ints))
 
--- the shadow of a sized answer is -1, 0 or 1
-pub shadow_bounds : (m : Option Meet) → IsSized m → (negsuc 0 ≤ℤ shadow_of m) × (shadow_of m ≤ℤ pos 1)
-shadow_bounds None h = (omega (arith, ints), omega (arith, ints))
+-- the shadow of an answer whose count is -1, 0 or 1 is so too
+pub shadow_bounds : (m : Option Meet) → (negsuc 0 ≤ℤ count_of m) × (count_of m ≤ℤ pos 1) → (negsuc 0 ≤ℤ shadow_of m) × (shadow_of m ≤ℤ pos 1)
+shadow_bounds None h = h
 shadow_bounds (Some m) h = by m.above m.count h where
-  by : (b : Bool) (n : ℤ) → IsUnit n → (negsuc 0 ≤ℤ (if b then n else pos 0)) × ((if b then n else pos 0) ≤ℤ pos 1)
-  by true n (inl e) = (omega (arith, ints), omega (arith, ints))
-  by true n (inr e) = (omega (arith, ints), omega (arith, ints))
-  by false n e = (omega (arith, ints), omega (arith, ints))
+  by : (b : Bool) (n : ℤ) → (negsuc 0 ≤ℤ n) × (n ≤ℤ pos 1) → (negsuc 0 ≤ℤ (if b then n else pos 0)) × ((if b then n else pos 0) ≤ℤ pos 1)
+  by true n h = h
+  by false n h = (omega (arith, ints), omega (arith, ints))
 
 -- a sized answer that is there has a count other than 0
 pub sized_present : (m : Option Meet) → IsSized m → IfSome m (λ n. n.count ≢ pos 0)

@@ -75,9 +75,9 @@ pub trait Meets<const M: usize, const N: usize> {
         requires q_fine { AllFine q.now }
         ensures { result ≡ meet_of self.now p.now q.now };
 
-    /// The laws: exchanging two corners turns the sign of the count and keeps the rest; the count is -1, 0 or 1, and not 0
-    /// in an answer; but for two vertices the spot lies in the boxes of both; boxes strictly apart on one of the first
-    /// M + N - 2 axes give no answer, and such on the next axis say whether p is beyond q.
+    /// The laws: exchanging two corners turns the sign of the count and keeps the rest; the count is -1, 0 or 1; but
+    /// for two vertices the spot lies in the boxes of both; boxes strictly apart on one of the first M + N - 2 axes give no
+    /// answer, and such on the next axis say whether p is beyond q.
     ghost laws: { (k : Self) → ShadowLaws M N (meet_of k) };
 }
 

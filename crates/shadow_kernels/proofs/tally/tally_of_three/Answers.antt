@@ -1,6 +1,6 @@
 use Rattle.std.proofs.Common.{[], ◌∷◌, arith}
 use Rattle.std.proofs.lemmas.Int.{ints}
-use Rattle.shadow_kernels.specs.Sizes.{shadow_bounds}
+use Rattle.shadow_kernels.specs.Sizes.{shadow_bounds, sized_bounds}
 use Rattle.shadow_kernels.specs.Bounds.{IsTallyOf}
 use Rattle.shadow_kernels.proofs.Steps.{no_tally, put_tally, fine_tally}
 use Rattle.shadow_kernels.proofs.tally.tally_of_three.Goals as goal
@@ -18,5 +18,5 @@ returns c =
     record {
       tally = three;
       fine = fine_tally (a ∷ b ∷ d ∷ []) c.put-3.new.self (c.requires.first_fine.fine, (c.requires.second_fine.fine, (c.requires.third_fine.fine, tt))) three;
-      few = omega (arith, ints, count, shadow_bounds a c.requires.first_fine.sized, shadow_bounds b c.requires.second_fine.sized, shadow_bounds d c.requires.third_fine.sized);
+      few = omega (arith, ints, count, shadow_bounds a (sized_bounds a c.requires.first_fine.sized), shadow_bounds b (sized_bounds b c.requires.second_fine.sized), shadow_bounds d (sized_bounds d c.requires.third_fine.sized));
     }
