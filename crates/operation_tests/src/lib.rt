@@ -2,6 +2,8 @@
 #![tactic(auto)]
 
 #[cfg(test)]
+mod exact;
+#[cfg(test)]
 mod faces;
 #[cfg(test)]
 mod handed;

@@ -2,7 +2,7 @@
 ghost use Rattle.std.specs.Prelude.{◌≡◌, ◌<◌};
 
 mod table;
-mod text;
+pub(crate) mod text;
 mod volume;
 
 use crate::rows::{Kind, expect_rows};

@@ -128,14 +128,15 @@ fn refuses(rt: &impl Abort, alloc: Global, rows: &[Refused]) {
 const NONE: [i64; 6] = [0; 6];
 
 // Steps in order.
-const STEPS: &[u8] = b"load a cube.obj\nload b b.obj\nunion u a b\nmeasure u\nsave u u.obj\n";
+const STEPS: &[u8] = b"load a cube.obj\nload b b.obj\nunion u a b\nmeasure u\nsave u u.obj\nexact # from here on\n";
 
-const STEPS_ROWS: [Row<'static>; 5] = [
+const STEPS_ROWS: [Row<'static>; 6] = [
     (1, "load", ["a", "cube.obj", ""], NONE),
     (2, "load", ["b", "b.obj", ""], NONE),
     (3, "union", ["u", "a", "b"], NONE),
     (4, "measure", ["u", "", ""], NONE),
     (5, "save", ["u", "u.obj", ""], NONE),
+    (6, "exact", ["", "", ""], NONE),
 ];
 
 // A mark, comments, blanks and ends of lines, which are passed over.

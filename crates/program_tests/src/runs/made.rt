@@ -48,7 +48,7 @@ fn judge<R: Abort + AllocGlobal>(
 const WHOLE_STEPS: [&str; 4] = ["run", "s.txt", "--digits", "0"];
 
 // A script over boxes, and what it tells.
-const BOXES: [(&[u8], &[u8]); 5] = [
+const BOXES: [(&[u8], &[u8]); 7] = [
     // Apart.
     (
         b"box a 0 0 0 10 10 10\nbox b 20 0 0 30 10 10\nunion u a b\nmeasure u\nintersect i a b\nmeasure i\nsubtract d a b\nmeasure d\n",
@@ -68,6 +68,16 @@ const BOXES: [(&[u8], &[u8]); 5] = [
     (
         b"box a 0 0 0 10 10 10\nbox b 3 4 5 6 7 20\nunion u a b\nmeasure u\nintersect i a b\nmeasure i\nsubtract d a b\nmeasure d\n",
         b"u = union a b: kept 8 4, crossings 10, forced 0\nu: points 22, triangles 40, components 1, euler 2, volume6 6540\ni = intersect a b: kept 0 4, crossings 10, forced 0\ni: points 14, triangles 24, components 1, euler 2, volume6 270\nd = subtract a b: kept 8 4, crossings 10, forced 0\nd: points 22, triangles 40, components 1, euler 2, volume6 5730\n",
+    ),
+    // The same under exact kernels.
+    (
+        b"exact\nbox a 0 0 0 10 10 10\nbox b 3 4 5 6 7 20\nunion u a b\nmeasure u\nintersect i a b\nmeasure i\nsubtract d a b\nmeasure d\n",
+        b"u = union a b: kept 8 4, crossings 10, forced 0\nu: points 22, triangles 40, components 1, euler 2, volume6 6540\ni = intersect a b: kept 0 4, crossings 10, forced 0\ni: points 14, triangles 24, components 1, euler 2, volume6 270\nd = subtract a b: kept 8 4, crossings 10, forced 0\nd: points 22, triangles 40, components 1, euler 2, volume6 5730\n",
+    ),
+    // One box twice, on the grid and then under exact kernels, as if one were moved off the other.
+    (
+        b"box a 0 0 0 10 10 10\nunion u a a\nexact\nunion v a a\nmeasure v\n",
+        b"u = union a a: kept 8 0, crossings 0, forced 0\nv = union a a: kept 7 7, crossings 14, forced 39\nv: points 28, triangles 52, components 1, euler 2, volume6 6000\n",
     ),
     // And beside it, so that one triangle of the top has a hole.
     (

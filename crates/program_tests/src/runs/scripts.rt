@@ -82,7 +82,7 @@ fn the_half_edges_of_an_operation_have_a_limit(rt: HostRuntime) -> Result<(), Fa
 
 #[test]
 fn a_faulty_script_does_nothing(rt: HostRuntime) -> Result<(), Fail> {
-    let faulty: [(&[u8], &[u8]); 6] = [
+    let faulty: [(&[u8], &[u8]); 7] = [
         // No such file is there, and it is not asked for.
         (
             b"load a a.obj\nunion c a b\n",
@@ -93,6 +93,7 @@ fn a_faulty_script_does_nothing(rt: HostRuntime) -> Result<(), Fail> {
             b"s.txt:3: 20 BadWord\n",
         ),
         (b"load a\n", b"s.txt:1: 21 WrongCount\n"),
+        (b"exact\nexact 1\n", b"s.txt:2: 21 WrongCount\n"),
         (b"load 1a cube.obj\n", b"s.txt:1: 22 BadName\n"),
         (b"save u u.obj\n", b"s.txt:1: 23 NameNotDefined\n"),
         (b"# a\n\nload a cube.ply\n", b"s.txt:3: 25 BadSuffix\n"),

@@ -1,0 +1,84 @@
+// Whole operations under exact kernels.
+ghost use Rattle.std.specs.Prelude.{◌≡◌, ◌<◌};
+
+mod table;
+
+use crate::results::text::text_of;
+use edge_face::Kernels;
+use exact_kernels::Exact;
+use mb_base::{Limits, Op};
+use mesh_boolean::{Outcome, boolean};
+use mesh_check::Mesh;
+use retained_verts::PrescribeFault;
+use rounding::Nearest;
+use sample_lines::{read_meshes, read_pair};
+use std::alloc::Global;
+use std::marker::Brand;
+use std::process::Abort;
+use std::sync::ledger::{Blank, Ledger};
+use std::test::Fail;
+use steps::Steps;
+use table::PAIRS;
+
+// What an operation gives under kernels.
+fn answer<K: Kernels, L: Ledger>(
+    alloc: Global,
+    op: Op,
+    p: &Mesh,
+    q: &Mesh,
+    kernels: &K,
+    blank: Blank,
+) -> Result<Outcome, PrescribeFault>
+    requires name { blank.name ≡ L.name }
+    requires parts { blank.parts ≡ L.parts }
+    requires some { 0 < blank.parts }
+{
+    let mut steps = Steps::<L>::over(blank);
+    boolean(alloc, op, p, q, kernels, &Limits::program(), &mut steps)
+}
+
+// What it gives under exact kernels.
+fn exactly(alloc: Global, op: Op, p: &Mesh, q: &Mesh) -> Result<Outcome, PrescribeFault> {
+    let exact = Exact { rounding: Nearest };
+    answer::<Exact<Nearest>, Brand>(alloc, op, p, q, &exact, Blank::new(1))
+}
+
+// Compares what a pair gives with the line of a table.
+fn expect_pair(
+    rt: &impl Abort,
+    alloc: Global,
+    meshes: &str,
+    expected: &str,
+) -> Result<(), Fail> {
+    let (op, p, q) = read_pair(alloc, meshes)?;
+    let outcome = exactly(alloc, op, &p, &q)?;
+    let text = text_of(alloc, &outcome)?;
+    assert_eq!(rt; text.as_str(), expected, "{meshes}");
+    Ok(())
+}
+
+#[test]
+fn agrees_with_the_table(rt: HostRuntime) -> Result<(), Fail> {
+    let mut lines = PAIRS.lines();
+    let mut found: u64 = 0;
+    while let Some(meshes) = lines.next() {
+        let expected = lines.next().ok_or("no second line")?;
+        expect_pair(&rt, rt.alloc(), meshes, expected)?;
+        found = found.wrapping_add(1);
+    }
+    assert_eq!(rt; found, 72);
+    Ok(())
+}
+
+// A cube twice: as if it were moved towards one corner, all but that corner of the one is outside the other.
+const CUBE_TWICE: &str =
+    "000a000a0aa000aa0a0aaaaa 031023457476014154137175326367046062 000a000a0aa000aa0a0aaaaa 031023457476014154137175326367046062";
+
+#[test]
+fn a_cube_is_united_with_itself_as_if_moved(rt: HostRuntime) -> Result<(), Fail> {
+    let (p, q) = read_meshes(rt.alloc(), CUBE_TWICE)?;
+    let outcome = exactly(rt.alloc(), Op::Union, &p, &q)?;
+    let all = &outcome.prescribed;
+    assert!(rt; all.kept == [7, 7] && all.crossings == 14 && all.halfedges == 104);
+    Ok(())
+}
