@@ -8,9 +8,9 @@ mod counters;
 #[cfg(test)]
 mod edges_and_faces;
 #[cfg(test)]
-mod nearest;
-#[cfg(test)]
 mod pairs;
+#[cfg(test)]
+mod roundings;
 #[cfg(test)]
 mod shadows;
 #[cfg(test)]
