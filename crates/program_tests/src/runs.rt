@@ -530,8 +530,8 @@ fn a_mesh_winds_round_a_point(rt: HostRuntime) -> Result<(), Fail> {
     Ok(())
 }
 
-// The side of the prism over the line through the point is 2/3 of a grid step behind it, which rounds to the point itself where
-// a height is rounded to whole steps.
+// At the point's x, 2, a wall of the prism has the y 2/3. Rounded to whole steps of the grid that would be the point's own y, 1,
+// and the point would count as outside.
 #[test]
 fn a_point_is_told_from_a_face_less_than_a_grid_step_away(rt: HostRuntime) -> Result<(), Fail> {
     let words = ["inside", "c.obj", "2", "1", "2", "--digits", "0"];
