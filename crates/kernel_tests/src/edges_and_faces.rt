@@ -1,13 +1,5 @@
-// Crossings against a table, and under a rounding that is far from the nearest.
-ghost use Rattle.std.specs.Prelude.{◌≡◌, ◌<◌, ◌∷◌, [], pos, int_lt, IfSome, true, false, if◌then◌else◌, refl};
-ghost use Rattle.std.specs.Ordering.{int_eq};
-ghost use Rattle.std.proofs.Common.{arith, inl, inr};
-ghost use Rattle.std.proofs.lemmas.Bool.{cond_both};
-ghost use Rattle.std.proofs.lemmas.Bool.Decides.{Decides-int_eq};
-ghost use Rattle.std.proofs.lemmas.Int.{ints, by_lt_z};
-ghost use Rattle.side_terms.specs.Fine.{IsFine, IsWeight, LiesBetween};
-ghost use Rattle.rounding.specs.Nearest.{settle_nearest};
-ghost use Rattle.rounding.specs.Lawful.{settle_monotone, settle_units};
+// Crossings against a table, and under the roundings that go farthest.
+ghost use Rattle.std.specs.Prelude.{◌≡◌, ◌∷◌, [], IfSome};
 ghost use Rattle.side_terms.specs.Corners.{IsFineCorner, AllFine};
 ghost use Rattle.edge_face.specs.Crossings.{number_of};
 
@@ -15,7 +7,7 @@ mod rows;
 
 use edge_face::{Cross, Crosses, Kernels};
 use mb_base::{Corner, Point, UNIT};
-use rounding::{Nearest, Rounding};
+use rounding::{High, Low, Nearest};
 use rows::ROWS;
 use shadow_kernels::Grid;
 
@@ -179,69 +171,29 @@ fn a_cube_crosses_a_post(rt: HostRuntime) {
     assert!(rt; grid.cross(&top, &wall) == cross_at(1, 5, 4, 10));
 }
 
-/// A lawful rounding that is hardly ever near: the farther of the two values, but where a weight is 0.
-#[derive(Clone, Copy, Drop)]
-struct Far;
+// Lines as in the table, with the answers of an independent program of the same definitions, in fine steps of 1/256 of a grid
+// step, under the two roundings that go farthest. All but the last differ from what rounding to the nearest gives.
+static LOW_ROWS: [&str; 4] = [
+    "024z 442y 100xy 213 231 444 1:442 1:213",
+    "424yz 131xz 402xz 030 212 234 1:231 .",
+    "013z 331yz 021xz 033 313 220 . -1:033",
+    "031xy 415x 453yz 555 142 100 1:131 1:142",
+];
 
-impl Rounding for Far {
-    ghost between_of = { λ r u v a b. if int_eq a (pos 0) then u else (if int_eq b (pos 0) then v else (if int_lt a b then v else u)) };
-
-    ghost settle_of = { λ r. settle_nearest };
-
-    ghost within = { λ r u v a b p q s t.
-        let first : LiesBetween u v u = by_lt_z u v (λ l. inl (Prim.omega (arith, ints), Prim.omega (arith, ints)))
-        (λ l. inr (Prim.omega (arith, ints), Prim.omega (arith, ints))) in
-        let second : LiesBetween u v v = by_lt_z u v (λ l. inl (Prim.omega (arith, ints), Prim.omega (arith, ints)))
-        (λ l. inr (Prim.omega (arith, ints), Prim.omega (arith, ints))) in
-        elim (int_eq a (pos 0)) as (λ x. LiesBetween u v (if x then u else (if int_eq b (pos 0) then v else (if int_lt a b then v else u)))) [
-          | true ↦ first
-          | false ↦ elim (int_eq b (pos 0)) as (λ x. LiesBetween u v (if x then v else (if int_lt a b then v else u))) [
-            | true ↦ second
-            | false ↦ elim (int_lt a b) as (λ x. LiesBetween u v (if x then v else u)) [ true ↦ second | false ↦ first ]
-          ]
-        ] };
-
-    ghost starts = { λ r u v b p q t. refl };
-
-    ghost ends = { λ r u v a p q s h. cond_both (int_eq a (pos 0)) u v (λ z. z ≡ v)
-        (λ t. let e = (Decides-int_eq a (pos 0)).0 t in absurd (Prim.omega (arith, ints, e)))
-        (λ t. refl) };
-
-    ghost monotone = { λ r f g p q h. settle_monotone f g h };
-
-    ghost units = { λ r k p. settle_units k };
-
-    fn between(&self, u: i64, v: i64, a: i64, b: i64) -> i64 {
-        if a == 0 {
-            u
-        } else if b == 0 || a < b {
-            v
-        } else {
-            u
-        }
-    }
-
-    fn settle(&self, fine: i64) -> i32 {
-        Nearest.settle(fine)
-    }
-}
-
-// Lines as in the table: an edge of P and a face of Q, then a face of P and an edge of Q. The third corner of the other
-// triangle is its first once more, so that the other pair has no crossing. The answers are those of an independent
-// reference program, in which the point depends on which pair stands first in the order start, end, first, second and
-// third edge of the face.
-static FAR_ROWS: [&str; 4] = [
-    // A crossing lies between the first pairs on each side.
-    "212xy 122xz 212xy 012 424 101 1:212 .",
-    "001z 233y 431xy 111 304 111 . -1:111",
-    // A straight edge crosses a flat face once at most; shadows that are rounded far away can count it twice.
-    "220yz 133x 220yz 010 444 240 -2:220 .",
-    "420xyz 333z 104 434 213 434 . 2:313",
+static HIGH_ROWS: [&str; 4] = [
+    "424yz 131xz 402xz 030 212 234 -1:224 -1:212",
+    "402xyz 011z 441z 144 000 014 1:011 1:000",
+    "110x 132xz 013y 021 212 231 1:132 .",
+    // Four of the five pairs of the face of P and the edge of Q have a count.
+    "751xyz 400y 374 142 653 507 . -1:353",
 ];
 
 #[test]
-fn far_rounding_crosses_as_the_reference_says(rt: HostRuntime) {
-    for line in &FAR_ROWS {
-        assert!(rt; agrees(&Grid { rounding: Far }, line), "{line}");
+fn the_farthest_roundings_cross_as_the_definitions_say(rt: HostRuntime) {
+    for line in &LOW_ROWS {
+        assert!(rt; agrees(&Grid { rounding: Low }, line), "{line}");
+    }
+    for line in &HIGH_ROWS {
+        assert!(rt; agrees(&Grid { rounding: High }, line), "{line}");
     }
 }

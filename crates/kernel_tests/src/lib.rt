@@ -11,9 +11,9 @@ mod edges_and_faces;
 #[cfg(test)]
 mod exact;
 #[cfg(test)]
-mod nearest;
-#[cfg(test)]
 mod pairs;
+#[cfg(test)]
+mod roundings;
 #[cfg(test)]
 mod shadows;
 #[cfg(test)]

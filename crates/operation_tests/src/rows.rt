@@ -10,6 +10,7 @@ pub enum Kind {
     Faces,
     Prescribed,
     Results,
+    Farthest,
 }
 
 // Compares what a row gives with it.
@@ -24,7 +25,8 @@ fn expect_row(
     match kind {
         Kind::Faces => faces::expect_line(rt, alloc, meshes, second, third),
         Kind::Prescribed => prescribed::expect_line(rt, alloc, meshes, second, third),
-        Kind::Results => results::expect_lines(rt, alloc, meshes, second, third),
+        Kind::Results => results::expect_near_and_low(rt, alloc, meshes, second, third),
+        Kind::Farthest => results::expect_low_and_high(rt, alloc, meshes, second, third),
     }
 }
 

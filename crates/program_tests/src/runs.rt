@@ -9,7 +9,7 @@ ghost use Rattle.std.specs.Prelude.{◌≡◌, ◌<◌, ◌^◌, ◌-◌, IfOk};
 
 use files::{
     CUBE, CUBE_AND_FLAT, CUBES_AT_A_CORNER, MODELLED_CUBE, MODELLED_CUBE_COPIED, NESTED_CUBES,
-    OPEN_CUBE, TETRAHEDRON, TURNED_CUBE,
+    OPEN_CUBE, PRISM, TETRAHEDRON, TURNED_CUBE,
 };
 use mb_base::{ArgList, Limits, NoMemory};
 use mb_outside::{MemoryShelf, MemorySink, Shelf, SureShelf};
@@ -527,5 +527,14 @@ fn a_mesh_winds_round_a_point(rt: HostRuntime) -> Result<(), Fail> {
     judge_winding(&rt, &greatest, CUBE, b"winding 1\n")?;
     let least = ["inside", "c.obj", "0", "0", "0"];
     judge_winding(&rt, &least, CUBE, b"winding 0\n")?;
+    Ok(())
+}
+
+// At the point's x, 2, a wall of the prism has the y 2/3. Rounded to whole steps of the grid that would be the point's own y, 1,
+// and the point would count as outside.
+#[test]
+fn a_point_is_told_from_a_face_less_than_a_grid_step_away(rt: HostRuntime) -> Result<(), Fail> {
+    let words = ["inside", "c.obj", "2", "1", "2", "--digits", "0"];
+    judge_winding(&rt, &words, PRISM, b"winding 1\n")?;
     Ok(())
 }

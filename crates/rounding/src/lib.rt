@@ -8,7 +8,10 @@ ghost use Rattle.side_terms.specs.Fine.{IsFine, IsWeight, LiesBetween};
 ghost use Rattle.rounding.specs.Nearest.{rounded, nearest, settle_nearest};
 ghost use Rattle.rounding.specs.Lawful.{nearest_within, nearest_starts, nearest_ends, settle_monotone, settle_units};
 
+pub use ends::{High, Low};
 use mb_base::UNIT;
+
+mod ends;
 
 /// How numbers that fall between the whole ones are rounded. Whatever an implementation does within these laws, no
 /// decision that rests on them is spoilt. Fine coordinates lie within `UNIT * 2^30` of 0, weights from 0 to `UNIT * 2^31`.

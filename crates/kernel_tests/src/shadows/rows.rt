@@ -1,6 +1,6 @@
 //! Five hundred sets of random corners with the answers of all six pairs, packed into two numbers a row.
 //!
-//! Six corners, three of P and three of Q, of nine bits each from the lowest on: x, y and z of two bits each, and the
+//! Six corners, three of P and three of Q, of nine bits each from the lowest on: x, y and z in fine steps of two bits each, and the
 //! three marks. Then six answers of sixteen bits each, for the first corners of P and of Q, 1 and 1, 1 and 2, 2 and 1, 2
 //! and 2, 1 and 3, 3 and 1 of them: 0 for none, else 1 for the count 1 or 2 for -1 in two bits, the mark above, then x,
 //! P's y, Q's y, P's z and Q's z of two bits each, and the three marks of the spot.

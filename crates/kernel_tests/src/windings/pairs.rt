@@ -4,10 +4,8 @@ use super::table::{FIRST_PAIRS, SECOND_PAIRS};
 use lean::Side;
 use mb_base::Op;
 use mesh_check::Mesh;
-use rounding::{Nearest, Rounding};
-use sample_lines::{
-    Low, POST_IN_BOX, marked_side, plain_side, read_meshes, read_pair, write_numbers,
-};
+use rounding::{Low, Nearest, Rounding};
+use sample_lines::{POST_IN_BOX, marked_side, plain_side, read_meshes, read_pair, write_numbers};
 use shadow_kernels::Grid;
 use std::alloc::Global;
 use std::marker::Brand;
@@ -39,7 +37,7 @@ fn have_answers_by<R: Rounding + Copy>(
     Ok(answers.as_str() == wanted)
 }
 
-// Whether two sides have these answers, to the nearest and to the first.
+// Whether two sides have these answers, to the nearest and low.
 fn have_answers(alloc: Global, p: &Side, q: &Side, nearest: &str, low: &str) -> Result<bool, Fail> {
     Ok(have_answers_by(alloc, p, q, Nearest, nearest)? && have_answers_by(alloc, p, q, Low, low)?)
 }

@@ -2,14 +2,14 @@
 //!
 //! The first line has the operation that marks the first mesh, then the points and the triangles of the first mesh, and
 //! those of the second: three digits a point, three a triangle. The other two have the answers, to the nearest and under
-//! the rounding of the tests: the winding numbers of the first mesh's points and of the second's, then a word for each hit
+//! the rounding `Low`: the winding numbers of the first mesh's points and of the second's, then a word for each hit
 //! of the first mesh's edges and, after a bar, of the second's: edge, face, number, and the point in three digits. Each
 //! number is one digit, a letter from a for 10 on, with a sign before it where it is below 0.
 //!
 //! The meshes came from a random generator: tetrahedra, cones over loose triangles, triangles with their opposites,
 //! prisms and octahedra over any points, some with triangles repeated or turned, all within a few grid steps, so that many
-//! points are equal and coordinates tie. The answers are those of an independent reference program, which was written from
-//! the definitions alone and goes over all pairs. They hold where a fine step is one grid step.
+//! points are equal and coordinates tie. The answers are those of an independent program of the same definitions, which
+//! goes over all pairs and counts in fine steps of 1/256 of a grid step.
 mod first;
 mod second;
 

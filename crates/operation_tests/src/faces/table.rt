@@ -14,7 +14,7 @@
 //! of tetrahedra and loose triangles that a cone closes, and doubled ones. The first of them has the marks of the operation, and
 //! points were rounded to the nearest. The pairs were chosen so that most faces that are cut have copies at one point, and so
 //! that there are faces with several loops, numbers above 1 and below 0, and opposite triangles. All numbers, vertices, segments
-//! and loops are those of an independent program, which was written from the definitions alone.
+//! and loops are those of an independent program of the same definitions, in fine steps of 1/256 of a grid step.
 
 pub const PAIRS: &str = "\
 union 101104001004111114011014 013032475467041145173157362376064026 032132042033032403104 021013123203645246265425

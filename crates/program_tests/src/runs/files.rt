@@ -18,6 +18,10 @@ pub const TURNED_CUBE: &[u8] =
 pub const NESTED_CUBES: &[u8] =
     b"v 0 0 0\nv 10 0 0\nv 0 10 0\nv 10 10 0\nv 0 0 10\nv 10 0 10\nv 0 10 10\nv 10 10 10\nv 2 2 2\nv 8 2 2\nv 2 8 2\nv 8 8 2\nv 2 2 8\nv 8 2 8\nv 2 8 8\nv 8 8 8\nf 1 4 2\nf 1 3 4\nf 5 6 8\nf 5 8 7\nf 1 2 5\nf 2 6 5\nf 2 4 8\nf 2 8 6\nf 4 3 7\nf 4 7 8\nf 1 5 7\nf 1 7 3\nf 9 12 10\nf 9 11 12\nf 13 14 16\nf 13 16 15\nf 9 10 13\nf 10 14 13\nf 10 12 16\nf 10 16 14\nf 12 11 15\nf 12 15 16\nf 9 13 15\nf 9 15 11\n";
 
+// A prism over a triangle with slanted sides.
+pub const PRISM: &[u8] =
+    b"v 0 0 0\nv 3 1 0\nv 0 3 0\nv 0 0 4\nv 3 1 4\nv 0 3 4\nf 1 3 2\nf 4 5 6\nf 1 2 5\nf 1 5 4\nf 2 3 6\nf 2 6 5\nf 3 1 4\nf 3 4 6\n";
+
 // A cube without one of its twelve triangles.
 pub const OPEN_CUBE: &[u8] =
     b"v 0 0 0\nv 10 0 0\nv 0 10 0\nv 10 10 0\nv 0 0 10\nv 10 0 10\nv 0 10 10\nv 10 10 10\nf 1 4 2\nf 1 3 4\nf 5 6 8\nf 1 2 5\nf 2 6 5\nf 2 4 8\nf 2 8 6\nf 4 3 7\nf 4 7 8\nf 1 5 7\nf 1 7 3\n";
