@@ -100,7 +100,7 @@ fn read_row(line: &str) -> Option<Row> {
 }
 
 /// Whether the crossings of a line are those that kernels find for its corners.
-fn agrees<K: Kernels>(kernels: &K, line: &str) -> bool {
+pub(crate) fn agrees<K: Kernels>(kernels: &K, line: &str) -> bool {
     let Some(row) = read_row(line) else {
         return false;
     };
@@ -124,7 +124,7 @@ fn number_back<K: Kernels>(kernels: &K, a: &Corner, b: &Corner, q: &[Corner; 3])
 }
 
 /// Whether the edge of a line, asked the other way round, has the line's number turned.
-fn turns(line: &str) -> bool {
+pub(crate) fn turns<K: Kernels>(kernels: &K, line: &str) -> bool {
     let Some(row) = read_row(line) else {
         return false;
     };
@@ -133,7 +133,7 @@ fn turns(line: &str) -> bool {
         Some(c) => c.number as i64,
     };
     let edge = [row.p[0], row.p[1]];
-    number_back(&Grid { rounding: Nearest }, &edge[0], &edge[1], &row.q) == number
+    number_back(kernels, &edge[0], &edge[1], &row.q) == number
 }
 
 #[test]
@@ -149,7 +149,7 @@ fn agrees_with_the_table(rt: HostRuntime) {
 #[test]
 fn turned_edges_have_turned_numbers(rt: HostRuntime) {
     for line in ROWS.lines() {
-        assert!(rt; turns(line), "{line}");
+        assert!(rt; turns(&Grid { rounding: Nearest }, line), "{line}");
     }
 }
 

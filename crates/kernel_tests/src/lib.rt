@@ -1,4 +1,5 @@
-//! Tests of rounding, of the step counter, of the shadow tests, of the crossings of edges and faces, and of winding numbers, by their public calls.
+//! Tests of rounding, of the step counter, of the shadow tests and the crossings of edges and faces under the kernels of the grid and exact ones, and
+//! of winding numbers, by their public calls.
 #![tactic(auto)]
 
 #[cfg(test)]
@@ -7,6 +8,8 @@ mod boxes;
 mod counters;
 #[cfg(test)]
 mod edges_and_faces;
+#[cfg(test)]
+mod exact;
 #[cfg(test)]
 mod nearest;
 #[cfg(test)]

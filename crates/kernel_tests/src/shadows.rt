@@ -6,6 +6,7 @@ ghost use Rattle.shadow_kernels.specs.Counts.{count_of, shadow_of};
 mod more_rows;
 mod rows;
 
+use edge_face::Kernels;
 use mb_base::Corner;
 use more_rows::{ROWS_5, ROWS_6, ROWS_7, ROWS_8, ROWS_9};
 use rounding::Nearest;
@@ -84,26 +85,32 @@ fn answer(code: u128) -> Option<Meet> {
 }
 
 /// Whether the answers of vertices and edges are those that are wanted.
-fn flats_agree(a: &Corner, b: &Corner, u: &Corner, v: &Corner, answers: u128) -> bool
+fn flats_agree<K: Kernels>(
+    kernels: &K,
+    a: &Corner,
+    b: &Corner,
+    u: &Corner,
+    v: &Corner,
+    answers: u128,
+) -> bool
     requires a_fine { IsFineCorner a.now }
     requires b_fine { IsFineCorner b.now }
     requires u_fine { IsFineCorner u.now }
     requires v_fine { IsFineCorner v.now }
 {
-    let grid = Grid { rounding: Nearest };
-    grid.meet(&[*a], &[*u]) == answer(answers)
-        && grid.meet(&[*a], &[*u, *v]) == answer(answers >> 16)
-        && grid.meet(&[*a, *b], &[*u]) == answer(answers >> 32)
-        && grid.meet(&[*a, *b], &[*u, *v]) == answer(answers >> 48)
+    kernels.meet(&[*a], &[*u]) == answer(answers)
+        && kernels.meet(&[*a], &[*u, *v]) == answer(answers >> 16)
+        && kernels.meet(&[*a, *b], &[*u]) == answer(answers >> 32)
+        && kernels.meet(&[*a, *b], &[*u, *v]) == answer(answers >> 48)
 }
 
 /// Whether the answers of vertices with faces are those that are wanted.
-fn faces_agree(p: &[Corner; 3], q: &[Corner; 3], answers: u128) -> bool
+fn faces_agree<K: Kernels>(kernels: &K, p: &[Corner; 3], q: &[Corner; 3], answers: u128) -> bool
     requires p_fine { AllFine p.now }
     requires q_fine { AllFine q.now }
 {
-    let grid = Grid { rounding: Nearest };
-    grid.meet(&[p[0]], q) == answer(answers >> 64) && grid.meet(p, &[q[0]]) == answer(answers >> 80)
+    kernels.meet(&[p[0]], q) == answer(answers >> 64)
+        && kernels.meet(p, &[q[0]]) == answer(answers >> 80)
 }
 
 /// Three corners from their bits.
@@ -114,16 +121,17 @@ fn three(codes: u64) -> [Corner; 3]
 }
 
 /// Whether the answers of a row are those of its corners.
-fn agrees(corners: u64, answers: u128) -> bool {
+fn agrees<K: Kernels>(kernels: &K, corners: u64, answers: u128) -> bool {
     let p = three(corners);
     let q = three(corners >> 27);
-    flats_agree(&p[0], &p[1], &q[0], &q[1], answers) && faces_agree(&p, &q, answers)
+    flats_agree(kernels, &p[0], &p[1], &q[0], &q[1], answers)
+        && faces_agree(kernels, &p, &q, answers)
 }
 
-/// Whether the answers of all rows are those of their corners.
-fn all_agree(rows: &[(u64, u128)]) -> bool {
+/// Whether the answers of kernels to all rows are those of their corners.
+pub(crate) fn all_agree<K: Kernels>(kernels: &K, rows: &[(u64, u128)]) -> bool {
     for (corners, answers) in rows {
-        if !agrees(*corners, *answers) {
+        if !agrees(kernels, *corners, *answers) {
             return false;
         }
     }
@@ -132,16 +140,17 @@ fn all_agree(rows: &[(u64, u128)]) -> bool {
 
 #[test]
 fn agrees_with_the_table(rt: HostRuntime) {
-    assert!(rt; all_agree(&ROWS_0));
-    assert!(rt; all_agree(&ROWS_1));
-    assert!(rt; all_agree(&ROWS_2));
-    assert!(rt; all_agree(&ROWS_3));
-    assert!(rt; all_agree(&ROWS_4));
-    assert!(rt; all_agree(&ROWS_5));
-    assert!(rt; all_agree(&ROWS_6));
-    assert!(rt; all_agree(&ROWS_7));
-    assert!(rt; all_agree(&ROWS_8));
-    assert!(rt; all_agree(&ROWS_9));
+    let grid = Grid { rounding: Nearest };
+    assert!(rt; all_agree(&grid, &ROWS_0));
+    assert!(rt; all_agree(&grid, &ROWS_1));
+    assert!(rt; all_agree(&grid, &ROWS_2));
+    assert!(rt; all_agree(&grid, &ROWS_3));
+    assert!(rt; all_agree(&grid, &ROWS_4));
+    assert!(rt; all_agree(&grid, &ROWS_5));
+    assert!(rt; all_agree(&grid, &ROWS_6));
+    assert!(rt; all_agree(&grid, &ROWS_7));
+    assert!(rt; all_agree(&grid, &ROWS_8));
+    assert!(rt; all_agree(&grid, &ROWS_9));
 }
 
 // A corner near the origin, moved up on x or on no axis.

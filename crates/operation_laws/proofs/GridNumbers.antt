@@ -27,7 +27,7 @@ use Rattle.crossings.proofs.Rounds.{Lifts, pairs_agree}
 use Rattle.winding.specs.Windings.{winding, winding_back}
 use Rattle.winding.proofs.Identity.{edges_conserve, winding_listed}
 use Rattle.mesh_boolean.specs.Operation.{numbers_of}
-use Rattle.operation_laws.specs.Grid.{tests_of}
+use Rattle.operation_laws.specs.Kernels.{tests_of}
 use Rattle.operation_laws.proofs.HitPoints.{p_hits_on_grid, q_hits_on_grid}
 use Rattle.operation_laws.proofs.Made.{AreNumbersOf}
 

@@ -1,10 +1,13 @@
--- Operations under the tests of the grid on accepted meshes give accepted meshes within lawful limits, which are read of their texts, and are results
+-- Operations under the kernels that a script may choose on accepted meshes give accepted meshes within lawful limits, which are read of their texts, and are results
 -- of these meshes.
 use Rattle.std.proofs.Common.{◌≡◌, ◌≤◌, ℕ, false, [], ◌∷◌, length, replicate, map, refl, ◌∙◌, arith}
 use Rattle.std.proofs.lemmas.Bool.{ltb-false}
 use Rattle.std.proofs.lemmas.List.{length-map, length-replicate}
 use Rattle.chain_terms.specs.Sums.{upto}
 use Rattle.chain_laws.proofs.Places.{length-up_from}
+use Rattle.exact_kernels.specs.ExactRule.{exact_rule}
+use Rattle.mb_base.specs.declared.kernel_kind.KernelKind.{KernelKind}
+use Rattle.mb_base.specs.declared.kernel_kind.KernelKind.TheVariants.{Exact, Grid}
 use Rattle.mb_base.specs.declared.op.Op.{Op}
 use Rattle.mesh_terms.specs.Limits.{IsLawful, Limits, most_halfedges}
 use Rattle.mesh_terms.specs.Meshes.{Mesh}
@@ -12,7 +15,7 @@ use Rattle.lean.specs.Leans.{is_up, leans_of, normals_of, vertex_normal}
 use Rattle.rounding.specs.Lawful.{nearest_within, settle_monotone, settle_units}
 use Rattle.rounding.specs.Nearest.{nearest, settle_nearest}
 use Rattle.shadow_kernels.specs.Hulls.{StaysBetween}
-use Rattle.shadow_kernels.specs.Lawful.{grid_rule}
+use Rattle.shadow_kernels.specs.Lawful.{IsRule, grid_rule}
 use Rattle.edge_face.specs.CrossLaws.{IsSettling}
 use Rattle.filling_laws.specs.Laws.{FacesAreFilled}
 use Rattle.made_laws.specs.Laws.{IsGiven, IsGivenWithin}
@@ -21,7 +24,7 @@ use Rattle.script_laws.proofs.Readable.{readable_within, within_of_readable}
 use Rattle.script_laws.proofs.ReadingBack.{steps_keep}
 use Rattle.script_terms.specs.Plays.{mesh_at}
 use Rattle.mesh_boolean.specs.Operation.{Outcome, first_side, numbers_of, operation, reduced_mesh, second_side}
-use Rattle.operation_laws.specs.Grid.{grid_meanings, grid_tests, told_of}
+use Rattle.operation_laws.specs.Kernels.{meanings_under, rule_under, tests_under, told_of}
 use Rattle.operation_laws.specs.Laws.{OperationsAreAccepted, OperationsAreReadable}
 use Rattle.operation_laws.specs.Results.{OperationsAreResults, ScriptsGiveResults}
 use Rattle.operation_laws.proofs.OfSides.{result_of_sides}
@@ -35,6 +38,11 @@ nearest_stays = record { within = λ u v a b p q s t. nearest_within u v a b s.l
 
 nearest_settles : IsSettling settle_nearest
 nearest_settles = record { monotone = λ f g p q h. settle_monotone f g h; units = λ k p. settle_units k }
+
+-- both rules are lawful so
+lawful_under : (kernels : KernelKind) → IsRule (rule_under kernels) nearest
+lawful_under Grid = grid_rule nearest nearest_stays
+lawful_under Exact = exact_rule nearest nearest_stays
 
 -- a mark for each point
 length-leans : (op : Op) (m : Mesh) → length (leans_of op m) ≡ length m.points
@@ -50,21 +58,24 @@ second_known q given =
     reduced_side q (replicate (length (reduced_mesh q).points) (false ∷ false ∷ false ∷ [])) given (length-replicate (length (reduced_mesh q).points) (false ∷ false ∷ false ∷ []))
 
 -- what an operation makes of accepted meshes
-pub operation_made : AreFilled → (op : Op) (p q : Mesh) → IsGiven p → IsGiven q → (operation grid_tests op p q).halfedges ≤ most_halfedges → IsMade (operation grid_tests op p q)
-operation_made laws op p q p_given q_given few =
+pub operation_made : AreFilled → (kernels : KernelKind) (op : Op) (p q : Mesh) → IsGiven p → IsGiven q → (operation (tests_under kernels) op p q).halfedges ≤ most_halfedges →
+    IsMade (operation (tests_under kernels) op p q)
+operation_made laws kernels op p q p_given q_given few =
     let one = first_known op p p_given in
     let other = second_known q q_given in
     let first = first_side op p in
     let second = second_side q in
-    is_made laws op first second (numbers_of grid_tests first second) one other (are_numbers (grid_rule nearest nearest_stays) settle_nearest nearest_settles first second one.kept other.kept) few
+    is_made laws op first second (numbers_of (tests_under kernels) first second) one other
+    (are_numbers (lawful_under kernels) settle_nearest nearest_settles first second one.kept other.kept) few
 
 -- the half-edges of a lawful limit are at most sixty million
 few_halfedges : (limits : Limits) (n : ℕ) → IsLawful limits → n ≤ limits.halfedges → n ≤ most_halfedges
 few_halfedges limits n lawful within = omega (arith, within, lawful.triangles_enough, lawful.few_triangles)
 
-made_of : AreFilled → (limits : Limits) → IsLawful limits → (op : Op) (p q : Mesh) → IsGiven p → IsGiven q → (operation grid_tests op p q).halfedges ≤ limits.halfedges → IsMade (operation grid_tests op p q)
-made_of laws limits lawful op p q p_given q_given within =
-    operation_made laws op p q p_given q_given (few_halfedges limits (operation grid_tests op p q).halfedges lawful within)
+made_of : AreFilled → (limits : Limits) → IsLawful limits → (kernels : KernelKind) (op : Op) (p q : Mesh) → IsGiven p → IsGiven q →
+    (operation (tests_under kernels) op p q).halfedges ≤ limits.halfedges → IsMade (operation (tests_under kernels) op p q)
+made_of laws limits lawful kernels op p q p_given q_given within =
+    operation_made laws kernels op p q p_given q_given (few_halfedges limits (operation (tests_under kernels) op p q).halfedges lawful within)
 
 -- what is made is within lawful limits where its half-edges are
 made_within : (limits : Limits) (o : Outcome) → IsLawful limits → IsMade o → o.halfedges ≤ limits.halfedges → IsGivenWithin limits (told_of o).mesh
@@ -76,39 +87,41 @@ made_within limits o lawful made within = record {
 
 -- under lawful limits an operation on accepted meshes gives an accepted mesh within the limits, where its half-edges are
 pub operations_are_accepted : AreFilled → OperationsAreAccepted
-operations_are_accepted laws limits lawful op p q p_given q_given within =
-    made_within limits (operation grid_tests op p q) lawful (made_of laws limits lawful op p q p_given q_given within) within
+operations_are_accepted laws limits lawful kernels op p q p_given q_given within =
+    made_within limits (operation (tests_under kernels) op p q) lawful (made_of laws limits lawful kernels op p q p_given q_given within) within
 
 -- which is read of its text
-pub operations_are_readable : AreFilled → (k : ℕ) (limits : Limits) → k ≤ 6 → IsLawful limits → (op : Op) (p q : Mesh) → IsGiven p → IsGiven q → (operation grid_tests op p q).halfedges ≤ limits.halfedges →
-    MeshReadable k limits (told_of (operation grid_tests op p q)).mesh
-operations_are_readable laws k limits few lawful op p q p_given q_given within =
-    let o = operation grid_tests op p q in
-    let made = made_of laws limits lawful op p q p_given q_given within in
+pub operations_are_readable : AreFilled → (k : ℕ) (limits : Limits) → k ≤ 6 → IsLawful limits → (kernels : KernelKind) (op : Op) (p q : Mesh) → IsGiven p → IsGiven q →
+    (operation (tests_under kernels) op p q).halfedges ≤ limits.halfedges →
+    MeshReadable k limits (told_of (operation (tests_under kernels) op p q)).mesh
+operations_are_readable laws k limits few lawful kernels op p q p_given q_given within =
+    let o = operation (tests_under kernels) op p q in
+    let made = made_of laws limits lawful kernels op p q p_given q_given within in
     readable_within k limits (told_of o).mesh few lawful (made_within limits o lawful made within)
 
 -- so what a script makes of meshes that are read of their texts is read of its text
 pub results_readable : AreFilled → OperationsAreReadable
-results_readable laws k limits few lawful op p q p_readable q_readable within =
-    operations_are_readable laws k limits few lawful op p q (within_of_readable k limits p lawful p_readable).given (within_of_readable k limits q lawful q_readable).given
-    (ltb-false limits.halfedges (operation grid_tests op p q).halfedges within)
+results_readable laws k limits few lawful kernels op p q p_readable q_readable within =
+    operations_are_readable laws k limits few lawful kernels op p q (within_of_readable k limits p lawful p_readable).given (within_of_readable k limits q lawful q_readable).given
+    (ltb-false limits.halfedges (operation (tests_under kernels) op p q).halfedges within)
 
 -- and what an operation gives is a result of its meshes
 pub operations_are_results : AreFilled → FacesAreFilled → OperationsAreResults
-operations_are_results laws filled op p q p_given q_given few =
+operations_are_results laws filled kernels op p q p_given q_given few =
     let one = first_known op p p_given in
     let other = second_known q q_given in
     let first = first_side op p in
     let second = second_side q in
-    let known = are_numbers (grid_rule nearest nearest_stays) settle_nearest nearest_settles first second one.kept other.kept in
-    let made = result_of_sides laws filled op first second (numbers_of grid_tests first second) one other known few in
+    let known = are_numbers (lawful_under kernels) settle_nearest nearest_settles first second one.kept other.kept in
+    let made = result_of_sides laws filled op first second (numbers_of (tests_under kernels) first second) one other known few in
     record { conserved = known.conserved; prescribed = refl; from = made.from; faces = made.faces; clean = made.clean }
 
 -- so is what a script has of an operation on the meshes of two names
 pub scripts_give_results : AreFilled → FacesAreFilled → ScriptsGiveResults
-scripts_give_results laws filled k limits few lawful script files lines named is op left right within =
-    let p = mesh_at named left in
-    let q = mesh_at named right in
-    let all = (steps_keep grid_meanings k limits few lawful (results_readable laws k limits few lawful) script lines).value files named is in
-    operations_are_results laws filled op p q (within_of_readable k limits p lawful (all left)).given (within_of_readable k limits q lawful (all right)).given
-    (few_halfedges limits (operation grid_tests op p q).halfedges lawful within)
+scripts_give_results laws filled k limits few lawful script files lines state is op left right within =
+    let kernels = state.kernels in
+    let p = mesh_at state.named left in
+    let q = mesh_at state.named right in
+    let all = (steps_keep meanings_under k limits few lawful (results_readable laws k limits few lawful) script lines).value files state is in
+    operations_are_results laws filled kernels op p q (within_of_readable k limits p lawful (all left)).given (within_of_readable k limits q lawful (all right)).given
+    (few_halfedges limits (operation (tests_under kernels) op p q).halfedges lawful within)

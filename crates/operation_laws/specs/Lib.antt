@@ -1,3 +1,3 @@
-pub mod Grid
+pub mod Kernels
 pub mod Laws
 pub mod Results

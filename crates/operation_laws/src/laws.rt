@@ -5,8 +5,8 @@ ghost use Rattle.operation_laws.specs.Results.{OperationsAreResults, ScriptsGive
 
 use filling_laws::laws::{faces_are_filled, fillings_close};
 
-/// Under the tests of the grid an operation on two accepted meshes makes an accepted mesh, within lawful limits where its
-/// half-edges are, and what a script makes so is read of its text.
+/// Under the kernels of the grid and under exact ones an operation on two accepted meshes makes an accepted mesh, within lawful
+/// limits where its half-edges are, and what a script makes so is read of its text.
 pub fn operations_are_readable()
     ensures accepted { OperationsAreAccepted }
     ensures readable { OperationsAreReadable }
@@ -15,7 +15,7 @@ pub fn operations_are_readable()
     fillings_close();
 }
 
-/// Under the tests of the grid what an operation gives of two accepted meshes is a result of them, where its half-edges are at most
+/// Under the kernels of the grid and under exact ones what an operation gives of two accepted meshes is a result of them, where its half-edges are at most
 /// `most_halfedges`, which no lawful limit passes: along each half-edge of both, reduced, the winding number in the other changes by its signed
 /// crossings; the vertices, before pinched ones are split, are the prescribed ones, each as often; the triangles of each source face are bounded
 /// by its segments; and the mesh is closed, its half-edges are paired, and each vertex has one fan. The meshes of the names of a script are such

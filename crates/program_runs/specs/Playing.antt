@@ -13,7 +13,8 @@ use Rattle.mesh_commands.specs.Windings.{windings}
 use Rattle.program_terms.specs.Commands.{Meanings, play}
 use Rattle.script_runs.specs.Operations as operations
 
--- the winding number and an operation are those under the kernels of the grid and rounding to the nearest
+-- the winding number is that under the kernels of the grid, and an operation of a script is taken under these before its first choice of exact ones, and
+-- under those after it, all with rounding to the nearest
 abbrev pub meanings : Meanings
 meanings = record { points = windings; scripts = operations.meanings }
 

@@ -27,8 +27,9 @@ use steps::Steps;
 /// memory aside, and nothing is done but the usage line on `err`. A unit of the files has 10^K steps of the grid, where K are the digits. `copy` reads and
 /// checks the mesh of IN, saves it to OUT and reports that on `out` in one line. `inside` reads and checks the mesh of FILE and reports the winding number of
 /// the point in it, and counts one step; a run that ends before the number is found counts none. `run` reads the whole script of SCRIPT, whose lines load meshes
-/// or make solids and give them names, shift, scale, mirror and turn them, unite, intersect and subtract them, measure and save them; a faulty line is
-/// `BadScript`, and then no line is done. It then does its lines in order, and reports each that loads, combines, measures or saves on `out` in one line.
+/// or make solids and give them names, shift, scale, mirror and turn them, unite, intersect and subtract them, measure and save them, or choose exact kernels;
+/// a faulty line is `BadScript`, and then no line is done. Operations before the first line that chooses exact kernels are taken under the kernels of the grid,
+/// and those after it under exact ones, all with rounding to the nearest. It then does its lines in order, and reports each that loads, combines, measures or saves on `out` in one line.
 /// A solid without a volume, and a solid or a moved mesh that would leave the grid, is `BadMesh`. What was saved before a stop stays. Of a script only
 /// operations count steps; where the shelf tells its files these are at most one for each connected component of their meshes, reduced. Whatever goes
 /// wrong first ends the run with its status and one line on `err`, and a fault of `err` changes no status. A run that ends well leaves `err` as it was.
@@ -40,7 +41,7 @@ use steps::Steps;
 /// fault came, ends with 0, or for want of memory. Whatever the files and however the run ended, each file that the play writes holds the text of a mesh in the format of its name,
 /// and the mesh is read of its OBJ text under the same digits and limits; for a copy this mesh is the one that was read of IN, in either format, without its
 /// unused points. An STL text reads as the mesh welded, its points in another order; that is a law of `stl_laws` and no clause here.
-/// Whatever lines of a script were done, what the play has of an operation on the meshes of two names is a result of these: along each half-edge of both, reduced,
+/// Whatever lines of a script were done, what the play has of an operation on the meshes of two names is a result of these, under the kernels chosen by then: along each half-edge of both, reduced,
 /// the winding number in the other changes by its signed crossings; the vertices, before pinched ones are split, are those that these numbers prescribe, each as
 /// often; the triangles made in each face of either are bounded by the segments prescribed there; and half-edges pair, none with itself, with one fan at each
 /// vertex.

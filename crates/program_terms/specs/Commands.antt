@@ -1,5 +1,6 @@
 -- What the program does: the task of each command, and of the words that ask for it.
 use Rattle.std.specs.Prelude.{List, Option, Some, None, Err}
+use Rattle.mb_base.specs.declared.kernel_kind.KernelKind.{KernelKind}
 use Rattle.mesh_terms.specs.Limits.{Limits}
 use Rattle.run_terms.specs.Files.{Bytes}
 use Rattle.run_terms.specs.Tasks.{Task, give}
@@ -10,10 +11,11 @@ use Rattle.play_terms.specs.Words.{Command, CopyFile, InsideFile, RunScript, com
 use Rattle.script_terms.specs.Plays as plays
 use Rattle.script_terms.specs.Plays.{script_task}
 
--- what the commands need of geometry: the winding number of a point in a mesh, and what an operation gives of two meshes
+-- what the commands need of geometry: the winding number of a point in a mesh, and what an operation gives of two meshes under each of the kernels that
+-- a script may choose
 pub record Meanings : Type 0 where
   pub points : commands.Meanings
-  pub scripts : plays.Meanings
+  pub scripts : KernelKind → plays.Meanings
 
 -- the task of a command; words of no command are refused
 abbrev pub command_task : Meanings → Limits → Option Command → Task (Unit {0})

@@ -2,7 +2,7 @@
 use Rattle.std.specs.Prelude.{ℕ}
 use Rattle.script_terms.specs.Commands as terms
 use Rattle.script_lang.specs.declared.commands.Command.{Command}
-use Rattle.script_lang.specs.declared.commands.Command.TheVariants.{Load, Save, Measure, Combine, Make, Move}
+use Rattle.script_lang.specs.declared.commands.Command.TheVariants.{Load, Save, Measure, Combine, Make, Move, Exact}
 use Rattle.script_lang.specs.declared.commands.Motion.{Motion}
 use Rattle.script_lang.specs.declared.commands.Motion.TheVariants.{Shift, Scale, Mirror, Turn}
 use Rattle.script_lang.specs.declared.commands.Solid.{Solid}
@@ -31,3 +31,4 @@ command_of Measure = terms.measure
 command_of (Combine op) = terms.combine op
 command_of (Make solid) = making solid
 command_of (Move motion) = moving motion
+command_of Exact = terms.exact

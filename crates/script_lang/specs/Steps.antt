@@ -3,7 +3,7 @@ use Rattle.script_terms.specs.Making as making
 use Rattle.script_terms.specs.Steps as terms
 use Rattle.script_lang.specs.declared.steps.Line.{Line}
 use Rattle.script_lang.specs.declared.steps.Step.{Step}
-use Rattle.script_lang.specs.declared.steps.Step.TheVariants.{Load, Save, Measure, Combine, MakeBox, MakeTetra, MakePrism, MakeLattice, Shift, Scale, Mirror, Turn}
+use Rattle.script_lang.specs.declared.steps.Step.TheVariants.{Load, Save, Measure, Combine, MakeBox, MakeTetra, MakePrism, MakeLattice, Shift, Scale, Mirror, Turn, Exact}
 
 abbrev pub step_of : Step → terms.Step
 step_of (Load name file) = terms.Load name file
@@ -18,6 +18,7 @@ step_of (Shift name source by) = terms.Move name source (making.Shift by)
 step_of (Scale name source factor) = terms.Move name source (making.Scale factor)
 step_of (Mirror name source axis) = terms.Move name source (making.Mirror axis)
 step_of (Turn name source axis) = terms.Move name source (making.Turn axis)
+step_of Exact = terms.Exact
 
 abbrev pub line_of : Line → terms.Line
 line_of l = (l.line, step_of l.step)

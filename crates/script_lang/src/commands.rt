@@ -33,6 +33,7 @@ pub enum Command {
     Combine(Op),
     Make(Solid),
     Move(Motion),
+    Exact,
 }
 
 impl Command {
@@ -52,6 +53,8 @@ impl Command {
             Some(Command::Combine(Op::Intersect))
         } else if word == b"subtract".as_slice() {
             Some(Command::Combine(Op::Subtract))
+        } else if word == b"exact".as_slice() {
+            Some(Command::Exact)
         } else if word == b"box".as_slice() {
             Some(Command::Make(Solid::Box))
         } else if word == b"tetra".as_slice() {

@@ -124,6 +124,7 @@ impl<'a> Reading<'a> {
                 left: Word::of(self.old_text(left)?),
                 right: Word::of(self.old_text(right)?),
             }),
+            (Command::Exact, &[]) => Ok(Step::Exact),
             (Command::Make(solid), operands) => solid_step(solid, operands, digits),
             (Command::Move(motion), operands) => self.motion_step(motion, operands, digits),
             _ => Err(WRONG_COUNT),

@@ -110,6 +110,8 @@ pub enum Step<'a> {
         source: Word<'a>,
         axis: u8,
     },
+    /// From here on operations are taken under exact kernels.
+    Exact,
 }
 
 impl<'a> Step<'a> {
@@ -118,7 +120,7 @@ impl<'a> Step<'a> {
         ensures { option_copied result ≡ new_name (step_of self.now) }
     {
         match self {
-            Step::Save { .. } | Step::Measure { .. } => None,
+            Step::Save { .. } | Step::Measure { .. } | Step::Exact => None,
             Step::Load { name, .. }
             | Step::Combine { name, .. }
             | Step::MakeBox { name, .. }

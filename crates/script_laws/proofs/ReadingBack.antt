@@ -6,6 +6,7 @@ use Rattle.made_terms.specs.Refusals.{MadeFault}
 use Rattle.mesh_terms.specs.Faults.{Halfedges}
 use Rattle.mesh_terms.specs.Limits.{Limits, IsLawful}
 use Rattle.mesh_terms.specs.Meshes.{Mesh}
+use Rattle.mb_base.specs.declared.kernel_kind.KernelKind.{KernelKind}
 use Rattle.mb_base.specs.declared.op.Op.{Op}
 use Rattle.run_terms.specs.Files.{Bytes}
 use Rattle.run_terms.specs.Runs.{Action, Ask, Write, Say}
@@ -20,10 +21,10 @@ use Rattle.play_laws.proofs.ReadingBack.{mesh_asked, read_again}
 use Rattle.script_terms.specs.Combined.{Combined}
 use Rattle.script_terms.specs.Lines.{load_line, save_line, measure_line, combine_line}
 use Rattle.script_terms.specs.Making.{Solid, solid_fault, solid_mesh, Motion, motion_fault, moved_mesh}
-use Rattle.script_terms.specs.Plays.{Meanings, Named, no_names, with_name, mesh_at, mesh_or_none, within, made, load_task, save_task, measure_task, combine_task}
-use Rattle.script_terms.specs.Plays.{make_task, move_task, step_task, steps_task, script_checked, script_task}
+use Rattle.script_terms.specs.Plays.{Meanings, Named, with_name, mesh_at, mesh_or_none, within, made, load_task, save_task, measure_task, combine_task}
+use Rattle.script_terms.specs.Plays.{State, at_first, line_task, make_task, move_task, script_checked, script_task, state_after, step_task, steps_task}
 use Rattle.script_terms.specs.Scripts.{script}
-use Rattle.script_terms.specs.Steps.{Line, Step, Load, Save, Measure, Combine, Make, Move}
+use Rattle.script_terms.specs.Steps.{Line, Step, Load, Save, Measure, Combine, Make, Move, Exact}
 use Rattle.made_laws.proofs.Motions.{moved_within}
 use Rattle.made_laws.proofs.Solids.{solid_given}
 use Rattle.script_laws.specs.ReadingBack.{MeshReadable, NamesReadable, ResultsReadable, soup_of_mesh}
@@ -43,7 +44,7 @@ taken_made : (script : Bytes) (line : ℕ) (fault : Option MadeFault) (m n : Mes
 taken_made script line None m n is = (refl, cc)
 taken_made script line (Some fault) m n is = cc
 
-module _ (means : Meanings) (k : ℕ) (limits : Limits) (few : k ≤ 6) (lawful : IsLawful limits) (results : ResultsReadable means k limits) where
+module _ (means : KernelKind → Meanings) (k : ℕ) (limits : Limits) (few : k ≤ 6) (lawful : IsLawful limits) (results : (kernels : KernelKind) → ResultsReadable (means kernels) k limits) where
   abbrev Writes : Action → Type 0
   Writes a = WritesReadable k limits a
 
@@ -94,12 +95,12 @@ module _ (means : Meanings) (k : ℕ) (limits : Limits) (few : k ≤ 6) (lawful 
   measure_keeps : (name : Bytes) (m : Mesh) (named : Named) → Names named → Keeps Writes Names (measure_task name m named)
   measure_keeps name m named all = told (measure_line name m) named all
 
-  combine_keeps : (op : Op) (name left right : Bytes) (named : Named) → Names named → Keeps Writes Names (combine_task means limits op name left right named)
-  combine_keeps op name left right named all =
-      let o = means.operation op (mesh_at named left) (mesh_at named right) in
+  combine_keeps : (kernels : KernelKind) (op : Op) (name left right : Bytes) (named : Named) → Names named → Keeps Writes Names (combine_task (means kernels) limits op name left right named)
+  combine_keeps kernels op name left right named all =
+      let o = (means kernels).operation op (mesh_at named left) (mesh_at named right) in
       let R : Combined → Type 0 = λ a. MeshReadable k limits a.mesh in
       keeps_then Writes R Names (give (within limits o)) (λ a. then_task (say_line (combine_line op name left right a)) (λ _. give (Ok (with_name name a.mesh named))))
-      (keeps_give Writes R (within limits o) (λ a is. let taken = taken_within limits o a is in subst R taken.0 (results op (mesh_at named left) (mesh_at named right) (all left) (all right) taken.1)))
+      (keeps_give Writes R (within limits o) (λ a is. let taken = taken_within limits o a is in subst R taken.0 (results kernels op (mesh_at named left) (mesh_at named right) (all left) (all right) taken.1)))
       (λ a more. told_and_named (combine_line op name left right a) name a.mesh named all more)
 
   -- a name more has what is made, where that is not refused
@@ -122,25 +123,35 @@ module _ (means : Meanings) (k : ℕ) (limits : Limits) (few : k ≤ 6) (lawful 
       made_and_named script line name (motion_fault motion m.points) (moved_mesh motion m) named all
       (λ none. readable_within k limits (moved_mesh motion m) few lawful (moved_within limits motion m (within_of_readable k limits m lawful (all old)) none))
 
-  step_keeps : (script : Bytes) (line : ℕ) (step : Step) (named : Named) → Names named → Keeps Writes Names (step_task means k limits script line step named)
-  step_keeps script line (Load name file) named all = load_keeps name file named all
-  step_keeps script line (Save name file) named all = save_keeps name file (mesh_at named name) named all (all name)
-  step_keeps script line (Measure name) named all = measure_keeps name (mesh_at named name) named all
-  step_keeps script line (Combine op name left right) named all = combine_keeps op name left right named all
-  step_keeps script line (Make name solid) named all = make_keeps script line name solid named all
-  step_keeps script line (Move name old motion) named all = move_keeps script line name old motion named all
+  step_keeps : (kernels : KernelKind) (script : Bytes) (line : ℕ) (step : Step) (named : Named) → Names named → Keeps Writes Names (step_task (means kernels) k limits script line step named)
+  step_keeps kernels script line (Load name file) named all = load_keeps name file named all
+  step_keeps kernels script line (Save name file) named all = save_keeps name file (mesh_at named name) named all (all name)
+  step_keeps kernels script line (Measure name) named all = measure_keeps name (mesh_at named name) named all
+  step_keeps kernels script line (Combine op name left right) named all = combine_keeps kernels op name left right named all
+  step_keeps kernels script line (Make name solid) named all = make_keeps script line name solid named all
+  step_keeps kernels script line (Move name old motion) named all = move_keeps script line name old motion named all
+  step_keeps kernels script line Exact named all = keeps_value Writes Names named all
+
+  abbrev Known : State → Type 0
+  Known state = Names state.named
+
+  -- a line, under the kernels of the state before it
+  line_keeps : (script : Bytes) (l : Line) (state : State) → Known state → Keeps Writes Known (line_task means k limits script l state)
+  line_keeps script l state all =
+      keeps_then Writes Names Known (step_task (means state.kernels) k limits script l.0 l.1 state.named) (λ named. give (Ok (state_after l.1 state named)))
+      (step_keeps state.kernels script l.0 l.1 state.named all) (λ named such. keeps_value Writes Known (state_after l.1 state named) such)
 
   -- whatever lines are done, each name has a mesh that is read where it is written
-  pub steps_keep : (script : Bytes) (lines : List Line) → Keeps Writes Names (steps_task means k limits script lines no_names)
+  pub steps_keep : (script : Bytes) (lines : List Line) → Keeps Writes Known (steps_task means k limits script lines at_first)
   steps_keep script lines =
-      keeps_in_order Writes Names (λ l n. step_task means k limits script l.0 l.1 n) lines no_names (λ l named all. step_keeps script l.0 l.1 named all) (λ name. empty_readable)
+      keeps_in_order Writes Known (line_task means k limits script) lines at_first (line_keeps script) (λ name. empty_readable)
 
   -- whatever the files, each file that a script writes holds the text of a mesh, which is read of it again
   pub script_keeps : (name : Bytes) → Keeps Writes (λ _. Unit {0}) (script_task means k limits name)
   script_keeps name =
       keeps_then Writes (λ _. Unit {0}) (λ _. Unit {0}) (ask_file limits name)
-      (λ bytes. then_task (give (script_checked name (script k bytes))) (λ lines. then_task (steps_task means k limits name lines no_names) (λ _. give (Ok tt))))
+      (λ bytes. then_task (give (script_checked name (script k bytes))) (λ lines. then_task (steps_task means k limits name lines at_first) (λ _. give (Ok tt))))
       (asked name)
-      (λ bytes _. keeps_then Writes (λ _. Unit {0}) (λ _. Unit {0}) (give (script_checked name (script k bytes))) (λ lines. then_task (steps_task means k limits name lines no_names) (λ _. give (Ok tt)))
+      (λ bytes _. keeps_then Writes (λ _. Unit {0}) (λ _. Unit {0}) (give (script_checked name (script k bytes))) (λ lines. then_task (steps_task means k limits name lines at_first) (λ _. give (Ok tt)))
       (keeps_give Writes (λ _. Unit {0}) (script_checked name (script k bytes)) (λ lines is. tt))
-      (λ lines _. keeps_then Writes Names (λ _. Unit {0}) (steps_task means k limits name lines no_names) (λ _. give (Ok tt)) (steps_keep name lines) (λ named all. keeps_value Writes (λ _. Unit {0}) tt tt)))
+      (λ lines _. keeps_then Writes Known (λ _. Unit {0}) (steps_task means k limits name lines at_first) (λ _. give (Ok tt)) (steps_keep name lines) (λ state all. keeps_value Writes (λ _. Unit {0}) tt tt)))

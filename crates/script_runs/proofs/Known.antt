@@ -1,5 +1,5 @@
 -- Which names have meshes after steps.
-use Rattle.std.proofs.Common.{◌≡◌, ◌++◌, ◌⊎◌, Bool, true, false, List, [], ◌∷◌, Option, Some, IsSome, IsTrue, inl, inr, refl, sym, subst, ◌∙◌}
+use Rattle.std.proofs.Common.{◌≡◌, ◌++◌, ◌⊎◌, Bool, true, false, List, [], ◌∷◌, Option, Some, None, IsSome, IsTrue, inl, inr, refl, sym, subst, ◌∙◌}
 use Rattle.std.specs.Prelude.{◌||◌, if◌then◌else◌, bytes_eq}
 use Rattle.std.proofs.lemmas.List.Elements.{All-weaker}
 use Rattle.std.proofs.lemmas.List.Folds.{list_any-append}
@@ -24,6 +24,13 @@ named_keeps step name old new is (m, now) w has =
     by : (b : Bool) → bytes_eq w name ≡ b → IsSome (if b then Some m else old w)
     by true here = refl
     by false other = elim has [ inl some ↦ some | inr more ↦ let wrong = given more in absurd (cc) ]
+
+-- where a step gives no name a mesh, names that stay are kept
+pub unchanged_keeps : (step : Step) (named : Named) → new_name step ≡ None → KeepsNames step named named
+unchanged_keeps step named is w has = elim has [ inl some ↦ some | inr more ↦ let wrong = given more in absurd (cc) ]
+  where
+    given : IsTrue (gives w step) → IsTrue false
+    given more = subst (λ (n : Option Bytes). IsTrue (is_that w n)) is more
 
 -- the names of one line more
 pub named_next : (old new : Named) (lines : List Line) (l : Line) → AreNamed old lines → KeepsNames l.1 old new → AreNamed new (lines ++ l ∷ [])

@@ -1,5 +1,6 @@
 -- A script by its parts: its file is read, its text is read, and its lines are done.
 use Rattle.std.proofs.Common.{◌≡◌, ◌+◌, ◌≤◌, ℕ, Bool, List, Result, Ok, Err, IsTrue, refl, ap, sym, subst, arith}
+use Rattle.mb_base.specs.declared.kernel_kind.KernelKind.{KernelKind}
 use Rattle.mesh_terms.specs.Limits.{Limits}
 use Rattle.mb_outside.specs.Seen.{OnOutput, OnShelf, ShelfMeets, seen}
 use Rattle.play_terms.specs.Commands.{ask_file}
@@ -13,16 +14,16 @@ use Rattle.run_laws.proofs.Tasks.{meets_given, meets_refused, meets_starved, mee
 use Rattle.script_lang.specs.Faults.{IsFaultOf}
 use Rattle.script_lang.specs.declared.fault.ScriptFault.{ScriptFault}
 use Rattle.script_lang.specs.declared.fault.ScriptFault.TheVariants.{Bad, NoMemory}
-use Rattle.script_terms.specs.Plays.{Meanings, Named, no_names, script_checked, script_task, steps_task}
+use Rattle.script_terms.specs.Plays.{Meanings, State, at_first, script_checked, script_task, steps_task}
 use Rattle.script_terms.specs.Scripts.{script}
 use Rattle.script_terms.specs.Steps.{Line}
 use Rattle.script_runs.specs.Costs.{cost_of_value, lines_cost, script_cost, text_cost}
 use Rattle.script_runs.specs.Texts.{text_task, why_of_fault}
 
-module _ (means : Meanings) (k : ℕ) (limits : Limits) (name : Bytes) where
+module _ (means : KernelKind → Meanings) (k : ℕ) (limits : Limits) (name : Bytes) where
   -- the steps of the lines, and no value
   abbrev doing : List Line → Task (Unit {0})
-  doing lines = then_task (steps_task means k limits name lines no_names) (λ _. give (Ok tt))
+  doing lines = then_task (steps_task means k limits name lines at_first) (λ _. give (Ok tt))
 
   -- a faulty text, or want of memory
   pub text_refused : (text : Bytes) (fault : ScriptFault) (now : Seen) → IsFaultOf (script k text) fault → Meets (text_task means k limits name text) now now (Err (why_of_fault name fault))
@@ -32,20 +33,20 @@ module _ (means : Meanings) (k : ℕ) (limits : Limits) (name : Bytes) where
   text_refused text NoMemory now is = meets_starved (text_task means k limits name text) now
 
   -- the lines of a text were done, or one of them stopped
-  pub text_done : (text : Bytes) (lines : List Line) (after : Named) (before now : Seen) (r : Result (Unit {0}) Halt) → script k text ≡ Ok lines
-      → Meets (steps_task means k limits name lines no_names) before now (halted_by (λ _. after) r) → Meets (text_task means k limits name text) before now (halted r)
-  text_done text lines after before now r is met =
-      meets_then (give (script_checked name (script k text))) doing lines (halted r) before before now
+  pub text_done : {A : Type 0} (text : Bytes) (lines : List Line) (after : A → State) (before now : Seen) (r : Result A Halt) → script k text ≡ Ok lines
+      → Meets (steps_task means k limits name lines at_first) before now (halted_by after r) → Meets (text_task means k limits name text) before now (halted_by (λ _. tt) r)
+  text_done {A} text lines after before now r is met =
+      meets_then (give (script_checked name (script k text))) doing lines (halted_by (λ _. tt) r) before before now
       (meets_given (script_checked name (script k text)) lines before (ap (script_checked name) is)) (by r met)
     where
-      by : (r : Result (Unit {0}) Halt) → Meets (steps_task means k limits name lines no_names) before now (halted_by (λ _. after) r) → Meets (doing lines) before now (halted r)
-      by (Ok done) met = meets_then (steps_task means k limits name lines no_names) (λ _. give (Ok tt)) after (Ok tt) before now now met (meets_given (Ok tt) tt now refl)
-      by (Err halt) met = meets_stop (steps_task means k limits name lines no_names) (λ _. give (Ok tt)) _ before now met
+      by : (r : Result A Halt) → Meets (steps_task means k limits name lines at_first) before now (halted_by after r) → Meets (doing lines) before now (halted_by (λ _. tt) r)
+      by (Ok done) met = meets_then (steps_task means k limits name lines at_first) (λ _. give (Ok tt)) (after done) (Ok tt) before now now met (meets_given (Ok tt) tt now refl)
+      by (Err halt) met = meets_stop (steps_task means k limits name lines at_first) (λ _. give (Ok tt)) _ before now met
 
   -- what the text costs is what its lines do
-  pub text_spent : (text : Bytes) (lines : List Line) (files : Files) (old new : ℕ) → script k text ≡ Ok lines → new ≤ old + lines_cost means k limits name lines no_names files → new ≤ old + text_cost means k limits name text files
+  pub text_spent : (text : Bytes) (lines : List Line) (files : Files) (old new : ℕ) → script k text ≡ Ok lines → new ≤ old + lines_cost means k limits name lines at_first files → new ≤ old + text_cost means k limits name text files
   text_spent text lines files old new is most =
-      omega (arith, most, ap (λ r. cost_of_value (script_checked name r) (λ ls. lines_cost means k limits name ls no_names files)) is)
+      omega (arith, most, ap (λ r. cost_of_value (script_checked name r) (λ ls. lines_cost means k limits name ls at_first files)) is)
 
   -- the file of a script was not read
   pub script_unread : (before now : OnShelf) (out : OnOutput) (why : Why) → ShelfMeets (ask_file limits name) before now (Err why)

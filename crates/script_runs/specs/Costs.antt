@@ -1,5 +1,6 @@
 -- The most steps that a script counts.
 use Rattle.std.specs.Prelude.{ℕ, ◌+◌, List, [], ◌∷◌, Result, Ok, Err}
+use Rattle.mb_base.specs.declared.kernel_kind.KernelKind.{KernelKind}
 use Rattle.mb_base.specs.declared.op.Op.{Op}
 use Rattle.mesh_boolean.specs.Operation.{first_side, second_side}
 use Rattle.mesh_terms.specs.Limits.{Limits}
@@ -7,9 +8,9 @@ use Rattle.mesh_terms.specs.Meshes.{Mesh}
 use Rattle.run_terms.specs.Files.{Bytes, Files}
 use Rattle.run_terms.specs.Tasks.{Part, Refusal, Task, changed_all}
 use Rattle.play_terms.specs.Commands.{ask_file}
-use Rattle.script_terms.specs.Plays.{Meanings, Named, mesh_at, no_names, script_checked, step_task}
+use Rattle.script_terms.specs.Plays.{Meanings, Named, State, at_first, line_task, mesh_at, script_checked}
 use Rattle.script_terms.specs.Scripts.{script}
-use Rattle.script_terms.specs.Steps.{Combine, Line, Load, Make, Measure, Move, Save, Step}
+use Rattle.script_terms.specs.Steps.{Combine, Exact, Line, Load, Make, Measure, Move, Save, Step}
 use Rattle.winding.specs.Windings.{components_of}
 
 -- an operation counts at most one for each connected component of its two reduced meshes
@@ -24,6 +25,7 @@ step_cost (Measure name) named = 0
 step_cost (Combine op name left right) named = operation_cost op (mesh_at named left) (mesh_at named right)
 step_cost (Make name solid) named = 0
 step_cost (Move name old motion) named = 0
+step_cost Exact named = 0
 
 -- where there is no value nothing comes after
 abbrev pub cost_of_value : {A : Type 0} → Result A Refusal → (A → ℕ) → ℕ
@@ -39,14 +41,14 @@ abbrev pub cost_in_order : {L A : Type 0} → (L → A → ℕ) → (L → A →
 cost_in_order cost task [] a files = 0
 cost_in_order cost task (l ∷ ls) a files = cost l a + cost_after (task l a files) files (λ b now. cost_in_order cost task ls b now)
 
--- the steps of these lines of the script in order
-abbrev pub lines_cost : Meanings → ℕ → Limits → Bytes → List Line → Named → Files → ℕ
-lines_cost means k limits script lines named files = cost_in_order (λ l n. step_cost l.1 n) (λ l n. step_task means k limits script l.0 l.1 n) lines named files
+-- these lines of the script in order
+abbrev pub lines_cost : (KernelKind → Meanings) → ℕ → Limits → Bytes → List Line → State → Files → ℕ
+lines_cost means k limits script lines state files = cost_in_order (λ l s. step_cost l.1 s.named) (line_task means k limits script) lines state files
 
 -- the text of a script of this name
-abbrev pub text_cost : Meanings → ℕ → Limits → Bytes → Bytes → Files → ℕ
-text_cost means k limits name text files = cost_of_value (script_checked name (script k text)) (λ lines. lines_cost means k limits name lines no_names files)
+abbrev pub text_cost : (KernelKind → Meanings) → ℕ → Limits → Bytes → Bytes → Files → ℕ
+text_cost means k limits name text files = cost_of_value (script_checked name (script k text)) (λ lines. lines_cost means k limits name lines at_first files)
 
 -- the script in the file of this name
-abbrev pub script_cost : Meanings → ℕ → Limits → Bytes → Files → ℕ
+abbrev pub script_cost : (KernelKind → Meanings) → ℕ → Limits → Bytes → Files → ℕ
 script_cost means k limits name files = cost_after (ask_file limits name files) files (text_cost means k limits name)

@@ -2,7 +2,7 @@
 use Rattle.script_terms.specs.Making as making
 use Rattle.script_terms.specs.Steps as terms
 use Rattle.script_runs.specs.declared.jobs.Job.{Job}
-use Rattle.script_runs.specs.declared.jobs.Job.TheVariants.{Load, Save, Measure, Combine, Make, Move}
+use Rattle.script_runs.specs.declared.jobs.Job.TheVariants.{Load, Save, Measure, Combine, Make, Move, Exact}
 use Rattle.script_runs.specs.declared.jobs.Motion.{Motion}
 use Rattle.script_runs.specs.declared.jobs.Motion.TheVariants.{Shift, Scale, Mirror, Turn}
 use Rattle.script_runs.specs.declared.jobs.Solid.{Solid}
@@ -27,3 +27,4 @@ job_step (Measure name) = terms.Measure name.now
 job_step (Combine op name left right) = terms.Combine op name.now left.now right.now
 job_step (Make name solid) = terms.Make name.now (solid_of solid)
 job_step (Move name source motion) = terms.Move name.now source.now (motion_of motion)
+job_step Exact = terms.Exact

@@ -1,6 +1,7 @@
--- What the steps of a script mean: an operation under the kernels of the grid, with rounding to the nearest, as far as a script tells it.
-use Rattle.operation_laws.specs.Grid.{grid_meanings}
+-- What operations mean under each of the kernels that a script may choose, as far as a script tells it.
+use Rattle.mb_base.specs.declared.kernel_kind.KernelKind.{KernelKind}
+use Rattle.operation_laws.specs.Kernels.{meanings_under}
 use Rattle.script_terms.specs.Plays.{Meanings}
 
-abbrev pub meanings : Meanings
-meanings = grid_meanings
+abbrev pub meanings : KernelKind → Meanings
+meanings = meanings_under

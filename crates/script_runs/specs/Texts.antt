@@ -2,20 +2,21 @@
 use Rattle.std.specs.Prelude.{ℕ, Ok}
 use Rattle.mesh_terms.specs.Faults as faults
 use Rattle.mesh_terms.specs.Limits.{Limits}
+use Rattle.mb_base.specs.declared.kernel_kind.KernelKind.{KernelKind}
 use Rattle.run_terms.specs.Files.{Bytes}
 use Rattle.run_terms.specs.Meets.{Why, Refused, Starved}
 use Rattle.run_terms.specs.Tasks.{Task, give, then_task}
 use Rattle.script_lang.specs.declared.fault.ScriptFault.{ScriptFault}
 use Rattle.script_lang.specs.declared.fault.ScriptFault.TheVariants.{Bad, NoMemory}
 use Rattle.script_terms.specs.Lines.{script_refusal}
-use Rattle.script_terms.specs.Plays.{Meanings, no_names, script_checked, steps_task}
+use Rattle.script_terms.specs.Plays.{Meanings, at_first, script_checked, steps_task}
 use Rattle.script_terms.specs.Scripts.{script}
 
 -- its lines are read, and then their steps are done
-abbrev pub text_task : Meanings → ℕ → Limits → Bytes → Bytes → Task (Unit {0})
+abbrev pub text_task : (KernelKind → Meanings) → ℕ → Limits → Bytes → Bytes → Task (Unit {0})
 text_task means k limits name text =
     then_task (give (script_checked name (script k text))) (λ lines.
-    then_task (steps_task means k limits name lines no_names) (λ _. give (Ok tt)))
+    then_task (steps_task means k limits name lines at_first) (λ _. give (Ok tt)))
 
 -- why a script of this name is not done that is at fault, or for which memory is wanting
 abbrev pub why_of_fault : Bytes → ScriptFault → Why

@@ -1,6 +1,8 @@
 // The step that combines two meshes.
 ghost use Rattle.std.specs.Prelude.{◌≡◌, ◌≤◌, ◌+◌, IfErr, IfOk, IsSome, OnErr, OnOk};
 ghost use Rattle.mb_outside.specs.Seen.{MeetsOnOutput};
+ghost use Rattle.mesh_boolean.specs.Operation.{operation};
+ghost use Rattle.operation_laws.specs.Kernels.{told_of};
 ghost use Rattle.report_lines.specs.Halts.{halted_by};
 ghost use Rattle.run_terms.specs.Meets.{Meets, Seen};
 ghost use Rattle.run_terms.specs.Tasks.{give};
@@ -12,9 +14,11 @@ ghost use Rattle.script_runs.specs.Outcomes.{IsOutcome};
 ghost use Rattle.script_terms.specs.Plays.{combine_task, mesh_at, within};
 
 use crate::names::Names;
-use mb_base::{Counted, Limits, Op};
+use edge_face::Kernels;
+use exact_kernels::Exact;
+use mb_base::{Counted, KernelKind, Limits, Op};
 use mb_outside::Sink;
-use mesh_boolean::{Outcome, boolean};
+use mesh_boolean::{Outcome, Tested, boolean};
 use mesh_check::Mesh;
 use mesh_files::Stop;
 use report_lines::{Halt, OperationCounts, say_combined};
@@ -25,23 +29,49 @@ use std::alloc::Global;
 use std::sync::ledger::Ledger;
 use steps::Steps;
 
-// What an operation on two meshes gives under the kernels of the grid, with rounding to the nearest.
+// What an operation on two meshes gives under the chosen kernels, with rounding to the nearest.
 fn operate<'a, L: Ledger>(
     alloc: Global,
+    kernels: KernelKind,
     op: Op,
     p: &Mesh,
     q: &Mesh,
     limits: &Limits,
     steps: &mut Steps<L>,
 ) -> Result<Outcome, Halt<'a>>
-    ensures meets { (now : Seen) → Meets (give (within limits.now (meanings.operation op p.now q.now))) now now
-        (halted_by (λ _. meanings.operation op p.now q.now) result) }
-    ensures outcome { IfOk result (IsOutcome (meanings.operation op p.now q.now)) }
+    ensures meets { (now : Seen) → Meets (give (within limits.now ((meanings kernels).operation op p.now q.now))) now now
+        (halted_by (λ _. (meanings kernels).operation op p.now q.now) result) }
+    ensures outcome { IfOk result (IsOutcome ((meanings kernels).operation op p.now q.now)) }
     ensures halts { IfErr result IsHaltOfStep }
     ensures cost { steps.new ≤ steps.old + operation_cost op p.now q.now }
 {
-    let kernels = Grid { rounding: Nearest };
-    match boolean(alloc, op, p, q, &kernels, limits, steps) {
+    match kernels {
+        KernelKind::Grid => {
+            operate_under(alloc, &Grid { rounding: Nearest }, op, p, q, limits, steps)
+        }
+        KernelKind::Exact => {
+            operate_under(alloc, &Exact { rounding: Nearest }, op, p, q, limits, steps)
+        }
+    }
+}
+
+// What an operation on two meshes gives under any kernels.
+fn operate_under<'a, K: Kernels, L: Ledger>(
+    alloc: Global,
+    kernels: &K,
+    op: Op,
+    p: &Mesh,
+    q: &Mesh,
+    limits: &Limits,
+    steps: &mut Steps<L>,
+) -> Result<Outcome, Halt<'a>>
+    ensures meets { (now : Seen) → Meets (give (within limits.now (told_of (operation (⟦<K as Tested>⟧.tests kernels.now) op p.now q.now)))) now now
+        (halted_by (λ _. told_of (operation (⟦<K as Tested>⟧.tests kernels.now) op p.now q.now)) result) }
+    ensures outcome { IfOk result (IsOutcome (told_of (operation (⟦<K as Tested>⟧.tests kernels.now) op p.now q.now))) }
+    ensures halts { IfErr result IsHaltOfStep }
+    ensures cost { steps.new ≤ steps.old + operation_cost op p.now q.now }
+{
+    match boolean(alloc, op, p, q, kernels, limits, steps) {
         Ok(outcome) => Ok(outcome),
         Err(PrescribeFault::TooLarge { seen }) => Err(Halt::At {
             name: "",
@@ -54,9 +84,10 @@ fn operate<'a, L: Ledger>(
     }
 }
 
-/// Gives a name what an operation makes of the meshes of two names, and reports that on the output.
+/// Gives a name what an operation makes of the meshes of two names under the chosen kernels, and reports that on the output.
 pub fn combine<'a, O: Sink, L: Ledger>(
     alloc: Global,
+    kernels: KernelKind,
     op: Op,
     name: &'a str,
     left: &'a str,
@@ -68,7 +99,7 @@ pub fn combine<'a, O: Sink, L: Ledger>(
 ) -> Result<(), Halt<'a>>
     requires left { IsSome (named_in names.old left.now) }
     requires right { IsSome (named_in names.old right.now) }
-    ensures meets { MeetsOnOutput O.Sink (combine_task meanings limits.now op name.now left.now right.now (named_in names.old)) out.old out.new
+    ensures meets { MeetsOnOutput O.Sink (combine_task (meanings kernels) limits.now op name.now left.now right.now (named_in names.old)) out.old out.new
         (halted_by (λ _. named_in names.new) result) }
     ensures halts { IfErr result IsHaltOfStep }
     ensures named { OnOk result (IsNamed name.now (named_in names.old) (named_in names.new)) }
@@ -78,7 +109,7 @@ pub fn combine<'a, O: Sink, L: Ledger>(
     let (Some(p), Some(q)) = (names.mesh(left), names.mesh(right)) else {
         unreachable!();
     };
-    let outcome = operate(alloc, op, p, q, limits, steps)?;
+    let outcome = operate(alloc, kernels, op, p, q, limits, steps)?;
     let kept = outcome.prescribed.kept;
     let counts = OperationCounts {
         kept,

@@ -5,10 +5,11 @@ ghost use Rattle.report_lines.specs.Halts.{halted_by};
 ghost use Rattle.script_lang.specs.Steps.{line_of, step_of};
 ghost use Rattle.script_runs.specs.Costs.{lines_cost, step_cost};
 ghost use Rattle.script_runs.specs.Halts.{IsHaltOfStep};
-ghost use Rattle.script_runs.specs.Names.{HasTaken, KeepsNames, named_in};
+ghost use Rattle.script_runs.specs.Names.{HasTaken, KeepsNames, named_in, state_in};
 ghost use Rattle.script_runs.specs.Operations.{meanings};
 ghost use Rattle.script_terms.specs.Plays.{step_task, steps_task};
 ghost use Rattle.script_terms.specs.Sound.{AreSound, HasNumbers};
+ghost use Rattle.script_terms.specs.Steps.{kernels_after};
 
 use crate::combining::combine;
 use crate::jobs::{Job, job_of};
@@ -18,7 +19,7 @@ use crate::measuring::measure_mesh;
 use crate::moving::move_mesh;
 use crate::names::Names;
 use crate::saving::save;
-use mb_base::Limits;
+use mb_base::{KernelKind, Limits};
 use mb_outside::{Shelf, Sink};
 use report_lines::Halt;
 use script_lang::{Line, Step};
@@ -26,12 +27,13 @@ use std::alloc::Global;
 use std::sync::ledger::Ledger;
 use steps::Steps;
 
-/// Does the step of a line of the script. Each name that it takes has a mesh.
+/// Does the step of a line of the script, an operation under the chosen kernels. Each name that it takes has a mesh.
 fn do_step<'a, S: Shelf, O: Sink, L: Ledger>(
     alloc: Global,
     script: &'a str,
     line: u64,
     step: &Step<'a>,
+    kernels: KernelKind,
     digits: u8,
     limits: &Limits,
     names: &mut Names<'a>,
@@ -42,7 +44,7 @@ fn do_step<'a, S: Shelf, O: Sink, L: Ledger>(
     requires digits { digits ≤ 6 }
     requires taken { HasTaken (named_in names.old) (step_of step.now) }
     requires numbers { HasNumbers (step_of step.now) }
-    ensures meets { MeetsOn S.Shelf O.Sink (step_task meanings digits limits.now script.now line (step_of step.now) (named_in names.old))
+    ensures meets { MeetsOn S.Shelf O.Sink (step_task (meanings kernels) digits limits.now script.now line (step_of step.now) (named_in names.old))
         (shelf.old, out.old) (shelf.new, out.new) (halted_by (λ _. named_in names.new) result) }
     ensures halts { IfErr result IsHaltOfStep }
     ensures named { OnOk result (KeepsNames (step_of step.now) (named_in names.old) (named_in names.new)) }
@@ -58,17 +60,31 @@ fn do_step<'a, S: Shelf, O: Sink, L: Ledger>(
             name,
             left,
             right,
-        } => combine(alloc, op, name, left, right, limits, names, out, steps),
+        } => combine(
+            alloc, kernels, op, name, left, right, limits, names, out, steps,
+        ),
         Job::Make { name, solid } => make(alloc, script, line, name, solid, limits, names),
         Job::Move {
             name,
             source,
             motion,
         } => move_mesh(alloc, script, line, name, source, motion, names),
+        Job::Exact => Ok(()),
     }
 }
 
-/// Does the steps of lines of the script in order, each over the names, the shelf and the output as they are by then, until one stops.
+/// The kernels of the operations after a step, where those before it are taken under these.
+fn kernels_after(step: &Step<'_>, kernels: KernelKind) -> KernelKind
+    ensures { result ≡ kernels_after (step_of step.now) kernels }
+{
+    match step {
+        Step::Exact => KernelKind::Exact,
+        _ => kernels,
+    }
+}
+
+/// Does the steps of lines of the script in order, each over the names, the shelf and the output as they are by then, until one stops. Operations are
+/// taken under the kernels of the grid before the first step that chooses exact ones, and under these after it; the answer is what was chosen at the end.
 pub fn do_lines<'a, S: Shelf, O: Sink, L: Ledger>(
     alloc: Global,
     script: &'a str,
@@ -79,19 +95,21 @@ pub fn do_lines<'a, S: Shelf, O: Sink, L: Ledger>(
     shelf: &mut S,
     out: &mut O,
     steps: &mut Steps<L>,
-) -> Result<(), Halt<'a>>
+) -> Result<KernelKind, Halt<'a>>
     requires digits { digits ≤ 6 }
     requires sound { AreSound [] (map line_of lines.now) }
-    ensures meets { MeetsOn S.Shelf O.Sink (steps_task meanings digits limits.now script.now (map line_of lines.now) (named_in names.old))
-        (shelf.old, out.old) (shelf.new, out.new) (halted_by (λ _. named_in names.new) result) }
+    ensures meets { MeetsOn S.Shelf O.Sink (steps_task meanings digits limits.now script.now (map line_of lines.now) (state_in KernelKind.Grid names.old))
+        (shelf.old, out.old) (shelf.new, out.new) (halted_by (λ kernels. state_in kernels names.new) result) }
     ensures halts { IfErr result IsHaltOfStep }
     ensures cost { IsTrue (S.tells shelf.old) → steps.new ≤ steps.old +
-        lines_cost meanings digits limits.now script.now (map line_of lines.now) (named_in names.old) (S.files shelf.old) }
+        lines_cost meanings digits limits.now script.now (map line_of lines.now) (state_in KernelKind.Grid names.old) (S.files shelf.old) }
 {
+    let mut kernels = KernelKind::Grid;
     for line in lines {
         do_step(
-            alloc, script, line.line, &line.step, digits, limits, names, shelf, out, steps,
+            alloc, script, line.line, &line.step, kernels, digits, limits, names, shelf, out, steps,
         )?;
+        kernels = kernels_after(&line.step, kernels);
     }
-    Ok(())
+    Ok(kernels)
 }

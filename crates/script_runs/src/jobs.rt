@@ -62,6 +62,7 @@ pub enum Job<'a> {
         source: &'a str,
         motion: Motion,
     },
+    Exact,
 }
 
 // A name gets a solid.
@@ -129,5 +130,6 @@ pub fn job_of<'a>(step: &Step<'a>) -> Job<'a>
         } => moved(name, source, Motion::Scale(*factor)),
         Step::Mirror { name, source, axis } => moved(name, source, Motion::Mirror(*axis)),
         Step::Turn { name, source, axis } => moved(name, source, Motion::Turn(*axis)),
+        Step::Exact => Job::Exact,
     }
 }

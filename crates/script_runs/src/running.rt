@@ -80,7 +80,8 @@ fn run_text<'a, S: Shelf, O: Sink, L: Ledger>(
         shelf,
         out,
         steps,
-    )
+    )?;
+    Ok(())
 }
 
 // Where a script stops that is at fault, or for which memory is wanting.

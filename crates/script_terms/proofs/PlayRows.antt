@@ -1,5 +1,5 @@
 -- The plays of small scripts, computed.
-use Rattle.std.specs.Prelude.{◌≡◌, pos, List, [], ◌∷◌, ◌++◌, ◌&&◌, if◌then◌else◌, length, map, codes, bytes_eq, None, Ok, Err}
+use Rattle.std.specs.Prelude.{◌≡◌, ℕ, pos, List, [], ◌∷◌, ◌++◌, ◌&&◌, if◌then◌else◌, length, map, codes, bytes_eq, None, Ok, Err}
 use Rattle.std.proofs.Common.{refl}
 use Rattle.std.specs.Fmt.{digits}
 use Rattle.std.specs.Char.{encode_utf8}
@@ -11,6 +11,8 @@ use Rattle.text_terms.specs.Written.{line_of}
 use Rattle.run_terms.specs.Files.{Bytes, Files, put}
 use Rattle.run_terms.specs.Runs.{Action, Ask, Write, Say}
 use Rattle.run_terms.specs.Tasks.{FaultyScript, FaultyMesh, NoFile, PastLimit, Part, Refusal}
+use Rattle.mb_base.specs.declared.kernel_kind.KernelKind.{KernelKind}
+use Rattle.mb_base.specs.declared.kernel_kind.KernelKind.TheVariants.{Exact, Grid}
 use Rattle.script_terms.specs.Combined.{Combined}
 use Rattle.script_terms.specs.Operands.{number_of, number_fault}
 use Rattle.script_terms.specs.Plays.{Meanings, script_task}
@@ -60,8 +62,8 @@ tabled p q =
     if bytes_eq (obj_text 0 p.points p.triples) cube && bytes_eq (obj_text 0 q.points q.triples) box then record { mesh = united; p_kept = 8; q_kept = 4; crossings = 10; forced = 0; halfedges = 84 }
     else record { mesh = record { points = []; triples = [] }; p_kept = 0; q_kept = 0; crossings = 0; forced = 0; halfedges = 0 }
 
-abbrev table : Meanings
-table = record { operation = λ op p q. tabled p q }
+abbrev table : KernelKind → Meanings
+table kernels = record { operation = λ op p q. tabled p q }
 
 -- a script beside the cube and the box
 abbrev beside : Bytes → Files
@@ -153,9 +155,14 @@ refuses_a_long_script = refl
 says_nothing_for_no_line : play program (codes "# nothing\n") ≡ record { actions = Ask (codes "s.txt") ∷ []; result = Ok tt }
 says_nothing_for_no_line = refl
 
+-- how many are said to be kept of n vertices: all under the kernels of the grid, none under exact ones
+abbrev told_kept : KernelKind → ℕ → ℕ
+told_kept Grid n = n
+told_kept Exact n = 0
+
 -- an operation that gives its first mesh
-abbrev first : Meanings
-first = record { operation = λ op p q. record { mesh = p; p_kept = length p.points; q_kept = 0; crossings = 0; forced = 0; halfedges = 36 } }
+abbrev first : KernelKind → Meanings
+first kernels = record { operation = λ op p q. record { mesh = p; p_kept = told_kept kernels (length p.points); q_kept = 0; crossings = 0; forced = 0; halfedges = 36 } }
 
 -- a script that asks for no file
 abbrev alone : Limits → Bytes → Part (Unit {0})
@@ -176,6 +183,12 @@ measures_a_union : alone program (codes "box a 0 0 0 10 10 10\nunion u a a\nmeas
     ≡ says (codes "u = union a a: kept 8 0, crossings 0, forced 0" ∷ codes "u: points 8, triangles 12, components 1, euler 2, volume6 6000" ∷ [])
 unfolding digits chars is_utf8 encode_utf8 number_of number_fault
 measures_a_union = refl
+
+-- operations before the choice of exact kernels, and after it
+chooses_kernels : alone program (codes "box a 0 0 0 10 10 10\nunion u a a\nexact\nunion v a a\nexact\nunion w u a\n")
+    ≡ says (codes "u = union a a: kept 8 0, crossings 0, forced 0" ∷ codes "v = union a a: kept 0 0, crossings 0, forced 0" ∷ codes "w = union u a: kept 0 0, crossings 0, forced 0" ∷ [])
+unfolding digits chars is_utf8 encode_utf8 number_of number_fault
+chooses_kernels = refl
 
 measures_moved_solids : alone program (codes "tetra t 0 0 0 6\nmeasure t\nprism p 0 0 0 4 5\nscale q p 2\nmirror m q x\nturn r m z\nshift w r 1 2 3\nmeasure w\n")
     ≡ says (codes "t: points 4, triangles 4, components 1, euler 2, volume6 216" ∷ codes "w: points 6, triangles 8, components 1, euler 2, volume6 1920" ∷ [])

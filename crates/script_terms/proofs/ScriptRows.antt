@@ -10,7 +10,7 @@ use Rattle.run_terms.specs.Files.{Bytes}
 use Rattle.script_terms.specs.Making.{Box, Tetra, Prism, Lattice, Shift, Scale, Mirror, Turn}
 use Rattle.script_terms.specs.Operands.{number_of, number_fault}
 use Rattle.script_terms.specs.Scripts.{script}
-use Rattle.script_terms.specs.Steps.{Line, Load, Save, Measure, Combine, Make, Move}
+use Rattle.script_terms.specs.Steps.{Line, Load, Save, Measure, Combine, Make, Move, Exact}
 
 -- each of the scripts is refused on line n with this kind
 abbrev AreBad : ℕ → ℕ → List Bytes → Type 0
@@ -57,6 +57,7 @@ record AreMade : Type 0 where
   measure : Gives (after_one ((2, Measure (codes "t")) ∷ [])) (one (codes "measure t"))
   box : Gives ((1, Make (codes "a") (Box (point (neg_ℤ (pos 1)) (pos 2) (pos 3)) (point (pos 40) (pos 5) (pos 6)))) ∷ []) (codes "box a -1 2. 3.4 +4e1 05 5.5")
   tetra : Gives (after_one []) (one [])
+  exact : Gives ((1, Exact) ∷ (2, Make (codes "t") (Tetra (point (pos 0) (pos 0) (pos 0)) (pos 6))) ∷ (4, Exact) ∷ []) (codes "exact # kernels\ntetra t 0 0 0 6\n\nexact\n")
   prism : Gives ((1, Make (codes "p") (Prism (point (pos 1) (pos 2) (pos 3)) (pos 4) (neg_ℤ (pos 5)))) ∷ []) (codes "prism p 1 2 3 4 -5")
   lattice : Gives ((1, Make (codes "l") (Lattice 60 999999)) ∷ []) (codes "lattice l 60 999999")
   least : Gives ((1, Make (codes "l") (Lattice 1 0)) ∷ []) (codes "lattice l 0000001 0000000")
@@ -69,7 +70,7 @@ record AreMade : Type 0 where
 
 are_made : AreMade
 unfolding chars is_utf8 encode_utf8 number_of number_fault
-are_made = record { measure = refl; box = refl; tetra = refl; prism = refl; lattice = refl; least = refl; shift = refl; scale = refl; mirror = refl; turn = refl; digits = refl }
+are_made = record { measure = refl; box = refl; tetra = refl; exact = refl; prism = refl; lattice = refl; least = refl; shift = refl; scale = refl; mirror = refl; turn = refl; digits = refl }
 
 -- operands that have no value, and what is asked before them: numbers, whole numbers, a factor, an axis
 record HaveNoValue : Type 0 where
@@ -78,7 +79,7 @@ record HaveNoValue : Type 0 where
   whole : AreBad 1 24 (codes "lattice l 0 0" ∷ codes "lattice l 61 0" ∷ codes "lattice l +1 0" ∷ codes "lattice l 1. 0" ∷ codes "lattice l 00000001 0" ∷ codes "lattice l 1 1000000" ∷ [])
   factors : AreBad 2 24 (one (codes "scale s t 0") ∷ one (codes "scale s t 1000001") ∷ [])
   axes : AreBad 2 24 (one (codes "mirror m t X") ∷ one (codes "turn m t w") ∷ one (codes "turn m t xy") ∷ [])
-  counts : AreBad 1 21 (codes "box a 0 0 0 1 1" ∷ codes "tetra t 0 0 0 6 6" ∷ codes "measure" ∷ [])
+  counts : AreBad 1 21 (codes "box a 0 0 0 1 1" ∷ codes "tetra t 0 0 0 6 6" ∷ codes "measure" ∷ codes "exact a" ∷ [])
   name_first : AreBad 1 22 (codes "lattice 1 0 0" ∷ [])
   old_first : AreBad 1 23 (codes "scale s t 0" ∷ [])
   old_name_first : AreBad 2 22 (one (codes "mirror m 1 w") ∷ [])
@@ -90,7 +91,7 @@ have_no_value = record { numbers = refl; below = refl; whole = refl; factors = r
 
 -- no command; too few words or too many; no name; a name that no line before gave a mesh; no file of a known kind
 record AreRefused : Type 0 where
-  words : AreBad 1 20 (codes "Load a c.obj" ∷ codes "loads a c.obj" ∷ codes "measures a" ∷ (239 ∷ 187 ∷ 191 ∷ 239 ∷ 187 ∷ 191 ∷ codes "load a c.obj") ∷ codes "load\r a c.obj" ∷ codes "cut" ∷ [])
+  words : AreBad 1 20 (codes "Load a c.obj" ∷ codes "loads a c.obj" ∷ codes "measures a" ∷ codes "exactly" ∷ (239 ∷ 187 ∷ 191 ∷ 239 ∷ 187 ∷ 191 ∷ codes "load a c.obj") ∷ codes "load\r a c.obj" ∷ codes "cut" ∷ [])
   counts : AreBad 3 21 (two (codes "union u a") ∷ two (codes "union u a b_2 a") ∷ [])
   counts_first : AreBad 1 21 (codes "load a #c.obj" ∷ codes "load 1 c.ply d" ∷ [])
   names : AreBad 1 22 (codes "load 1a c.obj" ∷ codes "load _a c.obj" ∷ codes "load a-b c.obj" ∷ (codes "load " ++ replicate 33 65 ++ codes " c.obj") ∷ [])

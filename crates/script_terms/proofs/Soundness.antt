@@ -8,7 +8,7 @@ use Rattle.mb_base.specs.declared.op.Op.{Op}
 use Rattle.mb_base.specs.declared.op.Op.TheVariants.{Union, Intersect, Subtract}
 use Rattle.text_terms.specs.FirstFault.{then_read, on_line}
 use Rattle.run_terms.specs.Files.{Bytes}
-use Rattle.script_terms.specs.Commands.{Command, at, load, save, measure, combine, box, tetra, prism, lattice, shift, scale, mirror, turn, commands, named_in, command_named}
+use Rattle.script_terms.specs.Commands.{Command, at, load, save, measure, combine, exact, box, tetra, prism, lattice, shift, scale, mirror, turn, commands, named_in, command_named}
 use Rattle.play_terms.specs.Formats.{is_mesh_name}
 use Rattle.script_terms.specs.Making.{Solid, Motion}
 use Rattle.script_terms.specs.Operands.{NewName, is_name, new_name_fault, old_name_fault, operand_fault, operands_fault}
@@ -78,6 +78,9 @@ combine_sound op k before ws none =
       numbers = tt;
     }
 
+exact_sound : GivesSound exact
+exact_sound k before ws none = record { given = All-nil (IsGiven before); names = All-nil IsNamed; files = All-nil IsFile; numbers = tt }
+
 -- a solid
 makes_sound : (before : List Line) (name : Bytes) (solid : Solid) → new_name_fault name ≡ None → IsSolid solid → IsSound before (Make name solid)
 makes_sound before name solid taken such =
@@ -142,7 +145,7 @@ all_sound : Each GivesSound commands
 all_sound =
     let making : Each GivesSound (box ∷ tetra ∷ prism ∷ lattice ∷ shift ∷ scale ∷ mirror ∷ turn ∷ []) =
     (box_sound, (tetra_sound, (prism_sound, (lattice_sound, (shift_sound, (scale_sound, (mirror_sound, (turn_sound, tt)))))))) in
-    (load_sound, (save_sound, (measure_sound, (combine_sound Union, (combine_sound Intersect, (combine_sound Subtract, making))))))
+    (load_sound, (save_sound, (measure_sound, (combine_sound Union, (combine_sound Intersect, (combine_sound Subtract, (exact_sound, making)))))))
 
 -- the step of a command whose steps are sound
 command_sound : (k : ℕ) (before : List Line) (ws : List Bytes) (c : Command) (step : Step) → GivesSound c → command_step k before ws c ≡ Ok step → IsSound before step

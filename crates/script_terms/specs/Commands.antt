@@ -7,7 +7,7 @@ use Rattle.mb_base.specs.declared.op.Op.{Op}
 use Rattle.mb_base.specs.declared.op.Op.TheVariants.{Union, Intersect, Subtract}
 use Rattle.script_terms.specs.Making.{Solid, Box, Tetra, Prism, Lattice, Motion, Shift, Scale, Mirror, Turn}
 use Rattle.script_terms.specs.Operands.{Operand, NewName, OldName, FileName, Number, Within, Axis, axis, number_of}
-use Rattle.script_terms.specs.Steps.{Step, Load, Save, Measure, Combine, Make, Move}
+use Rattle.script_terms.specs.Steps.{Step, Load, Save, Measure, Combine, Make, Move, Exact}
 
 -- a command: its word, what words stand after it, and the step of such words under so many digits
 pub record Command : Type 0 where
@@ -52,6 +52,9 @@ op_word Subtract = codes "subtract"
 abbrev pub combine : Op → Command
 combine op = record { word = op_word op; operands = NewName ∷ OldName ∷ OldName ∷ []; step = λ k ws. Combine op (at ws 0) (at ws 1) (at ws 2) }
 
+abbrev pub exact : Command
+exact = record { word = codes "exact"; operands = []; step = λ k ws. Exact }
+
 -- a command that makes a solid
 abbrev pub making : Bytes → List Operand → (ℕ → List Bytes → Solid) → Command
 making word operands solid = record { word = word; operands = NewName ∷ operands; step = λ k ws. Make (at ws 0) (solid k ws) }
@@ -90,7 +93,7 @@ turn = moving (codes "turn") (Axis ∷ []) (λ k ws. Turn (axis_at ws 2))
 
 abbrev pub commands : List Command
 commands =
-    load ∷ save ∷ measure ∷ combine Union ∷ combine Intersect ∷ combine Subtract ∷ box ∷ tetra ∷ prism ∷ lattice ∷ shift ∷ scale ∷ mirror ∷ turn ∷ []
+    load ∷ save ∷ measure ∷ combine Union ∷ combine Intersect ∷ combine Subtract ∷ exact ∷ box ∷ tetra ∷ prism ∷ lattice ∷ shift ∷ scale ∷ mirror ∷ turn ∷ []
 
 -- the first of some commands whose word is this
 abbrev pub named_in : List Command → Bytes → Option Command

@@ -8,12 +8,14 @@ use Rattle.run_terms.specs.Files.{Bytes}
 use Rattle.run_terms.specs.Tasks.{Refusal, Task, give, then_task}
 use Rattle.play_terms.specs.Commands.{ask_file, ask_mesh, write_mesh, say_line}
 use Rattle.play_terms.specs.Lines.{over}
+use Rattle.mb_base.specs.declared.kernel_kind.KernelKind.{KernelKind}
+use Rattle.mb_base.specs.declared.kernel_kind.KernelKind.TheVariants.{Grid}
 use Rattle.mb_base.specs.declared.op.Op.{Op}
 use Rattle.script_terms.specs.Combined.{Combined}
 use Rattle.script_terms.specs.Lines.{load_line, save_line, measure_line, combine_line, script_refusal, made_refusal}
 use Rattle.script_terms.specs.Making.{Solid, solid_fault, solid_mesh, Motion, motion_fault, moved_mesh}
 use Rattle.script_terms.specs.Scripts.{script}
-use Rattle.script_terms.specs.Steps.{Line, Step, Load, Save, Measure, Combine, Make, Move}
+use Rattle.script_terms.specs.Steps.{Line, Step, Load, Save, Measure, Combine, Make, Move, Exact, kernels_after}
 
 -- what the steps need of geometry: what an operation gives of two meshes. Solids, motions and measures are definitions
 pub record Meanings : Type 0 where
@@ -86,7 +88,7 @@ move_task script line name old motion named =
     then_task (give (made script line (motion_fault motion (mesh_at named old).points) (moved_mesh motion (mesh_at named old)))) (λ m.
     give (Ok (with_name name m named)))
 
--- one row for each kind of step, on this line of the script
+-- one row for each kind of step, on this line of the script; the choice of kernels leaves the names as they are
 abbrev pub step_task : Meanings → ℕ → Limits → Bytes → ℕ → Step → Named → Task Named
 step_task means k limits script line (Load name file) named = load_task k limits name file named
 step_task means k limits script line (Save name file) named = save_task k name file (mesh_at named name) named
@@ -94,15 +96,35 @@ step_task means k limits script line (Measure name) named = measure_task name (m
 step_task means k limits script line (Combine op name left right) named = combine_task means limits op name left right named
 step_task means k limits script line (Make name solid) named = make_task limits script line name solid named
 step_task means k limits script line (Move name old motion) named = move_task script line name old motion named
+step_task means k limits script line Exact named = give (Ok named)
+
+-- what steps hand on: the kernels under which operations are taken from here on, and the mesh of each name that has one
+pub record State : Type 0 where
+  pub kernels : KernelKind
+  pub named : Named
+
+-- before any step operations are taken under the kernels of the grid
+abbrev pub at_first : State
+at_first = record { kernels = Grid; named = no_names }
+
+-- the state after a step that left these names
+abbrev pub state_after : Step → State → Named → State
+state_after step state named = record { kernels = kernels_after step state.kernels; named = named }
+
+-- a line of the script: its step, by what operations mean under the kernels of the state
+abbrev pub line_task : (KernelKind → Meanings) → ℕ → Limits → Bytes → Line → State → Task State
+line_task means k limits script l state =
+    then_task (step_task (means state.kernels) k limits script l.0 l.1 state.named) (λ named.
+    give (Ok (state_after l.1 state named)))
 
 -- tasks in order, each with the value that the one before handed on
 abbrev pub in_order : {L A : Type 0} → (L → A → Task A) → List L → A → Task A
 in_order task [] a = give (Ok a)
 in_order task (l ∷ ls) a = then_task (task l a) (λ b. in_order task ls b)
 
--- the steps of these lines of the script in order
-abbrev pub steps_task : Meanings → ℕ → Limits → Bytes → List Line → Named → Task Named
-steps_task means k limits script lines named = in_order (λ l n. step_task means k limits script l.0 l.1 n) lines named
+-- these lines of the script in order
+abbrev pub steps_task : (KernelKind → Meanings) → ℕ → Limits → Bytes → List Line → State → Task State
+steps_task means k limits script lines state = in_order (line_task means k limits script) lines state
 
 -- the lines of a script of this name, or its first fault as a refusal
 abbrev pub script_checked : Bytes → Result (List Line) Fault → Result (List Line) Refusal
@@ -110,8 +132,8 @@ script_checked name (Err fault) = Err (script_refusal name fault)
 script_checked name (Ok lines) = Ok lines
 
 -- the file of a script is read, the whole script before any step
-abbrev pub script_task : Meanings → ℕ → Limits → Bytes → Task (Unit {0})
+abbrev pub script_task : (KernelKind → Meanings) → ℕ → Limits → Bytes → Task (Unit {0})
 script_task means k limits name =
     then_task (ask_file limits name) (λ bytes.
     then_task (give (script_checked name (script k bytes))) (λ lines.
-    then_task (steps_task means k limits name lines no_names) (λ _. give (Ok tt))))
+    then_task (steps_task means k limits name lines at_first) (λ _. give (Ok tt))))

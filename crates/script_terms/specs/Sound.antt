@@ -5,7 +5,7 @@ use Rattle.mesh_terms.specs.Points.{IsOnGrid, IsPoint}
 use Rattle.play_terms.specs.Formats.{is_mesh_name}
 use Rattle.script_terms.specs.Making.{Solid, Box, Tetra, Prism, Lattice, Motion, Shift, Scale, Mirror, Turn}
 use Rattle.script_terms.specs.Operands.{is_name}
-use Rattle.script_terms.specs.Steps.{Line, Step, Load, Save, Measure, Combine, Make, Move, files_in, is_given, names_in, taken}
+use Rattle.script_terms.specs.Steps.{Line, Step, Load, Save, Measure, Combine, Make, Move, Exact, files_in, is_given, names_in, taken}
 
 -- points and sizes are on the grid, and other numbers in their range
 abbrev pub IsSolid : Solid → Type 0
@@ -28,6 +28,7 @@ HasNumbers (Measure name) = Unit {0}
 HasNumbers (Combine op name left right) = Unit {0}
 HasNumbers (Make name solid) = IsSolid solid
 HasNumbers (Move name old motion) = IsMotion motion
+HasNumbers Exact = Unit {0}
 
 -- each name that the step takes got a mesh in a line before, each name is one, each file has the suffix of a mesh file, and each number is in its range
 pub record IsSound (before : List Line) (step : Step) : Type 0 where

@@ -2,11 +2,13 @@
 use Rattle.std.specs.Prelude.{ℕ, List, [], ◌∷◌, false, Bool, bytes_eq, Option, Some, None}
 use Rattle.std.specs.List.{list_any}
 use Rattle.run_terms.specs.Files.{Bytes}
+use Rattle.mb_base.specs.declared.kernel_kind.KernelKind.{KernelKind}
+use Rattle.mb_base.specs.declared.kernel_kind.KernelKind.TheVariants as kinds
 use Rattle.mb_base.specs.declared.op.Op.{Op}
 use Rattle.script_terms.specs.Making.{Solid, Motion}
 
--- a mesh of a file gets a name, the mesh of a name is written to a file or measured, or a name gets the result of an operation, a solid, or the moved
--- mesh of a name
+-- a mesh of a file gets a name, the mesh of a name is written to a file or measured, a name gets the result of an operation, a solid, or the moved
+-- mesh of a name, or the operations after it are taken under exact kernels
 pub data Step : Type 0 where
   Load : (name file : Bytes) → Step
   Save : (name file : Bytes) → Step
@@ -14,6 +16,7 @@ pub data Step : Type 0 where
   Combine : (op : Op) → (name left right : Bytes) → Step
   Make : (name : Bytes) → (solid : Solid) → Step
   Move : (name old : Bytes) → (motion : Motion) → Step
+  Exact : Step
 
 -- a step with the number of its line, from 1
 abbrev pub Line : Type 0
@@ -27,6 +30,7 @@ new_name (Measure name) = None
 new_name (Combine op name left right) = Some name
 new_name (Make name solid) = Some name
 new_name (Move name old motion) = Some name
+new_name Exact = None
 
 abbrev pub is_that : Bytes → Option Bytes → Bool
 is_that w None = false
@@ -48,6 +52,7 @@ taken (Measure name) = name ∷ []
 taken (Combine op name left right) = left ∷ right ∷ []
 taken (Make name solid) = []
 taken (Move name old motion) = old ∷ []
+taken Exact = []
 
 -- the names in a step
 abbrev pub names_in : Step → List Bytes
@@ -57,6 +62,7 @@ names_in (Measure name) = name ∷ []
 names_in (Combine op name left right) = name ∷ left ∷ right ∷ []
 names_in (Make name solid) = name ∷ []
 names_in (Move name old motion) = name ∷ old ∷ []
+names_in Exact = []
 
 -- the files that a step reads or writes
 abbrev pub files_in : Step → List Bytes
@@ -66,3 +72,14 @@ files_in (Measure name) = []
 files_in (Combine op name left right) = []
 files_in (Make name solid) = []
 files_in (Move name old motion) = []
+files_in Exact = []
+
+-- the kernels under which the operations after a step are taken, where those before it are taken under these
+abbrev pub kernels_after : Step → KernelKind → KernelKind
+kernels_after Exact kernels = kinds.Exact
+kernels_after (Load name file) kernels = kernels
+kernels_after (Save name file) kernels = kernels
+kernels_after (Measure name) kernels = kernels
+kernels_after (Combine op name left right) kernels = kernels
+kernels_after (Make name solid) kernels = kernels
+kernels_after (Move name old motion) kernels = kernels

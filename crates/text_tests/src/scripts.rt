@@ -29,6 +29,7 @@ fn words_of<'a>(step: &Step<'a>) -> (&'static str, [&'a str; 3]) {
         Step::Scale { name, source, .. } => ("scale", [name.as_str(), source.as_str(), ""]),
         Step::Mirror { name, source, .. } => ("mirror", [name.as_str(), source.as_str(), ""]),
         Step::Turn { name, source, .. } => ("turn", [name.as_str(), source.as_str(), ""]),
+        Step::Exact => ("exact", ["", "", ""]),
     }
 }
 

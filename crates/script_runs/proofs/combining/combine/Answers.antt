@@ -25,7 +25,7 @@ returns-in_err-outcome-clause-meets g c =
     let is_q : mesh_at named c.args.right.now ≡ c.in-Some-Some.q.now = ap mesh_or_none (sym c.mesh-2.ensures ∙ ap (option_map (λ m. m.now)) c.in-Some-Some.is-1) in
     let out = on_output g.O.Sink c.args.out.now in
     rw (e.1, e.2)
-    (combine_stopped meanings c.args.limits.now c.args.op c.args.name.now c.args.left.now c.args.right.now c.in-Some-Some.p.now c.in-Some-Some.q.now named is_p is_q out out _ c.in_err-outcome.ensures.meets)
+    (combine_stopped (meanings c.args.kernels) c.args.limits.now c.args.op c.args.name.now c.args.left.now c.args.right.now c.in-Some-Some.p.now c.in-Some-Some.q.now named is_p is_q out out _ c.in_err-outcome.ensures.meets)
 
 pub returns-in_err-say_combined-clause-meets : goal.returns-in_err-say_combined-clause-meets
 returns-in_err-say_combined-clause-meets g c =
@@ -33,13 +33,13 @@ returns-in_err-say_combined-clause-meets g c =
     let named = named_in c.args.names.now in
     let p = c.in-Some-Some.p.now in
     let q = c.in-Some-Some.q.now in
-    let o = meanings.operation c.args.op p q in
+    let o = (meanings c.args.kernels).operation c.args.op p q in
     let is_p : mesh_at named c.args.left.now ≡ p = ap mesh_or_none (sym c.mesh.ensures ∙ ap (option_map (λ m. m.now)) c.in-Some-Some.is-0) in
     let is_q : mesh_at named c.args.right.now ≡ q = ap mesh_or_none (sym c.mesh-2.ensures ∙ ap (option_map (λ m. m.now)) c.in-Some-Some.is-1) in
     let same = told o c.in_ok-outcome.outcome c.in_ok-outcome.ensures.outcome in
     let out = on_output g.O.Sink c.args.out.now in
     let after = on_output g.O.Sink c.say_combined.new.sink in
-    rw (e.1, e.2) (combine_unsaid meanings c.args.limits.now c.args.op c.args.name.now c.args.left.now c.args.right.now p q named is_p is_q out after o _ c.in_ok-outcome.ensures.meets (c.in_err-say_combined.ensures.meets o same))
+    rw (e.1, e.2) (combine_unsaid (meanings c.args.kernels) c.args.limits.now c.args.op c.args.name.now c.args.left.now c.args.right.now p q named is_p is_q out after o _ c.in_ok-outcome.ensures.meets (c.in_err-say_combined.ensures.meets o same))
 
 pub returns-in_err-define-clause-meets : goal.returns-in_err-define-clause-meets
 returns-in_err-define-clause-meets g c =
@@ -47,27 +47,27 @@ returns-in_err-define-clause-meets g c =
     let named = named_in c.args.names.now in
     let p = c.in-Some-Some.p.now in
     let q = c.in-Some-Some.q.now in
-    let o = meanings.operation c.args.op p q in
+    let o = (meanings c.args.kernels).operation c.args.op p q in
     let is_p : mesh_at named c.args.left.now ≡ p = ap mesh_or_none (sym c.mesh.ensures ∙ ap (option_map (λ m. m.now)) c.in-Some-Some.is-0) in
     let is_q : mesh_at named c.args.right.now ≡ q = ap mesh_or_none (sym c.mesh-2.ensures ∙ ap (option_map (λ m. m.now)) c.in-Some-Some.is-1) in
     let same = told o c.in_ok-outcome.outcome c.in_ok-outcome.ensures.outcome in
     let out = on_output g.O.Sink c.args.out.now in
     let after = on_output g.O.Sink c.say_combined.new.sink in
-    rw (e.1, e.2) (combine_unnamed meanings c.args.limits.now c.args.op c.args.name.now c.args.left.now c.args.right.now p q named is_p is_q out after o c.in_ok-outcome.ensures.meets (c.in_ok-say_combined.ensures.meets o same))
+    rw (e.1, e.2) (combine_unnamed (meanings c.args.kernels) c.args.limits.now c.args.op c.args.name.now c.args.left.now c.args.right.now p q named is_p is_q out after o c.in_ok-outcome.ensures.meets (c.in_ok-say_combined.ensures.meets o same))
 
 pub returns-clause-meets : goal.returns-clause-meets
 returns-clause-meets g c =
     let named = named_in c.args.names.now in
     let p = c.in-Some-Some.p.now in
     let q = c.in-Some-Some.q.now in
-    let o = meanings.operation c.args.op p q in
+    let o = (meanings c.args.kernels).operation c.args.op p q in
     let is_p : mesh_at named c.args.left.now ≡ p = ap mesh_or_none (sym c.mesh.ensures ∙ ap (option_map (λ m. m.now)) c.in-Some-Some.is-0) in
     let is_q : mesh_at named c.args.right.now ≡ q = ap mesh_or_none (sym c.mesh-2.ensures ∙ ap (option_map (λ m. m.now)) c.in-Some-Some.is-1) in
     let same = told o c.in_ok-outcome.outcome c.in_ok-outcome.ensures.outcome in
     let out = on_output g.O.Sink c.args.out.now in
     let after = on_output g.O.Sink c.say_combined.new.sink in
     let is = c.in_ok-define.ensures.named ∙ ap (λ m. with_name c.args.name.now m named) c.in_ok-outcome.ensures.outcome.mesh in
-    combine_named meanings c.args.limits.now c.args.op c.args.name.now c.args.left.now c.args.right.now p q named is_p is_q out after o (named_in c.define.new.self) is c.in_ok-outcome.ensures.meets (c.in_ok-say_combined.ensures.meets o same)
+    combine_named (meanings c.args.kernels) c.args.limits.now c.args.op c.args.name.now c.args.left.now c.args.right.now p q named is_p is_q out after o (named_in c.define.new.self) is c.in_ok-outcome.ensures.meets (c.in_ok-say_combined.ensures.meets o same)
 
 pub returns-clause-named : goal.returns-clause-named
 returns-clause-named g c = (c.in_ok-outcome.outcome.mesh, c.in_ok-define.ensures.named)

@@ -16,12 +16,22 @@ returns-in-Err-clause-meets g c =
     rw c.halt_of.ensures.why
     (text_refused meanings c.args.digits c.args.limits.now c.args.name.now c.args.text.now c.in-Err.fault (seen_of g.S.Shelf g.O.Sink c.args.shelf.now c.args.out.now) c.in-Err.ensures.fault)
 
+pub returns-in_err-do_lines-clause-meets : goal.returns-in_err-do_lines-clause-meets
+returns-in_err-do_lines-clause-meets g c =
+    let e = err_from_is_err_and c.from_residual.result c.from_residual.ensures.1 in
+    let lines = map line_of c.lines.result.now in
+    let before = seen_of g.S.Shelf g.O.Sink c.args.shelf.now c.args.out.now in
+    let now = seen_of g.S.Shelf g.O.Sink c.do_lines.new.shelf c.do_lines.new.out in
+    let P : List (Bytes × Mesh) → Type 0 = λ es. Meets (steps_task meanings c.args.digits c.args.limits.now c.args.name.now lines (state_in Grid es)) before now (halted_by (λ kernels. state_in kernels c.do_lines.new.names) c.do_lines.result) in
+    rw (e.1, e.2)
+    (text_done c.args.digits)
+
 pub returns-clause-meets : goal.returns-clause-meets
 returns-clause-meets g c =
     let lines = map line_of c.lines.result.now in
     let before = seen_of g.S.Shelf g.O.Sink c.args.shelf.now c.args.out.now in
     let now = seen_of g.S.Shelf g.O.Sink c.do_lines.new.shelf c.do_lines.new.out in
-    let after = named_in c.do_lines.new.names in
-    let P : List (Bytes × Mesh) → Type 0 = λ es. Meets (steps_task meanings c.args.digits c.args.limits.now c.args.name.now lines (named_in es)) before now (halted_by (λ _. after) c.do_lines.result) in
+    let after : KernelKind → State = λ kernels. state_in kernels c.do_lines.new.names in
+    let P : List (Bytes × Mesh) → Type 0 = λ es. Meets (steps_task meanings c.args.digits c.args.limits.now c.args.name.now lines (state_in Grid es)) before now (halted_by after c.do_lines.result) in
     text_done meanings c.args.digits c.args.limits.now c.args.name.now c.args.text.now lines after before now c.do_lines.result (c.in-Ok.ensures.script ∙ ap Ok (sym c.lines.ensures.lines))
     (subst P c.none-names.ensures c.do_lines.ensures.meets)

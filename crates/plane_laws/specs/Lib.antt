@@ -1,0 +1,11 @@
+pub mod Areas
+pub mod Signs
+pub mod Meetings
+pub mod Bits
+pub mod Moved
+pub mod Heights
+pub mod Above
+pub mod Apart
+pub mod Unmoved
+pub mod Excluded
+pub mod Beside
