@@ -1,5 +1,5 @@
 #!/bin/sh
-# Times operations on made meshes by the program as it was last built by bin/manifold_tool, in a folder of its own, and prints a table; benches/operations.py says
+# Times operations on made meshes by the program as it was last built by bin/manifold_tool, in a folder of its own, and prints a table; benches/operations.py and hard.py say
 # what the jobs are. Needs python3. Usage: benches/operations.sh [JOB..]
 top=$(cd "$(dirname "$0")/.." && pwd) || exit 1
 program=$top/crates/manifold_tool/out/manifold_tool

@@ -1,5 +1,6 @@
 -- The counts of faults by the end of a run.
 use Rattle.std.proofs.Common.{◌≡◌, ◌<◌, ◌^◌, ◌-◌, ◌⊎◌, ◌∙◌, ◌==◌, ℕ, Bool, IsTrue, if◌then◌else◌, Result, Ok, Err, ap, arith, inl, inr, refl, subst, sym, List}
+use Rattle.std.proofs.lemmas.Bool.{cases_eq}
 use Rattle.mesh_terms.specs.Limits.{Limits}
 use Rattle.mb_outside.specs.Seen.{seen_of}
 use Rattle.mb_outside.specs.declared.shelf.Shelf.{Ghosts as OfShelf}
@@ -54,6 +55,22 @@ rise_with (Err Unsaid) tells before now reads writes outs rises =
       calm = λ _ other. absurd (other refl);
     }
 rise_with (Err Starved) tells before now reads writes outs rises = calm 8 tells before now (λ is. cc) (λ is. cc) rises
+
+-- but with status 7 the faults of the output stand still
+pub outs_stay : (n : ℕ) (tells : Bool) (before now : Faults) → RiseWith n tells before now → (n ≡ 7 → ⊥) → now.out ≡ before.out
+outs_stay n tells before now rise other = elim (cases_eq n 6) [ inl six ↦ (rise.read six).2 | inr not_six ↦ ap (λ (f : Faults). f.out) (rise.calm not_six other) ]
+
+-- 7 is the number of one status
+pub failed_write : (status : Status) → status_number status ≡ 7 → status ≡ statuses.WriteFault
+failed_write statuses.Done is = absurd cc
+failed_write statuses.Usage is = absurd cc
+failed_write statuses.BadScript is = absurd cc
+failed_write statuses.MissingFile is = absurd cc
+failed_write statuses.BadMesh is = absurd cc
+failed_write statuses.Limit is = absurd cc
+failed_write statuses.ReadFault is = absurd cc
+failed_write statuses.WriteFault is = refl
+failed_write statuses.NoMemory is = absurd cc
 
 -- a count that stayed did not rise
 stayed : (before now : ℕ) → before < 2 ^ 64 - 1 → now ≡ before → Grew before now → ⊥

@@ -13,10 +13,10 @@ use Rattle.play_laws.proofs.ReadingBack.{copy_keeps, inside_keeps, mesh_given}
 use Rattle.operation_laws.specs.Laws.{OperationsAreReadable}
 use Rattle.operation_laws.specs.Results.{ScriptsGiveResults}
 use Rattle.program_terms.specs.Commands.{command_task}
-use Rattle.script_laws.proofs.ReadingBack.{script_keeps}
+use Rattle.script_laws.proofs.ReadingBack.{meshes_kept, script_keeps}
 use Rattle.mesh_commands.specs.Windings.{windings}
 use Rattle.program_runs.specs.Playing.{meanings}
-use Rattle.program_runs.specs.Results.{CommandGivesResults}
+use Rattle.program_runs.specs.Results.{CommandGivesResults, CommandKeepsMeshes}
 
 -- ---- the digits of words are at most 6
 
@@ -109,3 +109,10 @@ gives_results limits None lawful few law = tt
 gives_results limits (Some (CopyFile k from to)) lawful few law = tt
 gives_results limits (Some (InsideFile k file point)) lawful few law = tt
 gives_results limits (Some (RunScript k script)) lawful few law = law k limits few lawful script
+
+-- how the meshes of its names are read and saved, by the law of what operations give
+pub keeps_meshes : (limits : Limits) (what : Option Command) → IsLawful limits → digits_in what ≤ 6 → OperationsAreReadable → CommandKeepsMeshes limits what
+keeps_meshes limits None lawful few law = tt
+keeps_meshes limits (Some (CopyFile k from to)) lawful few law = tt
+keeps_meshes limits (Some (InsideFile k file point)) lawful few law = tt
+keeps_meshes limits (Some (RunScript k script)) lawful few law = meshes_kept meanings.scripts k limits few lawful (law k limits few lawful) script

@@ -1,8 +1,10 @@
--- What the operations of a command give.
+-- What the operations of a command give, and how the meshes of its names are read and saved.
 use Rattle.std.specs.Prelude.{Option, Some, None}
 use Rattle.mesh_terms.specs.Limits.{Limits}
 use Rattle.operation_laws.specs.Results.{GivesResults}
 use Rattle.play_terms.specs.Words.{Command, CopyFile, InsideFile, RunScript}
+use Rattle.script_laws.specs.ReadingBack.{KeepsMeshes}
+use Rattle.program_runs.specs.Playing.{meanings}
 
 -- whatever lines of the script that it does, if it does one, an operation is a result of its meshes
 abbrev pub CommandGivesResults : Limits → Option Command → Type 0
@@ -10,3 +12,10 @@ CommandGivesResults limits None = Unit {0}
 CommandGivesResults limits (Some (CopyFile k from to)) = Unit {0}
 CommandGivesResults limits (Some (InsideFile k file p)) = Unit {0}
 CommandGivesResults limits (Some (RunScript k script)) = GivesResults k limits script
+
+-- whatever lines of the script that it does, if it does one, the mesh of each name is read of its texts, and a line that saves it writes its text
+abbrev pub CommandKeepsMeshes : Limits → Option Command → Type 0
+CommandKeepsMeshes limits None = Unit {0}
+CommandKeepsMeshes limits (Some (CopyFile k from to)) = Unit {0}
+CommandKeepsMeshes limits (Some (InsideFile k file p)) = Unit {0}
+CommandKeepsMeshes limits (Some (RunScript k script)) = KeepsMeshes meanings.scripts k limits script

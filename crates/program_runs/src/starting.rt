@@ -11,7 +11,7 @@ ghost use Rattle.mesh_files.specs.Stops.{why_of};
 ghost use Rattle.report_lines.specs.Reports.{IsReported};
 ghost use Rattle.program_runs.specs.Counting.{play_cost};
 ghost use Rattle.program_runs.specs.Playing.{IsUntroubled, ProgramMeets, RiseOn, meanings, program_limits};
-ghost use Rattle.program_runs.specs.Results.{CommandGivesResults};
+ghost use Rattle.program_runs.specs.Results.{CommandGivesResults, CommandKeepsMeshes};
 ghost use Rattle.command_ends.specs.Statuses.{IsDoneOrStarved, IsUsageOrStarved, status_number};
 
 use crate::top_call::run;
@@ -51,6 +51,7 @@ pub fn start<S: Shelf, O: Sink, E: Sink, L: Ledger>(
     ensures mesh_back { IfOk words (λ words. CopiesReadable program_limits (command words)) }
     ensures back { IfOk words (λ words. (files : Files) →
         All (WritesReadable (digits_in (command words)) program_limits) (play meanings program_limits words files).actions) }
+    ensures held { IfOk words (λ words. CommandKeepsMeshes program_limits (command words)) }
     ensures results { IfOk words (λ words. CommandGivesResults program_limits (command words)) }
     ensures copies_uncounted { IfOk words (λ words. IsCopy (command words) → steps.new ≡ steps.old) }
     ensures counted { IfOk words (λ words. IsInside (command words) → result ≡ Status.Done → steps.new ≡ steps.old + 1) }

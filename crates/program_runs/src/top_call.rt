@@ -9,7 +9,7 @@ ghost use Rattle.mb_outside.specs.Seen.{on_output};
 ghost use Rattle.report_lines.specs.Reports.{IsReported};
 ghost use Rattle.program_runs.specs.Counting.{play_cost};
 ghost use Rattle.program_runs.specs.Playing.{IsUntroubled, RiseOn, RunMeets, meanings};
-ghost use Rattle.program_runs.specs.Results.{CommandGivesResults};
+ghost use Rattle.program_runs.specs.Results.{CommandGivesResults, CommandKeepsMeshes};
 ghost use Rattle.command_ends.specs.Statuses.{IsDoneOrStarved, IsUsageOrStarved, status_number};
 
 use crate::back::{plays_are_readable, plays_give_results};
@@ -40,7 +40,8 @@ use steps::Steps;
 /// all, and with 8 memory ran out between two actions. So where the files are told, a run whose play gives no refusal, and in which no
 /// fault came, ends with 0, or for want of memory. Whatever the files and however the run ended, each file that the play writes holds the text of a mesh in the format of its name,
 /// and the mesh is read of its OBJ text under the same digits and limits; for a copy this mesh is the one that was read of IN, in either format, without its
-/// unused points. An STL text reads as the mesh welded, its points in another order; that is a law of `stl_laws` and no clause here.
+/// unused points. Whatever lines of a script were done, the mesh of each name is read of its OBJ text and, welded, its points in another
+/// order, of its STL text; and a line that saves a name writes the text of this mesh.
 /// Whatever lines of a script were done, what the play has of an operation on the meshes of two names is a result of these, under the kernels chosen by then: along each half-edge of both, reduced,
 /// the winding number in the other changes by its signed crossings; the vertices, before pinched ones are split, are those that these numbers prescribe, each as
 /// often; the triangles made in each face of either are bounded by the segments prescribed there; and half-edges pair, none with itself, with one fan at each
@@ -72,6 +73,7 @@ pub fn run<S: Shelf, O: Sink, E: Sink, L: Ledger>(
     ensures complete { IsUntroubled S.Shelf O.Sink limits.now words.now (shelf.old, out.old) (shelf.new, out.new) → IsDoneOrStarved result }
     ensures mesh_back { CopiesReadable limits.now (command words.now) }
     ensures back { (files : Files) → All (WritesReadable (digits_in (command words.now)) limits.now) (play meanings limits.now words.now files).actions }
+    ensures held { CommandKeepsMeshes limits.now (command words.now) }
     ensures results { CommandGivesResults limits.now (command words.now) }
     ensures copies_uncounted { IsCopy (command words.now) → steps.new ≡ steps.old }
     ensures counted { IsInside (command words.now) → result ≡ Status.Done → steps.new ≡ steps.old + 1 }

@@ -27,7 +27,10 @@ use Rattle.script_terms.specs.Scripts.{script}
 use Rattle.script_terms.specs.Steps.{Line, Step, Load, Save, Measure, Combine, Make, Move, Exact}
 use Rattle.made_laws.proofs.Motions.{moved_within}
 use Rattle.made_laws.proofs.Solids.{solid_given}
-use Rattle.script_laws.specs.ReadingBack.{MeshReadable, NamesReadable, ResultsReadable, soup_of_mesh}
+use Rattle.obj_laws.specs.Within.{IsWithin}
+use Rattle.stl_laws.proofs.SavedMeshes.{meshes_read_welded}
+use Rattle.made_laws.specs.Laws.{IsGivenWithin}
+use Rattle.script_laws.specs.ReadingBack.{IsReadOfTexts, KeepsMeshes, MeshReadable, NamesReadable, ResultsReadable, soup_of_mesh}
 use Rattle.script_laws.proofs.Keeping.{keeps_value, keeps_in_order}
 use Rattle.script_laws.proofs.Readable.{readable_within, within_of_readable}
 
@@ -145,6 +148,20 @@ module _ (means : KernelKind → Meanings) (k : ℕ) (limits : Limits) (few : k 
   pub steps_keep : (script : Bytes) (lines : List Line) → Keeps Writes Known (steps_task means k limits script lines at_first)
   steps_keep script lines =
       keeps_in_order Writes Known (line_task means k limits script) lines at_first (line_keeps script) (λ name. empty_readable)
+
+  -- a mesh that is read of its OBJ text is read of its STL text, welded
+  read_of_texts : (m : Mesh) → MeshReadable k limits m → IsReadOfTexts k limits m
+  read_of_texts m readable =
+      let given = within_of_readable k limits m lawful readable in
+      let within : IsWithin limits m.points m.triples = record { on_grid = given.given.on_grid; mesh = given.given.accepted.mesh; few_points = given.few_points; few_triples = given.few_triples } in
+      record { obj = readable; stl = meshes_read_welded k few limits lawful m.points m.triples within }
+
+  -- so is the mesh of each name, whatever lines are done, and a line that saves it writes its text
+  pub meshes_kept : (script : Bytes) → KeepsMeshes means k limits script
+  meshes_kept script = record {
+    names = λ files lines state is name. read_of_texts (mesh_at state.named name) ((steps_keep script lines).value files state is name);
+    saves = λ state line name file files. refl;
+  }
 
   -- whatever the files, each file that a script writes holds the text of a mesh, which is read of it again
   pub script_keeps : (name : Bytes) → Keeps Writes (λ _. Unit {0}) (script_task means k limits name)

@@ -1,11 +1,19 @@
--- What is needed of operations, so that what a script writes can be read.
-use Rattle.std.specs.Prelude.{◌≡◌, ℕ, nat_lt, false}
+-- What is needed of operations, so that what a script writes can be read; and how the meshes of its names are read and saved.
+use Rattle.std.specs.Prelude.{◌≡◌, ℕ, nat_lt, false, List, [], ◌∷◌, Ok}
 use Rattle.mb_base.specs.declared.op.Op.{Op}
 use Rattle.mesh_terms.specs.Limits.{Limits}
-use Rattle.mesh_terms.specs.Meshes.{Mesh, Soup}
+use Rattle.mesh_terms.specs.Meshes.{Mesh, Soup, soup_of}
+use Rattle.mb_base.specs.declared.kernel_kind.KernelKind.{KernelKind}
+use Rattle.play_terms.specs.Formats.{mesh_text}
 use Rattle.play_terms.specs.ReadingBack.{IsReadable}
-use Rattle.run_terms.specs.Files.{Bytes}
-use Rattle.script_terms.specs.Plays.{Meanings, Named, mesh_at}
+use Rattle.run_terms.specs.Files.{Bytes, Files}
+use Rattle.run_terms.specs.Runs.{Write, Say}
+use Rattle.script_terms.specs.Lines.{save_line}
+use Rattle.script_terms.specs.Plays.{Meanings, Named, State, at_first, line_task, mesh_at, steps_task}
+use Rattle.script_terms.specs.Steps.{Line, Save}
+use Rattle.stl_laws.specs.Welding.{welded_mesh}
+use Rattle.stl_terms.specs.Stl.{stl}
+use Rattle.stl_terms.specs.Written.{stl_text}
 
 -- a mesh with nothing dropped
 abbrev pub soup_of_mesh : Mesh → Soup
@@ -24,3 +32,17 @@ ResultsReadable means k limits =
 -- the mesh of each name is read where it is written
 abbrev pub NamesReadable : ℕ → Limits → Named → Type 0
 NamesReadable k limits named = (name : Bytes) → MeshReadable k limits (mesh_at named name)
+
+-- a mesh is read, point by point and triple by triple, of its OBJ text, wherever that stands; and its STL text reads as the mesh welded
+pub record IsReadOfTexts (k : ℕ) (limits : Limits) (m : Mesh) : Type 0 where
+  pub obj : MeshReadable k limits m
+  pub stl : let w = welded_mesh m.points m.triples in stl k limits (stl_text k m.points m.triples) ≡ Ok (soup_of w.points w.triples)
+
+-- the meshes of the names of a script are read of their texts and saved
+pub record KeepsMeshes (means : KernelKind → Meanings) (k : ℕ) (limits : Limits) (script : Bytes) : Type 0 where
+  -- whatever lines were done, over whatever files, the mesh of each name is read of its texts
+  pub names : (files : Files) (lines : List Line) (state : State) → (steps_task means k limits script lines at_first files).result ≡ Ok state
+      → (name : Bytes) → IsReadOfTexts k limits (mesh_at state.named name)
+  -- and a line that saves a name writes the text of this mesh, in the format of the file's name, and says so
+  pub saves : (state : State) (line : ℕ) (name file : Bytes) (files : Files) → let m = mesh_at state.named name in
+      (line_task means k limits script (line, Save name file) state files).actions ≡ Write file (mesh_text k file m.points m.triples) ∷ Say (save_line name file m) ∷ []

@@ -9,7 +9,7 @@ use Rattle.file_stops.specs.declared.stop.Stop.{Stop}
 use Rattle.command_ends.specs.Statuses.{IsDoneOrStarved, status_number}
 use Rattle.program_runs.specs.Counting.{play_cost}
 use Rattle.program_runs.specs.Playing.{IsUntroubled, RunMeets, meanings}
-use Rattle.program_runs.specs.Results.{CommandGivesResults}
+use Rattle.program_runs.specs.Results.{CommandGivesResults, CommandKeepsMeshes}
 use Rattle.program_runs.proofs.starting.start.Goals as goal
 
 -- what holds of the words that are there holds if they are
@@ -58,6 +58,12 @@ returns-in-Ok-clause-back g c =
     if_words _ c.args.words c.in-Ok.words c.in-Ok.is (subst
     (λ l. (files : Files) → All (WritesReadable (digits_in (command c.in-Ok.words)) l) (play meanings l c.in-Ok.words files).actions)
     c.program.ensures.value c.run.ensures.back)
+
+pub returns-in-Ok-clause-held : goal.returns-in-Ok-clause-held
+returns-in-Ok-clause-held g c =
+    if_words _ c.args.words c.in-Ok.words c.in-Ok.is (subst
+    (λ l. CommandKeepsMeshes l (command c.in-Ok.words))
+    c.program.ensures.value c.run.ensures.held)
 
 pub returns-in-Ok-clause-results : goal.returns-in-Ok-clause-results
 returns-in-Ok-clause-results g c =
@@ -121,6 +127,9 @@ returns-in-Err-clause-mesh_back g c = rw c.in-Err.is tt
 
 pub returns-in-Err-clause-back : goal.returns-in-Err-clause-back
 returns-in-Err-clause-back g c = rw c.in-Err.is tt
+
+pub returns-in-Err-clause-held : goal.returns-in-Err-clause-held
+returns-in-Err-clause-held g c = rw c.in-Err.is tt
 
 pub returns-in-Err-clause-results : goal.returns-in-Err-clause-results
 returns-in-Err-clause-results g c = rw c.in-Err.is tt
