@@ -10,7 +10,7 @@ use mb_base::{Limits, Op};
 use mesh_boolean::{Outcome, boolean};
 use mesh_check::Mesh;
 use retained_verts::PrescribeFault;
-use rounding::Nearest;
+use rounding::{High, Low, Nearest, Rounding};
 use sample_lines::{read_meshes, read_pair};
 use std::alloc::Global;
 use std::marker::Brand;
@@ -37,21 +37,27 @@ fn answer<K: Kernels, L: Ledger>(
     boolean(alloc, op, p, q, kernels, &Limits::program(), &mut steps)
 }
 
-// What it gives under exact kernels.
-fn exactly(alloc: Global, op: Op, p: &Mesh, q: &Mesh) -> Result<Outcome, PrescribeFault> {
-    let exact = Exact { rounding: Nearest };
-    answer::<Exact<Nearest>, Brand>(alloc, op, p, q, &exact, Blank::new(1))
+// What it gives under exact kernels with a rounding.
+fn exactly<R: Rounding + Copy>(
+    alloc: Global,
+    op: Op,
+    p: &Mesh,
+    q: &Mesh,
+    rounding: R,
+) -> Result<Outcome, PrescribeFault> {
+    answer::<Exact<R>, Brand>(alloc, op, p, q, &Exact { rounding }, Blank::new(1))
 }
 
-// Compares what a pair gives with the line of a table.
-fn expect_pair(
+// Compares what a pair gives under a rounding with the line of a table.
+fn expect_pair<R: Rounding + Copy>(
     rt: &impl Abort,
     alloc: Global,
     meshes: &str,
+    rounding: R,
     expected: &str,
 ) -> Result<(), Fail> {
     let (op, p, q) = read_pair(alloc, meshes)?;
-    let outcome = exactly(alloc, op, &p, &q)?;
+    let outcome = exactly(alloc, op, &p, &q, rounding)?;
     let text = text_of(alloc, &outcome)?;
     assert_eq!(rt; text.as_str(), expected, "{meshes}");
     Ok(())
@@ -62,11 +68,15 @@ fn agrees_with_the_table(rt: HostRuntime) -> Result<(), Fail> {
     let mut lines = PAIRS.lines();
     let mut found: u64 = 0;
     while let Some(meshes) = lines.next() {
-        let expected = lines.next().ok_or("no second line")?;
-        expect_pair(&rt, rt.alloc(), meshes, expected)?;
+        let nearest = lines.next().ok_or("no second line")?;
+        let low = lines.next().ok_or("no third line")?;
+        let high = lines.next().ok_or("no fourth line")?;
+        expect_pair(&rt, rt.alloc(), meshes, Nearest, nearest)?;
+        expect_pair(&rt, rt.alloc(), meshes, Low, low)?;
+        expect_pair(&rt, rt.alloc(), meshes, High, high)?;
         found = found.wrapping_add(1);
     }
-    assert_eq!(rt; found, 72);
+    assert_eq!(rt; found, 64);
     Ok(())
 }
 
@@ -77,7 +87,7 @@ const CUBE_TWICE: &str =
 #[test]
 fn a_cube_is_united_with_itself_as_if_moved(rt: HostRuntime) -> Result<(), Fail> {
     let (p, q) = read_meshes(rt.alloc(), CUBE_TWICE)?;
-    let outcome = exactly(rt.alloc(), Op::Union, &p, &q)?;
+    let outcome = exactly(rt.alloc(), Op::Union, &p, &q, Nearest)?;
     let all = &outcome.prescribed;
     assert!(rt; all.kept == [7, 7] && all.crossings == 14 && all.halfedges == 104);
     Ok(())
