@@ -1,7 +1,6 @@
 -- Normals and heights as the code makes them.
 use Rattle.std.proofs.Common.{◌≡◌, Bool, ◌∙◌, ap}
-use Rattle.plane_laws.specs.Heights.{Vector, cross_product, scalar}
-use Rattle.plane_laws.specs.Above.{is_above}
+use Rattle.plane_laws.specs.Decisions.{Vector, cross_product, scalar, is_above}
 
 -- the answer from equal normals and ways
 pub made_above : {r : Bool} (n w : Vector) {e f e' f' w' : Vector} → r ≡ is_above n (scalar n w) → n ≡ cross_product e f → e ≡ e' → f ≡ f' → w ≡ w' →

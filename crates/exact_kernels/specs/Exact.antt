@@ -5,9 +5,7 @@ use Rattle.side_terms.specs.Corners.{axis}
 use Rattle.shadow_kernels.specs.declared.Edge.{Edge}
 use Rattle.shadow_kernels.specs.declared.Edge.TheVariants.{OfP, OfQ}
 use Rattle.shadow_kernels.specs.Rules.{Rule}
-use Rattle.plane_laws.specs.Moved.{is_over}
-use Rattle.plane_laws.specs.Heights.{Vector}
-use Rattle.plane_laws.specs.Above.{edges_above, vertex_above, face_above}
+use Rattle.plane_laws.specs.Decisions.{is_over, Vector, edges_above, vertex_above, face_above}
 
 -- a vertex of P is beyond one of Q in x
 abbrev pub exact_beyond : Corner → Corner → Bool

@@ -17,7 +17,7 @@ use Rattle.shadow_kernels.specs.Bounds.{box_below}
 use Rattle.shadow_kernels.specs.Hulls.{StaysBetween, IsPlaced, IsBeyond}
 use Rattle.shadow_kernels.specs.Lawful.{IsRule}
 use Rattle.plane_laws.specs.Unmoved.{le_from, not_le_from, crossing_from, inside_vertex, inside_edge}
-use Rattle.plane_laws.specs.Moved.{is_over}
+use Rattle.plane_laws.specs.Decisions.{is_over}
 use Rattle.plane_laws.specs.Beside.{vertex_beside, edge_beside}
 use Rattle.plane_laws.specs.Above.{edges_above_turned_p, edges_above_turned_q, vertex_above_exchanged, vertex_above_changed, face_above_exchanged, face_above_changed}
 use Rattle.plane_laws.specs.Apart.{Apart, edges_apart, vertex_apart, face_apart}

@@ -16,7 +16,8 @@ use Rattle.plane_laws.specs.Signs.{Signed}
 use Rattle.plane_laws.specs.Areas.{Place, area}
 use Rattle.plane_laws.specs.Meetings.{IsMeeting}
 use Rattle.plane_laws.specs.Bits.{SeenBy, edges_meet, face_meets}
-use Rattle.plane_laws.specs.Moved.{moved, kept, is_over, moved_order}
+use Rattle.plane_laws.specs.Moved.{moved, kept, moved_order}
+use Rattle.plane_laws.specs.Decisions.{is_over}
 use Rattle.plane_laws.specs.Unmoved.{AreNear, seen_vertex, seen_edge}
 use Rattle.plane_laws.specs.Excluded.{Inside, face_balance}
 use Rattle.exact_kernels.specs.Exact.{exact, exact_beyond}

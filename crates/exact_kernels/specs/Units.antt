@@ -69,9 +69,9 @@ few a b c d e ha hb hc hd he x = by (zero_or_not a) (zero_or_not b) where
 
 -- the pairs of an edge and a face are balanced where their counts are so excluded
 module _ {P Q : List Corner → List Corner → List Corner} {ends edges one other : ShadowTest} (h : AreMet P Q ends edges one other) (a b u v t : Corner)
-(fe : AllFine (a ∷ b ∷ [])) (ff : AllFine (u ∷ v ∷ t ∷ []))
+    (fe : AllFine (a ∷ b ∷ [])) (ff : AllFine (u ∷ v ∷ t ∷ []))
     (x : AreExcluded (count_of (ends (a ∷ []) (u ∷ v ∷ t ∷ []))) (count_of (ends (b ∷ []) (u ∷ v ∷ t ∷ []))) (count_of (edges (a ∷ b ∷ []) (u ∷ v ∷ [])))
-    (count_of (edges (a ∷ b ∷ []) (v ∷ t ∷ []))) (count_of (edges (a ∷ b ∷ []) (t ∷ u ∷ [])))) where
+        (count_of (edges (a ∷ b ∷ []) (v ∷ t ∷ []))) (count_of (edges (a ∷ b ∷ []) (t ∷ u ∷ [])))) where
   -- their counts are
   pub pairs_balanced : IsBalanced (signed_pairs ends edges a b u v t)
   pairs_balanced =

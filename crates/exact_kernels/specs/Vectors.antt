@@ -1,6 +1,6 @@
 -- Vectors as the code keeps them.
 use Rattle.std.specs.Prelude.{ℕ, ℤ, pos, List, slice_index_or}
-use Rattle.plane_laws.specs.Heights.{Vector}
+use Rattle.plane_laws.specs.Decisions.{Vector}
 
 -- the number at a place
 abbrev pub number_on : List ℤ → ℕ → ℤ

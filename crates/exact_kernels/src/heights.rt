@@ -2,7 +2,7 @@
 
 ghost use Rattle.std.specs.Prelude.{◌≡◌, ◌≤◌, ◌^◌, unsigned_abs};
 ghost use Rattle.side_terms.specs.Corners.{IsFineCorner};
-ghost use Rattle.plane_laws.specs.Moved.{is_over};
+ghost use Rattle.plane_laws.specs.Decisions.{is_over};
 ghost use Rattle.exact_kernels.specs.Exact.{exact_beyond, exact_edge, height};
 
 use crate::signs::{less, plus, product, way};

@@ -3,8 +3,7 @@
 ghost use Rattle.std.specs.Prelude.{◌≡◌, ◌≤◌, ◌<◌, ◌^◌, ◌-ℤ◌, ◌*ℤ◌, unsigned_abs};
 ghost use Rattle.std.specs.List.{All};
 ghost use Rattle.side_terms.specs.Corners.{corner_at, IsFineCorner, AllFine};
-ghost use Rattle.plane_laws.specs.Heights.{way, cross_product, scalar};
-ghost use Rattle.plane_laws.specs.Above.{is_above, leading};
+ghost use Rattle.plane_laws.specs.Decisions.{way, cross_product, scalar, is_above, leading};
 ghost use Rattle.exact_kernels.specs.Exact.{exact_edges, exact_face, position};
 ghost use Rattle.exact_kernels.specs.Vectors.{vector, number_on};
 

@@ -2,7 +2,7 @@
 
 ghost use Rattle.std.specs.Prelude.{◌≡◌, ◌≤◌, ◌<◌, ◌^◌, ◌+ℤ◌, ◌-ℤ◌, ◌*ℤ◌, unsigned_abs};
 ghost use Rattle.side_terms.specs.Corners.{axis, IsFineCorner};
-ghost use Rattle.plane_laws.specs.Above.{same_sign};
+ghost use Rattle.plane_laws.specs.Decisions.{same_sign};
 
 use mb_base::Corner;
 

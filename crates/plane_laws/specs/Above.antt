@@ -8,19 +8,8 @@ use Rattle.chain_laws.specs.Products.{spread, mul-sub, mul-neg, neg-mul}
 use Rattle.plane_laws.specs.Signs.{Signed, Weak, like}
 use Rattle.plane_laws.specs.Areas.{Place, area}
 use Rattle.plane_laws.specs.Moved.{nonneg_mul, times_one}
-use Rattle.plane_laws.specs.Heights.{Vector, flat, way, cross_product, scalar, edges_height, face_height}
-
--- both above 0, or both below it
-abbrev pub same_sign : ℤ → ℤ → Bool
-same_sign a b = (int_lt (pos 0) a && int_lt (pos 0) b) || (int_lt a (pos 0) && int_lt b (pos 0))
-
--- the first of three numbers that is not 0, if one is not
-abbrev pub leading : Vector → ℤ
-leading n = if int_eq n.x (pos 0) then (if int_eq n.y (pos 0) then n.z else n.y) else n.x
-
--- above: the height h over the plane, or, where that is 0, the first number of the normal n, has the sign of the normal in z
-abbrev pub is_above : Vector → ℤ → Bool
-is_above n h = if int_eq h (pos 0) then same_sign (leading n) n.z else same_sign h n.z
+use Rattle.plane_laws.specs.Decisions.{Vector, way, cross_product, scalar, same_sign, leading, is_above, edges_normal, edges_above, face_normal, vertex_above, face_above}
+use Rattle.plane_laws.specs.Heights.{flat, edges_height, face_height}
 
 -- the other way round
 abbrev pub opposite : Vector → Vector
@@ -70,26 +59,6 @@ above_signed true true n h k l = grind (arith, ints)
 above_signed true false n h k l = grind (arith, ints)
 above_signed false true n h k l = grind (arith, ints)
 above_signed false false n h k l = grind (arith, ints)
-
--- an edge of P and one of Q
-abbrev pub edges_normal : Vector → Vector → Vector → Vector → Vector
-edges_normal a b c d = cross_product (way a b) (way c d)
-
--- the edge of P is above that of Q
-abbrev pub edges_above : Vector → Vector → Vector → Vector → Bool
-edges_above a b c d = is_above (edges_normal a b c d) (scalar (edges_normal a b c d) (way c a))
-
--- a vertex of P and a face of Q
-abbrev pub face_normal : Vector → Vector → Vector → Vector
-face_normal u v w = cross_product (way u v) (way u w)
-
--- the vertex is above the face
-abbrev pub vertex_above : Vector → Vector → Vector → Vector → Bool
-vertex_above p u v w = is_above (face_normal u v w) (scalar (face_normal u v w) (way u p))
-
--- a face of P and a vertex of Q
-abbrev pub face_above : Vector → Vector → Vector → Vector → Bool
-face_above u v w q = is_above (face_normal u v w) (scalar (face_normal u v w) (way q u))
 
 -- equal numbers make equal vectors
 same_vector : (x y z x' y' z' : ℤ) → x ≡ x' → y ≡ y' → z ≡ z' → ◌≡◌ {A = Vector} (record { x = x; y = y; z = z }) (record { x = x'; y = y'; z = z' })

@@ -7,8 +7,9 @@ use Rattle.chain_laws.specs.Products.{spread, mul-sub, mul-neg, neg-mul}
 use Rattle.plane_laws.specs.Signs.{Signed, Weak, like}
 use Rattle.plane_laws.specs.Areas.{Place, area}
 use Rattle.plane_laws.specs.Moved.{nonneg_mul, times_one}
-use Rattle.plane_laws.specs.Heights.{Vector, flat, way, scalar, edges_height, face_height}
-use Rattle.plane_laws.specs.Above.{above_signed, edges_normal, edges_above, face_normal, vertex_above, face_above, normal_is, height_over, height_back}
+use Rattle.plane_laws.specs.Heights.{flat, edges_height, face_height}
+use Rattle.plane_laws.specs.Decisions.{Vector, way, scalar, edges_normal, edges_above, face_normal, vertex_above, face_above}
+use Rattle.plane_laws.specs.Above.{above_signed, normal_is, height_over, height_back}
 
 -- weights of one sign, of which the sum is not 0, times heights of one sign
 weighed : (k l m x y z : ℤ) → pos 0 ≤ℤ k → pos 0 ≤ℤ l → pos 0 ≤ℤ m → pos 0 <ℤ (k +ℤ l +ℤ m) → pos 0 <ℤ x → pos 0 <ℤ y → pos 0 <ℤ z → pos 0 <ℤ (k *ℤ x +ℤ l *ℤ y +ℤ m *ℤ z)

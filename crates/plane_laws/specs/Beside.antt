@@ -7,7 +7,8 @@ use Rattle.chain_laws.specs.Products.{spread}
 use Rattle.plane_laws.specs.Signs.{Signed}
 use Rattle.plane_laws.specs.Areas.{Place, area}
 use Rattle.plane_laws.specs.Meetings.{zero_times}
-use Rattle.plane_laws.specs.Moved.{is_over, over_above, over_below}
+use Rattle.plane_laws.specs.Moved.{over_above, over_below}
+use Rattle.plane_laws.specs.Decisions.{is_over}
 use Rattle.plane_laws.specs.Apart.{Apart, weighed_signs}
 
 -- the area by the distances in x to both ends

@@ -5,28 +5,11 @@ use Rattle.std.proofs.lemmas.Int.{ints}
 use Rattle.std.proofs.Math.IntN.{*ℤ_comm}
 use Rattle.chain_laws.specs.Products.{spread, mul-sub, sub-mul, mul-neg, neg-mul, mul-assoc}
 use Rattle.plane_laws.specs.Areas.{Place, area, area_is, areas_add, exchanged}
-
--- a place in space
-pub record Vector : Type 0 where
-  pub x : ℤ
-  pub y : ℤ
-  pub z : ℤ
+use Rattle.plane_laws.specs.Decisions.{Vector, way, cross_product, scalar}
 
 -- from above
 abbrev pub flat : Vector → Place
 flat p = record { x = p.x; y = p.y }
-
--- the way from one to another
-abbrev pub way : Vector → Vector → Vector
-way p q = record { x = q.x -ℤ p.x; y = q.y -ℤ p.y; z = q.z -ℤ p.z }
-
--- the cross product
-abbrev pub cross_product : Vector → Vector → Vector
-cross_product e f = record { x = e.y *ℤ f.z -ℤ e.z *ℤ f.y; y = e.z *ℤ f.x -ℤ e.x *ℤ f.z; z = e.x *ℤ f.y -ℤ e.y *ℤ f.x }
-
--- the scalar product
-abbrev pub scalar : Vector → Vector → ℤ
-scalar n w = n.x *ℤ w.x +ℤ n.y *ℤ w.y +ℤ n.z *ℤ w.z
 
 -- the scalar product with a cross product, by heights
 triple : (e f w : Vector) → scalar (cross_product e f) w ≡ e.z *ℤ (f.x *ℤ w.y -ℤ w.x *ℤ f.y) -ℤ f.z *ℤ (e.x *ℤ w.y -ℤ w.x *ℤ e.y) +ℤ (e.x *ℤ f.y -ℤ e.y *ℤ f.x) *ℤ w.z

@@ -3,6 +3,7 @@ pub mod Signs
 pub mod Meetings
 pub mod Bits
 pub mod Moved
+pub mod Decisions
 pub mod Heights
 pub mod Above
 pub mod Apart

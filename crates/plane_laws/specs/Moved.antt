@@ -6,6 +6,7 @@ use Rattle.std.proofs.Common.{arith, refl, sym, ap, ◌∙◌}
 use Rattle.std.proofs.lemmas.Int.{ints, by_lt_z}
 use Rattle.std.proofs.lemmas.Bool.Decides.{Decides-int_eq}
 use Rattle.chain_laws.specs.Products.{product, mul-add, add-mul, mul-sub, mul-neg, neg-mul, mul-assoc, pos_mul}
+use Rattle.plane_laws.specs.Decisions.{is_over}
 use Rattle.plane_laws.specs.Signs.{Signed, Weak}
 use Rattle.plane_laws.specs.Areas.{Place, area, area_is, exchanged}
 
@@ -74,10 +75,6 @@ module _ (m v w d : ℤ) (hw : IsUnder m w) (hd : IsUnder m d) where
   pub tilted_weak : (s : Bool) → Signed s (tilted m v w d) → Weak s v
   tilted_weak true h = by_lt_z v (pos 0) (λ l. let k = tilted_below l in absurd (omega (arith, ints))) (λ l. l)
   tilted_weak false h = by_lt_z (pos 0) v (λ l. let k = tilted_above l in absurd (omega (arith, ints))) (λ l. l)
-
--- whether a height is above: more than 0, or 0 where the edge from left to right doesn't rise
-abbrev pub is_over : ℤ → ℤ → ℤ → Bool
-is_over v left right = int_lt (pos 0) v || (int_eq v (pos 0) && int_le right left)
 
 -- the tests of the order by the order: at most
 pub le_true : (a b : ℤ) → a ≤ℤ b → int_le a b ≡ true

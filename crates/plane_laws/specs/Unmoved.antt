@@ -7,7 +7,8 @@ use Rattle.plane_laws.specs.Signs.{Signed, Weak, signed_mul, signed_factor}
 use Rattle.plane_laws.specs.Areas.{Place, area}
 use Rattle.plane_laws.specs.Meetings.{IsMeeting}
 use Rattle.plane_laws.specs.Bits.{SeenBy}
-use Rattle.plane_laws.specs.Moved.{times_zero, moved, kept, tilted, tilted_weak, IsUnder, le_true, le_false, is_over, over_sign, moved_vertex, moved_edge}
+use Rattle.plane_laws.specs.Moved.{times_zero, moved, kept, tilted, tilted_weak, IsUnder, le_true, le_false, over_sign, moved_vertex, moved_edge}
+use Rattle.plane_laws.specs.Decisions.{is_over}
 use Rattle.plane_laws.specs.Apart.{IsCrossed}
 
 -- places that differ by less than m

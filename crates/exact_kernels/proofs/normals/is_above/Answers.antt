@@ -1,7 +1,7 @@
 use Rattle.std.proofs.Common.{arith, ◌≡◌, ap, ◌∙◌, ℤ}
 use Rattle.std.proofs.lemmas.Int.{ints}
 use Rattle.std.specs.Int.{w128, cast_signed, cast_unsigned}
-use Rattle.plane_laws.specs.Above.{is_above}
+use Rattle.plane_laws.specs.Decisions.{is_above}
 use Rattle.exact_kernels.specs.Vectors.{vector}
 use Rattle.exact_kernels.proofs.normals.is_above.Goals as goal
 
