@@ -1,7 +1,7 @@
 -- Boxes that lose nothing in coarse steps: whether they touch an area is told by the steps alone.
-use Rattle.std.proofs.Common.{◌≡◌, ◌∙◌, ℕ, zero, suc, ℤ, ◌<◌, true, false, Bool, ◌&&◌, List, [], ◌∷◌, length, refl, sym, ap, ap₂, arith}
-use Rattle.std.specs.Prelude.{◌≤ℤ◌, ◌<ℤ◌}
-use Rattle.std.specs.Int.{int_max, int_min}
+use Rattle.std.proofs.Common.{◌≡◌, ◌∙◌, ℕ, ℤ, true, ◌&&◌, List, [], ◌∷◌, length, refl, sym, ap, ap₂, arith}
+use Rattle.std.specs.Prelude.{◌≤ℤ◌}
+use Rattle.std.specs.Int.{int_max}
 use Rattle.std.specs.Int.Signed.{le_z}
 use Rattle.std.proofs.lemmas.Bool.{and_parts, and_from}
 use Rattle.std.proofs.lemmas.Int.{ints, clamps}

@@ -1,5 +1,5 @@
 -- Coordinates in coarse steps, rounded down and up.
-use Rattle.std.proofs.Common.{◌≡◌, ◌∙◌, ℕ, zero, suc, ℤ, pos, negsuc, neg_ℤ, ◌+◌, ◌-◌, ◌*◌, ◌/◌, ◌%◌, ◌^◌, ◌<◌, ◌≤◌, true, false, refl, sym, ap, arith}
+use Rattle.std.proofs.Common.{◌≡◌, ◌∙◌, ℕ, zero, suc, ℤ, pos, negsuc, neg_ℤ, ◌+◌, ◌-◌, ◌*◌, ◌/◌, ◌%◌, ◌^◌, ◌<◌, false, refl, sym, ap, arith}
 use Rattle.std.specs.Prelude.{◌≤ℤ◌, ◌<ℤ◌, unsigned_abs}
 use Rattle.std.specs.Int.{int_shr}
 use Rattle.std.specs.Int.Signed.{le_z}
@@ -63,11 +63,11 @@ below_tells shift z to whole =
     let m = whole.steps in
     by_lt_z {P = le_z m (step_below shift to) ≡ le_z z to} to z
     (λ less.
-      let low = shifted_before shift to m (omega (arith, ints, less, whole.exact)) in
-      test_not_le m (step_below shift to) (omega (arith, ints, clamps, low, whole.few)) ∙ sym (test_not_le z to less))
+    let low = shifted_before shift to m (omega (arith, ints, less, whole.exact)) in
+    test_not_le m (step_below shift to) (omega (arith, ints, clamps, low, whole.few)) ∙ sym (test_not_le z to less))
     (λ more.
-      let high = shifted_after shift to m (omega (arith, ints, more, whole.exact)) in
-      test_from_le m (step_below shift to) (omega (arith, ints, clamps, high, whole.few)) ∙ sym (test_from_le z to more))
+    let high = shifted_after shift to m (omega (arith, ints, more, whole.exact)) in
+    test_from_le m (step_below shift to) (omega (arith, ints, clamps, high, whole.few)) ∙ sym (test_from_le z to more))
 
 -- and no less than another where its steps are no fewer than those of the other, rounded up
 pub above_tells : (shift : ℕ) (z from : ℤ) (whole : IsWhole shift z) → le_z (step_above shift from) whole.steps ≡ le_z from z
@@ -76,11 +76,11 @@ above_tells shift z from whole =
     let turned = fine_turned shift m in
     by_lt_z {P = le_z (step_above shift from) m ≡ le_z from z} z from
     (λ more.
-      let low = shifted_before shift (neg_ℤ from) (neg_ℤ m) (omega (arith, ints, more, whole.exact, turned)) in
-      test_not_le (step_above shift from) m (omega (arith, ints, clamps, low, whole.few)) ∙ sym (test_not_le from z more))
+    let low = shifted_before shift (neg_ℤ from) (neg_ℤ m) (omega (arith, ints, more, whole.exact, turned)) in
+    test_not_le (step_above shift from) m (omega (arith, ints, clamps, low, whole.few)) ∙ sym (test_not_le from z more))
     (λ less.
-      let high = shifted_after shift (neg_ℤ from) (neg_ℤ m) (omega (arith, ints, less, whole.exact, turned)) in
-      test_from_le (step_above shift from) m (omega (arith, ints, clamps, high, whole.few)) ∙ sym (test_from_le from z less))
+    let high = shifted_after shift (neg_ℤ from) (neg_ℤ m) (omega (arith, ints, less, whole.exact, turned)) in
+    test_from_le (step_above shift from) m (omega (arith, ints, clamps, high, whole.few)) ∙ sym (test_from_le from z less))
 
 -- a whole coordinate is not rounded
 pub below_whole : (shift : ℕ) (z : ℤ) (whole : IsWhole shift z) → step_below shift z ≡ whole.steps

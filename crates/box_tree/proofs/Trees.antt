@@ -1,5 +1,5 @@
 -- What the entries of a tree owe to a question.
-use Rattle.std.proofs.Common.{◌≡◌, ◌∙◌, ℕ, ◌<◌, ◌≤◌, ◌&&◌, ◌||◌, true, List, [], ◌∷◌, length, map, inl, inr, refl, sym, ap, ap₂, arith, subst}
+use Rattle.std.proofs.Common.{◌≡◌, ◌∙◌, ℕ, ◌<◌, ◌≤◌, ◌&&◌, ◌||◌, Bool, true, false, List, [], ◌∷◌, length, map, inl, inr, refl, sym, ap, ap₂, arith, subst}
 use Rattle.std.specs.Prelude.{nat_le}
 use Rattle.std.specs.List.{All}
 use Rattle.std.specs.List.Sorted.{IsPermutation}
@@ -45,13 +45,26 @@ each_entry shift boxes entries P h each =
 abbrev pub IsTold : Question → List Box3 → Entry → Type 0
 IsTold q boxes e = is_hit q e ≡ touches (box_at boxes e.number) q.area
 
+-- whether a number is past those that are stored
+not_past : (n k : ℕ) → k < n → nat_le n k ≡ false
+not_past n k low = grind (arith, low)
+
+is_past : (n k : ℕ) → n ≤ k → nat_le n k ≡ true
+is_past n k past = grind (arith, past)
+
+-- a test beside one that holds
+with_true : (b : Bool) → (b && true) ≡ b
+with_true true = refl
+with_true false = refl
+
 -- so it is for a box that is stored, and for one that is not
 stored_tells : (shift : ℕ) (boxes : List Box3) (q : Question) (k : ℕ) → q.bounds ≡ bounds_inside shift q.area → k < length q.boxes.now → box_at q.boxes.now k ≡ box_at boxes k → IsTold q boxes (entry_of shift boxes k)
 stored_tells shift boxes q k bounds low same =
     let b = box_at boxes k in
     let meet = bounds_meet (bounds_around shift b) (bounds_inside shift q.area) in
+    let there : nat_le (length q.boxes.now) k ≡ false = not_past (length q.boxes.now) k low in
     ap₂ (λ x y. bounds_meet (bounds_around shift b) x && (nat_le (length q.boxes.now) k || touches y q.area)) bounds same
-    ∙ ap (λ x. meet && (x || touches b q.area)) (grind (arith, low))
+    ∙ ap (λ x. meet && (x || touches b q.area)) there
     ∙ elim (cases_Bool (touches b q.area)) as (λ _. (meet && touches b q.area) ≡ touches b q.area) [
       | inl y ↦ rw (y, bounds_of_touching shift b q.area y) refl
       | inr n ↦ rw n (grind arith)
@@ -61,9 +74,9 @@ exact_tells : (shift : ℕ) (boxes : List Box3) (q : Question) (k : ℕ) → q.b
 exact_tells shift boxes q k bounds past exact solid asked =
     let b = box_at boxes k in
     let meet = bounds_meet (bounds_around shift b) (bounds_inside shift q.area) in
+    let none : nat_le (length q.boxes.now) k ≡ true = is_past (length q.boxes.now) k past in
     ap (λ x. bounds_meet (bounds_around shift b) x && (nat_le (length q.boxes.now) k || touches (box_at q.boxes.now k) q.area)) bounds
-    ∙ ap (λ x. meet && (x || touches (box_at q.boxes.now k) q.area)) (grind (arith, past))
-    ∙ grind arith ∙ bounds_tell shift b q.area exact solid asked
+    ∙ ap (λ x. meet && (x || touches (box_at q.boxes.now k) q.area)) none ∙ with_true meet ∙ bounds_tell shift b q.area exact solid asked
 
 -- and so for all entries
 pub all_told : (shift : ℕ) (boxes : List Box3) (q : Question) → AreEntries shift boxes q.entries.now → AreKept shift q.boxes.now boxes → All IsBox boxes → q.bounds ≡ bounds_inside shift q.area → touches q.area q.area ≡ true →

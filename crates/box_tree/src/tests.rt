@@ -255,11 +255,18 @@ fn row_is_found(alloc: Global, row: &Row, y: i64) -> Result<bool, Fail> {
             let area = plate(begin.wrapping_add(from), begin.wrapping_add(to), y);
             all = all && finds(alloc, &tree, &boxes, area)?;
         }
-        for (low, high) in [(i64::MIN, begin.wrapping_sub(1)), (begin.wrapping_add(1), i64::MAX)] {
+        for (low, high) in [
+            (i64::MIN, begin.wrapping_sub(1)),
+            (begin.wrapping_add(1), i64::MAX),
+        ] {
             all = all && finds(alloc, &tree, &boxes, plate(low, high, y))?;
         }
     }
-    for (low, high) in [(i64::MIN, i64::MIN), (i64::MIN, i64::MAX), (i64::MAX, i64::MAX)] {
+    for (low, high) in [
+        (i64::MIN, i64::MIN),
+        (i64::MIN, i64::MAX),
+        (i64::MAX, i64::MAX),
+    ] {
         all = all && finds(alloc, &tree, &boxes, plate(low, high, y))?;
     }
     Ok(all)
