@@ -1,7 +1,7 @@
 -- The numbers that entries, nodes and a stack of nodes give.
-use Rattle.std.proofs.Common.{◌≡◌, ◌∙◌, ℕ, ◌+◌, ◌-◌, ◌*◌, ◌<◌, ◌≤◌, Bool, true, false, List, [], ◌∷◌, ◌++◌, length, get_or, refl, sym, ap, arith}
+use Rattle.std.proofs.Common.{◌≡◌, ◌∙◌, ℕ, ◌+◌, ◌-◌, ◌*◌, ◌<◌, ◌≤◌, true, false, List, [], ◌∷◌, ◌++◌, length, get_or, refl, sym, ap, arith}
 use Rattle.std.specs.Prelude.{slice_range}
-use Rattle.std.specs.List.{All, filter, flat_map}
+use Rattle.std.specs.List.{filter, flat_map}
 use Rattle.std.proofs.lemmas.Bool.{false_from_ne_true, both_ways}
 use Rattle.std.proofs.lemmas.List.{map-append, reverse-append, append_assoc}
 use Rattle.std.proofs.lemmas.List.Elements.{All-head, All-tail, filter-append}
@@ -9,15 +9,10 @@ use Rattle.box_tree.specs.declared.bounds.Bounds.{Bounds}
 use Rattle.box_tree.specs.declared.nodes.Entry.{Entry}
 use Rattle.box_tree.specs.declared.walk.Question.{Question}
 use Rattle.box_tree.specs.Coarse.{IsBoundsIn, bounds_meet}
-use Rattle.box_tree.specs.Touching.{touches}
-use Rattle.box_tree.specs.Nodes.{IsRound, HasRun, IsNode, run_of, node_at, numbers_of, stored_box, half}
-use Rattle.box_tree.specs.Walks.{IsFair, hits, hits_below, hits_waiting}
+use Rattle.box_tree.specs.Nodes.{IsRound, HasRun, IsNode, run_of, node_at, numbers_of, half}
+use Rattle.box_tree.specs.Walks.{is_hit, hits, hits_below, hits_waiting}
 use Rattle.box_tree.proofs.Rounds.{bounds_meets}
 use Rattle.box_tree.proofs.Runs.{range_front, run_split}
-
--- whether the box of the entry touches the area
-abbrev pub is_hit : Question → Entry → Bool
-is_hit q e = touches (stored_box q.boxes.now e) q.area
 
 -- what two lists give, one after the other
 pub hits_append : (q : Question) (xs ys : List Entry) → hits q (xs ++ ys) ≡ hits q xs ++ hits q ys
@@ -35,17 +30,17 @@ pub hits_found : (q : Question) (i j : ℕ) (d : Entry) → i < j → j ≤ leng
 hits_found q i j d before within found = ap (hits q) (range_front q.entries.now i j d before within) ∙ rw found
 
 -- an entry whose bounds lie in others that do not meet those of the area gives nothing
-missed_with_bounds : (q : Question) (bounds : Bounds) (e : Entry) → IsFair q.boxes.now q.area q.bounds e → IsBoundsIn e.bounds bounds → bounds_meet bounds q.bounds ≡ false → is_hit q e ≡ false
-missed_with_bounds q bounds e fair within missed =
-    false_from_ne_true (is_hit q e) (λ t. both_ways (bounds_meet bounds q.bounds) missed (bounds_meets e.bounds bounds q.bounds within (fair.meets t)))
+missed_with_bounds : (q : Question) (bounds : Bounds) (e : Entry) → IsBoundsIn e.bounds bounds → bounds_meet bounds q.bounds ≡ false → is_hit q e ≡ false
+missed_with_bounds q bounds e within missed =
+    let none : bounds_meet e.bounds q.bounds ≡ false = false_from_ne_true (bounds_meet e.bounds q.bounds) (λ t. both_ways (bounds_meet bounds q.bounds) missed (bounds_meets e.bounds bounds q.bounds within t)) in
+    rw none refl
 
 -- and so for all of them
-pub hits_pruned : (q : Question) (bounds : Bounds) (entries : List Entry) → All (IsFair q.boxes.now q.area q.bounds) entries → IsRound bounds entries → bounds_meet bounds q.bounds ≡ false →
-    hits q entries ≡ []
-hits_pruned q bounds [] fair round missed = refl
-hits_pruned q bounds (e ∷ es) fair round missed =
-    let head = missed_with_bounds q bounds e (All-head (IsFair q.boxes.now q.area q.bounds) e es fair) (All-head (λ x. IsBoundsIn x.bounds bounds) e es round) missed in
-    let rest = hits_pruned q bounds es (All-tail (IsFair q.boxes.now q.area q.bounds) e es fair) (All-tail (λ x. IsBoundsIn x.bounds bounds) e es round) missed in
+pub hits_pruned : (q : Question) (bounds : Bounds) (entries : List Entry) → IsRound bounds entries → bounds_meet bounds q.bounds ≡ false → hits q entries ≡ []
+hits_pruned q bounds [] round missed = refl
+hits_pruned q bounds (e ∷ es) round missed =
+    let head = missed_with_bounds q bounds e (All-head (λ x. IsBoundsIn x.bounds bounds) e es round) missed in
+    let rest = hits_pruned q bounds es (All-tail (λ x. IsBoundsIn x.bounds bounds) e es round) missed in
     rw head rest
 
 -- a run of blocks gives what its first blocks give and then what the others give

@@ -13,7 +13,7 @@ use Rattle.box_tree.specs.declared.keys.Key.{Key}
 use Rattle.mb_base.specs.declared.point.Box3.{Box3}
 use Rattle.box_tree.specs.declared.bounds.Bounds.{Bounds}
 use Rattle.box_tree.specs.declared.nodes.Entry.{Entry}
-use Rattle.box_tree.specs.Coarse.{coarse_box}
+use Rattle.box_tree.specs.Coarse.{bounds_around}
 use Rattle.box_tree.specs.Touching.{box_at}
 use Rattle.box_tree.specs.Keys.{numbers_of_run, numbers_of_runs, numbers_of_keys}
 use Rattle.box_tree.specs.Nodes.{entry_of}
@@ -73,7 +73,7 @@ run_keeps n first end runs singles more key last within here push h =
 
 -- the entries of a run, with one box more
 pub entry_pushed : (shift : ℕ) (boxes : List Box3) (front : List Entry) (first number : ℕ) (entries pushed : List Entry) (bounds : Bounds) → first ≤ number →
-    entries ≡ front ++ map (entry_of shift boxes) (up_from first (number - first)) → pushed ≡ entries ++ (record { bounds = bounds; number = number }) ∷ [] → bounds ≡ coarse_box shift (box_at boxes number) →
+    entries ≡ front ++ map (entry_of shift boxes) (up_from first (number - first)) → pushed ≡ entries ++ (record { bounds = bounds; number = number }) ∷ [] → bounds ≡ bounds_around shift (box_at boxes number) →
     pushed ≡ front ++ map (entry_of shift boxes) (up_from first (number + 1 - first))
 entry_pushed shift boxes front first number entries pushed bounds from before push here =
     let many = number - first in

@@ -1,10 +1,13 @@
 pub mod Halves
+pub mod Exact
 pub mod Hits
 pub mod KeyRuns
 pub mod Points
 pub mod Rounds
 pub mod Runs
+pub mod Shared
 pub mod Stacks
+pub mod Steps
 pub mod Orders
 pub mod Starts
 pub mod Trees

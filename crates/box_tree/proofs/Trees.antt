@@ -1,15 +1,11 @@
 -- What the entries of a tree owe to a question.
-use Rattle.std.proofs.Common.{◌≡◌, ◌∙◌, ℕ, ◌<◌, ◌≤◌, ◌&&◌, true, List, [], ◌∷◌, length, map, refl, sym, ap, arith, subst}
-use Rattle.std.specs.Prelude.{ℤ, pos, negsuc, ◌≤ℤ◌}
-use Rattle.std.specs.Int.{int_shr}
-use Rattle.std.specs.Int.Signed.{le_z}
+use Rattle.std.proofs.Common.{◌≡◌, ◌∙◌, ℕ, ◌<◌, ◌≤◌, ◌&&◌, ◌||◌, Bool, true, false, List, [], ◌∷◌, length, map, inl, inr, refl, sym, ap, ap₂, arith, subst}
+use Rattle.std.specs.Prelude.{nat_le}
 use Rattle.std.specs.List.{All}
 use Rattle.std.specs.List.Sorted.{IsPermutation}
-use Rattle.std.proofs.Math.Pow.{shr_mono}
-use Rattle.std.proofs.lemmas.Bool.{and_parts, and_from}
-use Rattle.std.proofs.lemmas.Int.{ints, clamps}
+use Rattle.std.proofs.lemmas.Bool.{cases_Bool, cases_lt}
 use Rattle.std.proofs.lemmas.List.{length-map}
-use Rattle.std.proofs.lemmas.List.Elements.{All-from_get_or, All-map, All-same, All-weaker}
+use Rattle.std.proofs.lemmas.List.Elements.{All-from_get_or, All-get_or, All-map, All-same, All-weaker}
 use Rattle.std.proofs.lemmas.List.Sorted.{All-permutation, length_permutation, IsPermutation-append, IsPermutation-trans}
 use Rattle.chain_terms.specs.Sums.{upto}
 use Rattle.chain_laws.proofs.Places.{get_or-up_from, length-up_from}
@@ -17,40 +13,14 @@ use Rattle.mb_base.specs.declared.point.Box3.{Box3}
 use Rattle.box_tree.specs.declared.TheConstants.{BLOCK, MOST_BOXES}
 use Rattle.box_tree.specs.declared.nodes.Entry.{Entry}
 use Rattle.box_tree.specs.declared.keys.Key.{Key}
-use Rattle.box_tree.specs.Coarse.{coarse_step, coarse_range, coarse_box, ranges_meet, bounds_meet}
-use Rattle.box_tree.specs.Touching.{end_on, overlap_on, touches, box_at}
+use Rattle.box_tree.specs.declared.walk.Question.{Question}
+use Rattle.box_tree.specs.Coarse.{IsExact, bounds_around, bounds_inside, bounds_meet}
+use Rattle.box_tree.specs.Touching.{IsBox, touches, box_at, no_box}
 use Rattle.box_tree.specs.Keys.{numbers_of_run, numbers_of_runs, numbers_of_keys}
-use Rattle.box_tree.specs.Nodes.{AreEntries, AreStored, entry_of, numbers_of, stored_box}
-use Rattle.box_tree.specs.Walks.{IsFair}
+use Rattle.box_tree.specs.Nodes.{AreEntries, AreKept, entry_of, numbers_of}
+use Rattle.box_tree.specs.Walks.{is_hit}
 use Rattle.box_tree.proofs.Orders.{flat_map_moved}
-use Rattle.box_tree.proofs.Points.{overlap_meets, test_from_le}
-
--- a shift keeps the order
-shr_keeps : (a b : ℤ) (k : ℕ) → a ≤ℤ b → int_shr a k ≤ℤ int_shr b k
-shr_keeps (pos a) (pos b) k h = omega (arith, ints, shr_mono {a = a} {b = b} k (omega (arith, ints, h)))
-shr_keeps (pos a) (negsuc b) k h = absurd (omega (arith, ints, h))
-shr_keeps (negsuc a) (pos b) k h = omega (arith, ints)
-shr_keeps (negsuc a) (negsuc b) k h = omega (arith, ints, shr_mono {a = b} {b = a} k (omega (arith, ints, h)))
-
--- coarse steps keep the order
-pub coarse_keeps : (shift : ℕ) (a b : ℤ) → a ≤ℤ b → coarse_step shift a ≤ℤ coarse_step shift b
-coarse_keeps shift a b h = omega (arith, ints, clamps, shr_keeps a b shift h)
-
--- boxes that overlap on an axis have ranges that meet
-ranges_of_overlap : (shift i : ℕ) (a b : Box3) → overlap_on i a b ≡ true → ranges_meet (coarse_range shift i a) (coarse_range shift i b) ≡ true
-ranges_of_overlap shift i a b h =
-    let m = overlap_meets (end_on i a.low) (end_on i a.high) (end_on i b.low) (end_on i b.high) h in
-    and_from (le_z (coarse_step shift (end_on i a.low)) (coarse_step shift (end_on i b.high))) (le_z (coarse_step shift (end_on i b.low)) (coarse_step shift (end_on i a.high)))
-    (test_from_le (coarse_step shift (end_on i a.low)) (coarse_step shift (end_on i b.high)) (coarse_keeps shift (end_on i a.low) (end_on i b.high) (omega (arith, ints, m.after_low, m.before_to))))
-    (test_from_le (coarse_step shift (end_on i b.low)) (coarse_step shift (end_on i a.high)) (coarse_keeps shift (end_on i b.low) (end_on i a.high) (omega (arith, ints, m.after_from, m.before_high))))
-
--- boxes that touch have bounds that meet
-pub bounds_of_touching : (shift : ℕ) (a b : Box3) → touches a b ≡ true → bounds_meet (coarse_box shift a) (coarse_box shift b) ≡ true
-bounds_of_touching shift a b h =
-    let outer = and_parts (overlap_on 0 a b && overlap_on 1 a b) (overlap_on 2 a b) h in
-    let inner = and_parts (overlap_on 0 a b) (overlap_on 1 a b) outer.0 in
-    let meet = λ (i : ℕ). ranges_meet (coarse_range shift i a) (coarse_range shift i b) in
-    and_from (meet 0 && meet 1) (meet 2) (and_from (meet 0) (meet 1) (ranges_of_overlap shift 0 a b inner.0) (ranges_of_overlap shift 1 a b inner.1)) (ranges_of_overlap shift 2 a b outer.1)
+use Rattle.box_tree.proofs.Exact.{bounds_of_touching, bounds_tell}
 
 -- the numbers below n are below n
 below_upto : (n : ℕ) → All (λ k. k < n) (upto n)
@@ -71,21 +41,52 @@ each_entry shift boxes entries P h each =
     All-same P entries (map (entry_of shift boxes) (numbers_of entries)) h.made
     (All-map P (entry_of shift boxes) (numbers_of entries) (All-weaker (λ k. k < length boxes) (λ k. P (entry_of shift boxes k)) each (numbers_of entries) numbers))
 
--- each entry is fair
-pub all_fair : (shift : ℕ) (stored boxes : List Box3) (entries : List Entry) (area : Box3) → AreEntries shift boxes entries → AreStored shift stored boxes →
-    All (IsFair stored area (coarse_box shift area)) entries
-all_fair shift stored boxes entries area h kept =
-    let T : Box3 → Type 0 = λ b. touches b area ≡ true in
-    each_entry shift boxes entries (IsFair stored area (coarse_box shift area)) h
-    (λ k low. record { meets = λ t. bounds_of_touching shift (box_at boxes k) area (subst T (kept k low) t) })
+-- an entry is a hit where the box of its number touches the area
+abbrev pub IsTold : Question → List Box3 → Entry → Type 0
+IsTold q boxes e = is_hit q e ≡ touches (box_at boxes e.number) q.area
 
--- the box of each entry is the box of its number
-abbrev pub HasBox : List Box3 → List Box3 → Entry → Type 0
-HasBox stored boxes e = stored_box stored e ≡ box_at boxes e.number
+-- whether a number is past those that are stored
+not_past : (n k : ℕ) → k < n → nat_le n k ≡ false
+not_past n k low = grind (arith, low)
 
--- and so for all of them
-pub all_boxes : (shift : ℕ) (stored boxes : List Box3) (entries : List Entry) → AreEntries shift boxes entries → AreStored shift stored boxes → All (HasBox stored boxes) entries
-all_boxes shift stored boxes entries h kept = each_entry shift boxes entries (HasBox stored boxes) h kept
+is_past : (n k : ℕ) → n ≤ k → nat_le n k ≡ true
+is_past n k past = grind (arith, past)
+
+-- a test beside one that holds
+with_true : (b : Bool) → (b && true) ≡ b
+with_true true = refl
+with_true false = refl
+
+-- so it is for a box that is stored, and for one that is not
+stored_tells : (shift : ℕ) (boxes : List Box3) (q : Question) (k : ℕ) → q.bounds ≡ bounds_inside shift q.area → k < length q.boxes.now → box_at q.boxes.now k ≡ box_at boxes k → IsTold q boxes (entry_of shift boxes k)
+stored_tells shift boxes q k bounds low same =
+    let b = box_at boxes k in
+    let meet = bounds_meet (bounds_around shift b) (bounds_inside shift q.area) in
+    let there : nat_le (length q.boxes.now) k ≡ false = not_past (length q.boxes.now) k low in
+    ap₂ (λ x y. bounds_meet (bounds_around shift b) x && (nat_le (length q.boxes.now) k || touches y q.area)) bounds same
+    ∙ ap (λ x. meet && (x || touches b q.area)) there
+    ∙ elim (cases_Bool (touches b q.area)) as (λ _. (meet && touches b q.area) ≡ touches b q.area) [
+      | inl y ↦ rw (y, bounds_of_touching shift b q.area y) refl
+      | inr n ↦ rw n (grind arith)
+    ]
+
+exact_tells : (shift : ℕ) (boxes : List Box3) (q : Question) (k : ℕ) → q.bounds ≡ bounds_inside shift q.area → length q.boxes.now ≤ k → IsExact shift (box_at boxes k) → IsBox (box_at boxes k) → touches q.area q.area ≡ true → IsTold q boxes (entry_of shift boxes k)
+exact_tells shift boxes q k bounds past exact solid asked =
+    let b = box_at boxes k in
+    let meet = bounds_meet (bounds_around shift b) (bounds_inside shift q.area) in
+    let none : nat_le (length q.boxes.now) k ≡ true = is_past (length q.boxes.now) k past in
+    ap (λ x. bounds_meet (bounds_around shift b) x && (nat_le (length q.boxes.now) k || touches (box_at q.boxes.now k) q.area)) bounds
+    ∙ ap (λ x. meet && (x || touches (box_at q.boxes.now k) q.area)) none ∙ with_true meet ∙ bounds_tell shift b q.area exact solid asked
+
+-- and so for all entries
+pub all_told : (shift : ℕ) (boxes : List Box3) (q : Question) → AreEntries shift boxes q.entries.now → AreKept shift q.boxes.now boxes → All IsBox boxes → q.bounds ≡ bounds_inside shift q.area → touches q.area q.area ≡ true →
+    All (IsTold q boxes) q.entries.now
+all_told shift boxes q h kept solid bounds asked =
+    each_entry shift boxes q.entries.now (IsTold q boxes) h
+    (λ k low. elim (cases_lt k (length q.boxes.now)) as (λ _. IsTold q boxes (entry_of shift boxes k)) [
+      | inl stored ↦ stored_tells shift boxes q k bounds stored ((kept k low).same stored)
+      | inr past ↦ exact_tells shift boxes q k bounds past ((kept k low).exact past) (All-get_or IsBox boxes k no_box low solid) asked
+    ])
 
 -- entries that are made of numbers have them
 made_numbers : (shift : ℕ) (boxes : List Box3) (numbers : List ℕ) → numbers_of (map (entry_of shift boxes) numbers) ≡ numbers

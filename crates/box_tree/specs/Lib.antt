@@ -1,4 +1,5 @@
 pub mod Coarse
+pub mod Extents
 pub mod Keys
 pub mod Nodes
 pub mod Touching

@@ -9,8 +9,8 @@ use Rattle.box_tree.specs.declared.TheConstants.{BLOCK, MOST_BOXES}
 use Rattle.box_tree.specs.declared.bounds.Bounds.{Bounds}
 use Rattle.box_tree.specs.declared.nodes.Entry.{Entry}
 use Rattle.box_tree.specs.declared.nodes.Node.{Node}
-use Rattle.box_tree.specs.Coarse.{IsBoundsIn, coarse_box, fine_box}
-use Rattle.box_tree.specs.Touching.{box_at}
+use Rattle.box_tree.specs.Coarse.{IsBoundsIn, IsExact, bounds_around, fine_box}
+use Rattle.box_tree.specs.Touching.{IsBox, box_at}
 
 -- the bounds of a node that is not there
 abbrev pub no_bounds : Bounds
@@ -75,7 +75,7 @@ numbers_of entries = map (λ e. e.number) entries
 
 -- the entry of a number
 abbrev pub entry_of : ℕ → List Box3 → ℕ → Entry
-entry_of shift boxes k = record { bounds = coarse_box shift (box_at boxes k); number = k }
+entry_of shift boxes k = record { bounds = bounds_around shift (box_at boxes k); number = k }
 
 -- the entries are those of all boxes, in some order
 pub record AreEntries (shift : ℕ) (boxes : List Box3) (entries : List Entry) : Type 0 where
@@ -84,8 +84,8 @@ pub record AreEntries (shift : ℕ) (boxes : List Box3) (entries : List Entry) :
   pub made : entries ≡ map (entry_of shift boxes) (numbers_of entries)
 
 -- the box of an entry: the one that is stored under its number, or else that of its bounds
-abbrev pub stored_box : List Box3 → Entry → Box3
-stored_box stored e = get_or stored e.number (fine_box e.bounds)
+abbrev pub stored_box : ℕ → List Box3 → Entry → Box3
+stored_box shift stored e = get_or stored e.number (fine_box shift e.bounds)
 
 -- the first entry with a number
 abbrev pub entry_numbered : List Entry → ℕ → Entry
@@ -93,18 +93,24 @@ entry_numbered [] k = no_entry
 entry_numbered (e ∷ es) k = cond (e.number == k) e (entry_numbered es k)
 
 -- the boxes of all entries, by their numbers
-abbrev pub boxes_stored : List Box3 → List Entry → List Box3
-boxes_stored stored entries = map (λ k. stored_box stored (entry_numbered entries k)) (upto (length entries))
+abbrev pub boxes_stored : ℕ → List Box3 → List Entry → List Box3
+boxes_stored shift stored entries = map (λ k. stored_box shift stored (entry_numbered entries k)) (upto (length entries))
 
--- each box is that of its entry
-abbrev pub AreStored : ℕ → List Box3 → List Box3 → Type 0
-AreStored shift stored boxes = (k : ℕ) → k < length boxes → stored_box stored (entry_of shift boxes k) ≡ box_at boxes k
+-- the box of a number is stored, or its bounds are the box
+pub record IsKept (shift : ℕ) (stored boxes : List Box3) (k : ℕ) : Type 0 where
+  pub same : k < length stored → box_at stored k ≡ box_at boxes k
+  pub exact : length stored ≤ k → IsExact shift (box_at boxes k)
+
+-- each box is kept
+abbrev pub AreKept : ℕ → List Box3 → List Box3 → Type 0
+AreKept shift stored boxes = (k : ℕ) → k < length boxes → IsKept shift stored boxes k
 
 -- a tree over the boxes
 pub record IsTree (shift : ℕ) (stored boxes : List Box3) (entries : List Entry) (nodes : List Node) : Type 0 where
   pub small : shift < 64
   pub short : length nodes < 2 ^ 32
   pub listed : AreEntries shift boxes entries
-  pub kept : AreStored shift stored boxes
+  pub solid : All IsBox boxes
+  pub kept : AreKept shift stored boxes
   pub right : AreNodes nodes entries
   pub root : 0 < length boxes → IsRoot nodes entries

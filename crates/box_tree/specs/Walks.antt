@@ -1,30 +1,27 @@
 -- Walks through a tree: what is asked, the nodes that wait on the stack, and the numbers that are still to come.
-use Rattle.std.specs.Prelude.{◌≡◌, ℕ, ◌-◌, ◌*◌, ◌^◌, ◌<◌, ◌≤◌, true, List, ◌++◌, length, get_or, slice_range, reverse}
-use Rattle.std.specs.List.{All, filter, flat_map, sum_by}
-use Rattle.mb_base.specs.declared.point.Box3.{Box3}
-use Rattle.box_tree.specs.declared.bounds.Bounds.{Bounds}
+use Rattle.std.specs.Prelude.{ℕ, ◌-◌, ◌*◌, ◌^◌, ◌<◌, ◌≤◌, Bool, ◌&&◌, ◌||◌, nat_le, List, ◌++◌, length, get_or, slice_range, reverse}
+use Rattle.std.specs.List.{filter, flat_map, sum_by}
 use Rattle.box_tree.specs.declared.nodes.Entry.{Entry}
 use Rattle.box_tree.specs.declared.nodes.Node.{Node}
 use Rattle.box_tree.specs.declared.walk.Question.{Question}
 use Rattle.box_tree.specs.declared.walk.Walk.{Walk}
 use Rattle.box_tree.specs.Coarse.{bounds_meet}
-use Rattle.box_tree.specs.Touching.{touches}
-use Rattle.box_tree.specs.Nodes.{AreNodes, node_at, run_of, numbers_of, stored_box}
-
--- the entry's bounds meet those of the area where its box touches the area
-pub record IsFair (boxes : List Box3) (area : Box3) (bounds : Bounds) (e : Entry) : Type 0 where
-  pub meets : touches (stored_box boxes e) area ≡ true → bounds_meet e.bounds bounds ≡ true
+use Rattle.box_tree.specs.Touching.{box_at, touches}
+use Rattle.box_tree.specs.Nodes.{AreNodes, node_at, run_of, numbers_of}
 
 -- a question to a tree
 pub record IsQuestion (q : Question) : Type 0 where
   pub few : length q.entries.now < 2 ^ 32
   pub short : length q.nodes.now < 2 ^ 32
-  pub fair : All (IsFair q.boxes.now q.area q.bounds) q.entries.now
   pub nodes : AreNodes q.nodes.now q.entries.now
 
--- of the entries, the numbers of those whose boxes touch the area
+-- the entry's bounds meet those of the area, and its box touches the area where it is stored
+abbrev pub is_hit : Question → Entry → Bool
+is_hit q e = bounds_meet e.bounds q.bounds && (nat_le (length q.boxes.now) e.number || touches (box_at q.boxes.now e.number) q.area)
+
+-- of the entries, the numbers of the hits
 abbrev pub hits : Question → List Entry → List ℕ
-hits q entries = numbers_of (filter (λ e. touches (stored_box q.boxes.now e) q.area) entries)
+hits q entries = numbers_of (filter (is_hit q) entries)
 
 -- the numbers that a node gives
 abbrev pub hits_below : Question → ℕ → List ℕ

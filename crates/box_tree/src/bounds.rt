@@ -1,6 +1,7 @@
 // Boxes in coarse steps, which take half the room of boxes in fine steps.
-ghost use Rattle.std.specs.Prelude.{◌≡◌, ◌<◌, ◌^◌, ◌≤ℤ◌, ℤ};
-ghost use Rattle.box_tree.specs.Coarse.{coarse_step, coarse_range, coarse_box, fine_box, ranges_meet, bounds_meet, IsRangeIn, IsBoundsIn};
+ghost use Rattle.std.specs.Prelude.{◌≡◌, ◌<◌, ◌^◌, ◌≤ℤ◌, ℤ, neg_ℤ};
+ghost use Rattle.std.specs.Int.{int_shr};
+ghost use Rattle.box_tree.specs.Coarse.{step_below, step_above, range_around, range_inside, bounds_around, bounds_inside, ranges_meet, bounds_meet, IsRangeIn, IsBoundsIn};
 
 use mb_base::Box3;
 
@@ -19,30 +20,61 @@ pub struct Bounds {
     pub z: Range,
 }
 
-/// A coordinate in coarse steps of 2^shift fine steps, rounded down, and cut off at the ends of an i32.
+// A coordinate in coarse steps of 2^shift fine steps, rounded down, and cut off at the ends of an i32.
 #[inline]
-fn coarse(at: i64, shift: u32) -> i32
+fn step_below(at: i64, shift: u32) -> i32
     requires { shift < 64 }
-    ensures { result ≡ coarse_step shift at }
+    ensures { result ≡ step_below shift at }
 {
     (at >> shift).clamp(-0x8000_0000, 0x7fff_ffff) as i32
 }
 
+// A coordinate in coarse steps of 2^shift fine steps, rounded up.
+#[inline]
+fn rounded_up(at: i64, shift: u32) -> i128
+    requires { shift < 64 }
+    ensures { result ≡ neg_ℤ (int_shr (neg_ℤ at) shift) }
+{
+    -(-i128::from(at) >> shift)
+}
+
+// The same, cut off at the ends of an i32.
+#[inline]
+fn step_above(at: i64, shift: u32) -> i32
+    requires { shift < 64 }
+    ensures { result ≡ step_above shift at }
+{
+    rounded_up(at, shift).clamp(-0x8000_0000, 0x7fff_ffff) as i32
+}
+
 impl Range {
-    // The range of a box on an axis.
+    // The range of a box on an axis, rounded outwards.
     #[inline]
-    fn of(one: &Box3, axis: usize, shift: u32) -> Range
+    fn around(one: &Box3, axis: usize, shift: u32) -> Range
         requires axis { axis < 3 }
         requires shift { shift < 64 }
-        ensures { result ≡ coarse_range shift axis one.now }
+        ensures { result ≡ range_around shift axis one.now }
     {
         Range {
-            low: coarse(one.low[axis], shift),
-            high: coarse(one.high[axis], shift),
+            low: step_below(one.low[axis], shift),
+            high: step_above(one.high[axis], shift),
         }
     }
 
-    // Whether the two have a step in common, where none is empty.
+    // The range of an area on an axis, rounded inwards.
+    #[inline]
+    fn inside(area: &Box3, axis: usize, shift: u32) -> Range
+        requires axis { axis < 3 }
+        requires shift { shift < 64 }
+        ensures { result ≡ range_inside shift axis area.now }
+    {
+        Range {
+            low: step_above(area.low[axis], shift),
+            high: step_below(area.high[axis], shift),
+        }
+    }
+
+    // Whether neither begins after the other ends.
     #[inline]
     fn meets(self, other: Range) -> bool
         ensures { result ≡ ranges_meet self other }
@@ -72,27 +104,29 @@ impl Range {
 }
 
 impl Bounds {
-    /// A box in coarse steps of 2^shift.
+    /// A box in coarse steps of 2^shift, rounded outwards.
     #[inline]
-    pub fn of(one: &Box3, shift: u32) -> Bounds
+    pub fn around(one: &Box3, shift: u32) -> Bounds
         requires { shift < 64 }
-        ensures { result ≡ coarse_box shift one.now }
+        ensures { result ≡ bounds_around shift one.now }
     {
         Bounds {
-            x: Range::of(one, 0, shift),
-            y: Range::of(one, 1, shift),
-            z: Range::of(one, 2, shift),
+            x: Range::around(one, 0, shift),
+            y: Range::around(one, 1, shift),
+            z: Range::around(one, 2, shift),
         }
     }
 
-    /// The box, where the coarse steps are fine steps.
+    /// An area in coarse steps of 2^shift, rounded inwards. It may then end before it begins, and still meets the steps around it.
     #[inline]
-    pub fn fine(self) -> Box3
-        ensures { result ≡ fine_box self }
+    pub fn inside(area: &Box3, shift: u32) -> Bounds
+        requires { shift < 64 }
+        ensures { result ≡ bounds_inside shift area.now }
     {
-        Box3 {
-            low: [self.x.low as i64, self.y.low as i64, self.z.low as i64],
-            high: [self.x.high as i64, self.y.high as i64, self.z.high as i64],
+        Bounds {
+            x: Range::inside(area, 0, shift),
+            y: Range::inside(area, 1, shift),
+            z: Range::inside(area, 2, shift),
         }
     }
 

@@ -1,49 +1,94 @@
-// How far some boxes reach, and the size of a coarse step over them. Any size serves: no clause says which.
-ghost use Rattle.std.specs.Prelude.{◌≡◌, ◌<◌, IsTrue};
+// How far some boxes reach, which zero bits all of their coordinates share, and the coarse steps over them.
+ghost use Rattle.std.specs.Prelude.{◌≡◌, ◌<◌, ℤ, IsTrue};
 ghost use Rattle.std.specs.List.{All};
-ghost use Rattle.box_tree.specs.Coarse.{IsShort};
+ghost use Rattle.box_tree.specs.Coarse.{AreEnds, HasEnds, IsExact, IsWhole};
+ghost use Rattle.box_tree.specs.Extents.{IsCovered};
 
-use crate::bounds::Bounds;
 use crate::boxes::Boxes;
+use mb_base::Box3;
 
-// How many binary digits a number has.
-fn digits(number: u64) -> u32
-    ensures { result < 65 }
-{
-    64 - number.leading_zeros()
+/// Coarse steps over boxes.
+#[derive(Clone, Copy, Drop)]
+pub struct Steps {
+    /// The power of two of a step.
+    pub shift: u32,
+    /// Whether the boxes in these steps are the boxes, with nothing lost.
+    pub exact: bool,
 }
 
-/// Whether each coordinate of the boxes is an i32.
-pub fn are_short<B: Boxes>(boxes: &B) -> bool
-    ensures { IsTrue result → All IsShort (B.boxes boxes.now) }
-{
-    for number in 0..boxes.count() {
-        let one = boxes.box_at(number);
-        if Bounds::of(&one, 0).fine() != one {
-            return false;
+/// What some coordinates have in common, whatever their signs.
+#[derive(Clone, Copy, Drop)]
+struct Extent {
+    // The binary digits of all of them, laid over each other.
+    digits: u64,
+    // The greatest distance from 0.
+    most: u64,
+}
+
+const NO_EXTENT: Extent = Extent { digits: 0, most: 0 };
+
+impl Extent {
+    // With another coordinate.
+    #[inline]
+    fn with(self, at: i64) -> Extent
+        ensures new { IsCovered result at }
+        ensures others { (z : ℤ) → IsCovered self z → IsCovered result z }
+    {
+        let distance = at.unsigned_abs();
+        Extent {
+            digits: self.digits | distance,
+            most: self.most.max(distance),
         }
     }
-    true
+
+    // With three more, the ends of a box.
+    #[inline]
+    fn with_ends(self, ends: &[i64; 3]) -> Extent
+        ensures new { AreEnds (IsCovered result) ends.now }
+        ensures others { (z : ℤ) → IsCovered self z → IsCovered result z }
+    {
+        let one = self.with(ends[0]);
+        let two = one.with(ends[1]);
+        two.with(ends[2])
+    }
+
+    // With those of another box.
+    #[inline]
+    fn with_box(self, one: &Box3) -> Extent
+        ensures new { HasEnds (IsCovered result) one.now }
+        ensures others { (z : ℤ) → IsCovered self z → IsCovered result z }
+    {
+        self.with_ends(&one.low).with_ends(&one.high)
+    }
+
+    // The greatest steps of which each coordinate is a whole number, where an i32 holds that number; or else the least steps whose
+    // number an i32 holds.
+    fn steps(self) -> Steps
+        ensures small { result.shift < 64 }
+        ensures exact { (z : ℤ) → IsTrue result.exact → IsCovered self z → IsWhole result.shift z }
+    {
+        let shared = self.digits.trailing_zeros().min(63);
+        let exact = self.most >> shared < 0x7fff_ffff;
+        let shift = if exact { shared } else { shift_over(self.most) };
+        Steps { shift, exact }
+    }
 }
 
-// The least power of two such that the boxes' coordinates, in coarse steps of it, are no greater than an i32.
-fn shift_over<B: Boxes>(boxes: &B) -> u32
+// The least power of two such that a number, in steps of it, is no greater than an i32.
+fn shift_over(most: u64) -> u32
     ensures { result < 64 }
 {
-    let mut most = 0;
-    for number in 0..boxes.count() {
-        let one = boxes.box_at(number);
-        for axis in 0..3 {
-            most = most | one.low[axis].unsigned_abs() | one.high[axis].unsigned_abs();
-        }
-    }
-    digits(most).saturating_sub(31)
+    (64 - most.leading_zeros()).saturating_sub(31)
 }
 
-/// The power of two of a coarse step over boxes: 0 where each coordinate is an i32.
-pub fn coarse_shift<B: Boxes>(boxes: &B, short: bool) -> u32
-    ensures small { result < 64 }
-    ensures fine { IsTrue short → result ≡ 0 }
+/// The coarse steps over boxes.
+pub fn steps_over<B: Boxes>(boxes: &B) -> Steps
+    ensures small { result.shift < 64 }
+    ensures exact { IsTrue result.exact → All (IsExact result.shift) (B.boxes boxes.now) }
 {
-    if short { 0 } else { shift_over(boxes) }
+    let mut extent = NO_EXTENT;
+    for number in 0..boxes.count() {
+        extent = extent.with_box(&boxes.box_at(number));
+    }
+    extent.steps()
 }

@@ -53,10 +53,10 @@ fn bounds_of_run<B: Boxes>(boxes: &B, shift: u32, first: usize, end: usize) -> O
     if end - first != BLOCK {
         return None;
     }
-    let mut bounds = Bounds::of(&boxes.box_at(first), shift);
+    let mut bounds = Bounds::around(&boxes.box_at(first), shift);
     let mut alone = [bounds.surface(); BLOCK];
     for number in first + 1..end {
-        let one = Bounds::of(&boxes.box_at(number), shift);
+        let one = Bounds::around(&boxes.box_at(number), shift);
         alone[number - first] = one.surface();
         bounds = bounds.joined(one);
     }
@@ -92,7 +92,7 @@ fn push_singles<B: Boxes>(
         numbers_of_runs (length (B.boxes boxes.now)) 1 singles.old.items ++ up_from first (end - first)) }
 {
     for number in first..end {
-        singles.push(key_of(Bounds::of(&boxes.box_at(number), shift), number))?;
+        singles.push(key_of(Bounds::around(&boxes.box_at(number), shift), number))?;
     }
     Ok(())
 }

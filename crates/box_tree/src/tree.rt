@@ -2,14 +2,14 @@
 ghost use Rattle.std.specs.Prelude.{◌≡◌, ◌≤◌, IfOk, IsTrue, length};
 ghost use Rattle.std.specs.List.{All};
 ghost use Rattle.std.specs.List.Sorted.{IsPermutation};
-ghost use Rattle.box_tree.specs.Coarse.{IsShort};
-ghost use Rattle.box_tree.specs.Nodes.{AreStored};
+ghost use Rattle.box_tree.specs.Coarse.{IsExact};
+ghost use Rattle.box_tree.specs.Nodes.{AreKept};
 ghost use Rattle.box_tree.specs.Touching.{IsBox, touching_numbers};
 
 use crate::MOST_BOXES;
 use crate::bounds::Bounds;
 use crate::boxes::Boxes;
-use crate::extent::{are_short, coarse_shift};
+use crate::extent::{Steps, steps_over};
 use crate::nodes::{Entry, Node, nodes_over};
 use crate::order::entries_of;
 use crate::touching::Touching;
@@ -36,22 +36,17 @@ impl Model for Tree {
 
     ghost Value = { List Box3 };
 
-    ghost view = { λ t. boxes_stored t.boxes.items t.entries.items };
+    ghost view = { λ t. boxes_stored t.shift t.boxes.items t.entries.items };
 
-    ghost invariant = { λ t. IsTree t.shift t.boxes.items (boxes_stored t.boxes.items t.entries.items) t.entries.items t.nodes.items };
+    ghost invariant = { λ t. IsTree t.shift t.boxes.items (boxes_stored t.shift t.boxes.items t.entries.items) t.entries.items t.nodes.items };
 }
 
 // The boxes that are stored beside the entries: none where the bounds of the entries are the boxes.
-fn stored<B: Boxes>(
-    alloc: Global,
-    boxes: &B,
-    short: bool,
-    shift: u32,
-) -> Result<Vec<Box3>, NoMemory>
-    requires { IsTrue short → (shift ≡ 0) × All IsShort (B.boxes boxes.now) }
-    ensures { IfOk result (λ stored. AreStored shift stored.items (B.boxes boxes.now)) }
+fn stored<B: Boxes>(alloc: Global, boxes: &B, steps: Steps) -> Result<Vec<Box3>, NoMemory>
+    requires { IsTrue steps.exact → All (IsExact steps.shift) (B.boxes boxes.now) }
+    ensures { IfOk result (λ stored. AreKept steps.shift stored.items (B.boxes boxes.now)) }
 {
-    if short {
+    if steps.exact {
         return Ok(Vec::new(alloc));
     }
     copy_of(alloc, boxes)
@@ -79,20 +74,19 @@ impl Tree {
     }
 
     /// The tree over boxes that are told one by one, the first of which has the number 0. It keeps a copy of them only where
-    /// some coordinate is no i32. `NoMemory` may come for any boxes.
+    /// some coordinate, without the zero bits with which all of them end, is no i32. `NoMemory` may come for any boxes.
     pub fn over<B: Boxes>(alloc: Global, boxes: &B) -> Result<Tree, NoMemory>
         requires few { length (B.boxes boxes.now) ≤ MOST_BOXES }
         requires boxes { All IsBox (B.boxes boxes.now) }
         ensures { IfOk result (λ tree. tree ≡ B.boxes boxes.now) }
     {
-        let short = are_short(boxes);
-        let shift = coarse_shift(boxes, short);
-        let entries = entries_of(alloc, boxes, shift)?;
+        let steps = steps_over(boxes);
+        let entries = entries_of(alloc, boxes, steps.shift)?;
         let nodes = nodes_over(alloc, &entries)?;
-        let boxes = stored(alloc, boxes, short, shift)?;
+        let boxes = stored(alloc, boxes, steps)?;
         Ok(Tree {
             boxes,
-            shift,
+            shift: steps.shift,
             entries,
             nodes,
         })
@@ -108,9 +102,9 @@ impl Tree {
                 entries: &self.entries,
                 nodes: &self.nodes,
                 area,
-                bounds: Bounds::of(&area, self.shift),
+                bounds: Bounds::inside(&area, self.shift),
             },
-            stack: first_stack(&self.entries),
+            stack: first_stack(&self.entries, &area),
             at: 0,
             end: 0,
         })

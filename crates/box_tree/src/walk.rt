@@ -1,9 +1,9 @@
 // A walk through a tree.
-ghost use Rattle.std.specs.Prelude.{◌≡◌, ◌+◌, ◌-◌, ◌*◌, ◌^◌, ◌<◌, ◌≤◌, ◌++◌, ◌∷◌, [], ℕ, true, IsNone, MatchOption, length, get_or, slice_range};
+ghost use Rattle.std.specs.Prelude.{◌≡◌, ◌+◌, ◌-◌, ◌*◌, ◌^◌, ◌<◌, ◌≤◌, ◌⊎◌, ◌++◌, ◌∷◌, [], ℕ, true, false, IsNone, MatchOption, length, get_or, slice_range};
 ghost use Rattle.box_tree.specs.declared.nodes.Entry.{Entry};
 ghost use Rattle.box_tree.specs.Touching.{touches};
-ghost use Rattle.box_tree.specs.Nodes.{node_at, stored_box};
-ghost use Rattle.box_tree.specs.Walks.{IsFair, IsQuestion, IsWalk, hits, hits_below, hits_waiting, hits_left, nodes_below};
+ghost use Rattle.box_tree.specs.Nodes.{node_at};
+ghost use Rattle.box_tree.specs.Walks.{IsQuestion, IsWalk, hits, hits_below, hits_waiting, hits_left, is_hit, nodes_below};
 
 use crate::bounds::Bounds;
 use crate::common_point::touch;
@@ -12,8 +12,8 @@ use crate::{BLOCK, STACK};
 use arrayvec::ArrayVec;
 use mb_base::Box3;
 
-/// What is asked of a tree: which of its boxes touch an area. The bounds are those of the area. A box that is not among the boxes is
-/// that of its entry's bounds.
+/// What is asked of a tree: which of its boxes touch an area. The bounds are those of the area, rounded inwards. A box that is not among
+/// the boxes is that of its entry's bounds.
 #[derive(Clone, Copy, Drop)]
 pub struct Question<'t> {
     pub boxes: &'t [Box3],
@@ -32,42 +32,30 @@ pub struct Walk<'t> {
     pub end: usize,
 }
 
-/// The stack before a walk: the first node, where there are entries.
-pub fn first_stack(entries: &[Entry]) -> ArrayVec<u32, STACK>
-    ensures some { 0 < length entries.now → result.items ≡ 0 ∷ [] }
-    ensures none { length entries.now ≡ 0 → result.items ≡ [] }
+/// The stack before a walk: the first node, where there are entries. No box touches an area that is no box itself.
+pub fn first_stack(entries: &[Entry], area: &Box3) -> ArrayVec<u32, STACK>
+    ensures some { 0 < length entries.now → touches area.now area.now ≡ true → result.items ≡ 0 ∷ [] }
+    ensures none { (length entries.now ≡ 0) ⊎ (touches area.now area.now ≡ false) → result.items ≡ [] }
 {
     let mut stack = ArrayVec::new();
-    if !entries.is_empty() {
+    if !entries.is_empty() && touch(area, area) {
         stack.push(0);
     }
     stack
 }
 
 impl<'t> Question<'t> {
-    // The box of an entry.
-    #[inline]
-    fn box_of(&self, entry: &Entry) -> Box3
-        ensures { result ≡ stored_box self.now.boxes.now entry.now }
-    {
-        let number = entry.number as usize;
-        if number < self.boxes.len() {
-            self.boxes[number]
-        } else {
-            entry.bounds.fine()
-        }
-    }
-
     // Whether the box of an entry touches the area.
     #[inline]
     fn is_hit(&self, entry: &Entry) -> bool
-        requires { IsFair self.now.boxes.now self.now.area self.now.bounds entry.now }
-        ensures { result ≡ touches (stored_box self.now.boxes.now entry.now) self.now.area }
+        ensures { result ≡ is_hit self.now entry.now }
     {
-        entry.bounds.meets(self.bounds) && touch(&self.box_of(entry), &self.area)
+        let number = entry.number as usize;
+        entry.bounds.meets(self.bounds)
+            && (self.boxes.len() <= number || touch(&self.boxes[number], &self.area))
     }
 
-    // The first place of an entry whose box touches the area, from a place on, or else the end.
+    // The first place of a hit, from a place on, or else the end.
     fn next_hit(&self, at: usize, end: usize) -> usize
         requires question { IsQuestion self.now }
         requires order { at ≤ end }
@@ -75,7 +63,7 @@ impl<'t> Question<'t> {
         ensures from { at ≤ result }
         ensures to { result ≤ end }
         ensures hits { hits self.now (slice_range self.now.entries.now at end) ≡ hits self.now (slice_range self.now.entries.now result end) }
-        ensures found { (e : Entry) → result < end → touches (stored_box self.now.boxes.now (get_or self.now.entries.now result e)) self.now.area ≡ true }
+        ensures found { (e : Entry) → result < end → is_hit self.now (get_or self.now.entries.now result e) ≡ true }
     {
         for place in at..end {
             if self.is_hit(&self.entries[place]) {

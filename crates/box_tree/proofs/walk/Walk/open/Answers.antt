@@ -1,13 +1,11 @@
-use Rattle.std.specs.Prelude.{◌≡◌, ℕ, List, ◌++◌, ◌∷◌, [], ◌+◌, ◌-◌, ◌*◌, ◌^◌, ◌<◌, ◌≤◌, length, drop, slice_range}
+use Rattle.std.specs.Prelude.{◌≡◌, ℕ, List, ◌++◌, ◌∷◌, [], ◌+◌, ◌-◌, ◌*◌, ◌^◌, ◌<◌, ◌≤◌, length, slice_range}
 use Rattle.std.proofs.Common.{arith, ap, sym, subst, refl, ◌∙◌}
 use Rattle.std.proofs.lemmas.List.{length_push}
-use Rattle.std.proofs.lemmas.List.Elements.{All-take, All-drop}
-use Rattle.box_tree.specs.declared.TheConstants.{BLOCK}
 use Rattle.box_tree.specs.declared.nodes.Node.{Node}
 use Rattle.box_tree.specs.declared.nodes.Entry.{Entry}
 use Rattle.box_tree.specs.declared.walk.Question.{Question}
 use Rattle.box_tree.specs.Nodes.{node_at, run_of, half, IsNode}
-use Rattle.box_tree.specs.Walks.{IsFair, IsStack, hits, hits_below, hits_waiting, hits_left}
+use Rattle.box_tree.specs.Walks.{IsStack, hits, hits_below, hits_waiting, hits_left}
 use Rattle.box_tree.proofs.Hits.{hits_pruned, waiting_halves}
 use Rattle.box_tree.proofs.Runs.{range_none}
 use Rattle.box_tree.proofs.Stacks.{IsSmall, stack_push, fewer_small, halved_small, small_depth}
@@ -17,8 +15,7 @@ pub returns-then-not-meets-clause-hits : goal.returns-then-not-meets-clause-hits
 returns-then-not-meets-clause-hits c =
     let q = c.args.self.now.question in
     let node = node_at q.nodes.now c.args.place in
-    let fair = All-take (IsFair q.boxes.now q.area q.bounds) (BLOCK * node.count) (drop (BLOCK * node.first) q.entries.now) (All-drop (IsFair q.boxes.now q.area q.bounds) (BLOCK * node.first) q.entries.now c.requires.walk.question.fair) in
-    let none = hits_pruned q node.bounds (run_of q.entries.now node.first node.count) fair (c.requires.walk.question.nodes c.args.place c.requires.there).round (sym c.meets.ensures ∙ c.if-not-meets.true) in
+    let none = hits_pruned q node.bounds (run_of q.entries.now node.first node.count) (c.requires.walk.question.nodes c.args.place c.requires.there).round (sym c.meets.ensures ∙ c.if-not-meets.true) in
     sym (ap (λ xs. xs ++ hits_left c.args.self.now) none)
 
 -- the first half, below the stack's top, and the other half on a stack
