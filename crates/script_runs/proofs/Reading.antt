@@ -1,11 +1,11 @@
 -- A script by its parts: its file is read, its text is read, and its lines are done.
-use Rattle.std.proofs.Common.{◌≡◌, ◌+◌, ◌≤◌, ℕ, Bool, List, Result, Ok, Err, IsTrue, refl, ap, sym, subst, arith}
+use Rattle.std.proofs.Common.{◌≡◌, ◌+◌, ◌≤◌, ℕ, Bool, List, [], Result, Ok, Err, IsTrue, refl, ap, sym, subst, arith}
 use Rattle.mb_base.specs.declared.kernel_kind.KernelKind.{KernelKind}
+use Rattle.mb_base.specs.declared.kernel_kind.KernelKind.TheVariants.{Grid}
 use Rattle.mesh_terms.specs.Limits.{Limits}
+use Rattle.mesh_terms.specs.Meshes.{Mesh}
 use Rattle.mb_outside.specs.Seen.{OnOutput, OnShelf, ShelfMeets, seen}
 use Rattle.play_terms.specs.Commands.{ask_file}
-use Rattle.report_lines.specs.Halts.{halted, halted_by}
-use Rattle.report_lines.specs.declared.halt.Halt.{Halt}
 use Rattle.run_terms.specs.Files.{Bytes, Files}
 use Rattle.run_terms.specs.Meets.{Meets, Seen, Why}
 use Rattle.run_terms.specs.Runs.{World}
@@ -18,6 +18,7 @@ use Rattle.script_terms.specs.Plays.{Meanings, State, at_first, script_checked, 
 use Rattle.script_terms.specs.Scripts.{script}
 use Rattle.script_terms.specs.Steps.{Line}
 use Rattle.script_runs.specs.Costs.{cost_of_value, lines_cost, script_cost, text_cost}
+use Rattle.script_runs.specs.Names.{state_in}
 use Rattle.script_runs.specs.Texts.{text_task, why_of_fault}
 
 module _ (means : KernelKind → Meanings) (k : ℕ) (limits : Limits) (name : Bytes) where
@@ -32,21 +33,34 @@ module _ (means : KernelKind → Meanings) (k : ℕ) (limits : Limits) (name : B
       (meets_refused (script_checked name (script k text)) _ now (ap (script_checked name) is))
   text_refused text NoMemory now is = meets_starved (text_task means k limits name text) now
 
-  -- the lines of a text were done, or one of them stopped
-  pub text_done : {A : Type 0} (text : Bytes) (lines : List Line) (after : A → State) (before now : Seen) (r : Result A Halt) → script k text ≡ Ok lines
-      → Meets (steps_task means k limits name lines at_first) before now (halted_by after r) → Meets (text_task means k limits name text) before now (halted_by (λ _. tt) r)
-  text_done {A} text lines after before now r is met =
-      meets_then (give (script_checked name (script k text))) doing lines (halted_by (λ _. tt) r) before before now
-      (meets_given (script_checked name (script k text)) lines before (ap (script_checked name) is)) (by r met)
-    where
-      by : (r : Result A Halt) → Meets (steps_task means k limits name lines at_first) before now (halted_by after r) → Meets (doing lines) before now (halted_by (λ _. tt) r)
-      by (Ok done) met = meets_then (steps_task means k limits name lines at_first) (λ _. give (Ok tt)) (after done) (Ok tt) before now now met (meets_given (Ok tt) tt now refl)
-      by (Err halt) met = meets_stop (steps_task means k limits name lines at_first) (λ _. give (Ok tt)) _ before now met
+  -- the lines of a text were done, beginning without names
+  pub text_done : (text : Bytes) (lines : List Line) (es : List (Bytes × Mesh)) (after : State) (before now : Seen) → es ≡ [] → script k text ≡ Ok lines
+      → Meets (steps_task means k limits name lines (state_in Grid es)) before now (Ok after) → Meets (text_task means k limits name text) before now (Ok tt)
+  text_done text lines es after before now none is met =
+      let P : List (Bytes × Mesh) → Type 0 = λ es. Meets (steps_task means k limits name lines (state_in Grid es)) before now (Ok after) in
+      meets_then (give (script_checked name (script k text))) doing lines (Ok tt) before before now
+      (meets_given (script_checked name (script k text)) lines before (ap (script_checked name) is))
+      (meets_then (steps_task means k limits name lines at_first) (λ _. give (Ok tt)) after (Ok tt) before now now (subst P none met) (meets_given (Ok tt) tt now refl))
+
+  -- or one of them stopped
+  pub text_stopped : (text : Bytes) (lines : List Line) (es : List (Bytes × Mesh)) (why : Why) (before now : Seen) → es ≡ [] → script k text ≡ Ok lines
+      → Meets (steps_task means k limits name lines (state_in Grid es)) before now (Err why) → Meets (text_task means k limits name text) before now (Err why)
+  text_stopped text lines es why before now none is met =
+      let P : List (Bytes × Mesh) → Type 0 = λ es. Meets (steps_task means k limits name lines (state_in Grid es)) before now (Err why) in
+      meets_then (give (script_checked name (script k text))) doing lines (Err why) before before now
+      (meets_given (script_checked name (script k text)) lines before (ap (script_checked name) is))
+      (meets_stop (steps_task means k limits name lines at_first) (λ _. give (Ok tt)) why before now (subst P none met))
 
   -- what the text costs is what its lines do
-  pub text_spent : (text : Bytes) (lines : List Line) (files : Files) (old new : ℕ) → script k text ≡ Ok lines → new ≤ old + lines_cost means k limits name lines at_first files → new ≤ old + text_cost means k limits name text files
-  text_spent text lines files old new is most =
-      omega (arith, most, ap (λ r. cost_of_value (script_checked name r) (λ ls. lines_cost means k limits name ls at_first files)) is)
+  pub text_spent : (text : Bytes) (lines : List Line) (es : List (Bytes × Mesh)) (files : Files) (old new : ℕ) → es ≡ [] → script k text ≡ Ok lines
+      → new ≤ old + lines_cost means k limits name lines (state_in Grid es) files → new ≤ old + text_cost means k limits name text files
+  text_spent text lines es files old new none is most =
+      omega (
+        arith,
+        most,
+        ap (λ es. lines_cost means k limits name lines (state_in Grid es) files) none,
+        ap (λ r. cost_of_value (script_checked name r) (λ ls. lines_cost means k limits name ls at_first files)) is,
+      )
 
   -- the file of a script was not read
   pub script_unread : (before now : OnShelf) (out : OnOutput) (why : Why) → ShelfMeets (ask_file limits name) before now (Err why)
