@@ -96,7 +96,7 @@ module _ {k : Rule} {w : Between} (rule : IsRule k w) (settle : Settle) (settlin
         omega (arith, ints, reverse, turn);
   }
 
-  pub are_numbers : AreNumbersOf p q (numbers_of (tests_of w settle) p q)
+  pub are_numbers : AreNumbersOf p q (numbers_of (tests_of k w settle) p q)
   are_numbers = record {
     w03 = length-map p.corners (λ c. winding (vertex_face k w) c q);
     w30 = length-map q.corners (λ c. winding_back (face_vertex k w) p c);
@@ -109,6 +109,6 @@ module _ {k : Rule} {w : Between} (rule : IsRule k w) (settle : Settle) (settlin
           (winding_listed (λ c. winding_back (face_vertex k w) p c) q.corners (map (λ c. winding_back (face_vertex k w) p c) q.corners) refl);
       pairs = pairs_agree p q test12 test21 up down sides p_known q_known turns12 turns21 lifts12 lifts21;
     };
-    x12_on_grid = p_hits_on_grid w stays settle settling p q p_known q_known;
-    x21_on_grid = q_hits_on_grid w stays settle settling p q p_known q_known;
+    x12_on_grid = p_hits_on_grid rule settle settling p q p_known q_known;
+    x21_on_grid = q_hits_on_grid rule settle settling p q p_known q_known;
   }
