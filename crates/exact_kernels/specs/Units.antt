@@ -71,7 +71,7 @@ few a b c d e ha hb hc hd he x = by (zero_or_not a) (zero_or_not b) where
 module _ {P Q : List Corner → List Corner → List Corner} {ends edges one other : ShadowTest} (h : AreMet P Q ends edges one other) (a b u v t : Corner)
     (fe : AllFine (a ∷ b ∷ [])) (ff : AllFine (u ∷ v ∷ t ∷ []))
     (x : AreExcluded (count_of (ends (a ∷ []) (u ∷ v ∷ t ∷ []))) (count_of (ends (b ∷ []) (u ∷ v ∷ t ∷ []))) (count_of (edges (a ∷ b ∷ []) (u ∷ v ∷ [])))
-        (count_of (edges (a ∷ b ∷ []) (v ∷ t ∷ []))) (count_of (edges (a ∷ b ∷ []) (t ∷ u ∷ [])))) where
+    (count_of (edges (a ∷ b ∷ []) (v ∷ t ∷ []))) (count_of (edges (a ∷ b ∷ []) (t ∷ u ∷ [])))) where
   -- their counts are
   pub pairs_balanced : IsBalanced (signed_pairs ends edges a b u v t)
   pairs_balanced =
@@ -98,8 +98,16 @@ module _ {P Q : List Corner → List Corner → List Corner} {ends edges one oth
     where
       by : (c1 c2 c3 c4 c5 : ℤ) → nat_abs c1 + (nat_abs c2 + (nat_abs c3 + (nat_abs c4 + nat_abs c5))) ≤ 3 → sum_by nat_abs (c1 ∷ c2 ∷ c3 ∷ c4 ∷ c5 ∷ []) ≤ 3
       by c1 c2 c3 c4 c5 k =
-          omega (arith, k, sum_by-cons nat_abs c1 (c2 ∷ c3 ∷ c4 ∷ c5 ∷ []), sum_by-cons nat_abs c2 (c3 ∷ c4 ∷ c5 ∷ []), sum_by-cons nat_abs c3
-          (c4 ∷ c5 ∷ []), sum_by-cons nat_abs c4 (c5 ∷ []), sum_by-cons nat_abs c5 [])
+          omega (
+            arith,
+            k,
+            sum_by-cons nat_abs c1 (c2 ∷ c3 ∷ c4 ∷ c5 ∷ []),
+            sum_by-cons nat_abs c2 (c3 ∷ c4 ∷ c5 ∷ []),
+            sum_by-cons nat_abs c3
+                (c4 ∷ c5 ∷ []),
+            sum_by-cons nat_abs c4 (c5 ∷ []),
+            sum_by-cons nat_abs c5 [],
+          )
 
   -- so none or exactly two of the counts are not 0
   pub none_or_two : (weight (map entry (signed_pairs ends edges a b u v t)) ≡ 0) ⊎ (weight (map entry (signed_pairs ends edges a b u v t)) ≡ 2)
@@ -142,13 +150,13 @@ module _ (w : Between) where
       record {
         both_first =
             λ m n e. let h =
-                in_face a m in let k = in_face b n in none_met_inside (of_p a) (of_p b) (of_q u) (of_q v) h.side k.side (both h k) h.first k.first (meets u v hu hv e);
+            in_face a m in let k = in_face b n in none_met_inside (of_p a) (of_p b) (of_q u) (of_q v) h.side k.side (both h k) h.first k.first (meets u v hu hv e);
         both_second =
             λ m n e. let h =
-                in_face a m in let k = in_face b n in none_met_inside (of_p a) (of_p b) (of_q v) (of_q t) h.side k.side (both h k) h.second k.second (meets v t hv ht e);
+            in_face a m in let k = in_face b n in none_met_inside (of_p a) (of_p b) (of_q v) (of_q t) h.side k.side (both h k) h.second k.second (meets v t hv ht e);
         both_third =
             λ m n e. let h =
-                in_face a m in let k = in_face b n in none_met_inside (of_p a) (of_p b) (of_q t) (of_q u) h.side k.side (both h k) h.third k.third (meets t u ht hu e);
+            in_face a m in let k = in_face b n in none_met_inside (of_p a) (of_p b) (of_q t) (of_q u) h.side k.side (both h k) h.third k.third (meets t u ht hu e);
         edges = λ e f g. no_edge_meets_three (of_p a) (of_p b) (of_q u) (of_q v) (of_q t) (meets u v hu hv e) (meets v t hv ht f) (meets t u ht hu g);
       }
 
@@ -166,13 +174,13 @@ module _ (w : Between) where
       record {
         both_first =
             λ m n e. let h =
-                in_face c m in let k = in_face d n in none_meets_inside (of_p u) (of_p v) (of_q c) (of_q d) h.side k.side (both h k) h.first k.first (meets u v hu hv e);
+            in_face c m in let k = in_face d n in none_meets_inside (of_p u) (of_p v) (of_q c) (of_q d) h.side k.side (both h k) h.first k.first (meets u v hu hv e);
         both_second =
             λ m n e. let h =
-                in_face c m in let k = in_face d n in none_meets_inside (of_p v) (of_p t) (of_q c) (of_q d) h.side k.side (both h k) h.second k.second (meets v t hv ht e);
+            in_face c m in let k = in_face d n in none_meets_inside (of_p v) (of_p t) (of_q c) (of_q d) h.side k.side (both h k) h.second k.second (meets v t hv ht e);
         both_third =
             λ m n e. let h =
-                in_face c m in let k = in_face d n in none_meets_inside (of_p t) (of_p u) (of_q c) (of_q d) h.side k.side (both h k) h.third k.third (meets t u ht hu e);
+            in_face c m in let k = in_face d n in none_meets_inside (of_p t) (of_p u) (of_q c) (of_q d) h.side k.side (both h k) h.third k.third (meets t u ht hu e);
         edges = λ e f g. no_three_meet_edge (of_p u) (of_p v) (of_p t) (of_q c) (of_q d) (meets u v hu hv e) (meets v t hv ht f) (meets t u ht hu g);
       }
 

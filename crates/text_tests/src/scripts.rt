@@ -128,7 +128,8 @@ fn refuses(rt: &impl Abort, alloc: Global, rows: &[Refused]) {
 const NONE: [i64; 6] = [0; 6];
 
 // Steps in order.
-const STEPS: &[u8] = b"load a cube.obj\nload b b.obj\nunion u a b\nmeasure u\nsave u u.obj\nexact # from here on\n";
+const STEPS: &[u8] =
+    b"load a cube.obj\nload b b.obj\nunion u a b\nmeasure u\nsave u u.obj\nexact # from here on\n";
 
 const STEPS_ROWS: [Row<'static>; 6] = [
     (1, "load", ["a", "cube.obj", ""], NONE),
