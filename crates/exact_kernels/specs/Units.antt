@@ -103,8 +103,7 @@ module _ {P Q : List Corner → List Corner → List Corner} {ends edges one oth
             k,
             sum_by-cons nat_abs c1 (c2 ∷ c3 ∷ c4 ∷ c5 ∷ []),
             sum_by-cons nat_abs c2 (c3 ∷ c4 ∷ c5 ∷ []),
-            sum_by-cons nat_abs c3
-                (c4 ∷ c5 ∷ []),
+            sum_by-cons nat_abs c3 (c4 ∷ c5 ∷ []),
             sum_by-cons nat_abs c4 (c5 ∷ []),
             sum_by-cons nat_abs c5 [],
           )
@@ -148,15 +147,18 @@ module _ (w : Between) where
       let both : (h : Inside (of_q u) (of_q v) (of_q t) (of_p a)) (k : Inside (of_q u) (of_q v) (of_q t) (of_p b)) → h.side ≡ k.side =
       both_inside (of_q u) (of_q v) (of_q t) (of_p a) (of_p b) in
       record {
-        both_first =
-            λ m n e. let h =
-            in_face a m in let k = in_face b n in none_met_inside (of_p a) (of_p b) (of_q u) (of_q v) h.side k.side (both h k) h.first k.first (meets u v hu hv e);
-        both_second =
-            λ m n e. let h =
-            in_face a m in let k = in_face b n in none_met_inside (of_p a) (of_p b) (of_q v) (of_q t) h.side k.side (both h k) h.second k.second (meets v t hv ht e);
-        both_third =
-            λ m n e. let h =
-            in_face a m in let k = in_face b n in none_met_inside (of_p a) (of_p b) (of_q t) (of_q u) h.side k.side (both h k) h.third k.third (meets t u ht hu e);
+        both_first = λ m n e.
+            let h = in_face a m in
+            let k = in_face b n in
+            none_met_inside (of_p a) (of_p b) (of_q u) (of_q v) h.side k.side (both h k) h.first k.first (meets u v hu hv e);
+        both_second = λ m n e.
+            let h = in_face a m in
+            let k = in_face b n in
+            none_met_inside (of_p a) (of_p b) (of_q v) (of_q t) h.side k.side (both h k) h.second k.second (meets v t hv ht e);
+        both_third = λ m n e.
+            let h = in_face a m in
+            let k = in_face b n in
+            none_met_inside (of_p a) (of_p b) (of_q t) (of_q u) h.side k.side (both h k) h.third k.third (meets t u ht hu e);
         edges = λ e f g. no_edge_meets_three (of_p a) (of_p b) (of_q u) (of_q v) (of_q t) (meets u v hu hv e) (meets v t hv ht f) (meets t u ht hu g);
       }
 
@@ -172,15 +174,18 @@ module _ (w : Between) where
       let both : (h : Inside (of_p u) (of_p v) (of_p t) (of_q c)) (k : Inside (of_p u) (of_p v) (of_p t) (of_q d)) → h.side ≡ k.side =
       both_inside (of_p u) (of_p v) (of_p t) (of_q c) (of_q d) in
       record {
-        both_first =
-            λ m n e. let h =
-            in_face c m in let k = in_face d n in none_meets_inside (of_p u) (of_p v) (of_q c) (of_q d) h.side k.side (both h k) h.first k.first (meets u v hu hv e);
-        both_second =
-            λ m n e. let h =
-            in_face c m in let k = in_face d n in none_meets_inside (of_p v) (of_p t) (of_q c) (of_q d) h.side k.side (both h k) h.second k.second (meets v t hv ht e);
-        both_third =
-            λ m n e. let h =
-            in_face c m in let k = in_face d n in none_meets_inside (of_p t) (of_p u) (of_q c) (of_q d) h.side k.side (both h k) h.third k.third (meets t u ht hu e);
+        both_first = λ m n e.
+            let h = in_face c m in
+            let k = in_face d n in
+            none_meets_inside (of_p u) (of_p v) (of_q c) (of_q d) h.side k.side (both h k) h.first k.first (meets u v hu hv e);
+        both_second = λ m n e.
+            let h = in_face c m in
+            let k = in_face d n in
+            none_meets_inside (of_p v) (of_p t) (of_q c) (of_q d) h.side k.side (both h k) h.second k.second (meets v t hv ht e);
+        both_third = λ m n e.
+            let h = in_face c m in
+            let k = in_face d n in
+            none_meets_inside (of_p t) (of_p u) (of_q c) (of_q d) h.side k.side (both h k) h.third k.third (meets t u ht hu e);
         edges = λ e f g. no_three_meet_edge (of_p u) (of_p v) (of_p t) (of_q c) (of_q d) (meets u v hu hv e) (meets v t hv ht f) (meets t u ht hu g);
       }
 
