@@ -17,6 +17,20 @@ pub enum NumberFault {
     OutOfGrid = 2,
 }
 
+impl NumberFault {
+    ghost use Rattle.grid_number.specs.Faults.{fault_number};
+
+    /// The number of the fault, 1 or 2.
+    pub fn number(self) -> u8
+        ensures { result ≡ fault_number self }
+    {
+        match self {
+            NumberFault::NotANumber => 1,
+            NumberFault::OutOfGrid => 2,
+        }
+    }
+}
+
 /// The value of a decimal text in steps of the grid, with `digits` decimal digits after a unit's point: an
 /// optional `+` or `-`, digits with or without a point among, before or behind them, and optionally `e` or `E`
 /// and a whole number. The value is rounded to the nearest step, halves away from 0. Texts of any length and

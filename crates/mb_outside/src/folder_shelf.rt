@@ -107,10 +107,17 @@ impl<'r, R: Files> Shelf for FolderShelf<'r, R> {
     }
 }
 
-/// The length of a file, or None where it doesn't exist.
+/// The length of a file or a folder, or None where it doesn't exist. A pipe, a terminal or another device has no length: what
+/// the system says of it is none of how much can be read.
 fn size_of_file<R: Files>(rt: &R, name: &str) -> io::Result<Option<u64>> {
     match fs::metadata(rt, name) {
-        Ok(metadata) => Ok(Some(metadata.len())),
+        Ok(metadata) => {
+            if metadata.is_file() || metadata.is_dir() {
+                Ok(Some(metadata.len()))
+            } else {
+                Err(io::Error::from(ErrorKind::Unsupported))
+            }
+        }
         Err(error) => {
             if error.kind() == ErrorKind::NotFound {
                 Ok(None)

@@ -214,7 +214,10 @@ static KEPT_AGAIN: [(Call, Answer); 8] = [
 const LONG: &str =
     "a_name_that_is_longer_than_that_of_any_file_a_name_that_is_longer_than_that_of_any_file_a_name_that_is_longer_than_that_of_any_file_a_name_that_is_longer_than_that_of_any_file_a_name_that_is_longer_than_that_of_any_file_a_name_that_is_longer_than_that_of_any_file";
 
-static NO_PLACE: [(Call, Answer); 6] = [
+static NO_PLACE: [(Call, Answer); 8] = [
+    // A device, and the folder itself.
+    (Call::Size("/dev/null"), Err(Failed)),
+    (Call::Read(".", 0), Err(Failed)),
     (Call::Begin("plain.txt"), Ok(Some(0))),
     (Call::Size("plain.txt/below.txt"), Err(Failed)),
     (Call::Size(LONG), Err(Failed)),
