@@ -181,8 +181,99 @@ def tie(folder):
     f.save(folder, "tie.svg")
 
 
+def pairing(folder):
+    f = Figure(760, 250)
+    f.text((190, 24), "on a half-edge from a to b", size=15, bold=True)
+    line = 110
+    f.line([(30, line), (350, line)], SOFT, 1.5, "5 4")
+    for x, name, start in ((40, "a", True), (140, "x", False), (240, "y", True), (340, "b", False)):
+        f.dot((x, line), GOOD if start else P, 5)
+        f.text((x, line - 14), name, INK, 16)
+        f.text((x, line + 26), "start" if start else "end", GOOD if start else P, 13)
+    for a, b in ((40, 140), (240, 340)):
+        f.arrow((a + 6, line), (b - 6, line), INK, 3, 0.6)
+    f.line([(140, 45), (140, 170)], Q, 1.5, "2 4")
+    f.line([(240, 45), (240, 170)], Q, 1.5, "2 4")
+    f.text((190, 60), "inside Q", Q, 14)
+    f.text((190, 196), "P without Q: a starts, the edge goes into Q at x,", SOFT, 13)
+    f.text((190, 214), "comes out at y, and ends at b: two segments", SOFT, 13)
+
+    f.line([(380, 20), (380, 230)], SOFT, 1)
+    f.text((570, 24), "on the line of two faces", size=15, bold=True)
+    f.line([(400, line), (740, line)], SOFT, 1.5, "5 4")
+    for x, name, start in ((420, "s", True), (510, "t", True), (620, "u", False), (720, "v", False)):
+        f.dot((x, line), GOOD if start else P, 5)
+        f.text((x, line + (26 if x in (510, 620) else -14)), name, INK, 16)
+    for a, b, level, words in ((420, 620, line - 34, "first start, first end"), (510, 720, line + 52, "second start, second end")):
+        f.line([(a, line), (a, level)], INK, 1, "2 3")
+        f.line([(b, line), (b, level)], INK, 1, "2 3")
+        f.arrow((a, level), (b, level), INK, 3, 0.55)
+        f.text(((a + b) / 2, level + (-10 if level < line else 20)), words, SOFT, 13)
+    f.text((570, 214), "in order along the line, whatever lies between", SOFT, 13)
+    f.save(folder, "pairing.svg")
+
+
+def filling(folder):
+    f = Figure(760, 300)
+    rim = [(40, 230), (330, 230), (330, 60), (40, 60)]
+    hole = [(160, 180), (125, 115), (205, 110)]
+    f.text((185, 30), "a ring, a hole, and the bridge", size=15, bold=True)
+    f.line(rim, P, 2, "", "#dbe8f6", True)
+    f.line(hole, P, 2, "", "#ffffff", True)
+    for corners in (rim, hole):
+        outline(f, corners, P)
+    f.line([hole[1], rim[3]], GOOD, 3)
+    for k, (x, y) in enumerate(rim + hole):
+        f.dot((x, y), INK, 3.5)
+        f.text((x + (-14 if x < 60 else 14 if x > 300 else (10, -4, 16)[k - 4]), y + ((18, 18, -8, -8) + (20, 22, -6))[k]), str(k), INK, 14)
+    f.text((185, 265), "the ring afterwards: 0 1 2 3 5 6 4 5 3", SOFT, 13)
+    f.text((185, 284), "the bridge from 3 to 5 is used both ways", SOFT, 13)
+
+    f.line([(380, 20), (380, 290)], SOFT, 1)
+    f.text((570, 30), "a ring is cut, ear by ear", size=15, bold=True)
+    ring = [(420, 230), (600, 230), (720, 150), (640, 60), (490, 170), (440, 60)]
+    f.line([ring[5], ring[0], ring[1]], Q, 0.5, "", "#f6e7cf", True)
+    f.line([ring[0], ring[1], ring[2]], GOOD, 0.5, "", "#d5ead6", True)
+    outline(f, ring, P)
+    f.line([ring[5], ring[1]], Q, 1.5, "5 4")
+    f.line([ring[0], ring[2]], GOOD, 1.5, "5 4")
+    for k, (x, y) in enumerate(ring):
+        f.dot((x, y), INK, 3.5)
+        f.text((x + (-14, 6, 14, 14, 14, -14)[k], y + (8, 20, 4, 0, 6, 0)[k]), "ABCDEF"[k], INK, 14)
+    f.text((452, 150), "no ear", Q, 13)
+    f.text((628, 203), "ear", GOOD, 14)
+    f.text((570, 265), "A is no ear, since E lies in its triangle; B is the first", SOFT, 13)
+    f.text((570, 284), "that is one: its triangle is cut off, and B is gone", SOFT, 13)
+    f.save(folder, "filling.svg")
+
+
+def pinching(folder):
+    f = Figure(760, 230)
+
+    def fan(middle, turn, colour, paint):
+        rim = [(middle[0] + 85 * math.cos(turn + k * 0.42), middle[1] - 85 * math.sin(turn + k * 0.42)) for k in range(5)]
+        for a, b in zip(rim, rim[1:]):
+            f.line([middle, a, b], colour, 1.5, "", paint, True)
+
+    f.text((185, 24), "one vertex, two fans", size=15, bold=True)
+    fan((185, 120), -0.84, P, "#dbe8f6")
+    fan((185, 120), math.pi - 0.84, Q, "#f6e7cf")
+    f.dot((185, 120), INK, 5)
+    f.text((185, 104), "v", INK, 16)
+    f.arrow((340, 120), (420, 120), SOFT, 2)
+    f.text((570, 24), "one vertex for each fan", size=15, bold=True)
+    fan((585, 120), -0.84, P, "#dbe8f6")
+    fan((555, 120), math.pi - 0.84, Q, "#f6e7cf")
+    f.dot((585, 120), P, 5)
+    f.dot((555, 120), Q, 5)
+    f.text((592, 104), "v", P, 16)
+    f.text((548, 104), "w", Q, 16)
+    f.text((380, 222), "Parts of two fans, each of which goes on behind. v and w have the same point; they are apart here to be seen.", SOFT, 13)
+    f.save(folder, "pinching.svg")
+
+
 if __name__ == "__main__":
     if len(sys.argv) != 2:
         sys.exit(__doc__)
-    for figure in (winding, shadow_of_edge, shadow_of_face, tie):
+    for figure in (winding, shadow_of_edge, shadow_of_face, tie, pairing, filling, pinching):
         figure(sys.argv[1])
