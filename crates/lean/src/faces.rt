@@ -25,7 +25,8 @@ pub fn face_of(corners: &[Corner], triple: &[u32; 3]) -> [Corner; 3]
 }
 
 /// The tree over the boxes of the triangles, each of which is made anew when it is asked for: they are not kept. The tree
-/// keeps a copy of them only where some coordinate is no i32. `NoMemory` may come for any triangles.
+/// keeps a copy of them only where some coordinate, without the zero bits that all of them share, is no i32. `NoMemory`
+/// may come for any triangles.
 pub fn tree_over(alloc: Global, corners: &[Corner], triples: &[[u32; 3]]) -> Result<Tree, NoMemory>
     requires below { All (IsBelow (length corners.now)) (triples_of triples.now) }
     requires few { length triples.now ≤ most_triangles }
