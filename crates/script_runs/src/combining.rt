@@ -46,13 +46,45 @@ fn operate<'a, L: Ledger>(
     ensures cost { steps.new ≤ steps.old + operation_cost op p.now q.now }
 {
     match kernels {
-        KernelKind::Grid => {
-            operate_under(alloc, &Grid { rounding: Nearest }, op, p, q, limits, steps)
-        }
-        KernelKind::Exact => {
-            operate_under(alloc, &Exact { rounding: Nearest }, op, p, q, limits, steps)
-        }
+        KernelKind::Grid => operate_on_grid(alloc, op, p, q, limits, steps),
+        KernelKind::Exact => operate_exactly(alloc, op, p, q, limits, steps),
     }
+}
+
+// What it gives under the kernels of the grid.
+fn operate_on_grid<'a, L: Ledger>(
+    alloc: Global,
+    op: Op,
+    p: &Mesh,
+    q: &Mesh,
+    limits: &Limits,
+    steps: &mut Steps<L>,
+) -> Result<Outcome, Halt<'a>>
+    ensures meets { (now : Seen) → Meets (give (within limits.now ((meanings KernelKind.Grid).operation op p.now q.now))) now now
+        (halted_by (λ _. (meanings KernelKind.Grid).operation op p.now q.now) result) }
+    ensures outcome { IfOk result (IsOutcome ((meanings KernelKind.Grid).operation op p.now q.now)) }
+    ensures halts { IfErr result IsHaltOfStep }
+    ensures cost { steps.new ≤ steps.old + operation_cost op p.now q.now }
+{
+    operate_under(alloc, &Grid { rounding: Nearest }, op, p, q, limits, steps)
+}
+
+// What it gives under exact kernels.
+fn operate_exactly<'a, L: Ledger>(
+    alloc: Global,
+    op: Op,
+    p: &Mesh,
+    q: &Mesh,
+    limits: &Limits,
+    steps: &mut Steps<L>,
+) -> Result<Outcome, Halt<'a>>
+    ensures meets { (now : Seen) → Meets (give (within limits.now ((meanings KernelKind.Exact).operation op p.now q.now))) now now
+        (halted_by (λ _. (meanings KernelKind.Exact).operation op p.now q.now) result) }
+    ensures outcome { IfOk result (IsOutcome ((meanings KernelKind.Exact).operation op p.now q.now)) }
+    ensures halts { IfErr result IsHaltOfStep }
+    ensures cost { steps.new ≤ steps.old + operation_cost op p.now q.now }
+{
+    operate_under(alloc, &Exact { rounding: Nearest }, op, p, q, limits, steps)
 }
 
 // What an operation on two meshes gives under any kernels.

@@ -68,7 +68,7 @@ loop-line-preserved g c =
     let P : KernelKind → Type 0 = λ kernels.
     HasDone meanings c.args.digits c.args.limits.now c.args.script.now (map line_of lines) (state_in Grid c.args.names.now) (seen_of g.S.Shelf g.O.Sink c.args.shelf.now c.args.out.now) c.args.steps.now
     (i + 1) (state_in kernels c.do_step.new.names) (seen_of g.S.Shelf g.O.Sink c.do_step.new.shelf c.do_step.new.out) c.do_step.new.steps in
-    subst P (sym c.kernels_after.ensures)
+    subst P (sym c.kernels_after-kernels.ensures)
     (line_done meanings c.args.digits c.args.limits.now c.args.script.now (map line_of lines) (state_in Grid c.args.names.now) (seen_of g.S.Shelf g.O.Sink c.args.shelf.now c.args.out.now) c.args.steps.now
     i (line_of x) (state_in c.loop-line.kernels c.loop-line.names) (seen_of g.S.Shelf g.O.Sink c.loop-line.shelf c.loop-line.out) c.loop-line.steps
     (omega (arith, below, length-map lines line_of)) (line_at lines i x below c.line-item.is) c.loop-line.invariant
