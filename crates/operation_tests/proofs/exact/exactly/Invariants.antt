@@ -1,4 +1,4 @@
-use Rattle.operation_tests.proofs.results.rounded.Given as goal
+use Rattle.operation_tests.proofs.exact.exactly.Given as goal
 
 -- the ledger is that of the blank
 abbrev pub ghosts-answer : goal.ghosts-answer
