@@ -183,6 +183,8 @@ def read(name):
             elif words and words[0] == "f":
                 items = [int(word.split("/")[0]) for word in words[1:]]
                 faces.append([i - 1 if i > 0 else len(points) + i for i in items])
+    if not faces:
+        sys.exit("%s: no face; OBJ files are read, and an STL file goes through `copy` first" % name)
     return points, faces
 
 
