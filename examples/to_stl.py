@@ -33,7 +33,10 @@ def main(words):
         sys.exit(__doc__)
     with open(words[0], "rb") as file:
         data = file.read()
-    triangles = of_stl(data) if words[0].lower().endswith(".stl") else of_obj(data.decode("utf-8", "replace"))
+    is_stl = words[0].lower().endswith(".stl")
+    triangles = list(of_stl(data) if is_stl else of_obj(data.decode("utf-8", "replace")))
+    if not triangles and not is_stl:
+        sys.exit("to_stl.py: this OBJ file has no face; an STL file is named .stl")
     with open(words[1], "w") as out:
         out.write("solid welded\n")
         for corners in triangles:
