@@ -4,7 +4,7 @@
 ghost use Rattle.std.specs.Prelude.{◌≡◌, ◌≤◌, length};
 ghost use Rattle.mb_base.specs.Faults.{counted_of, kind_number};
 ghost use Rattle.play_terms.specs.Lines.{kind_name, limit_name};
-ghost use Rattle.script_terms.specs.Lines.{script_kind_name, step_kind_name};
+ghost use Rattle.play_terms.specs.ScriptLines.{script_kind_name, step_kind_name};
 
 use mb_base::{Counted, TextKind};
 

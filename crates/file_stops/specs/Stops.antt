@@ -6,7 +6,7 @@ use Rattle.mesh_terms.specs.Meshes.{Mesh, Soup}
 use Rattle.play_terms.specs.Lines.{usage, missing, fault_refusal, open_refusal, over}
 use Rattle.run_terms.specs.Files.{Bytes}
 use Rattle.run_terms.specs.Meets.{Why, Refused, Unread, Unwritten, Starved}
-use Rattle.script_terms.specs.Lines.{script_refusal, step_refusal}
+use Rattle.play_terms.specs.ScriptLines.{script_refusal, step_refusal}
 use Rattle.file_stops.specs.declared.stop.Stop.{Stop}
 use Rattle.file_stops.specs.declared.stop.Stop.TheVariants.{Usage, BadScript, BadStep, Missing, BadText, BadEdge, Over, ReadFault, WriteFault, NoMemory}
 

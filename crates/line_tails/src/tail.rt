@@ -5,7 +5,7 @@ ghost use Rattle.arrayvec.specs.ArrayVec.{array_vec_len};
 ghost use Rattle.mb_base.specs.Faults.{counted_of};
 ghost use Rattle.play_terms.specs.Ends.{why_line};
 ghost use Rattle.play_terms.specs.Lines.{counts_text, limit_name};
-ghost use Rattle.script_terms.specs.Lines.{step_kind_name};
+ghost use Rattle.play_terms.specs.ScriptLines.{step_kind_name};
 ghost use Rattle.file_stops.specs.Stops.{why_of};
 
 use arrayvec::ArrayVec;

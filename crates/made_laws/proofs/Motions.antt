@@ -9,7 +9,7 @@ use Rattle.made_terms.specs.Refusals.{Outside, all_on_grid, moved_fault}
 use Rattle.mesh_terms.specs.Limits.{Limits}
 use Rattle.mesh_terms.specs.Meshes.{IsAccepted, Mesh, Triple}
 use Rattle.mesh_terms.specs.Points.{IsPoint}
-use Rattle.script_terms.specs.Making.{Mirror, Motion, Scale, Shift, Turn, motion_fault, moved_mesh}
+use Rattle.play_terms.specs.Making.{Mirror, Motion, Scale, Shift, Turn, motion_fault, moved_mesh}
 use Rattle.made_laws.specs.Laws.{IsGiven, IsGivenWithin, IsMovedFrom}
 use Rattle.made_laws.proofs.Mirrors.{turned_accepted}
 use Rattle.made_laws.proofs.Points.{is_three, mirrored_point, moved_points, turned_point}

@@ -9,7 +9,7 @@ use Rattle.made_terms.specs.Solids.{box_points, box_triples, prism_points, prism
 use Rattle.mesh_terms.specs.Faults.{Points, Triangles}
 use Rattle.mesh_terms.specs.Limits.{IsLawful, Limits}
 use Rattle.mesh_terms.specs.Meshes.{Triple}
-use Rattle.script_terms.specs.Making.{Box, Lattice, Prism, Solid, Tetra, solid_fault, solid_mesh}
+use Rattle.play_terms.specs.Making.{Box, Lattice, Prism, Solid, Tetra, solid_fault, solid_mesh}
 use Rattle.made_laws.specs.Laws.{IsGivenWithin}
 use Rattle.made_laws.specs.Solids.{IsSolid}
 use Rattle.made_laws.proofs.Lattices.{boxes_solid, lattice_threes, points_of_boxes}

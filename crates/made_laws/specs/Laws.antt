@@ -4,7 +4,7 @@ use Rattle.std.specs.List.{All}
 use Rattle.mesh_terms.specs.Limits.{IsLawful, Limits}
 use Rattle.mesh_terms.specs.Meshes.{IsAccepted, Mesh}
 use Rattle.mesh_terms.specs.Points.{IsPoint}
-use Rattle.script_terms.specs.Making.{Motion, Solid, motion_fault, moved_mesh, solid_fault, solid_mesh}
+use Rattle.play_terms.specs.Making.{Motion, Solid, motion_fault, moved_mesh, solid_fault, solid_mesh}
 
 -- an accepted mesh at points of the grid
 pub record IsGiven (m : Mesh) : Type 0 where

@@ -22,7 +22,7 @@ use Rattle.made_laws.specs.Laws.{IsGiven, IsGivenWithin}
 use Rattle.script_laws.specs.ReadingBack.{MeshReadable}
 use Rattle.script_laws.proofs.Readable.{readable_within, within_of_readable}
 use Rattle.script_laws.proofs.ReadingBack.{steps_keep}
-use Rattle.script_terms.specs.Plays.{mesh_at}
+use Rattle.play_terms.specs.Plays.{mesh_at}
 use Rattle.mesh_boolean.specs.Operation.{Outcome, first_side, numbers_of, operation, reduced_mesh, second_side}
 use Rattle.operation_laws.specs.Kernels.{meanings_under, rule_under, tests_under, told_of}
 use Rattle.operation_laws.specs.Laws.{OperationsAreAccepted, OperationsAreReadable}

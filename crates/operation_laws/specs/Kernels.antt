@@ -5,8 +5,8 @@ use Rattle.mb_base.specs.declared.kernel_kind.KernelKind.{KernelKind}
 use Rattle.mb_base.specs.declared.kernel_kind.KernelKind.TheVariants.{Exact, Grid}
 use Rattle.mesh_boolean.specs.Operation.{Outcome, Tests, operation}
 use Rattle.rounding.specs.Nearest.{nearest, settle_nearest}
-use Rattle.script_terms.specs.Combined.{Combined}
-use Rattle.script_terms.specs.Plays.{Meanings}
+use Rattle.play_terms.specs.Combined.{Combined}
+use Rattle.play_terms.specs.Plays.{Meanings}
 use Rattle.shadow_kernels.specs.Rules.{Rule, grid}
 use Rattle.shadow_kernels.specs.Shadows.{face_vertex, vertex_face}
 use Rattle.shadow_kernels.specs.Spots.{Between}

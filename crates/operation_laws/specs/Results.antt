@@ -8,8 +8,8 @@ use Rattle.run_terms.specs.Files.{Bytes, Files}
 use Rattle.filling_terms.specs.Filled.{points_of_copies}
 use Rattle.pinch_split.specs.Back.{ComeFrom}
 use Rattle.made_laws.specs.Laws.{IsGiven}
-use Rattle.script_terms.specs.Plays.{State, at_first, mesh_at, steps_task}
-use Rattle.script_terms.specs.Steps.{Line}
+use Rattle.play_terms.specs.Plays.{State, at_first, mesh_at, steps_task}
+use Rattle.play_terms.specs.Steps.{Line}
 use Rattle.mesh_boolean.specs.Operation.{Outcome, first_side, operation, second_side}
 use Rattle.mesh_boolean.specs.Results.{AreBounded, ConserveIn, IsCleanOver, copies_in}
 use Rattle.operation_laws.specs.Kernels.{meanings_under, tests_under}

@@ -1,1 +1,6 @@
+mod PlayRows
+mod ProgramRows
 mod Rows
+mod ScriptRows
+pub mod Soundness
+mod Taken

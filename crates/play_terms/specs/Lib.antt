@@ -1,6 +1,16 @@
+pub mod Combined
 pub mod Commands
 pub mod Ends
 pub mod Formats
 pub mod Lines
+pub mod Making
+pub mod Operands
+pub mod Plays
+pub mod Program
 pub mod ReadingBack
+pub mod ScriptCommands
+pub mod ScriptLines
+pub mod Scripts
+pub mod Sound
+pub mod Steps
 pub mod Words

@@ -1,3 +1,3 @@
-//! Definitions of the program's commands: which words they are, what they do to files and output, and the
-//! lines that they say.
+//! Definitions of what the program does: which words are a command, what each command does to files and output, the lines that it
+//! says and how a run ends; and of scripts: their lines, the first fault of one, the steps that it asks for, and what the steps do.
 #![tactic(auto)]

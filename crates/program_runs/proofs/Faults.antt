@@ -5,7 +5,7 @@ use Rattle.mesh_terms.specs.Limits.{Limits}
 use Rattle.mb_outside.specs.Seen.{seen_of}
 use Rattle.mb_outside.specs.declared.shelf.Shelf.{Ghosts as OfShelf}
 use Rattle.mb_outside.specs.declared.sink.Sink.{Ghosts as OfSink}
-use Rattle.program_terms.specs.Commands.{play}
+use Rattle.play_terms.specs.Program.{play}
 use Rattle.run_terms.specs.Files.{Bytes, Grew}
 use Rattle.run_terms.specs.Meets.{Faults, Meets, ReadRose, Refused, Rises, Seen, Starved, Unread, Unsaid, Unwritten, Why}
 use Rattle.run_terms.specs.Tasks.{Cause, FaultyMesh, FaultyScript, NoCommand, NoFile, PastLimit, Task}

@@ -8,8 +8,8 @@ use Rattle.play_terms.specs.Commands.{copy_task, inside_task}
 use Rattle.play_terms.specs.Ends.{ended_status}
 use Rattle.play_terms.specs.Lines.{no_memory, usage}
 use Rattle.play_terms.specs.Words.{Command, CopyFile, InsideFile, RunScript}
-use Rattle.program_terms.specs.Commands.{command_task}
-use Rattle.script_terms.specs.Plays.{script_task}
+use Rattle.play_terms.specs.Program.{command_task}
+use Rattle.play_terms.specs.Plays.{script_task}
 use Rattle.mb_outside.specs.Seen.{on_output, seen_of}
 use Rattle.mb_outside.specs.declared.shelf.Shelf.{Ghosts as OfShelf}
 use Rattle.mb_outside.specs.declared.sink.Sink.{Ghosts as OfSink}

@@ -12,7 +12,7 @@ use Rattle.play_terms.specs.Words.{digits_of, given, inside_at, inside_of, run_o
 use Rattle.play_laws.proofs.ReadingBack.{copy_keeps, inside_keeps, mesh_given}
 use Rattle.operation_laws.specs.Laws.{OperationsAreReadable}
 use Rattle.operation_laws.specs.Results.{ScriptsGiveResults}
-use Rattle.program_terms.specs.Commands.{command_task}
+use Rattle.play_terms.specs.Program.{command_task}
 use Rattle.script_laws.proofs.ReadingBack.{meshes_kept, script_keeps}
 use Rattle.mesh_commands.specs.Windings.{windings}
 use Rattle.program_runs.specs.Playing.{meanings}

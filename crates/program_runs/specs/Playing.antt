@@ -10,7 +10,7 @@ use Rattle.mb_outside.specs.declared.shelf.Shelf.{Ghosts as OfShelf}
 use Rattle.mb_outside.specs.declared.sink.Sink.{Ghosts as OfSink}
 use Rattle.command_ends.specs.Endings.{TellsAs}
 use Rattle.mesh_commands.specs.Windings.{windings}
-use Rattle.program_terms.specs.Commands.{Meanings, play}
+use Rattle.play_terms.specs.Program.{Meanings, play}
 use Rattle.script_runs.specs.Operations as operations
 
 -- the winding number is that under the kernels of the grid, and an operation of a script is taken under these before its first choice of exact ones, and

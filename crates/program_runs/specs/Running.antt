@@ -7,7 +7,7 @@ use Rattle.play_terms.specs.Words.{Command, IsCopy, IsInside, IsRun}
 use Rattle.mb_outside.specs.Seen.{on_output}
 use Rattle.mb_outside.specs.declared.shelf.Shelf.{Ghosts as OfShelf}
 use Rattle.mb_outside.specs.declared.sink.Sink.{Ghosts as OfSink}
-use Rattle.program_terms.specs.Commands.{command_task}
+use Rattle.play_terms.specs.Program.{command_task}
 use Rattle.report_lines.specs.Reports.{IsReported}
 use Rattle.command_ends.specs.Statuses.{IsUsageOrStarved, status_number}
 use Rattle.command_ends.specs.declared.status.Status.{Status}

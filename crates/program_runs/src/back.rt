@@ -2,7 +2,7 @@
 ghost use Rattle.std.specs.Prelude.{All};
 ghost use Rattle.play_terms.specs.ReadingBack.{CopiesReadable, WritesReadable, digits_in};
 ghost use Rattle.play_terms.specs.Words.{command};
-ghost use Rattle.program_terms.specs.Commands.{play};
+ghost use Rattle.play_terms.specs.Program.{play};
 ghost use Rattle.run_terms.specs.Files.{Files};
 ghost use Rattle.program_runs.specs.Playing.{meanings};
 ghost use Rattle.program_runs.specs.Results.{CommandGivesResults, CommandKeepsMeshes};

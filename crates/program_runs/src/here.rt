@@ -4,7 +4,7 @@ ghost use Rattle.play_terms.specs.Ends.{why_line, why_status};
 ghost use Rattle.play_terms.specs.Lines.{usage};
 ghost use Rattle.play_terms.specs.ReadingBack.{CopiesReadable, WritesReadable, digits_in};
 ghost use Rattle.play_terms.specs.Words.{command};
-ghost use Rattle.program_terms.specs.Commands.{play};
+ghost use Rattle.play_terms.specs.Program.{play};
 ghost use Rattle.run_terms.specs.Files.{Files};
 ghost use Rattle.mb_outside.specs.Seen.{on_output};
 ghost use Rattle.mesh_files.specs.Stops.{why_of};

@@ -4,7 +4,7 @@ ghost use Rattle.command_ends.specs.Commands.{IsEnded};
 ghost use Rattle.script_runs.specs.Costs.{script_cost};
 ghost use Rattle.script_runs.specs.Halts.{IsHaltOfScript};
 ghost use Rattle.script_runs.specs.Operations.{meanings};
-ghost use Rattle.script_terms.specs.Plays.{script_task};
+ghost use Rattle.play_terms.specs.Plays.{script_task};
 
 use command_ends::{Status, concluded};
 use mb_base::Limits;

@@ -3,7 +3,7 @@ ghost use Rattle.std.specs.Prelude.{◌≡◌, ◌≤◌, ◌<◌, ◌+◌, ◌^
 ghost use Rattle.play_terms.specs.Lines.{usage};
 ghost use Rattle.play_terms.specs.ReadingBack.{CopiesReadable, WritesReadable, digits_in};
 ghost use Rattle.play_terms.specs.Words.{IsCopy, IsInside, IsRun, command};
-ghost use Rattle.program_terms.specs.Commands.{play};
+ghost use Rattle.play_terms.specs.Program.{play};
 ghost use Rattle.run_terms.specs.Files.{Files};
 ghost use Rattle.mb_outside.specs.Seen.{on_output};
 ghost use Rattle.report_lines.specs.Reports.{IsReported};

@@ -3,9 +3,9 @@ use Rattle.std.proofs.Common.{◌≡◌, ◌++◌, [], ◌∷◌, codes, ap, sym
 use Rattle.text_terms.specs.Written.{line_of}
 use Rattle.run_terms.specs.Files.{Bytes}
 use Rattle.mb_base.specs.declared.op.Op.{Op}
-use Rattle.script_terms.specs.Combined.{Combined}
-use Rattle.script_terms.specs.Commands.{op_word}
-use Rattle.script_terms.specs.Lines.{combine_line, combined_text, operation_text}
+use Rattle.play_terms.specs.Combined.{Combined}
+use Rattle.play_terms.specs.ScriptCommands.{op_word}
+use Rattle.play_terms.specs.ScriptLines.{combine_line, combined_text, operation_text}
 
 -- five texts, joined from the left and from the right
 from_right : (a b c d e : Bytes) → a ++ b ++ c ++ d ++ e ≡ a ++ (b ++ (c ++ (d ++ e)))

@@ -1,7 +1,7 @@
 -- The numbers of an operation that its line tells.
 use Rattle.std.specs.Prelude.{[], ◌∷◌}
 use Rattle.report_lines.specs.declared.script_report.OperationCounts.{OperationCounts}
-use Rattle.script_terms.specs.Combined.{Combined}
+use Rattle.play_terms.specs.Combined.{Combined}
 
 -- those of what an operation gave
 abbrev pub counts_of : Combined → OperationCounts

@@ -8,7 +8,7 @@ use Rattle.std.proofs.lemmas.Bool.Decides.{nat_tests}
 use Rattle.std.proofs.lemmas.Str.{IsUtf8-from_ascii, IsUtf8-from_is_utf8, is_utf8-from_IsUtf8}
 use Rattle.run_terms.specs.Files.{Bytes}
 use Rattle.play_terms.specs.Formats.{is_mesh_name}
-use Rattle.script_terms.specs.Operands.{is_name, is_name_byte, begins_name, file_name_fault}
+use Rattle.play_terms.specs.Operands.{is_name, is_name_byte, begins_name, file_name_fault}
 
 -- both of two tests
 both : (a b : Bool) → (a && b) ≡ true → (a ≡ true) × (b ≡ true)

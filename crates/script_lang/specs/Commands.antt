@@ -1,6 +1,6 @@
 -- The commands as the definitions of scripts have them.
 use Rattle.std.specs.Prelude.{ℕ}
-use Rattle.script_terms.specs.Commands as terms
+use Rattle.play_terms.specs.ScriptCommands as terms
 use Rattle.script_lang.specs.declared.commands.Command.{Command}
 use Rattle.script_lang.specs.declared.commands.Command.TheVariants.{Load, Save, Measure, Combine, Make, Move, Exact}
 use Rattle.script_lang.specs.declared.commands.Motion.{Motion}

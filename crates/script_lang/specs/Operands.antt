@@ -3,7 +3,7 @@ use Rattle.std.specs.Prelude.{ℕ, ℤ, List, ◌&&◌, nat_le, if◌then◌else
 use Rattle.text_terms.specs.Numbers.{is_digits, digits_value}
 use Rattle.made_terms.specs.Solids.{point}
 use Rattle.run_terms.specs.Files.{Bytes}
-use Rattle.script_terms.specs.Operands.{number_of, number_fault, or_later}
+use Rattle.play_terms.specs.Operands.{number_of, number_fault, or_later}
 
 -- the numbers of three words
 abbrev pub three_of : ℕ → Bytes → Bytes → Bytes → List ℤ

@@ -1,6 +1,6 @@
 -- The steps as the definitions of scripts have them.
-use Rattle.script_terms.specs.Making as making
-use Rattle.script_terms.specs.Steps as terms
+use Rattle.play_terms.specs.Making as making
+use Rattle.play_terms.specs.Steps as terms
 use Rattle.script_lang.specs.declared.steps.Line.{Line}
 use Rattle.script_lang.specs.declared.steps.Step.{Step}
 use Rattle.script_lang.specs.declared.steps.Step.TheVariants.{Load, Save, Measure, Combine, MakeBox, MakeTetra, MakePrism, MakeLattice, Shift, Scale, Mirror, Turn, Exact}

@@ -1,7 +1,7 @@
 // The commands of a script.
 ghost use Rattle.std.specs.Prelude.{◌≡◌};
 ghost use Rattle.std.specs.Option.{option_map};
-ghost use Rattle.script_terms.specs.Commands.{command_named};
+ghost use Rattle.play_terms.specs.ScriptCommands.{command_named};
 ghost use Rattle.script_lang.specs.Commands.{command_of};
 
 use mb_base::Op;

@@ -26,8 +26,8 @@
 #![tactic(auto)]
 
 ghost use Rattle.std.specs.Prelude.{◌≡◌, ◌≤◌, [], Ok, IfOk, IfErr};
-ghost use Rattle.script_terms.specs.Scripts.{script};
-ghost use Rattle.script_terms.specs.Sound.{AreSound};
+ghost use Rattle.play_terms.specs.Scripts.{script};
+ghost use Rattle.play_terms.specs.Sound.{AreSound};
 ghost use Rattle.script_lang.specs.Faults.{IsFaultOf};
 
 mod commands;

@@ -1,6 +1,6 @@
 // The names of a script that have meshes.
 ghost use Rattle.std.specs.Prelude.{◌≡◌, [], bytes_eq, OnOk, OnErr, IfErr};
-ghost use Rattle.script_terms.specs.Steps.{gives};
+ghost use Rattle.play_terms.specs.Steps.{gives};
 ghost use Rattle.script_lang.specs.Names.{is_among, HasMore};
 ghost use Rattle.script_lang.specs.Steps.{step_of};
 

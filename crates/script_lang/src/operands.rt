@@ -5,7 +5,7 @@ ghost use Rattle.mesh_terms.specs.Points.{IsOnGrid, IsPoint};
 ghost use Rattle.text_terms.specs.Numbers.{digits_value};
 ghost use Rattle.script_lang.specs.Commands.{most_operands};
 ghost use Rattle.script_lang.specs.Operands.{few_digits, three_fault, three_of};
-ghost use Rattle.script_terms.specs.Operands.{
+ghost use Rattle.play_terms.specs.Operands.{
   axis,
   axis_fault,
   begins_name,

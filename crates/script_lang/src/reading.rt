@@ -1,9 +1,9 @@
 // The lines of a script, read one after the other.
 ghost use Rattle.std.specs.Prelude.{◌≡◌, ◌≤◌, ◌++◌, ◌∷◌, [], map, None, Some, Ok, Err, IfOk, OnOk, IfErr};
-ghost use Rattle.script_terms.specs.Operands.{old_name_fault};
-ghost use Rattle.script_terms.specs.Scripts.{command_step, numbered_words, script_line, script_lines, step_by};
-ghost use Rattle.script_terms.specs.Sound.{AreSound};
-ghost use Rattle.script_terms.specs.Steps.{gives, is_given};
+ghost use Rattle.play_terms.specs.Operands.{old_name_fault};
+ghost use Rattle.play_terms.specs.Scripts.{command_step, numbered_words, script_line, script_lines, step_by};
+ghost use Rattle.play_terms.specs.Sound.{AreSound};
+ghost use Rattle.play_terms.specs.Steps.{gives, is_given};
 ghost use Rattle.script_lang.specs.Commands.{command_of, moving};
 ghost use Rattle.script_lang.specs.Faults.{IsFaultOf};
 ghost use Rattle.script_lang.specs.Steps.{line_of, step_of};
@@ -28,7 +28,7 @@ pub struct Reading<'a> {
 
 impl<'a> Model for Reading<'a> {
     ghost use Rattle.std.specs.Prelude.{◌≡◌, ℕ, List, map};
-    ghost use Rattle.script_terms.specs.Steps.{Line as TheLine, is_given};
+    ghost use Rattle.play_terms.specs.Steps.{Line as TheLine, is_given};
     ghost use Rattle.script_lang.specs.Names.{is_among};
     ghost use Rattle.script_lang.specs.Steps.{line_of};
 

@@ -1,7 +1,7 @@
 // The steps that make solids.
 ghost use Rattle.std.specs.Prelude.{◌≡◌, ◌≤◌, List, map, Ok, Err, IfOk, IfErr};
-ghost use Rattle.script_terms.specs.Scripts.{command_step};
-ghost use Rattle.script_terms.specs.Steps.{Line};
+ghost use Rattle.play_terms.specs.Scripts.{command_step};
+ghost use Rattle.play_terms.specs.Steps.{Line};
 ghost use Rattle.script_lang.specs.Commands.{making};
 ghost use Rattle.script_lang.specs.Steps.{step_of};
 

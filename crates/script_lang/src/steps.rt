@@ -1,7 +1,7 @@
 // The steps of a script.
 ghost use Rattle.std.specs.Prelude.{◌≡◌, [], map, option_copied};
-ghost use Rattle.script_terms.specs.Sound.{AreSound};
-ghost use Rattle.script_terms.specs.Steps.{new_name};
+ghost use Rattle.play_terms.specs.Sound.{AreSound};
+ghost use Rattle.play_terms.specs.Steps.{new_name};
 ghost use Rattle.script_lang.specs.Steps.{line_of, step_of};
 
 use mb_base::{Op, Point};
@@ -150,8 +150,8 @@ pub struct Script<'a> {
 
 impl<'a> Model for Script<'a> {
     ghost use Rattle.std.specs.Prelude.{[], List, map};
-    ghost use Rattle.script_terms.specs.Steps.{Line as TheLine};
-    ghost use Rattle.script_terms.specs.Sound.{AreSound};
+    ghost use Rattle.play_terms.specs.Steps.{Line as TheLine};
+    ghost use Rattle.play_terms.specs.Sound.{AreSound};
     ghost use Rattle.script_lang.specs.Steps.{line_of};
 
     ghost Value = { List TheLine };

@@ -4,7 +4,7 @@ use Rattle.run_terms.specs.Runs.{Action}
 use Rattle.run_terms.specs.Tasks.{Task, give}
 use Rattle.run_laws.specs.Keeping.{Keeps}
 use Rattle.run_laws.proofs.Keeping.{keeps_give, keeps_then}
-use Rattle.script_terms.specs.Plays.{in_order}
+use Rattle.play_terms.specs.Plays.{in_order}
 
 -- a value that is given as it is
 pub keeps_value : {A : Type 0} (P : Action → Type 0) (Q : A → Type 0) (a : A) → Q a → Keeps P Q (give (Ok a))

@@ -5,7 +5,7 @@ use Rattle.std.proofs.lemmas.List.{drop_more}
 use Rattle.run_terms.specs.Meets.{Why, Seen, Meets}
 use Rattle.run_terms.specs.Tasks.{Task, give, then_task}
 use Rattle.run_laws.proofs.Tasks.{meets_given, meets_then, meets_stop}
-use Rattle.script_terms.specs.Plays.{in_order}
+use Rattle.play_terms.specs.Plays.{in_order}
 use Rattle.script_laws.specs.SoFar.{SoFar}
 
 -- at the start the rest is the whole

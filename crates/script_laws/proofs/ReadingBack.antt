@@ -18,13 +18,13 @@ use Rattle.play_terms.specs.Formats.{mesh_text}
 use Rattle.play_terms.specs.Lines.{over}
 use Rattle.play_terms.specs.ReadingBack.{IsReadable, WritesReadable}
 use Rattle.play_laws.proofs.ReadingBack.{mesh_asked, read_again}
-use Rattle.script_terms.specs.Combined.{Combined}
-use Rattle.script_terms.specs.Lines.{load_line, save_line, measure_line, combine_line}
-use Rattle.script_terms.specs.Making.{Solid, solid_fault, solid_mesh, Motion, motion_fault, moved_mesh}
-use Rattle.script_terms.specs.Plays.{Meanings, Named, with_name, mesh_at, mesh_or_none, within, made, load_task, save_task, measure_task, combine_task}
-use Rattle.script_terms.specs.Plays.{State, at_first, line_task, make_task, move_task, script_checked, script_task, state_after, step_task, steps_task}
-use Rattle.script_terms.specs.Scripts.{script}
-use Rattle.script_terms.specs.Steps.{Line, Step, Load, Save, Measure, Combine, Make, Move, Exact}
+use Rattle.play_terms.specs.Combined.{Combined}
+use Rattle.play_terms.specs.ScriptLines.{load_line, save_line, measure_line, combine_line}
+use Rattle.play_terms.specs.Making.{Solid, solid_fault, solid_mesh, Motion, motion_fault, moved_mesh}
+use Rattle.play_terms.specs.Plays.{Meanings, Named, with_name, mesh_at, mesh_or_none, within, made, load_task, save_task, measure_task, combine_task}
+use Rattle.play_terms.specs.Plays.{State, at_first, line_task, make_task, move_task, script_checked, script_task, state_after, step_task, steps_task}
+use Rattle.play_terms.specs.Scripts.{script}
+use Rattle.play_terms.specs.Steps.{Line, Step, Load, Save, Measure, Combine, Make, Move, Exact}
 use Rattle.made_laws.proofs.Motions.{moved_within}
 use Rattle.made_laws.proofs.Solids.{solid_given}
 use Rattle.obj_laws.specs.Within.{IsWithin}

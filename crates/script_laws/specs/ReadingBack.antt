@@ -8,9 +8,9 @@ use Rattle.play_terms.specs.Formats.{mesh_text}
 use Rattle.play_terms.specs.ReadingBack.{IsReadable}
 use Rattle.run_terms.specs.Files.{Bytes, Files}
 use Rattle.run_terms.specs.Runs.{Write, Say}
-use Rattle.script_terms.specs.Lines.{save_line}
-use Rattle.script_terms.specs.Plays.{Meanings, Named, State, at_first, line_task, mesh_at, steps_task}
-use Rattle.script_terms.specs.Steps.{Line, Save}
+use Rattle.play_terms.specs.ScriptLines.{save_line}
+use Rattle.play_terms.specs.Plays.{Meanings, Named, State, at_first, line_task, mesh_at, steps_task}
+use Rattle.play_terms.specs.Steps.{Line, Save}
 use Rattle.stl_laws.specs.Welding.{welded_mesh}
 use Rattle.stl_terms.specs.Stl.{stl}
 use Rattle.stl_terms.specs.Written.{stl_text}

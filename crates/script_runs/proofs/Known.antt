@@ -4,9 +4,9 @@ use Rattle.std.specs.Prelude.{◌||◌, if◌then◌else◌, bytes_eq}
 use Rattle.std.proofs.lemmas.List.Elements.{All-weaker}
 use Rattle.std.proofs.lemmas.List.Folds.{list_any-append}
 use Rattle.run_terms.specs.Files.{Bytes}
-use Rattle.script_terms.specs.Plays.{Named}
-use Rattle.script_terms.specs.Sound.{IsSound}
-use Rattle.script_terms.specs.Steps.{Line, Step, gives, is_given, is_that, new_name}
+use Rattle.play_terms.specs.Plays.{Named}
+use Rattle.play_terms.specs.Sound.{IsSound}
+use Rattle.play_terms.specs.Steps.{Line, Step, gives, is_given, is_that, new_name}
 use Rattle.script_runs.specs.Names.{HasTaken, IsNamed, KeepsNames}
 
 -- each name that the lines give a mesh has one

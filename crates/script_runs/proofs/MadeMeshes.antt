@@ -12,9 +12,9 @@ use Rattle.run_laws.proofs.Tasks.{meets_given, meets_refused, meets_starved, mee
 use Rattle.run_terms.specs.Files.{Bytes}
 use Rattle.run_terms.specs.Meets.{Meets, Refused, Seen}
 use Rattle.run_terms.specs.Tasks.{Task, give, then_task}
-use Rattle.script_terms.specs.Lines.{made_refusal}
-use Rattle.script_terms.specs.Making.{Motion, motion_fault, moved_mesh}
-use Rattle.script_terms.specs.Plays.{Named, made, mesh_at, move_task, with_name}
+use Rattle.play_terms.specs.ScriptLines.{made_refusal}
+use Rattle.play_terms.specs.Making.{Motion, motion_fault, moved_mesh}
+use Rattle.play_terms.specs.Plays.{Named, made, mesh_at, move_task, with_name}
 use Rattle.script_runs.specs.Made.{why_unmade}
 
 -- what is counted stays the same

@@ -7,7 +7,7 @@ use Rattle.std.specs.Map.{lookup}
 use Rattle.indexmap.specs.IndexMap.{insert_entry}
 use Rattle.mesh_terms.specs.Meshes.{Mesh}
 use Rattle.run_terms.specs.Files.{Bytes}
-use Rattle.script_terms.specs.Plays.{with_name}
+use Rattle.play_terms.specs.Plays.{with_name}
 use Rattle.script_runs.specs.Names.{named_in}
 
 -- two references to the same bytes

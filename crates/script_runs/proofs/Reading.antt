@@ -14,9 +14,9 @@ use Rattle.run_laws.proofs.Tasks.{meets_given, meets_refused, meets_starved, mee
 use Rattle.script_lang.specs.Faults.{IsFaultOf}
 use Rattle.script_lang.specs.declared.fault.ScriptFault.{ScriptFault}
 use Rattle.script_lang.specs.declared.fault.ScriptFault.TheVariants.{Bad, NoMemory}
-use Rattle.script_terms.specs.Plays.{Meanings, State, at_first, script_checked, script_task, steps_task}
-use Rattle.script_terms.specs.Scripts.{script}
-use Rattle.script_terms.specs.Steps.{Line}
+use Rattle.play_terms.specs.Plays.{Meanings, State, at_first, script_checked, script_task, steps_task}
+use Rattle.play_terms.specs.Scripts.{script}
+use Rattle.play_terms.specs.Steps.{Line}
 use Rattle.script_runs.specs.Costs.{cost_of_value, lines_cost, script_cost, text_cost}
 use Rattle.script_runs.specs.Names.{state_in}
 use Rattle.script_runs.specs.Texts.{text_task, why_of_fault}

@@ -9,9 +9,9 @@ use Rattle.run_terms.specs.Files.{Bytes}
 use Rattle.run_terms.specs.Meets.{Meets, Seen, Starved, Why}
 use Rattle.run_terms.specs.Tasks.{Task, give, then_task}
 use Rattle.run_laws.proofs.Tasks.{meets_given, meets_starved, meets_stop, meets_then}
-use Rattle.script_terms.specs.Combined.{Combined}
-use Rattle.script_terms.specs.Lines.{combine_line, load_line, measure_line, save_line}
-use Rattle.script_terms.specs.Plays.{Meanings, Named, combine_task, load_task, measure_task, mesh_at, save_task, with_name, within}
+use Rattle.play_terms.specs.Combined.{Combined}
+use Rattle.play_terms.specs.ScriptLines.{combine_line, load_line, measure_line, save_line}
+use Rattle.play_terms.specs.Plays.{Meanings, Named, combine_task, load_task, measure_task, mesh_at, save_task, with_name, within}
 
 -- the shelf and the output together
 abbrev pub beside : OnShelf → OnOutput → Seen

@@ -5,8 +5,8 @@ use Rattle.mesh_terms.specs.Limits.{Limits}
 use Rattle.mesh_terms.specs.Meshes.{Mesh}
 use Rattle.run_terms.specs.Files.{Bytes}
 use Rattle.run_terms.specs.Meets.{Meets, Seen, Why}
-use Rattle.script_terms.specs.Plays.{Meanings, Named, step_task}
-use Rattle.script_terms.specs.Steps.{Step}
+use Rattle.play_terms.specs.Plays.{Meanings, Named, step_task}
+use Rattle.play_terms.specs.Steps.{Step}
 use Rattle.script_runs.specs.Costs.{operation_cost, step_cost}
 
 module _ (means : Meanings) (k : ℕ) (limits : Limits) (script : Bytes) (line : ℕ) (named : Named) (before now : Seen) (r : Result Named Why) where

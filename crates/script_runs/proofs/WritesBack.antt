@@ -7,7 +7,7 @@ use Rattle.play_terms.specs.ReadingBack.{WritesReadable}
 use Rattle.run_terms.specs.Files.{Bytes, Files}
 use Rattle.script_laws.proofs.ReadingBack.{script_keeps}
 use Rattle.script_runs.specs.Operations.{meanings}
-use Rattle.script_terms.specs.Plays.{script_task}
+use Rattle.play_terms.specs.Plays.{script_task}
 
 -- whatever the files, by the law of what operations give
 pub script_back : (k : ℕ) (limits : Limits) (name : Bytes) → k ≤ 6 → IsLawful limits → OperationsAreReadable → (files : Files) → All (WritesReadable k limits) (script_task meanings k limits name files).actions

@@ -8,9 +8,9 @@ use Rattle.mesh_terms.specs.Meshes.{Mesh}
 use Rattle.run_terms.specs.Files.{Bytes, Files}
 use Rattle.run_terms.specs.Tasks.{Part, Refusal, Task, changed_all}
 use Rattle.play_terms.specs.Commands.{ask_file}
-use Rattle.script_terms.specs.Plays.{Meanings, Named, State, at_first, line_task, mesh_at, script_checked}
-use Rattle.script_terms.specs.Scripts.{script}
-use Rattle.script_terms.specs.Steps.{Combine, Exact, Line, Load, Make, Measure, Move, Save, Step}
+use Rattle.play_terms.specs.Plays.{Meanings, Named, State, at_first, line_task, mesh_at, script_checked}
+use Rattle.play_terms.specs.Scripts.{script}
+use Rattle.play_terms.specs.Steps.{Combine, Exact, Line, Load, Make, Measure, Move, Save, Step}
 use Rattle.winding.specs.Windings.{components_of}
 
 -- an operation counts at most one for each connected component of its two reduced meshes

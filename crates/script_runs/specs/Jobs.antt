@@ -1,6 +1,6 @@
 -- The jobs of steps as the definitions of scripts have them.
-use Rattle.script_terms.specs.Making as making
-use Rattle.script_terms.specs.Steps as terms
+use Rattle.play_terms.specs.Making as making
+use Rattle.play_terms.specs.Steps as terms
 use Rattle.script_runs.specs.declared.jobs.Job.{Job}
 use Rattle.script_runs.specs.declared.jobs.Job.TheVariants.{Load, Save, Measure, Combine, Make, Move, Exact}
 use Rattle.script_runs.specs.declared.jobs.Motion.{Motion}

@@ -7,7 +7,7 @@ use Rattle.mesh_make.specs.declared.fault.MakeFault.TheVariants.{OutOfGrid, Flat
 use Rattle.play_terms.specs.Lines.{over}
 use Rattle.run_terms.specs.Files.{Bytes}
 use Rattle.run_terms.specs.Meets.{Why, Refused, Starved}
-use Rattle.script_terms.specs.Lines.{made_refusal}
+use Rattle.play_terms.specs.ScriptLines.{made_refusal}
 
 -- on this line of the script
 abbrev pub why_unmade : Bytes → ℕ → MakeFault → Why

@@ -4,8 +4,8 @@ use Rattle.std.specs.List.{All}
 use Rattle.mb_base.specs.declared.kernel_kind.KernelKind.{KernelKind}
 use Rattle.mesh_terms.specs.Meshes.{Mesh}
 use Rattle.run_terms.specs.Files.{Bytes}
-use Rattle.script_terms.specs.Plays.{Named, State, with_name}
-use Rattle.script_terms.specs.Steps.{Step, gives, taken}
+use Rattle.play_terms.specs.Plays.{Named, State, with_name}
+use Rattle.play_terms.specs.Steps.{Step, gives, taken}
 
 -- the first mesh beside a name
 abbrev pub named_in : List (Bytes × Mesh) → Named

@@ -1,7 +1,7 @@
 -- What an operation gave in the program.
 use Rattle.std.specs.Prelude.{◌≡◌, [], ◌∷◌}
 use Rattle.mesh_boolean.specs.declared.outcome.Outcome.{Outcome}
-use Rattle.script_terms.specs.Combined.{Combined}
+use Rattle.play_terms.specs.Combined.{Combined}
 
 -- its mesh, and the numbers that are told of it
 pub record IsOutcome (o : Combined) (r : Outcome) : Type 0 where

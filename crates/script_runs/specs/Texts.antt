@@ -8,9 +8,9 @@ use Rattle.run_terms.specs.Meets.{Why, Refused, Starved}
 use Rattle.run_terms.specs.Tasks.{Task, give, then_task}
 use Rattle.script_lang.specs.declared.fault.ScriptFault.{ScriptFault}
 use Rattle.script_lang.specs.declared.fault.ScriptFault.TheVariants.{Bad, NoMemory}
-use Rattle.script_terms.specs.Lines.{script_refusal}
-use Rattle.script_terms.specs.Plays.{Meanings, at_first, script_checked, steps_task}
-use Rattle.script_terms.specs.Scripts.{script}
+use Rattle.play_terms.specs.ScriptLines.{script_refusal}
+use Rattle.play_terms.specs.Plays.{Meanings, at_first, script_checked, steps_task}
+use Rattle.play_terms.specs.Scripts.{script}
 
 -- its lines are read, and then their steps are done
 abbrev pub text_task : (KernelKind → Meanings) → ℕ → Limits → Bytes → Bytes → Task (Unit {0})

@@ -11,7 +11,7 @@ ghost use Rattle.script_runs.specs.Halts.{IsHaltOfStep};
 ghost use Rattle.script_runs.specs.Names.{IsNamed, named_in};
 ghost use Rattle.script_runs.specs.Operations.{meanings};
 ghost use Rattle.script_runs.specs.Outcomes.{IsOutcome};
-ghost use Rattle.script_terms.specs.Plays.{combine_task, mesh_at, within};
+ghost use Rattle.play_terms.specs.Plays.{combine_task, mesh_at, within};
 
 use crate::names::Names;
 use edge_face::Kernels;

@@ -7,9 +7,9 @@ ghost use Rattle.script_runs.specs.Costs.{lines_cost, step_cost};
 ghost use Rattle.script_runs.specs.Halts.{IsHaltOfStep};
 ghost use Rattle.script_runs.specs.Names.{HasTaken, KeepsNames, named_in, state_in};
 ghost use Rattle.script_runs.specs.Operations.{meanings};
-ghost use Rattle.script_terms.specs.Plays.{step_task, steps_task};
-ghost use Rattle.script_terms.specs.Sound.{AreSound, HasNumbers};
-ghost use Rattle.script_terms.specs.Steps.{kernels_after};
+ghost use Rattle.play_terms.specs.Plays.{step_task, steps_task};
+ghost use Rattle.play_terms.specs.Sound.{AreSound, HasNumbers};
+ghost use Rattle.play_terms.specs.Steps.{kernels_after};
 
 use crate::combining::combine;
 use crate::jobs::{Job, job_of};

@@ -2,7 +2,7 @@
 ghost use Rattle.std.specs.Prelude.{◌≡◌};
 ghost use Rattle.script_lang.specs.Steps.{step_of};
 ghost use Rattle.script_runs.specs.Jobs.{job_step, motion_of, solid_of};
-ghost use Rattle.script_terms.specs.Steps.{Make, Move};
+ghost use Rattle.play_terms.specs.Steps.{Make, Move};
 
 use mb_base::{Op, Point};
 use script_lang::{Step, Word};

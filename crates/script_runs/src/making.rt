@@ -7,9 +7,9 @@ ghost use Rattle.script_runs.specs.Jobs.{solid_of};
 ghost use Rattle.script_runs.specs.Halts.{IsHaltOfStep};
 ghost use Rattle.script_runs.specs.Made.{why_unmade};
 ghost use Rattle.script_runs.specs.Names.{IsNamed, named_in};
-ghost use Rattle.script_terms.specs.Making.{solid_fault, solid_mesh};
-ghost use Rattle.script_terms.specs.Plays.{make_task};
-ghost use Rattle.script_terms.specs.Sound.{IsSolid};
+ghost use Rattle.play_terms.specs.Making.{solid_fault, solid_mesh};
+ghost use Rattle.play_terms.specs.Plays.{make_task};
+ghost use Rattle.play_terms.specs.Sound.{IsSolid};
 
 use crate::jobs::Solid;
 use crate::names::Names;

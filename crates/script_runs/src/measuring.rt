@@ -4,7 +4,7 @@ ghost use Rattle.mb_outside.specs.Seen.{MeetsOnOutput};
 ghost use Rattle.report_lines.specs.Halts.{halted_by};
 ghost use Rattle.script_runs.specs.Halts.{IsHaltOfStep};
 ghost use Rattle.script_runs.specs.Names.{named_in};
-ghost use Rattle.script_terms.specs.Plays.{measure_task, mesh_at};
+ghost use Rattle.play_terms.specs.Plays.{measure_task, mesh_at};
 
 use crate::names::Names;
 use mb_outside::Sink;

@@ -6,9 +6,9 @@ ghost use Rattle.run_terms.specs.Meets.{Meets, Seen};
 ghost use Rattle.script_runs.specs.Jobs.{motion_of};
 ghost use Rattle.script_runs.specs.Halts.{IsHaltOfStep};
 ghost use Rattle.script_runs.specs.Names.{IsNamed, named_in};
-ghost use Rattle.script_terms.specs.Making.{motion_fault, moved_mesh};
-ghost use Rattle.script_terms.specs.Plays.{move_task};
-ghost use Rattle.script_terms.specs.Sound.{IsMotion};
+ghost use Rattle.play_terms.specs.Making.{motion_fault, moved_mesh};
+ghost use Rattle.play_terms.specs.Plays.{move_task};
+ghost use Rattle.play_terms.specs.Sound.{IsMotion};
 
 use crate::jobs::Motion;
 use crate::making::halt_at;

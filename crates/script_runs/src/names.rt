@@ -2,7 +2,7 @@
 ghost use Rattle.std.specs.Prelude.{◌≡◌, [], OnOk, OnErr};
 ghost use Rattle.std.specs.Option.{option_map};
 ghost use Rattle.script_runs.specs.Names.{named_in};
-ghost use Rattle.script_terms.specs.Plays.{with_name};
+ghost use Rattle.play_terms.specs.Plays.{with_name};
 
 use indexmap::IndexMap;
 use mb_base::NoMemory;

@@ -9,7 +9,7 @@ ghost use Rattle.script_runs.specs.Costs.{script_cost, text_cost};
 ghost use Rattle.script_runs.specs.Halts.{IsHaltOfScript};
 ghost use Rattle.script_runs.specs.Operations.{meanings};
 ghost use Rattle.script_runs.specs.Texts.{text_task, why_of_fault};
-ghost use Rattle.script_terms.specs.Plays.{script_task};
+ghost use Rattle.play_terms.specs.Plays.{script_task};
 
 use crate::doing::do_lines;
 use crate::names::Names;

@@ -1,4 +1,4 @@
-use Rattle.script_terms.proofs.Soundness.{script_sound}
+use Rattle.play_terms.proofs.Soundness.{script_sound}
 use Rattle.script_lang.proofs.read_script.Goals as goal
 
 pub into_script-requires : goal.into_script-requires

@@ -1,6 +1,6 @@
 use Rattle.std.proofs.Common.{◌≡◌, ◌++◌, ◌∙◌, [], ◌∷◌, ap, append_assoc, codes, refl, sym}
 use Rattle.std.specs.Fmt.{decimal}
-use Rattle.script_terms.specs.Lines.{step_kind_name}
+use Rattle.play_terms.specs.ScriptLines.{step_kind_name}
 use Rattle.run_terms.specs.Files.{Bytes}
 use Rattle.line_tails.proofs.tail.stop_line.Goals as goal
 

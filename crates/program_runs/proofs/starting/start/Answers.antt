@@ -2,7 +2,7 @@ use Rattle.std.proofs.Common.{◌≡◌, ◌≤◌, ◌+◌, sym, subst, All, Re
 use Rattle.std.specs.Result.{IfOk}
 use Rattle.play_terms.specs.ReadingBack.{CopiesReadable, WritesReadable, digits_in}
 use Rattle.play_terms.specs.Words.{command}
-use Rattle.program_terms.specs.Commands.{play}
+use Rattle.play_terms.specs.Program.{play}
 use Rattle.run_terms.specs.Files.{Files}
 use Rattle.mb_base.specs.declared.arg_list.ArgList.{ArgList}
 use Rattle.file_stops.specs.declared.stop.Stop.{Stop}

@@ -1,6 +1,6 @@
 use Rattle.program_runs.proofs.Faults.{complete, rise_on}
 use Rattle.program_runs.specs.Playing.{meanings}
-use Rattle.program_terms.specs.Commands.{play}
+use Rattle.play_terms.specs.Program.{play}
 use Rattle.program_runs.proofs.top_call.run.Goals as goal
 
 pub returns-clause-usage : goal.returns-clause-usage

@@ -3,7 +3,7 @@ use Rattle.std.specs.Prelude.{slice_index}
 use Rattle.std.specs.Fmt.{decimal}
 use Rattle.text_terms.specs.Written.{line_of}
 use Rattle.run_terms.specs.Files.{Bytes}
-use Rattle.script_terms.specs.Lines.{combine_line, combined_text}
+use Rattle.play_terms.specs.ScriptLines.{combine_line, combined_text}
 use Rattle.report_lines.specs.declared.script_report.OperationCounts.{OperationCounts}
 use Rattle.report_lines.proofs.Said.{met_as}
 use Rattle.report_lines.proofs.ScriptLines.{combined_parts}

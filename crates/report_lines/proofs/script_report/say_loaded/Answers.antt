@@ -4,7 +4,7 @@ use Rattle.mesh_terms.specs.Meshes.{Soup, triple_of}
 use Rattle.text_terms.specs.Written.{line_of}
 use Rattle.run_terms.specs.Files.{Bytes}
 use Rattle.play_terms.specs.Lines.{counts_text}
-use Rattle.script_terms.specs.Lines.{load_line}
+use Rattle.play_terms.specs.ScriptLines.{load_line}
 use Rattle.report_lines.proofs.Said.{met_as}
 use Rattle.report_lines.proofs.ScriptLines.{four_before}
 use Rattle.report_lines.proofs.script_report.say_loaded.Goals as goal

@@ -4,7 +4,7 @@ use Rattle.std.specs.Fmt.{decimal, signed_decimal}
 use Rattle.std.proofs.lemmas.Int.{to_z-of_z}
 use Rattle.run_terms.specs.Files.{Bytes}
 use Rattle.text_terms.specs.Written.{line_of}
-use Rattle.script_terms.specs.Lines.{measure_line, measures_text, size_text}
+use Rattle.play_terms.specs.ScriptLines.{measure_line, measures_text, size_text}
 use Rattle.report_lines.proofs.Said.{met_as}
 use Rattle.report_lines.proofs.ScriptLines.{two_before}
 use Rattle.report_lines.proofs.script_report.say_measured.Goals as goal

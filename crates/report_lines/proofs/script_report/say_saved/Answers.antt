@@ -3,7 +3,7 @@ use Rattle.std.proofs.lemmas.List.{length-map}
 use Rattle.mesh_terms.specs.Meshes.{triple_of}
 use Rattle.text_terms.specs.Written.{line_of}
 use Rattle.run_terms.specs.Files.{Bytes}
-use Rattle.script_terms.specs.Lines.{save_line, size_text}
+use Rattle.play_terms.specs.ScriptLines.{save_line, size_text}
 use Rattle.report_lines.proofs.Said.{met_as}
 use Rattle.report_lines.proofs.ScriptLines.{four_before}
 use Rattle.report_lines.proofs.script_report.say_saved.Goals as goal

@@ -1,6 +1,6 @@
 use Rattle.std.proofs.Common.{arith, rules}
 use Rattle.std.proofs.lemmas.Grind.{common_steps}
-use Rattle.script_terms.specs.Operands.{number_of, number_fault}
+use Rattle.play_terms.specs.Operands.{number_of, number_fault}
 use Rattle.script_lang.proofs.operands.number.Goals as goal
 
 pub returns-in-Ok-clause-value : goal.returns-in-Ok-clause-value

@@ -4,8 +4,8 @@ use Rattle.std.specs.Option.{option_map}
 use Rattle.mb_outside.specs.Seen.{on_output}
 use Rattle.mesh_boolean.specs.declared.outcome.Outcome.{Outcome}
 use Rattle.report_lines.specs.Counts.{counts_of}
-use Rattle.script_terms.specs.Combined.{Combined}
-use Rattle.script_terms.specs.Plays.{mesh_at, mesh_or_none, with_name}
+use Rattle.play_terms.specs.Combined.{Combined}
+use Rattle.play_terms.specs.Plays.{mesh_at, mesh_or_none, with_name}
 use Rattle.script_runs.specs.Names.{named_in}
 use Rattle.script_runs.specs.Operations.{meanings}
 use Rattle.script_runs.specs.Outcomes.{IsOutcome}

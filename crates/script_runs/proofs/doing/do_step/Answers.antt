@@ -6,8 +6,8 @@ use Rattle.script_lang.specs.Steps.{step_of}
 use Rattle.script_runs.specs.Jobs.{job_step}
 use Rattle.script_runs.specs.Names.{named_in}
 use Rattle.script_runs.specs.Operations.{meanings}
-use Rattle.script_terms.specs.Sound.{HasNumbers}
-use Rattle.script_terms.specs.Steps.{new_name}
+use Rattle.play_terms.specs.Sound.{HasNumbers}
+use Rattle.play_terms.specs.Steps.{new_name}
 use Rattle.script_runs.proofs.Known.{named_keeps, unchanged_keeps}
 use Rattle.script_runs.proofs.Steps.{counted, stepped}
 use Rattle.script_runs.proofs.doing.do_step.Goals as goal

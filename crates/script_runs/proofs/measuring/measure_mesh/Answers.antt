@@ -4,7 +4,7 @@ use Rattle.std.specs.Option.{option_map}
 use Rattle.mb_outside.specs.Seen.{on_output}
 use Rattle.report_lines.specs.Measures.{IsMeasureOf}
 use Rattle.run_laws.proofs.Tasks.{meets_starved}
-use Rattle.script_terms.specs.Plays.{measure_task, mesh_at, mesh_or_none}
+use Rattle.play_terms.specs.Plays.{measure_task, mesh_at, mesh_or_none}
 use Rattle.script_runs.specs.Names.{named_in}
 use Rattle.script_runs.proofs.Stages.{beside, measure_told, measure_unsaid}
 use Rattle.script_runs.proofs.measuring.measure_mesh.Goals as goal

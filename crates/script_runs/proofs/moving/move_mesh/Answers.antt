@@ -3,7 +3,7 @@ use Rattle.std.proofs.lemmas.Result.{err_from_is_err_and}
 use Rattle.std.specs.Option.{option_map}
 use Rattle.run_laws.proofs.Tasks.{meets_starved}
 use Rattle.script_runs.specs.Jobs.{motion_of}
-use Rattle.script_terms.specs.Plays.{mesh_at, mesh_or_none, move_task, with_name}
+use Rattle.play_terms.specs.Plays.{mesh_at, mesh_or_none, move_task, with_name}
 use Rattle.script_runs.specs.Names.{named_in}
 use Rattle.script_runs.proofs.MadeMeshes.{moved_so, unmoved}
 use Rattle.script_runs.proofs.moving.move_mesh.Goals as goal

@@ -2,7 +2,7 @@ use Rattle.std.proofs.Common.{◌≡◌, ◌∙◌, ap, sym}
 use Rattle.std.proofs.lemmas.Result.{err_from_is_err_and}
 use Rattle.std.specs.Option.{option_map}
 use Rattle.mb_outside.specs.Seen.{on_output, on_shelf}
-use Rattle.script_terms.specs.Plays.{mesh_at, mesh_or_none}
+use Rattle.play_terms.specs.Plays.{mesh_at, mesh_or_none}
 use Rattle.script_runs.specs.Names.{named_in}
 use Rattle.script_runs.proofs.Stages.{save_told, save_unsaid, save_unwritten}
 use Rattle.script_runs.proofs.saving.save.Goals as goal

@@ -1,6 +1,6 @@
 use Rattle.std.proofs.Common.{◌∙◌, ap}
 use Rattle.script_runs.specs.Names.{named_in}
-use Rattle.script_terms.specs.Plays.{with_name}
+use Rattle.play_terms.specs.Plays.{with_name}
 use Rattle.script_runs.proofs.Naming.{named_all}
 use Rattle.script_runs.proofs.names.Names.define.Goals as goal
 

@@ -5,9 +5,9 @@ use Rattle.mesh_terms.specs.Faults.{Fault}
 use Rattle.text_terms.specs.FirstFault.{then_read, read_each, on_line}
 use Rattle.obj_terms.specs.Obj.{word_lines}
 use Rattle.run_terms.specs.Files.{Bytes}
-use Rattle.script_terms.specs.Commands.{Command, command_named}
-use Rattle.script_terms.specs.Operands.{operands_fault}
-use Rattle.script_terms.specs.Steps.{Line, Step}
+use Rattle.play_terms.specs.ScriptCommands.{Command, command_named}
+use Rattle.play_terms.specs.Operands.{operands_fault}
+use Rattle.play_terms.specs.Steps.{Line, Step}
 
 -- the step, where no operand is refused
 abbrev pub unless_refused : Step → Option ℕ → Result Step ℕ

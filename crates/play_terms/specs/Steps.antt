@@ -5,7 +5,7 @@ use Rattle.run_terms.specs.Files.{Bytes}
 use Rattle.mb_base.specs.declared.kernel_kind.KernelKind.{KernelKind}
 use Rattle.mb_base.specs.declared.kernel_kind.KernelKind.TheVariants as kinds
 use Rattle.mb_base.specs.declared.op.Op.{Op}
-use Rattle.script_terms.specs.Making.{Solid, Motion}
+use Rattle.play_terms.specs.Making.{Solid, Motion}
 
 -- a mesh of a file gets a name, the mesh of a name is written to a file or measured, a name gets the result of an operation, a solid, or the moved
 -- mesh of a name, or the operations after it are taken under exact kernels

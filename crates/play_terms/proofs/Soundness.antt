@@ -8,14 +8,14 @@ use Rattle.mb_base.specs.declared.op.Op.{Op}
 use Rattle.mb_base.specs.declared.op.Op.TheVariants.{Union, Intersect, Subtract}
 use Rattle.text_terms.specs.FirstFault.{then_read, on_line}
 use Rattle.run_terms.specs.Files.{Bytes}
-use Rattle.script_terms.specs.Commands.{Command, at, load, save, measure, combine, exact, box, tetra, prism, lattice, shift, scale, mirror, turn, commands, named_in, command_named}
+use Rattle.play_terms.specs.ScriptCommands.{Command, at, load, save, measure, combine, exact, box, tetra, prism, lattice, shift, scale, mirror, turn, commands, named_in, command_named}
 use Rattle.play_terms.specs.Formats.{is_mesh_name}
-use Rattle.script_terms.specs.Making.{Solid, Motion}
-use Rattle.script_terms.specs.Operands.{NewName, is_name, new_name_fault, old_name_fault, operand_fault, operands_fault}
-use Rattle.script_terms.specs.Scripts.{unless_refused, command_step, step_by, script_line, script_lines, numbered_words, script}
-use Rattle.script_terms.specs.Sound.{IsSolid, IsMotion, IsSound, AreSound}
-use Rattle.script_terms.specs.Steps.{Line, Step, Make, Move, is_given}
-use Rattle.script_terms.proofs.Taken.{name_taken, old_taken, file_taken, number_taken, within_taken, axis_taken, point_taken, none_at}
+use Rattle.play_terms.specs.Making.{Solid, Motion}
+use Rattle.play_terms.specs.Operands.{NewName, is_name, new_name_fault, old_name_fault, operand_fault, operands_fault}
+use Rattle.play_terms.specs.Scripts.{unless_refused, command_step, step_by, script_line, script_lines, numbered_words, script}
+use Rattle.play_terms.specs.Sound.{IsSolid, IsMotion, IsSound, AreSound}
+use Rattle.play_terms.specs.Steps.{Line, Step, Make, Move, is_given}
+use Rattle.play_terms.proofs.Taken.{name_taken, old_taken, file_taken, number_taken, within_taken, axis_taken, point_taken, none_at}
 
 abbrev IsGiven : List Line → Bytes → Type 0
 IsGiven before w = IsTrue (is_given w before)

@@ -9,7 +9,7 @@ use Rattle.text_terms.specs.Written.{line_of}
 use Rattle.run_terms.specs.Files.{Bytes, Files}
 use Rattle.run_terms.specs.Runs.{Ask, Write, Say}
 use Rattle.run_terms.specs.Tasks.{NoCommand, FaultyScript, NoFile, FaultyMesh, Refusal, Part}
-use Rattle.program_terms.specs.Commands.{Meanings, play}
+use Rattle.play_terms.specs.Program.{Meanings, play}
 
 abbrev program : Limits
 program = record { file_bytes = 1073741824; points = 15000000; triangles = 10000000; halfedges = 6000000 }

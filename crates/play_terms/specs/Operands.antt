@@ -7,7 +7,7 @@ use Rattle.text_terms.specs.Numbers.{is_digits, digits_value}
 use Rattle.play_terms.specs.Formats.{is_mesh_name}
 use Rattle.play_terms.specs.Words.{grid_operand}
 use Rattle.run_terms.specs.Files.{Bytes}
-use Rattle.script_terms.specs.Steps.{Line, is_given}
+use Rattle.play_terms.specs.Steps.{Line, is_given}
 
 -- what an operand is: a name that gets a mesh, the name of a mesh, the name of a mesh file, a number on the grid, a whole number from low to high, or
 -- an axis

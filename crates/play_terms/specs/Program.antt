@@ -8,8 +8,8 @@ use Rattle.play_terms.specs.Commands as commands
 use Rattle.play_terms.specs.Commands.{copy_task, inside_task}
 use Rattle.play_terms.specs.Lines.{usage}
 use Rattle.play_terms.specs.Words.{Command, CopyFile, InsideFile, RunScript, command}
-use Rattle.script_terms.specs.Plays as plays
-use Rattle.script_terms.specs.Plays.{script_task}
+use Rattle.play_terms.specs.Plays as plays
+use Rattle.play_terms.specs.Plays.{script_task}
 
 -- what the commands need of geometry: the winding number of a point in a mesh, and what an operation gives of two meshes under each of the kernels that
 -- a script may choose

@@ -7,10 +7,10 @@ use Rattle.mb_base.specs.declared.op.Op.TheVariants.{Union, Intersect, Subtract}
 use Rattle.mesh_terms.specs.Faults.{Bad}
 use Rattle.made_terms.specs.Solids.{point}
 use Rattle.run_terms.specs.Files.{Bytes}
-use Rattle.script_terms.specs.Making.{Box, Tetra, Prism, Lattice, Shift, Scale, Mirror, Turn}
-use Rattle.script_terms.specs.Operands.{number_of, number_fault}
-use Rattle.script_terms.specs.Scripts.{script}
-use Rattle.script_terms.specs.Steps.{Line, Load, Save, Measure, Combine, Make, Move, Exact}
+use Rattle.play_terms.specs.Making.{Box, Tetra, Prism, Lattice, Shift, Scale, Mirror, Turn}
+use Rattle.play_terms.specs.Operands.{number_of, number_fault}
+use Rattle.play_terms.specs.Scripts.{script}
+use Rattle.play_terms.specs.Steps.{Line, Load, Save, Measure, Combine, Make, Move, Exact}
 
 -- each of the scripts is refused on line n with this kind
 abbrev AreBad : ℕ → ℕ → List Bytes → Type 0

@@ -3,9 +3,9 @@ use Rattle.std.specs.Prelude.{◌≤◌, ◌<◌, List, [], ◌∷◌, ◌++◌,
 use Rattle.std.specs.List.{All}
 use Rattle.mesh_terms.specs.Points.{IsOnGrid, IsPoint}
 use Rattle.play_terms.specs.Formats.{is_mesh_name}
-use Rattle.script_terms.specs.Making.{Solid, Box, Tetra, Prism, Lattice, Motion, Shift, Scale, Mirror, Turn}
-use Rattle.script_terms.specs.Operands.{is_name}
-use Rattle.script_terms.specs.Steps.{Line, Step, Load, Save, Measure, Combine, Make, Move, Exact, files_in, is_given, names_in, taken}
+use Rattle.play_terms.specs.Making.{Solid, Box, Tetra, Prism, Lattice, Motion, Shift, Scale, Mirror, Turn}
+use Rattle.play_terms.specs.Operands.{is_name}
+use Rattle.play_terms.specs.Steps.{Line, Step, Load, Save, Measure, Combine, Make, Move, Exact, files_in, is_given, names_in, taken}
 
 -- points and sizes are on the grid, and other numbers in their range
 abbrev pub IsSolid : Solid → Type 0

@@ -11,11 +11,11 @@ use Rattle.play_terms.specs.Lines.{over}
 use Rattle.mb_base.specs.declared.kernel_kind.KernelKind.{KernelKind}
 use Rattle.mb_base.specs.declared.kernel_kind.KernelKind.TheVariants.{Grid}
 use Rattle.mb_base.specs.declared.op.Op.{Op}
-use Rattle.script_terms.specs.Combined.{Combined}
-use Rattle.script_terms.specs.Lines.{load_line, save_line, measure_line, combine_line, script_refusal, made_refusal}
-use Rattle.script_terms.specs.Making.{Solid, solid_fault, solid_mesh, Motion, motion_fault, moved_mesh}
-use Rattle.script_terms.specs.Scripts.{script}
-use Rattle.script_terms.specs.Steps.{Line, Step, Load, Save, Measure, Combine, Make, Move, Exact, kernels_after}
+use Rattle.play_terms.specs.Combined.{Combined}
+use Rattle.play_terms.specs.ScriptLines.{load_line, save_line, measure_line, combine_line, script_refusal, made_refusal}
+use Rattle.play_terms.specs.Making.{Solid, solid_fault, solid_mesh, Motion, motion_fault, moved_mesh}
+use Rattle.play_terms.specs.Scripts.{script}
+use Rattle.play_terms.specs.Steps.{Line, Step, Load, Save, Measure, Combine, Make, Move, Exact, kernels_after}
 
 -- what the steps need of geometry: what an operation gives of two meshes. Solids, motions and measures are definitions
 pub record Meanings : Type 0 where

@@ -5,9 +5,9 @@ use Rattle.made_terms.specs.Solids.{point}
 use Rattle.run_terms.specs.Files.{Bytes}
 use Rattle.mb_base.specs.declared.op.Op.{Op}
 use Rattle.mb_base.specs.declared.op.Op.TheVariants.{Union, Intersect, Subtract}
-use Rattle.script_terms.specs.Making.{Solid, Box, Tetra, Prism, Lattice, Motion, Shift, Scale, Mirror, Turn}
-use Rattle.script_terms.specs.Operands.{Operand, NewName, OldName, FileName, Number, Within, Axis, axis, number_of}
-use Rattle.script_terms.specs.Steps.{Step, Load, Save, Measure, Combine, Make, Move, Exact}
+use Rattle.play_terms.specs.Making.{Solid, Box, Tetra, Prism, Lattice, Motion, Shift, Scale, Mirror, Turn}
+use Rattle.play_terms.specs.Operands.{Operand, NewName, OldName, FileName, Number, Within, Axis, axis, number_of}
+use Rattle.play_terms.specs.Steps.{Step, Load, Save, Measure, Combine, Make, Move, Exact}
 
 -- a command: its word, what words stand after it, and the step of such words under so many digits
 pub record Command : Type 0 where

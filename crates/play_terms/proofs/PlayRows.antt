@@ -13,9 +13,9 @@ use Rattle.run_terms.specs.Runs.{Action, Ask, Write, Say}
 use Rattle.run_terms.specs.Tasks.{FaultyScript, FaultyMesh, NoFile, PastLimit, Part, Refusal}
 use Rattle.mb_base.specs.declared.kernel_kind.KernelKind.{KernelKind}
 use Rattle.mb_base.specs.declared.kernel_kind.KernelKind.TheVariants.{Exact, Grid}
-use Rattle.script_terms.specs.Combined.{Combined}
-use Rattle.script_terms.specs.Operands.{number_of, number_fault}
-use Rattle.script_terms.specs.Plays.{Meanings, script_task}
+use Rattle.play_terms.specs.Combined.{Combined}
+use Rattle.play_terms.specs.Operands.{number_of, number_fault}
+use Rattle.play_terms.specs.Plays.{Meanings, script_task}
 
 abbrev program : Limits
 program = record { file_bytes = 1073741824; points = 15000000; triangles = 10000000; halfedges = 6000000 }

@@ -7,9 +7,9 @@ use Rattle.text_terms.specs.Numbers.{digits_value, grid_number, is_digits, is_on
 use Rattle.mesh_terms.specs.Points.{IsOnGrid, IsPoint}
 use Rattle.run_terms.specs.Files.{Bytes}
 use Rattle.play_terms.specs.Formats.{is_mesh_name}
-use Rattle.script_terms.specs.Commands.{at, point_at}
-use Rattle.script_terms.specs.Operands.{Operand, NewName, is_name, new_name_fault, old_name_fault, file_name_fault, number_of, number_fault, within_fault, axis, axis_fault, value_fault, operand_fault, operands_fault, or_later}
-use Rattle.script_terms.specs.Steps.{Line, is_given}
+use Rattle.play_terms.specs.ScriptCommands.{at, point_at}
+use Rattle.play_terms.specs.Operands.{Operand, NewName, is_name, new_name_fault, old_name_fault, file_name_fault, number_of, number_fault, within_fault, axis, axis_fault, value_fault, operand_fault, operands_fault, or_later}
+use Rattle.play_terms.specs.Steps.{Line, is_given}
 
 -- neither of two faults
 neither : (a b : Option ℕ) → or_later a b ≡ None → (a ≡ None) × (b ≡ None)

@@ -13,8 +13,8 @@ use Rattle.run_terms.specs.Files.{Bytes}
 use Rattle.run_terms.specs.Tasks.{Cause, FaultyScript, FaultyMesh, Refusal}
 use Rattle.play_terms.specs.Lines.{refusal, over, counts_text}
 use Rattle.mb_base.specs.declared.op.Op.{Op}
-use Rattle.script_terms.specs.Combined.{Combined}
-use Rattle.script_terms.specs.Commands.{op_word}
+use Rattle.play_terms.specs.Combined.{Combined}
+use Rattle.play_terms.specs.ScriptCommands.{op_word}
 
 -- load NAME FILE: points P, triangles T, unused U
 abbrev pub load_line : Bytes → Bytes → Soup → Bytes

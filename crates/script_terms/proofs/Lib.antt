@@ -1,4 +1,0 @@
-mod PlayRows
-mod ScriptRows
-pub mod Soundness
-mod Taken

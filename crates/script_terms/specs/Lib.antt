@@ -1,9 +1,0 @@
-pub mod Combined
-pub mod Commands
-pub mod Lines
-pub mod Making
-pub mod Operands
-pub mod Plays
-pub mod Scripts
-pub mod Sound
-pub mod Steps
