@@ -6,7 +6,7 @@ use Rattle.mesh_terms.specs.Limits.{Limits}
 use Rattle.mesh_terms.specs.Meshes.{Soup}
 use Rattle.run_terms.specs.Files.{Bytes}
 use Rattle.run_terms.specs.Meets.{Why, Meets}
-use Rattle.run_laws.proofs.Tasks.{meets_then, meets_stop}
+use Rattle.play_laws.proofs.Tasks.{meets_then, meets_stop}
 use Rattle.play_terms.specs.Commands.{Meanings, ask_mesh, copied_task, copy_task, inside_task, say_line, winding_task, write_mesh}
 use Rattle.play_terms.specs.Lines.{copied_line}
 use Rattle.report_lines.specs.Halts.{IsHaltOfCopy, IsHaltOfInside, IsUnwrittenAt}

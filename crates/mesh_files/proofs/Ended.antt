@@ -14,7 +14,7 @@ use Rattle.file_stops.specs.Stops.{ended_by, why_of}
 use Rattle.file_stops.specs.declared.stop.Stop.{Stop}
 use Rattle.mesh_files.specs.declared.reading.Read.{Read}
 use Rattle.mesh_files.proofs.Saved.{IsSavedInPart}
-use Rattle.run_laws.proofs.Tasks.{meets_then, meets_stop}
+use Rattle.play_laws.proofs.Tasks.{meets_then, meets_stop}
 
 -- a mesh was read or not, after its file
 pub mesh_read : (k : ℕ) (limits : Limits) (name bytes : Bytes) (before now : OnShelf) (r : Result Read Stop)

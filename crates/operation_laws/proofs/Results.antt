@@ -19,9 +19,9 @@ use Rattle.shadow_kernels.specs.Lawful.{IsRule, grid_rule}
 use Rattle.edge_face.specs.CrossLaws.{IsSettling}
 use Rattle.filling_laws.specs.Laws.{FacesAreFilled}
 use Rattle.made_laws.specs.Laws.{IsGiven, IsGivenWithin}
-use Rattle.script_laws.specs.ReadingBack.{MeshReadable}
-use Rattle.script_laws.proofs.Readable.{readable_within, within_of_readable}
-use Rattle.script_laws.proofs.ReadingBack.{steps_keep}
+use Rattle.play_laws.specs.ScriptsReadingBack.{MeshReadable}
+use Rattle.play_laws.proofs.Readable.{readable_within, within_of_readable}
+use Rattle.play_laws.proofs.ScriptsReadingBack.{steps_keep}
 use Rattle.play_terms.specs.Plays.{mesh_at}
 use Rattle.mesh_boolean.specs.Operation.{Outcome, first_side, numbers_of, operation, reduced_mesh, second_side}
 use Rattle.operation_laws.specs.Kernels.{meanings_under, rule_under, tests_under, told_of}

@@ -5,7 +5,7 @@ use Rattle.mb_base.specs.declared.op.Op.{Op}
 use Rattle.mesh_terms.specs.Limits.{IsLawful, Limits}
 use Rattle.mesh_terms.specs.Meshes.{Mesh}
 use Rattle.made_laws.specs.Laws.{IsGiven, IsGivenWithin}
-use Rattle.script_laws.specs.ReadingBack.{ResultsReadable}
+use Rattle.play_laws.specs.ScriptsReadingBack.{ResultsReadable}
 use Rattle.mesh_boolean.specs.Operation.{operation}
 use Rattle.operation_laws.specs.Kernels.{meanings_under, tests_under, told_of}
 

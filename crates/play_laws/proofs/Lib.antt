@@ -1,1 +1,7 @@
+pub mod Keeping
+pub mod KeepingInOrder
+pub mod Loops
+pub mod Readable
 pub mod ReadingBack
+pub mod ScriptsReadingBack
+pub mod Tasks

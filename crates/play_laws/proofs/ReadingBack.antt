@@ -19,8 +19,8 @@ use Rattle.stl_terms.specs.Written.{is_stl}
 use Rattle.run_terms.specs.Files.{Bytes}
 use Rattle.run_terms.specs.Runs.{Ask, Write, Say}
 use Rattle.run_terms.specs.Tasks.{Refusal, give, joined}
-use Rattle.run_laws.specs.Keeping.{Keeps}
-use Rattle.run_laws.proofs.Keeping.{keeps_give, keeps_act, keeps_then}
+use Rattle.play_laws.specs.Keeping.{Keeps}
+use Rattle.play_laws.proofs.Keeping.{keeps_give, keeps_act, keeps_then}
 use Rattle.play_terms.specs.Commands.{Meanings, ask_file, ask_mesh, bytes_in, checked, copied_task, copy_task, if_closed, inside_task, say_line, winding_task, write_mesh}
 use Rattle.play_terms.specs.Formats.{mesh_soup, mesh_text}
 use Rattle.play_terms.specs.Lines.{copied_line, over, winding_line}

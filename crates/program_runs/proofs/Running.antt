@@ -3,7 +3,7 @@ use Rattle.std.proofs.Common.{◌≡◌, ◌≤◌, ◌+◌, ◌∙◌, ℕ, ℤ
 use Rattle.mesh_terms.specs.Limits.{Limits}
 use Rattle.run_terms.specs.Files.{Bytes}
 use Rattle.run_terms.specs.Meets.{Meets, Refused, Starved}
-use Rattle.run_laws.proofs.Tasks.{meets_starved}
+use Rattle.play_laws.proofs.Tasks.{meets_starved}
 use Rattle.play_terms.specs.Commands.{copy_task, inside_task}
 use Rattle.play_terms.specs.Ends.{ended_status}
 use Rattle.play_terms.specs.Lines.{no_memory, usage}

@@ -13,7 +13,7 @@ use Rattle.play_laws.proofs.ReadingBack.{copy_keeps, inside_keeps, mesh_given}
 use Rattle.operation_laws.specs.Laws.{OperationsAreReadable}
 use Rattle.operation_laws.specs.Results.{ScriptsGiveResults}
 use Rattle.play_terms.specs.Program.{command_task}
-use Rattle.script_laws.proofs.ReadingBack.{meshes_kept, script_keeps}
+use Rattle.play_laws.proofs.ScriptsReadingBack.{meshes_kept, script_keeps}
 use Rattle.mesh_commands.specs.Windings.{windings}
 use Rattle.program_runs.specs.Playing.{meanings}
 use Rattle.program_runs.specs.Results.{CommandGivesResults, CommandKeepsMeshes}

@@ -3,7 +3,7 @@ use Rattle.std.specs.Prelude.{Option, Some, None}
 use Rattle.mesh_terms.specs.Limits.{Limits}
 use Rattle.operation_laws.specs.Results.{GivesResults}
 use Rattle.play_terms.specs.Words.{Command, CopyFile, InsideFile, RunScript}
-use Rattle.script_laws.specs.ReadingBack.{KeepsMeshes}
+use Rattle.play_laws.specs.ScriptsReadingBack.{KeepsMeshes}
 use Rattle.program_runs.specs.Playing.{meanings}
 
 -- whatever lines of the script that it does, if it does one, an operation is a result of its meshes

@@ -8,7 +8,7 @@ use Rattle.mesh_make.specs.declared.fault.MakeFault.TheVariants.{NoMemory}
 use Rattle.mesh_terms.specs.Faults as terms
 use Rattle.mesh_terms.specs.Meshes.{Mesh}
 use Rattle.play_terms.specs.Lines.{over}
-use Rattle.run_laws.proofs.Tasks.{meets_given, meets_refused, meets_starved, meets_stop, meets_then}
+use Rattle.play_laws.proofs.Tasks.{meets_given, meets_refused, meets_starved, meets_stop, meets_then}
 use Rattle.run_terms.specs.Files.{Bytes}
 use Rattle.run_terms.specs.Meets.{Meets, Refused, Seen}
 use Rattle.run_terms.specs.Tasks.{Task, give, then_task}

@@ -7,12 +7,12 @@ use Rattle.run_terms.specs.Files.{Bytes, Files}
 use Rattle.run_terms.specs.Meets.{Meets, Seen, Why}
 use Rattle.run_terms.specs.Runs.{World}
 use Rattle.run_terms.specs.Tasks.{Task, changed_all, give}
-use Rattle.run_laws.proofs.Tasks.{files_done, meets_given, meets_stop, meets_then}
+use Rattle.play_laws.proofs.Tasks.{files_done, meets_given, meets_stop, meets_then}
 use Rattle.play_terms.specs.Plays.{Meanings, Named, State, in_order, line_task, state_after, step_task, steps_task}
 use Rattle.play_terms.specs.Sound.{AreSound, HasNumbers, IsSound}
 use Rattle.play_terms.specs.Steps.{Line}
-use Rattle.script_laws.specs.SoFar.{SoFar}
-use Rattle.script_laws.proofs.Loops.{all_done, begins, goes_on, stops_at}
+use Rattle.play_laws.specs.SoFar.{SoFar}
+use Rattle.play_laws.proofs.Loops.{all_done, begins, goes_on, stops_at}
 use Rattle.script_runs.specs.Costs.{cost_after, cost_of_value, lines_cost, step_cost}
 use Rattle.script_runs.specs.Names.{HasTaken, KeepsNames}
 use Rattle.script_runs.proofs.Known.{AreNamed, has_taken, named_next, none_named}

@@ -10,7 +10,7 @@ use Rattle.run_terms.specs.Files.{Bytes, Files}
 use Rattle.run_terms.specs.Meets.{Meets, Seen, Why}
 use Rattle.run_terms.specs.Runs.{World}
 use Rattle.run_terms.specs.Tasks.{Task, give, then_task}
-use Rattle.run_laws.proofs.Tasks.{meets_given, meets_refused, meets_starved, meets_stop, meets_then}
+use Rattle.play_laws.proofs.Tasks.{meets_given, meets_refused, meets_starved, meets_stop, meets_then}
 use Rattle.script_lang.specs.Faults.{IsFaultOf}
 use Rattle.script_lang.specs.declared.fault.ScriptFault.{ScriptFault}
 use Rattle.script_lang.specs.declared.fault.ScriptFault.TheVariants.{Bad, NoMemory}

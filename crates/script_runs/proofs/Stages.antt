@@ -8,7 +8,7 @@ use Rattle.play_terms.specs.Commands.{ask_mesh, say_line, write_mesh}
 use Rattle.run_terms.specs.Files.{Bytes}
 use Rattle.run_terms.specs.Meets.{Meets, Seen, Starved, Why}
 use Rattle.run_terms.specs.Tasks.{Task, give, then_task}
-use Rattle.run_laws.proofs.Tasks.{meets_given, meets_starved, meets_stop, meets_then}
+use Rattle.play_laws.proofs.Tasks.{meets_given, meets_starved, meets_stop, meets_then}
 use Rattle.play_terms.specs.Combined.{Combined}
 use Rattle.play_terms.specs.ScriptLines.{combine_line, load_line, measure_line, save_line}
 use Rattle.play_terms.specs.Plays.{Meanings, Named, combine_task, load_task, measure_task, mesh_at, save_task, with_name, within}

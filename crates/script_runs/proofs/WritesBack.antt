@@ -5,7 +5,7 @@ use Rattle.mesh_terms.specs.Limits.{IsLawful, Limits}
 use Rattle.operation_laws.specs.Laws.{OperationsAreReadable}
 use Rattle.play_terms.specs.ReadingBack.{WritesReadable}
 use Rattle.run_terms.specs.Files.{Bytes, Files}
-use Rattle.script_laws.proofs.ReadingBack.{script_keeps}
+use Rattle.play_laws.proofs.ScriptsReadingBack.{script_keeps}
 use Rattle.script_runs.specs.Operations.{meanings}
 use Rattle.play_terms.specs.Plays.{script_task}
 

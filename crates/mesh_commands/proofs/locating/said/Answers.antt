@@ -4,7 +4,7 @@ use Rattle.mb_outside.specs.Seen.{OutputMeets, on_output, seen}
 use Rattle.play_terms.specs.Commands.{say_line, winding_task}
 use Rattle.play_terms.specs.Lines.{winding_line}
 use Rattle.run_terms.specs.Meets.{Unsaid}
-use Rattle.run_laws.proofs.Tasks.{meets_starved}
+use Rattle.play_laws.proofs.Tasks.{meets_starved}
 use Rattle.mesh_files.specs.Stops.{soup_with}
 use Rattle.mesh_commands.specs.Windings.{windings}
 use Rattle.mesh_commands.proofs.Stages.{handed_on}

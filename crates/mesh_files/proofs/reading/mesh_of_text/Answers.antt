@@ -1,4 +1,4 @@
-use Rattle.run_laws.proofs.Tasks.{meets_given}
+use Rattle.play_laws.proofs.Tasks.{meets_given}
 use Rattle.mesh_files.proofs.Texts.{checked_closed}
 use Rattle.mesh_files.proofs.reading.mesh_of_text.Goals as goal
 

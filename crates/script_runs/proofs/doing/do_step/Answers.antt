@@ -1,7 +1,7 @@
 use Rattle.std.proofs.Common.{◌∙◌, Ok, ap, refl, subst, sym}
 use Rattle.std.proofs.lemmas.Result.{on_ok_weaker}
 use Rattle.mb_outside.specs.Seen.{on_shelf, seen_of}
-use Rattle.run_laws.proofs.Tasks.{meets_given}
+use Rattle.play_laws.proofs.Tasks.{meets_given}
 use Rattle.script_lang.specs.Steps.{step_of}
 use Rattle.script_runs.specs.Jobs.{job_step}
 use Rattle.script_runs.specs.Names.{named_in}

@@ -1,6 +1,6 @@
 use Rattle.std.proofs.Common.{◌∙◌, ap}
 use Rattle.std.proofs.lemmas.Result.{err_from_is_err_and}
-use Rattle.run_laws.proofs.Tasks.{meets_starved}
+use Rattle.play_laws.proofs.Tasks.{meets_starved}
 use Rattle.script_runs.specs.Jobs.{solid_of}
 use Rattle.play_terms.specs.Making.{solid_fault, solid_mesh}
 use Rattle.play_terms.specs.Plays.{make_task, with_name}

@@ -3,7 +3,7 @@ use Rattle.std.proofs.lemmas.Result.{err_from_is_err_and}
 use Rattle.std.specs.Option.{option_map}
 use Rattle.mb_outside.specs.Seen.{on_output}
 use Rattle.report_lines.specs.Measures.{IsMeasureOf}
-use Rattle.run_laws.proofs.Tasks.{meets_starved}
+use Rattle.play_laws.proofs.Tasks.{meets_starved}
 use Rattle.play_terms.specs.Plays.{measure_task, mesh_at, mesh_or_none}
 use Rattle.script_runs.specs.Names.{named_in}
 use Rattle.script_runs.proofs.Stages.{beside, measure_told, measure_unsaid}

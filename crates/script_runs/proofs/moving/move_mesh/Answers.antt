@@ -1,7 +1,7 @@
 use Rattle.std.proofs.Common.{◌≡◌, ◌∙◌, ap, sym}
 use Rattle.std.proofs.lemmas.Result.{err_from_is_err_and}
 use Rattle.std.specs.Option.{option_map}
-use Rattle.run_laws.proofs.Tasks.{meets_starved}
+use Rattle.play_laws.proofs.Tasks.{meets_starved}
 use Rattle.script_runs.specs.Jobs.{motion_of}
 use Rattle.play_terms.specs.Plays.{mesh_at, mesh_or_none, move_task, with_name}
 use Rattle.script_runs.specs.Names.{named_in}

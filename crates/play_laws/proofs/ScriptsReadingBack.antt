@@ -11,8 +11,8 @@ use Rattle.mb_base.specs.declared.op.Op.{Op}
 use Rattle.run_terms.specs.Files.{Bytes}
 use Rattle.run_terms.specs.Runs.{Action, Ask, Write, Say}
 use Rattle.run_terms.specs.Tasks.{give, then_task}
-use Rattle.run_laws.specs.Keeping.{Keeps}
-use Rattle.run_laws.proofs.Keeping.{keeps_give, keeps_act, keeps_then}
+use Rattle.play_laws.specs.Keeping.{Keeps}
+use Rattle.play_laws.proofs.Keeping.{keeps_give, keeps_act, keeps_then}
 use Rattle.play_terms.specs.Commands.{ask_file, ask_mesh, say_line, write_mesh}
 use Rattle.play_terms.specs.Formats.{mesh_text}
 use Rattle.play_terms.specs.Lines.{over}
@@ -30,9 +30,9 @@ use Rattle.made_laws.proofs.Solids.{solid_given}
 use Rattle.obj_laws.specs.Within.{IsWithin}
 use Rattle.stl_laws.proofs.SavedMeshes.{meshes_read_welded}
 use Rattle.made_laws.specs.Laws.{IsGivenWithin}
-use Rattle.script_laws.specs.ReadingBack.{IsReadOfTexts, KeepsMeshes, MeshReadable, NamesReadable, ResultsReadable, soup_of_mesh}
-use Rattle.script_laws.proofs.Keeping.{keeps_value, keeps_in_order}
-use Rattle.script_laws.proofs.Readable.{readable_within, within_of_readable}
+use Rattle.play_laws.specs.ScriptsReadingBack.{IsReadOfTexts, KeepsMeshes, MeshReadable, NamesReadable, ResultsReadable, soup_of_mesh}
+use Rattle.play_laws.proofs.KeepingInOrder.{keeps_value, keeps_in_order}
+use Rattle.play_laws.proofs.Readable.{readable_within, within_of_readable}
 
 -- what was within the limit is what was asked for
 taken_within : (limits : Limits) (o a : Combined) → within limits o ≡ Ok a → (o ≡ a) × (nat_lt limits.halfedges o.halfedges ≡ false)

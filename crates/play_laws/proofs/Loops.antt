@@ -4,9 +4,9 @@ use Rattle.std.proofs.Math.ListN.{drop_of_length-le}
 use Rattle.std.proofs.lemmas.List.{drop_more}
 use Rattle.run_terms.specs.Meets.{Why, Seen, Meets}
 use Rattle.run_terms.specs.Tasks.{Task, give, then_task}
-use Rattle.run_laws.proofs.Tasks.{meets_given, meets_then, meets_stop}
+use Rattle.play_laws.proofs.Tasks.{meets_given, meets_then, meets_stop}
 use Rattle.play_terms.specs.Plays.{in_order}
-use Rattle.script_laws.specs.SoFar.{SoFar}
+use Rattle.play_laws.specs.SoFar.{SoFar}
 
 -- at the start the rest is the whole
 pub begins : {A : Type 0} (whole : Task A) (start : Seen) → SoFar whole start whole start

@@ -15,7 +15,7 @@ use Rattle.play_terms.specs.Lines.{over}
 use Rattle.play_laws.proofs.ReadingBack.{closed_readable, mesh_taken}
 use Rattle.halfedge.proofs.OpenPair.{closed_from_open_pair, open_pair_closed}
 use Rattle.made_laws.specs.Laws.{IsGivenWithin}
-use Rattle.script_laws.specs.ReadingBack.{MeshReadable, soup_of_mesh}
+use Rattle.play_laws.specs.ScriptsReadingBack.{MeshReadable, soup_of_mesh}
 
 -- what the bytes of a file without a name give, where each file holds a text
 abbrev read_as : ℕ → Limits → Bytes → Result Bytes Refusal → Result Soup Refusal

@@ -3,7 +3,7 @@ use Rattle.std.proofs.Common.{◌≡◌, List, [], Result, Ok, Err, All, refl}
 use Rattle.std.proofs.lemmas.List.Elements.{All-nil, All-cons, All-append}
 use Rattle.run_terms.specs.Runs.{Action}
 use Rattle.run_terms.specs.Tasks.{Refusal, Part, Task, changed_all, give, act, joined, then_task}
-use Rattle.run_laws.specs.Keeping.{Keeps}
+use Rattle.play_laws.specs.Keeping.{Keeps}
 
 -- without an action the value alone counts
 pub keeps_give : {A : Type 0} (P : Action → Type 0) (Q : A → Type 0) (result : Result A Refusal) → ((a : A) → result ≡ Ok a → Q a) → Keeps P Q (give result)

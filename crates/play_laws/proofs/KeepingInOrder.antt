@@ -2,8 +2,8 @@
 use Rattle.std.proofs.Common.{◌≡◌, List, [], ◌∷◌, Ok, subst}
 use Rattle.run_terms.specs.Runs.{Action}
 use Rattle.run_terms.specs.Tasks.{Task, give}
-use Rattle.run_laws.specs.Keeping.{Keeps}
-use Rattle.run_laws.proofs.Keeping.{keeps_give, keeps_then}
+use Rattle.play_laws.specs.Keeping.{Keeps}
+use Rattle.play_laws.proofs.Keeping.{keeps_give, keeps_then}
 use Rattle.play_terms.specs.Plays.{in_order}
 
 -- a value that is given as it is

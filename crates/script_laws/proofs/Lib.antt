@@ -1,4 +1,0 @@
-pub mod Keeping
-pub mod Loops
-pub mod Readable
-pub mod ReadingBack

@@ -1,2 +1,0 @@
-pub mod ReadingBack
-pub mod SoFar
