@@ -4,8 +4,8 @@ use Rattle.run_terms.specs.Tasks.{Task}
 use Rattle.mb_outside.specs.Seen.{MeetsOn, on_output}
 use Rattle.mb_outside.specs.declared.shelf.Shelf.{Ghosts as OfShelf}
 use Rattle.mb_outside.specs.declared.sink.Sink.{Ghosts as OfSink}
-use Rattle.report_lines.specs.Halts.{halted}
-use Rattle.report_lines.specs.declared.halt.Halt.{Halt}
+use Rattle.mesh_files.specs.Halts.{halted}
+use Rattle.mesh_files.specs.declared.halt.Halt.{Halt}
 use Rattle.command_ends.specs.Endings.{TellsAs}
 use Rattle.command_ends.specs.Statuses.{status_number}
 use Rattle.command_ends.specs.declared.status.Status.{Status}

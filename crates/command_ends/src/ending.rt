@@ -1,13 +1,14 @@
 // How a command ends.
 ghost use Rattle.std.specs.Prelude.{◌≡◌, ◌<◌, ◌^◌, ◌-◌};
 ghost use Rattle.mb_outside.specs.Seen.{on_output};
-ghost use Rattle.report_lines.specs.Halts.{halted};
+ghost use Rattle.mesh_files.specs.Halts.{halted};
 ghost use Rattle.command_ends.specs.Endings.{TellsAs};
 ghost use Rattle.command_ends.specs.Statuses.{status_number};
 
 use crate::status::{Status, status_of};
 use mb_outside::Sink;
-use report_lines::{Halt, tell_halt};
+use mesh_files::Halt;
+use report_lines::tell_halt;
 
 /// The status of a command that ended well or stopped, with the line on `err` that tells a stop.
 pub fn concluded<E: Sink>(ended: Result<(), Halt<'_>>, err: &mut E) -> Status

@@ -2,12 +2,11 @@
 ghost use Rattle.std.specs.Prelude.{◌≡◌};
 ghost use Rattle.play_terms.specs.Ends.{why_status};
 ghost use Rattle.run_terms.specs.Files.{Bytes};
-ghost use Rattle.file_stops.specs.Stops.{why_of};
-ghost use Rattle.report_lines.specs.Halts.{why_in};
+ghost use Rattle.mesh_files.specs.Reasons.{why_of};
+ghost use Rattle.mesh_files.specs.Halts.{why_in};
 ghost use Rattle.command_ends.specs.Statuses.{status_number};
 
-use file_stops::Stop;
-use report_lines::Halt;
+use mesh_files::{Halt, Stop};
 
 /// How a run ended.
 #[derive(Clone, Copy, Debug, PartialEq, Eq, Drop)]

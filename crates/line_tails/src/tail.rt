@@ -6,13 +6,13 @@ ghost use Rattle.mb_base.specs.Faults.{counted_of};
 ghost use Rattle.play_terms.specs.Ends.{why_line};
 ghost use Rattle.play_terms.specs.Lines.{counts_text, limit_name};
 ghost use Rattle.play_terms.specs.ScriptLines.{step_kind_name};
-ghost use Rattle.file_stops.specs.Stops.{why_of};
+ghost use Rattle.mesh_files.specs.Reasons.{why_of};
 
 use arrayvec::ArrayVec;
 use fault_names::{kind_text, limit_text, script_kind_text, step_kind_text};
-use file_stops::Stop;
 use itoa::{Buffer, Integer};
 use mb_base::Counted;
+use mesh_files::Stop;
 
 /// The end of a line.
 pub type Tail = ArrayVec<u8, 128>;

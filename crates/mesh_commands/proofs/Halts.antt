@@ -1,12 +1,12 @@
 -- Where the commands stop, by the status of that.
 use Rattle.std.proofs.Common.{◌≡◌, ◌∙◌, ◌==◌, ℕ, if◌then◌else◌, Result, Ok, Err, IfErr, IsTrue, inl, inr, refl, ap, sym}
-use Rattle.mesh_files.specs.Stops.{is_reading_stop, why_of}
-use Rattle.file_stops.specs.declared.stop.Stop.{Stop}
-use Rattle.file_stops.specs.declared.stop.Stop.TheVariants.{Usage, BadScript, BadStep, Missing, BadText, BadEdge, Over, ReadFault, WriteFault, NoMemory}
+use Rattle.mesh_files.specs.Reasons.{is_reading_stop, why_of}
+use Rattle.mesh_files.specs.declared.stop.Stop.{Stop}
+use Rattle.mesh_files.specs.declared.stop.Stop.TheVariants.{Usage, BadScript, BadStep, Missing, BadText, BadEdge, Over, ReadFault, WriteFault, NoMemory}
 use Rattle.play_terms.specs.Ends.{ended_status, why_status}
-use Rattle.report_lines.specs.Halts.{IsHaltOfCopy, IsHaltOfInside, IsUnreadAt, halted}
-use Rattle.report_lines.specs.declared.halt.Halt.{Halt}
-use Rattle.report_lines.specs.declared.halt.Halt.TheVariants.{At, Reporting, NoMemory as Starved}
+use Rattle.mesh_files.specs.Halts.{IsHaltOfCopy, IsHaltOfInside, IsUnreadAt, halted}
+use Rattle.mesh_files.specs.declared.halt.Halt.{Halt}
+use Rattle.mesh_files.specs.declared.halt.Halt.TheVariants.{At, Reporting, NoMemory as Starved}
 use Rattle.run_terms.specs.Files.{Bytes}
 use Rattle.mesh_commands.specs.Points.{steps_in, steps_of_point}
 use Rattle.command_ends.specs.Statuses.{status_number}

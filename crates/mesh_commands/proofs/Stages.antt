@@ -9,9 +9,9 @@ use Rattle.run_terms.specs.Meets.{Why, Meets}
 use Rattle.play_laws.proofs.Tasks.{meets_then, meets_stop}
 use Rattle.play_terms.specs.Commands.{Meanings, ask_mesh, copied_task, copy_task, inside_task, say_line, winding_task, write_mesh}
 use Rattle.play_terms.specs.Lines.{copied_line}
-use Rattle.report_lines.specs.Halts.{IsHaltOfCopy, IsHaltOfInside, IsUnwrittenAt}
-use Rattle.report_lines.specs.declared.halt.Halt.{Halt}
-use Rattle.report_lines.specs.declared.halt.Halt.TheVariants.{NoMemory, Reporting}
+use Rattle.mesh_files.specs.Halts.{IsHaltOfCopy, IsHaltOfInside, IsUnwrittenAt}
+use Rattle.mesh_files.specs.declared.halt.Halt.{Halt}
+use Rattle.mesh_files.specs.declared.halt.Halt.TheVariants.{NoMemory, Reporting}
 use Rattle.mb_outside.specs.Seen.{OnShelf, OnOutput, ShelfMeets, OutputMeets, seen}
 
 -- a stop that is handed on is the same stop

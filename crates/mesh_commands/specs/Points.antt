@@ -1,7 +1,7 @@
 -- The steps that the search for a point's winding number counts: one where the number was found, whether it could be reported or not.
 use Rattle.std.specs.Prelude.{ℕ, Result, Ok, Err}
-use Rattle.report_lines.specs.declared.halt.Halt.{Halt}
-use Rattle.report_lines.specs.declared.halt.Halt.TheVariants.{At, Reporting, NoMemory as Starved}
+use Rattle.mesh_files.specs.declared.halt.Halt.{Halt}
+use Rattle.mesh_files.specs.declared.halt.Halt.TheVariants.{At, Reporting, NoMemory as Starved}
 use Rattle.command_ends.specs.declared.status.Status.{Status}
 use Rattle.command_ends.specs.declared.status.Status.TheVariants.{Done, WriteFault}
 

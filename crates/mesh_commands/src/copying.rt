@@ -5,17 +5,16 @@ ghost use Rattle.play_terms.specs.Commands.{copied_task, copy_task};
 ghost use Rattle.play_terms.specs.ReadingBack.{GivesReadable, WritesReadable};
 ghost use Rattle.run_terms.specs.Files.{Files};
 ghost use Rattle.mb_outside.specs.Seen.{MeetsOn};
-ghost use Rattle.mesh_files.specs.Stops.{soup_with};
-ghost use Rattle.report_lines.specs.Halts.{IsHaltOfCopy, IsUnwrittenAt, halted};
-ghost use Rattle.report_lines.specs.declared.halt.Halt.TheVariants.{Reporting};
+ghost use Rattle.mesh_files.specs.Reads.{soup_with};
+ghost use Rattle.mesh_files.specs.Halts.{IsHaltOfCopy, IsUnwrittenAt, halted};
+ghost use Rattle.mesh_files.specs.declared.halt.Halt.TheVariants.{Reporting};
 ghost use Rattle.command_ends.specs.Commands.{IsEnded, IsMet};
 
 use command_ends::{Status, concluded};
 use mb_base::Limits;
 use mb_outside::{Shelf, Sink};
-use mesh_files::Read;
-use named_files::{ask, write};
-use report_lines::{Halt, say_copied};
+use mesh_files::{Halt, Read, ask, write};
+use report_lines::say_copied;
 use std::alloc::Global;
 
 /// Reads a mesh from one file, saves it to another, and reports that on the output. It stops at the first thing that goes wrong: as the

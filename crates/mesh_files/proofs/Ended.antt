@@ -9,9 +9,9 @@ use Rattle.run_terms.specs.Meets.{Unwritten, Seen, Meets}
 use Rattle.play_terms.specs.Commands.{ask_file, ask_mesh, checked, write_mesh}
 use Rattle.play_terms.specs.Formats.{mesh_soup, mesh_text}
 use Rattle.mb_outside.specs.Seen.{OnShelf, ShelfMeets, seen}
-use Rattle.mesh_files.specs.Stops.{soup_with}
-use Rattle.file_stops.specs.Stops.{ended_by, why_of}
-use Rattle.file_stops.specs.declared.stop.Stop.{Stop}
+use Rattle.mesh_files.specs.Reads.{soup_with}
+use Rattle.mesh_files.specs.Reasons.{ended_by, why_of}
+use Rattle.mesh_files.specs.declared.stop.Stop.{Stop}
 use Rattle.mesh_files.specs.declared.reading.Read.{Read}
 use Rattle.mesh_files.proofs.Saved.{IsSavedInPart}
 use Rattle.play_laws.proofs.Tasks.{meets_then, meets_stop}

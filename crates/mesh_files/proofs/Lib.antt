@@ -1,3 +1,5 @@
 pub mod Ended
+pub mod FileTexts
+pub mod FilesEnded
 pub mod Saved
 pub mod Texts

@@ -1,2 +1,7 @@
+pub mod Faults
+pub mod Halts
 pub mod Pieces
-pub mod Stops
+pub mod ReadPieces
+pub mod Reads
+pub mod Reasons
+pub mod Sizes

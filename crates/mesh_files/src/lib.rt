@@ -2,13 +2,21 @@
 //!
 //! Each call meets its task, whatever the shelf: `read_file` that of asking for a file, `read_mesh` that of reading a mesh, and
 //! `save_mesh` that of writing one. What is read is what the file holds, what is saved is the mesh's text or a first part of it,
-//! and a fault comes only where the shelf had one.
+//! and a fault comes only where the shelf had one. `ask_bytes`, `ask` and `write` are the same for the files of a command, whose
+//! name the stop of each carries.
 #![tactic(auto)]
 
+mod files;
+mod halt;
+mod named;
 mod reading;
 mod saving;
+mod size;
+mod stop;
 
-pub use file_reading::read_file;
-pub use file_stops::Stop;
+pub use files::read_file;
+pub use halt::Halt;
+pub use named::{ask, ask_bytes, write};
 pub use reading::{Read, read_mesh};
 pub use saving::save_mesh;
+pub use stop::Stop;

@@ -7,10 +7,11 @@ ghost use Rattle.play_terms.specs.Commands.{ask_mesh, checked};
 ghost use Rattle.play_terms.specs.Formats.{mesh_soup};
 ghost use Rattle.mb_outside.specs.Seen.{MeetsOnShelf};
 ghost use Rattle.text_lines.specs.Faults.{IsFaultOf};
-ghost use Rattle.mesh_files.specs.Stops.{ended_by, is_reading_stop, soup_with};
+ghost use Rattle.mesh_files.specs.Reads.{soup_with};
+ghost use Rattle.mesh_files.specs.Reasons.{ended_by, is_reading_stop};
 
-use file_reading::read_file;
-use file_stops::Stop;
+use crate::files::read_file;
+use crate::stop::Stop;
 use mb_base::{Limits, Soup, TextFault};
 use mb_outside::Shelf;
 use mesh_check::Mesh;

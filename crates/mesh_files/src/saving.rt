@@ -8,10 +8,10 @@ ghost use Rattle.play_terms.specs.Formats.{mesh_text};
 ghost use Rattle.mb_outside.specs.Seen.{MeetsOnShelf};
 ghost use Rattle.mb_outside.specs.Sinks.{AddsPart};
 ghost use Rattle.mesh_writer.specs.Pages.{without};
-ghost use Rattle.file_stops.specs.Stops.{saved};
+ghost use Rattle.mesh_files.specs.Reasons.{saved};
 ghost use Rattle.mesh_files.specs.Pieces.{HasRoom, HoldsPart, text_in};
 
-use file_stops::Stop;
+use crate::stop::Stop;
 use mb_outside::{Failed, Shelf, Sink};
 use mesh_check::Mesh;
 use mesh_names::is_stl_name;

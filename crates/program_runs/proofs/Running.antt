@@ -13,11 +13,11 @@ use Rattle.play_terms.specs.Plays.{script_task}
 use Rattle.mb_outside.specs.Seen.{on_output, seen_of}
 use Rattle.mb_outside.specs.declared.shelf.Shelf.{Ghosts as OfShelf}
 use Rattle.mb_outside.specs.declared.sink.Sink.{Ghosts as OfSink}
-use Rattle.file_stops.specs.declared.stop.Stop.TheVariants as stop
-use Rattle.report_lines.specs.Halts.{IsHaltOfCopy, IsHaltOfInside, halted}
+use Rattle.mesh_files.specs.declared.stop.Stop.TheVariants as stop
+use Rattle.mesh_files.specs.Halts.{IsHaltOfCopy, IsHaltOfInside, halted}
 use Rattle.report_lines.specs.Reports.{IsReported}
-use Rattle.report_lines.specs.declared.halt.Halt.{Halt}
-use Rattle.report_lines.specs.declared.halt.Halt.TheVariants as halt
+use Rattle.mesh_files.specs.declared.halt.Halt.{Halt}
+use Rattle.mesh_files.specs.declared.halt.Halt.TheVariants as halt
 use Rattle.mesh_commands.proofs.Halts.{copy_worded, inside_worded}
 use Rattle.command_ends.specs.Commands.{IsEnded}
 use Rattle.mesh_commands.specs.Points.{steps_of_point}

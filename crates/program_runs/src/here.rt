@@ -7,7 +7,7 @@ ghost use Rattle.play_terms.specs.Words.{command};
 ghost use Rattle.play_terms.specs.Program.{play};
 ghost use Rattle.run_terms.specs.Files.{Files};
 ghost use Rattle.mb_outside.specs.Seen.{on_output};
-ghost use Rattle.mesh_files.specs.Stops.{why_of};
+ghost use Rattle.mesh_files.specs.Reasons.{why_of};
 ghost use Rattle.report_lines.specs.Reports.{IsReported};
 ghost use Rattle.program_runs.specs.Playing.{TellsEnd, meanings, program_limits};
 ghost use Rattle.program_runs.specs.Results.{CommandGivesResults, CommandKeepsMeshes};

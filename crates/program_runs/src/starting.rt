@@ -7,7 +7,7 @@ ghost use Rattle.play_terms.specs.Words.{IsCopy, IsInside, IsRun, command};
 ghost use Rattle.play_terms.specs.Program.{play};
 ghost use Rattle.run_terms.specs.Files.{Files};
 ghost use Rattle.mb_outside.specs.Seen.{on_output};
-ghost use Rattle.mesh_files.specs.Stops.{why_of};
+ghost use Rattle.mesh_files.specs.Reasons.{why_of};
 ghost use Rattle.report_lines.specs.Reports.{IsReported};
 ghost use Rattle.program_runs.specs.Counting.{play_cost};
 ghost use Rattle.program_runs.specs.Playing.{IsUntroubled, ProgramMeets, RiseOn, meanings, program_limits};

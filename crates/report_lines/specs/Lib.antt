@@ -1,4 +1,3 @@
 pub mod Counts
-pub mod Halts
 pub mod Measures
 pub mod Reports

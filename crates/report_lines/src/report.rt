@@ -7,15 +7,14 @@ ghost use Rattle.mb_outside.specs.Sinks.{AddsPart};
 ghost use Rattle.play_terms.specs.Commands.{say_line};
 ghost use Rattle.play_terms.specs.Ends.{why_line};
 ghost use Rattle.play_terms.specs.Lines.{copied_line, winding_line};
-ghost use Rattle.file_stops.specs.Stops.{soup_of, why_of};
-ghost use Rattle.report_lines.specs.Halts.{why_in};
+ghost use Rattle.mesh_files.specs.Reasons.{soup_of, why_of};
+ghost use Rattle.mesh_files.specs.Halts.{why_in};
 ghost use Rattle.report_lines.specs.Reports.{IsReported, said};
 
-use crate::halt::Halt;
-use file_stops::Stop;
 use line_tails::{copied_tail, stop_line, winding_tail};
 use mb_outside::{Failed, Sink, write_all};
 use mesh_check::Mesh;
+use mesh_files::{Halt, Stop};
 
 /// Writes three texts one after the other.
 pub fn say<K: Sink>(head: &[u8], name: &[u8], tail: &[u8], sink: &mut K) -> Result<(), Failed>

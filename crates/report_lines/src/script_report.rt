@@ -9,7 +9,7 @@ ghost use Rattle.play_terms.specs.Combined.{Combined};
 ghost use Rattle.play_terms.specs.ScriptCommands.{op_word};
 ghost use Rattle.play_terms.specs.ScriptLines.{combine_line, load_line, measure_line, save_line};
 ghost use Rattle.mesh_terms.specs.Meshes.{Mesh as TheMesh};
-ghost use Rattle.file_stops.specs.Stops.{soup_of};
+ghost use Rattle.mesh_files.specs.Reasons.{soup_of};
 ghost use Rattle.report_lines.specs.Counts.{counts_of};
 ghost use Rattle.report_lines.specs.Measures.{IsMeasureOf};
 ghost use Rattle.report_lines.specs.Reports.{said};

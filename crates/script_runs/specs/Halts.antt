@@ -1,10 +1,10 @@
 -- Where the steps of a script stop, and where a script does.
 use Rattle.std.specs.Prelude.{◌≡◌, Bool, true, false, ⊤, IsTrue}
 use Rattle.run_terms.specs.Files.{Bytes}
-use Rattle.file_stops.specs.declared.stop.Stop.{Stop}
-use Rattle.file_stops.specs.declared.stop.Stop.TheVariants.{Usage, BadScript}
-use Rattle.report_lines.specs.declared.halt.Halt.{Halt}
-use Rattle.report_lines.specs.declared.halt.Halt.TheVariants.{At, Reporting, NoMemory}
+use Rattle.mesh_files.specs.declared.stop.Stop.{Stop}
+use Rattle.mesh_files.specs.declared.stop.Stop.TheVariants.{Usage, BadScript}
+use Rattle.mesh_files.specs.declared.halt.Halt.{Halt}
+use Rattle.mesh_files.specs.declared.halt.Halt.TheVariants.{At, Reporting, NoMemory}
 
 -- neither words nor a script are at fault
 abbrev pub is_step_stop : Stop → Bool

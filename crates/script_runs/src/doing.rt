@@ -1,7 +1,7 @@
 // The steps of a script, one after the other.
 ghost use Rattle.std.specs.Prelude.{◌≡◌, ◌≤◌, ◌+◌, [], map, IfErr, IsTrue, OnErr, OnOk};
 ghost use Rattle.mb_outside.specs.Seen.{MeetsOn};
-ghost use Rattle.report_lines.specs.Halts.{halted_by};
+ghost use Rattle.mesh_files.specs.Halts.{halted_by};
 ghost use Rattle.script_lang.specs.Steps.{line_of, step_of};
 ghost use Rattle.script_runs.specs.Costs.{lines_cost, step_cost};
 ghost use Rattle.script_runs.specs.Halts.{IsHaltOfStep};
@@ -21,7 +21,7 @@ use crate::names::Names;
 use crate::saving::save;
 use mb_base::{KernelKind, Limits};
 use mb_outside::{Shelf, Sink};
-use report_lines::Halt;
+use mesh_files::Halt;
 use script_lang::{Line, Step};
 use std::alloc::Global;
 use std::sync::ledger::Ledger;

@@ -1,7 +1,7 @@
 // The step that loads a mesh.
 ghost use Rattle.std.specs.Prelude.{◌≡◌, ◌≤◌, IfErr, OnErr, OnOk};
 ghost use Rattle.mb_outside.specs.Seen.{MeetsOn};
-ghost use Rattle.report_lines.specs.Halts.{halted_by};
+ghost use Rattle.mesh_files.specs.Halts.{halted_by};
 ghost use Rattle.script_runs.specs.Halts.{IsHaltOfStep};
 ghost use Rattle.script_runs.specs.Names.{IsNamed, named_in};
 ghost use Rattle.play_terms.specs.Plays.{load_task};
@@ -9,8 +9,8 @@ ghost use Rattle.play_terms.specs.Plays.{load_task};
 use crate::names::Names;
 use mb_base::Limits;
 use mb_outside::{Shelf, Sink};
-use named_files::ask;
-use report_lines::{Halt, say_loaded};
+use mesh_files::{Halt, ask};
+use report_lines::say_loaded;
 use std::alloc::Global;
 
 /// Reads a mesh from a file, reports that on the output, and gives a name the mesh.

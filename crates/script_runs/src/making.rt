@@ -1,7 +1,7 @@
 // The step that makes a solid.
 ghost use Rattle.std.specs.Prelude.{◌≡◌, IfErr, IfOk, OnErr, OnOk};
 ghost use Rattle.mesh_make.specs.Refused.{IsRefusedFor};
-ghost use Rattle.report_lines.specs.Halts.{halted_by, why_in};
+ghost use Rattle.mesh_files.specs.Halts.{halted_by, why_in};
 ghost use Rattle.run_terms.specs.Meets.{Meets, Seen};
 ghost use Rattle.script_runs.specs.Jobs.{solid_of};
 ghost use Rattle.script_runs.specs.Halts.{IsHaltOfStep};
@@ -15,9 +15,8 @@ use crate::jobs::Solid;
 use crate::names::Names;
 use mb_base::Limits;
 use mesh_check::Mesh;
-use mesh_files::Stop;
+use mesh_files::{Halt, Stop};
 use mesh_make::{MakeFault, make_box, make_lattice, make_prism, make_tetra};
-use report_lines::Halt;
 use std::alloc::Global;
 
 /// Where a script stops that makes no solid, or moves no mesh, on this line.

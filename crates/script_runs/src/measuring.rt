@@ -1,15 +1,16 @@
 // The step that measures a mesh.
 ghost use Rattle.std.specs.Prelude.{IfErr, IsSome};
 ghost use Rattle.mb_outside.specs.Seen.{MeetsOnOutput};
-ghost use Rattle.report_lines.specs.Halts.{halted_by};
+ghost use Rattle.mesh_files.specs.Halts.{halted_by};
 ghost use Rattle.script_runs.specs.Halts.{IsHaltOfStep};
 ghost use Rattle.script_runs.specs.Names.{named_in};
 ghost use Rattle.play_terms.specs.Plays.{measure_task, mesh_at};
 
 use crate::names::Names;
 use mb_outside::Sink;
+use mesh_files::Halt;
 use mesh_measures::measure;
-use report_lines::{Halt, say_measured};
+use report_lines::say_measured;
 use std::alloc::Global;
 
 /// Measures the mesh of a name, and reports that on the output.

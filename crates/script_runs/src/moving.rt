@@ -1,7 +1,7 @@
 // The step that moves a mesh.
 ghost use Rattle.std.specs.Prelude.{◌≡◌, IfErr, IfOk, IsSome, OnErr, OnOk};
 ghost use Rattle.mesh_make.specs.Refused.{IsRefusedFor};
-ghost use Rattle.report_lines.specs.Halts.{halted_by};
+ghost use Rattle.mesh_files.specs.Halts.{halted_by};
 ghost use Rattle.run_terms.specs.Meets.{Meets, Seen};
 ghost use Rattle.script_runs.specs.Jobs.{motion_of};
 ghost use Rattle.script_runs.specs.Halts.{IsHaltOfStep};
@@ -14,8 +14,8 @@ use crate::jobs::Motion;
 use crate::making::halt_at;
 use crate::names::Names;
 use mesh_check::Mesh;
+use mesh_files::Halt;
 use mesh_make::{MakeFault, mirror, quarter_turn, scale, shift};
-use report_lines::Halt;
 use std::alloc::Global;
 
 // A mesh after a motion.

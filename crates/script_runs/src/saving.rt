@@ -1,15 +1,15 @@
 // The step that saves a mesh.
 ghost use Rattle.std.specs.Prelude.{◌≤◌, IfErr, IsSome};
 ghost use Rattle.mb_outside.specs.Seen.{MeetsOn};
-ghost use Rattle.report_lines.specs.Halts.{halted_by};
+ghost use Rattle.mesh_files.specs.Halts.{halted_by};
 ghost use Rattle.script_runs.specs.Halts.{IsHaltOfStep};
 ghost use Rattle.script_runs.specs.Names.{named_in};
 ghost use Rattle.play_terms.specs.Plays.{mesh_at, save_task};
 
 use crate::names::Names;
 use mb_outside::{Shelf, Sink};
-use named_files::write;
-use report_lines::{Halt, say_saved};
+use mesh_files::{Halt, write};
+use report_lines::say_saved;
 
 /// Saves the mesh of a name to a file, and reports that on the output.
 pub fn save<'a, S: Shelf, O: Sink>(

@@ -1,6 +1,6 @@
 use Rattle.std.proofs.Common.{inl}
 use Rattle.mb_outside.specs.Seen.{on_output}
-use Rattle.mesh_files.specs.Stops.{soup_with}
+use Rattle.mesh_files.specs.Reads.{soup_with}
 use Rattle.mesh_commands.proofs.Stages.{copy_ended, copy_halts, copy_unread, handed_on}
 use Rattle.mesh_commands.proofs.copying.copied.Goals as goal
 

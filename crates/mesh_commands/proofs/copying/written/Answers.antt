@@ -1,6 +1,6 @@
 use Rattle.std.proofs.Common.{inl, inr, refl}
 use Rattle.mb_outside.specs.Seen.{on_output}
-use Rattle.mesh_files.specs.Stops.{soup_with}
+use Rattle.mesh_files.specs.Reads.{soup_with}
 use Rattle.mesh_commands.proofs.Stages.{copy_told, copy_unwritten, handed_on}
 use Rattle.mesh_commands.proofs.copying.written.Goals as goal
 

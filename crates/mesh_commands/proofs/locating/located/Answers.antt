@@ -1,6 +1,6 @@
 use Rattle.std.proofs.Common.{◌≡◌, ◌+◌, ℕ, arith, inl}
 use Rattle.mb_outside.specs.Seen.{on_output}
-use Rattle.mesh_files.specs.Stops.{soup_with}
+use Rattle.mesh_files.specs.Reads.{soup_with}
 use Rattle.mesh_commands.specs.Windings.{windings}
 use Rattle.mesh_commands.proofs.Halts.{unread_none}
 use Rattle.mesh_commands.proofs.Stages.{handed_on, inside_ended, inside_halts, inside_unread}

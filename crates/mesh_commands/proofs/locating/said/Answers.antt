@@ -5,7 +5,7 @@ use Rattle.play_terms.specs.Commands.{say_line, winding_task}
 use Rattle.play_terms.specs.Lines.{winding_line}
 use Rattle.run_terms.specs.Meets.{Unsaid}
 use Rattle.play_laws.proofs.Tasks.{meets_starved}
-use Rattle.mesh_files.specs.Stops.{soup_with}
+use Rattle.mesh_files.specs.Reads.{soup_with}
 use Rattle.mesh_commands.specs.Windings.{windings}
 use Rattle.mesh_commands.proofs.Stages.{handed_on}
 use Rattle.mesh_commands.proofs.locating.said.Goals as goal

@@ -1,6 +1,6 @@
 use Rattle.std.proofs.lemmas.Result.{err_from_is_err_and}
 use Rattle.mb_outside.specs.Seen.{on_output, on_shelf}
-use Rattle.mesh_files.specs.Stops.{soup_with}
+use Rattle.mesh_files.specs.Reads.{soup_with}
 use Rattle.script_runs.specs.Names.{named_in}
 use Rattle.script_runs.proofs.Stages.{load_named, load_unnamed, load_unread, load_unsaid}
 use Rattle.script_runs.proofs.loading.load.Goals as goal

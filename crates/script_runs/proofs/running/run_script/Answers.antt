@@ -1,7 +1,7 @@
 use Rattle.std.proofs.Common.{◌≤◌, ◌+◌, subst}
 use Rattle.std.proofs.lemmas.Result.{err_from_is_err_and}
 use Rattle.mb_outside.specs.Seen.{on_output, on_shelf, seen_of}
-use Rattle.report_lines.specs.Halts.{halted}
+use Rattle.mesh_files.specs.Halts.{halted}
 use Rattle.run_terms.specs.Files.{Bytes}
 use Rattle.run_terms.specs.Meets.{Meets}
 use Rattle.script_runs.specs.Costs.{text_cost}

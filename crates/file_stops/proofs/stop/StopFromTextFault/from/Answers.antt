@@ -1,5 +1,0 @@
-use Rattle.std.proofs.Common.{refl}
-use Rattle.file_stops.proofs.stop.StopFromTextFault.from.Goals as goal
-
-pub returns-in-Over : goal.returns-in-Over
-returns-in-Over c = rw c.in-Over.is refl

@@ -1,0 +1,70 @@
+// The files of a command, by name: the bytes of one are read, or the mesh in it, or a mesh is saved to one. What stops at a file carries its name.
+ghost use Rattle.std.specs.Prelude.{◌≡◌, ◌≤◌, false, IfErr};
+ghost use Rattle.mesh_terms.specs.Limits.{IsLawful};
+ghost use Rattle.play_terms.specs.Commands.{ask_file, ask_mesh, write_mesh};
+ghost use Rattle.mb_outside.specs.Seen.{MeetsOnShelf};
+ghost use Rattle.mesh_files.specs.Reads.{soup_with};
+ghost use Rattle.mesh_files.specs.Halts.{IsUnreadAt, IsUnwrittenAt, halted, halted_by, is_unsaid};
+
+use crate::files::read_file;
+use crate::halt::Halt;
+use crate::reading::{Read, read_mesh};
+use crate::saving::save_mesh;
+use mb_base::Limits;
+use mb_outside::Shelf;
+use mesh_check::Mesh;
+use std::alloc::Global;
+
+/// Reads the bytes of a file, as `read_file` does.
+pub fn ask_bytes<'a, S: Shelf>(
+    alloc: Global,
+    name: &'a str,
+    limits: &Limits,
+    shelf: &mut S,
+) -> Result<Vec<u8>, Halt<'a>>
+    ensures meets { MeetsOnShelf S.Shelf (ask_file limits.now name.now) shelf.old shelf.new (halted_by (λ bytes. bytes.items) result) }
+    ensures unread { IfErr result (IsUnreadAt name.now) }
+    ensures lawful { IsLawful limits.now }
+{
+    match read_file(alloc, name, limits, shelf) {
+        Ok(bytes) => Ok(bytes),
+        Err(stop) => Err(Halt::At { name, stop }),
+    }
+}
+
+/// Reads a mesh from a file, as `read_mesh` does.
+pub fn ask<'a, S: Shelf>(
+    alloc: Global,
+    name: &'a str,
+    digits: u8,
+    limits: &Limits,
+    shelf: &mut S,
+) -> Result<Read, Halt<'a>>
+    requires digits { digits ≤ 6 }
+    ensures meets { MeetsOnShelf S.Shelf (ask_mesh digits limits.now name.now) shelf.old shelf.new (halted_by soup_with result) }
+    ensures unread { IfErr result (IsUnreadAt name.now) }
+    ensures unsaid { IfErr result (λ halt. is_unsaid halt ≡ false) }
+    ensures lawful { IsLawful limits.now }
+{
+    match read_mesh(alloc, name, digits, limits, shelf) {
+        Ok(read) => Ok(read),
+        Err(stop) => Err(Halt::At { name, stop }),
+    }
+}
+
+/// Saves a mesh to a file, as `save_mesh` does.
+pub fn write<'a, S: Shelf>(
+    mesh: &Mesh,
+    name: &'a str,
+    digits: u8,
+    shelf: &mut S,
+) -> Result<(), Halt<'a>>
+    requires digits { digits ≤ 6 }
+    ensures meets { MeetsOnShelf S.Shelf (write_mesh digits name.now mesh.now.points mesh.now.triples) shelf.old shelf.new (halted result) }
+    ensures unwritten { IfErr result (IsUnwrittenAt name.now) }
+{
+    match save_mesh(mesh, name, digits, shelf) {
+        Ok(()) => Ok(()),
+        Err(stop) => Err(Halt::At { name, stop }),
+    }
+}
