@@ -11,7 +11,7 @@ ghost use Rattle.mesh_files.specs.Reasons.{soup_of, why_of};
 ghost use Rattle.mesh_files.specs.Halts.{why_in};
 ghost use Rattle.report_lines.specs.Reports.{IsReported, said};
 
-use line_tails::{copied_tail, stop_line, winding_tail};
+use crate::tail::{copied_tail, stop_line, winding_tail};
 use mb_outside::{Failed, Sink, write_all};
 use mesh_check::Mesh;
 use mesh_files::{Halt, Stop};

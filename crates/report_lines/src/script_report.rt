@@ -15,7 +15,8 @@ ghost use Rattle.report_lines.specs.Measures.{IsMeasureOf};
 ghost use Rattle.report_lines.specs.Reports.{said};
 
 use crate::report::say;
-use line_tails::{combined_tail, copied_tail, measured_tail, saved_tail, size_tail};
+use crate::script_tail::{combined_tail, measured_tail, saved_tail, size_tail};
+use crate::tail::copied_tail;
 use mb_base::Op;
 use mb_outside::{Failed, Sink, write_all};
 use mesh_check::Mesh;

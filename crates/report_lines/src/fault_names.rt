@@ -1,6 +1,4 @@
-//! The names of faults as the lines on standard error have them: kinds of faults of a text and of a script, of meshes that a line makes, and what is counted.
-#![tactic(auto)]
-
+// The names of faults as the lines on standard error have them: kinds of faults of a text and of a script, of meshes that a line makes, and what is counted.
 ghost use Rattle.std.specs.Prelude.{◌≡◌, ◌≤◌, length};
 ghost use Rattle.mb_base.specs.Faults.{counted_of, kind_number};
 ghost use Rattle.play_terms.specs.Lines.{kind_name, limit_name};

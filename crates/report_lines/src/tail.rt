@@ -8,8 +8,8 @@ ghost use Rattle.play_terms.specs.Lines.{counts_text, limit_name};
 ghost use Rattle.play_terms.specs.ScriptLines.{step_kind_name};
 ghost use Rattle.mesh_files.specs.Reasons.{why_of};
 
+use crate::fault_names::{kind_text, limit_text, script_kind_text, step_kind_text};
 use arrayvec::ArrayVec;
-use fault_names::{kind_text, limit_text, script_kind_text, step_kind_text};
 use itoa::{Buffer, Integer};
 use mb_base::Counted;
 use mesh_files::Stop;

@@ -2,8 +2,8 @@ use Rattle.std.proofs.Common.{◌∙◌, ◌++◌, ap, codes, rules, w64}
 use Rattle.std.specs.Int.{w128}
 use Rattle.std.specs.Fmt.{decimal, signed_decimal}
 use Rattle.std.proofs.lemmas.Int.{to_z-of_z}
-use Rattle.line_tails.proofs.Puts.{three_put}
-use Rattle.line_tails.proofs.script_tail.measured_tail.Goals as goal
+use Rattle.report_lines.proofs.Puts.{three_put}
+use Rattle.report_lines.proofs.script_tail.measured_tail.Goals as goal
 
 pub returns : goal.returns
 returns c =

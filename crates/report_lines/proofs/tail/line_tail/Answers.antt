@@ -1,6 +1,6 @@
 use Rattle.std.proofs.Common.{◌++◌, ◌∙◌, ap, append_assoc, codes, sym}
 use Rattle.std.specs.Fmt.{decimal}
-use Rattle.line_tails.proofs.tail.line_tail.Goals as goal
+use Rattle.report_lines.proofs.tail.line_tail.Goals as goal
 
 pub returns : goal.returns
 returns c =

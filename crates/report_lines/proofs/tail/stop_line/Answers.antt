@@ -2,7 +2,7 @@ use Rattle.std.proofs.Common.{◌≡◌, ◌++◌, ◌∙◌, [], ◌∷◌, ap,
 use Rattle.std.specs.Fmt.{decimal}
 use Rattle.play_terms.specs.ScriptLines.{step_kind_name}
 use Rattle.run_terms.specs.Files.{Bytes}
-use Rattle.line_tails.proofs.tail.stop_line.Goals as goal
+use Rattle.report_lines.proofs.tail.stop_line.Goals as goal
 
 pub returns-in-Missing : goal.returns-in-Missing
 returns-in-Missing c =
