@@ -7,7 +7,7 @@ use Rattle.clap.specs.Simple.{entered}
 use Rattle.clap.specs.Walk.{Waiting, Walk, idle, nothing_held, option, positional, walk}
 use Rattle.clap.specs.Faults.{entered_fault, level_fault, walk_fault}
 use Rattle.play_terms.specs.Words.{Given, digits_of, is_option_end}
-use Rattle.command_grammar.specs.Grammar.{grammar_app}
+use Rattle.command_words.specs.ClapGrammar.{grammar_app}
 use Rattle.command_words.specs.Grammar.{given_by}
 use Rattle.command_words.proofs.Given.{given_by-attached, given_by-value, joined-nothing, joined-operand, joined-value, no_value}
 use Rattle.command_words.proofs.Sorts.{sort_of}

@@ -12,8 +12,8 @@ use Rattle.clap.specs.declared.parser.matches.ArgMatches.{ArgMatches}
 use Rattle.clap.specs.declared.parser.matches.Found.{Found}
 use Rattle.clap.proofs.WalkLemmas.{first_value-rows, raw_values-rows}
 use Rattle.play_terms.specs.Words.{Given, command, command_by, command_with, inside_of}
-use Rattle.word_values.specs.Values.{listed}
-use Rattle.command_grammar.specs.Grammar.{grammar_app}
+use Rattle.command_words.specs.Values.{listed}
+use Rattle.command_words.specs.ClapGrammar.{grammar_app}
 use Rattle.command_words.specs.Grammar.{IsNoCommand, given_by, given_in}
 use Rattle.command_words.proofs.ReadByClap.{read_by_clap}
 use Rattle.command_words.proofs.Walks.{AreTexts, IsFault, digits_given, given_rows, refused, taken}

@@ -14,7 +14,7 @@ use Rattle.clap.specs.declared.builder.value_parser.Reading.TheVariants.{AsWritt
 use Rattle.clap.specs.declared.parser.matches.ValueSource.{ValueSource}
 use Rattle.clap.specs.declared.parser.matches.ValueSource.TheVariants.{CommandLine}
 use Rattle.play_terms.specs.Words.{Given}
-use Rattle.word_values.specs.Values.{listed}
+use Rattle.command_words.specs.Values.{listed}
 use Rattle.command_words.proofs.Walks.{Tells, are_some, digits_use, one_operand, one_value, operand_use, with_use}
 
 abbrev row_of : Bytes → List Row → Option Row

@@ -8,7 +8,7 @@ use Rattle.clap.specs.Walk.{Held, Step, Waiting, Walk, after_step, finished, has
 use Rattle.clap.specs.Faults.{check_fault, defaults_fault, step_fault, walk_fault, word_fault}
 use Rattle.clap.proofs.OnLiterals.{clap_on_literals}
 use Rattle.play_terms.specs.Words.{Given}
-use Rattle.command_grammar.specs.Grammar.{operands_rule}
+use Rattle.command_words.specs.ClapGrammar.{operands_rule}
 use Rattle.command_words.proofs.Given.{joined-end}
 use Rattle.command_words.proofs.Rows.{tells-operand, tells-value}
 use Rattle.command_words.proofs.Walks.{IsFault, Plain, Reads, Settles, Tells, Unknown, Use, are_some, digits_use, free, given_rows, held, joined}

@@ -9,8 +9,8 @@ use Rattle.clap.specs.Lexer.{long_of, short_of}
 use Rattle.clap.specs.Walk.{Held, Waiting, Walk, finished, has_row, idle, positional, settled, settled_rows, walked}
 use Rattle.clap.specs.Faults.{check_fault, defaults_fault, flag_word_fault, settle_fault, turn_fault, walk_fault}
 use Rattle.play_terms.specs.Words.{Given, digits_of, is_option_end, with_operand}
-use Rattle.word_values.specs.Values.{listed}
-use Rattle.command_grammar.specs.Grammar.{grammar_app}
+use Rattle.command_words.specs.Values.{listed}
+use Rattle.command_words.specs.ClapGrammar.{grammar_app}
 use Rattle.command_words.specs.Grammar.{given_by}
 
 abbrev pub shape : Shape

@@ -4,7 +4,7 @@ use Rattle.run_terms.specs.Files.{Bytes}
 use Rattle.clap.specs.Words.{first_value, matched_of, raw_values}
 use Rattle.clap.specs.declared.parser.matches.Found.{Found}
 use Rattle.play_terms.specs.Words.{Given, after_end, before_end, command_by, given, with_more}
-use Rattle.word_values.specs.Values.{listed}
+use Rattle.command_words.specs.Values.{listed}
 
 -- what clap found
 abbrev pub given_in : Found → Given

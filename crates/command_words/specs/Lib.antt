@@ -1,2 +1,4 @@
+pub mod ClapGrammar
 pub mod Commands
 pub mod Grammar
+pub mod Values

@@ -7,11 +7,11 @@ ghost use Rattle.command_words.specs.Commands.{command_of, digits_in};
 ghost use Rattle.command_words.specs.Grammar.{given_in};
 
 use crate::grammar::parse;
+use crate::values::{coordinate, digits_from};
 use clap::ArgMatches;
 use mb_base::{ArgList, NoMemory, Point};
 use mesh_names::is_mesh_name;
 use std::alloc::Global;
-use word_values::{coordinate, digits_from};
 
 /// A command with its operands.
 #[derive(Drop)]

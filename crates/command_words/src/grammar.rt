@@ -3,8 +3,8 @@ ghost use Rattle.std.specs.Prelude.{◌≡◌, map, string_bytes, IfOk, IfSome, 
 ghost use Rattle.clap.specs.Words.{found_of};
 ghost use Rattle.command_words.specs.Grammar.{IsNoCommand, given_by, given_in};
 
+use crate::clap_grammar::{grammar, refusal};
 use clap::ArgMatches;
-use command_grammar::{grammar, refusal};
 use mb_base::NoMemory;
 use std::alloc::Global;
 

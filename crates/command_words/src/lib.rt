@@ -3,7 +3,9 @@
 //! The first word names the command. `clap` reads the words after it, as one option and operands; what they are worth is looked at here.
 #![tactic(auto)]
 
+mod clap_grammar;
 mod commands;
 mod grammar;
+mod values;
 
 pub use commands::{Command, read_command};

@@ -1,8 +1,0 @@
-use Rattle.std.proofs.Common.{◌∙◌}
-use Rattle.word_values.proofs.Words.{operand_read}
-use Rattle.word_values.proofs.coordinate.Goals as goal
-
-pub returns-clause-value : goal.returns-clause-value
-returns-clause-value c =
-    let read = c.read_grid.ensures in
-    c.ok.ensures.value ∙ operand_read c.args.digits c.args.word.now c.as_bytes.result.now c.read_grid.result c.as_bytes.ensures.value read.ok read.not_a_number read.out_of_grid
