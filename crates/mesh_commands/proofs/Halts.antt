@@ -9,9 +9,9 @@ use Rattle.mesh_files.specs.declared.halt.Halt.{Halt}
 use Rattle.mesh_files.specs.declared.halt.Halt.TheVariants.{At, Reporting, NoMemory as Starved}
 use Rattle.run_terms.specs.Files.{Bytes}
 use Rattle.mesh_commands.specs.Points.{steps_in, steps_of_point}
-use Rattle.command_ends.specs.Statuses.{status_number}
-use Rattle.command_ends.specs.declared.status.Status.{Status}
-use Rattle.command_ends.specs.declared.status.Status.TheVariants as status
+use Rattle.mesh_commands.specs.Statuses.{status_number}
+use Rattle.mesh_commands.specs.declared.status.Status.{Status}
+use Rattle.mesh_commands.specs.declared.status.Status.TheVariants as status
 
 -- ---- no command that was read ends as words of no command do
 

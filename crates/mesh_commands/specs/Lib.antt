@@ -1,2 +1,5 @@
+pub mod Commands
+pub mod Endings
 pub mod Points
+pub mod Statuses
 pub mod Windings

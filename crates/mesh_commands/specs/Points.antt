@@ -2,8 +2,8 @@
 use Rattle.std.specs.Prelude.{ℕ, Result, Ok, Err}
 use Rattle.mesh_files.specs.declared.halt.Halt.{Halt}
 use Rattle.mesh_files.specs.declared.halt.Halt.TheVariants.{At, Reporting, NoMemory as Starved}
-use Rattle.command_ends.specs.declared.status.Status.{Status}
-use Rattle.command_ends.specs.declared.status.Status.TheVariants.{Done, WriteFault}
+use Rattle.mesh_commands.specs.declared.status.Status.{Status}
+use Rattle.mesh_commands.specs.declared.status.Status.TheVariants.{Done, WriteFault}
 
 -- of a search that ended so
 abbrev pub steps_in : Result (Unit {0}) Halt → ℕ

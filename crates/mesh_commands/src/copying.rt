@@ -8,9 +8,10 @@ ghost use Rattle.mb_outside.specs.Seen.{MeetsOn};
 ghost use Rattle.mesh_files.specs.Reads.{soup_with};
 ghost use Rattle.mesh_files.specs.Halts.{IsHaltOfCopy, IsUnwrittenAt, halted};
 ghost use Rattle.mesh_files.specs.declared.halt.Halt.TheVariants.{Reporting};
-ghost use Rattle.command_ends.specs.Commands.{IsEnded, IsMet};
+ghost use Rattle.mesh_commands.specs.Commands.{IsEnded, IsMet};
 
-use command_ends::{Status, concluded};
+use crate::ending::concluded;
+use crate::status::Status;
 use mb_base::Limits;
 use mb_outside::{Shelf, Sink};
 use mesh_files::{Halt, Read, ask, write};

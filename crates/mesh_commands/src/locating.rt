@@ -8,11 +8,12 @@ ghost use Rattle.mb_outside.specs.Seen.{MeetsOnOutput};
 ghost use Rattle.mesh_files.specs.Reads.{soup_with};
 ghost use Rattle.mesh_files.specs.Halts.{IsHaltOfInside, halted};
 ghost use Rattle.mesh_files.specs.declared.halt.Halt.TheVariants.{NoMemory, Reporting};
-ghost use Rattle.command_ends.specs.Commands.{IsEnded, IsMet};
+ghost use Rattle.mesh_commands.specs.Commands.{IsEnded, IsMet};
 ghost use Rattle.mesh_commands.specs.Points.{steps_in, steps_of_point};
 ghost use Rattle.mesh_commands.specs.Windings.{windings};
 
-use command_ends::{Status, concluded};
+use crate::ending::concluded;
+use crate::status::Status;
 use mb_base::{Limits, Point};
 use mb_outside::{Shelf, Sink};
 use mesh_files::{Halt, Read, ask};

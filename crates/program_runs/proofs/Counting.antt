@@ -4,8 +4,8 @@ use Rattle.mesh_terms.specs.Limits.{Limits}
 use Rattle.run_terms.specs.Files.{Bytes, Files}
 use Rattle.play_terms.specs.Words.{Command, InsideFile, IsInside, RunScript}
 use Rattle.mesh_commands.specs.Points.{steps_of_point}
-use Rattle.command_ends.specs.declared.status.Status.{Status}
-use Rattle.command_ends.specs.declared.status.Status.TheVariants as statuses
+use Rattle.mesh_commands.specs.declared.status.Status.{Status}
+use Rattle.mesh_commands.specs.declared.status.Status.TheVariants as statuses
 use Rattle.script_runs.specs.Costs.{script_cost}
 use Rattle.script_runs.specs.Operations as operations
 use Rattle.program_runs.specs.Running.{IsCounted}

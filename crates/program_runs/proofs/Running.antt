@@ -19,12 +19,12 @@ use Rattle.report_lines.specs.Reports.{IsReported}
 use Rattle.mesh_files.specs.declared.halt.Halt.{Halt}
 use Rattle.mesh_files.specs.declared.halt.Halt.TheVariants as halt
 use Rattle.mesh_commands.proofs.Halts.{copy_worded, inside_worded}
-use Rattle.command_ends.specs.Commands.{IsEnded}
+use Rattle.mesh_commands.specs.Commands.{IsEnded}
 use Rattle.mesh_commands.specs.Points.{steps_of_point}
-use Rattle.command_ends.specs.Statuses.{status_number}
+use Rattle.mesh_commands.specs.Statuses.{status_number}
 use Rattle.mesh_commands.specs.Windings.{windings}
-use Rattle.command_ends.specs.declared.status.Status.{Status}
-use Rattle.command_ends.specs.declared.status.Status.TheVariants as statuses
+use Rattle.mesh_commands.specs.declared.status.Status.{Status}
+use Rattle.mesh_commands.specs.declared.status.Status.TheVariants as statuses
 use Rattle.script_runs.specs.Costs.{script_cost}
 use Rattle.script_runs.specs.Halts.{IsHaltOfScript}
 use Rattle.script_runs.specs.Operations as operations

@@ -8,7 +8,7 @@ use Rattle.play_terms.specs.Ends.{RiseWith}
 use Rattle.mb_outside.specs.Seen.{MeetsOn, on_output, seen_of}
 use Rattle.mb_outside.specs.declared.shelf.Shelf.{Ghosts as OfShelf}
 use Rattle.mb_outside.specs.declared.sink.Sink.{Ghosts as OfSink}
-use Rattle.command_ends.specs.Endings.{TellsAs}
+use Rattle.mesh_commands.specs.Endings.{TellsAs}
 use Rattle.mesh_commands.specs.Windings.{windings}
 use Rattle.play_terms.specs.Program.{Meanings, play}
 use Rattle.script_runs.specs.Operations as operations

@@ -4,11 +4,10 @@ ghost use Rattle.play_terms.specs.Words.{command};
 ghost use Rattle.program_runs.specs.Running.{IsRunOf};
 
 use crate::scripted::scripted;
-use command_ends::Status;
 use command_words::{Command, read_command};
 use mb_base::{ArgList, Limits, NoMemory};
 use mb_outside::{Shelf, Sink};
-use mesh_commands::{copy, inside};
+use mesh_commands::{Status, copy, inside};
 use mesh_files::Stop;
 use report_lines::tell_stop;
 use std::alloc::Global;

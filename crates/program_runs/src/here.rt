@@ -11,12 +11,12 @@ ghost use Rattle.mesh_files.specs.Reasons.{why_of};
 ghost use Rattle.report_lines.specs.Reports.{IsReported};
 ghost use Rattle.program_runs.specs.Playing.{TellsEnd, meanings, program_limits};
 ghost use Rattle.program_runs.specs.Results.{CommandGivesResults, CommandKeepsMeshes};
-ghost use Rattle.command_ends.specs.Statuses.{IsUsageOrStarved, status_number};
+ghost use Rattle.mesh_commands.specs.Statuses.{IsUsageOrStarved, status_number};
 
 use crate::starting::start;
-use command_ends::Status;
 use mb_base::ArgList;
 use mb_outside::{FolderShelf, Sink};
+use mesh_commands::Status;
 use mesh_files::Stop;
 use std::alloc::Global;
 use std::rt::Files;

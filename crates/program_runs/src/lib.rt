@@ -10,8 +10,8 @@ mod starting;
 mod top_call;
 mod words;
 
-pub use command_ends::Status;
 pub use here::start_here;
+pub use mesh_commands::Status;
 pub use starting::start;
 pub use top_call::run;
 pub use words::given_words;

@@ -1,14 +1,14 @@
 // The command run.
 ghost use Rattle.std.specs.Prelude.{◌≤◌, ◌<◌, ◌+◌, ◌^◌, ◌-◌, IsTrue};
-ghost use Rattle.command_ends.specs.Commands.{IsEnded};
+ghost use Rattle.mesh_commands.specs.Commands.{IsEnded};
 ghost use Rattle.script_runs.specs.Costs.{script_cost};
 ghost use Rattle.script_runs.specs.Halts.{IsHaltOfScript};
 ghost use Rattle.script_runs.specs.Operations.{meanings};
 ghost use Rattle.play_terms.specs.Plays.{script_task};
 
-use command_ends::{Status, concluded};
 use mb_base::Limits;
 use mb_outside::{Shelf, Sink};
+use mesh_commands::{Status, concluded};
 use script_runs::run_script;
 use std::alloc::Global;
 use std::sync::ledger::Ledger;

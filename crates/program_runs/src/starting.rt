@@ -12,12 +12,12 @@ ghost use Rattle.report_lines.specs.Reports.{IsReported};
 ghost use Rattle.program_runs.specs.Counting.{play_cost};
 ghost use Rattle.program_runs.specs.Playing.{IsUntroubled, ProgramMeets, RiseOn, meanings, program_limits};
 ghost use Rattle.program_runs.specs.Results.{CommandGivesResults, CommandKeepsMeshes};
-ghost use Rattle.command_ends.specs.Statuses.{IsDoneOrStarved, IsUsageOrStarved, status_number};
+ghost use Rattle.mesh_commands.specs.Statuses.{IsDoneOrStarved, IsUsageOrStarved, status_number};
 
 use crate::top_call::run;
-use command_ends::{Status, status_at};
 use mb_base::{ArgList, Limits};
 use mb_outside::{Shelf, Sink};
+use mesh_commands::{Status, status_at};
 use mesh_files::Stop;
 use report_lines::tell_stop;
 use std::alloc::Global;

@@ -10,13 +10,13 @@ ghost use Rattle.report_lines.specs.Reports.{IsReported};
 ghost use Rattle.program_runs.specs.Counting.{play_cost};
 ghost use Rattle.program_runs.specs.Playing.{IsUntroubled, RiseOn, RunMeets, meanings};
 ghost use Rattle.program_runs.specs.Results.{CommandGivesResults, CommandKeepsMeshes};
-ghost use Rattle.command_ends.specs.Statuses.{IsDoneOrStarved, IsUsageOrStarved, status_number};
+ghost use Rattle.mesh_commands.specs.Statuses.{IsDoneOrStarved, IsUsageOrStarved, status_number};
 
 use crate::back::{plays_are_readable, plays_give_results};
 use crate::dispatch::dispatch;
-use command_ends::Status;
 use mb_base::{ArgList, Limits};
 use mb_outside::{Shelf, Sink};
+use mesh_commands::Status;
 use std::alloc::Global;
 use std::sync::ledger::Ledger;
 use steps::Steps;

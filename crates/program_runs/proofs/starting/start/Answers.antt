@@ -6,7 +6,7 @@ use Rattle.play_terms.specs.Program.{play}
 use Rattle.run_terms.specs.Files.{Files}
 use Rattle.mb_base.specs.declared.arg_list.ArgList.{ArgList}
 use Rattle.mesh_files.specs.declared.stop.Stop.{Stop}
-use Rattle.command_ends.specs.Statuses.{IsDoneOrStarved, status_number}
+use Rattle.mesh_commands.specs.Statuses.{IsDoneOrStarved, status_number}
 use Rattle.program_runs.specs.Counting.{play_cost}
 use Rattle.program_runs.specs.Playing.{IsUntroubled, RunMeets, meanings}
 use Rattle.program_runs.specs.Results.{CommandGivesResults, CommandKeepsMeshes}

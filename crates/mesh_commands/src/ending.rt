@@ -2,8 +2,8 @@
 ghost use Rattle.std.specs.Prelude.{◌≡◌, ◌<◌, ◌^◌, ◌-◌};
 ghost use Rattle.mb_outside.specs.Seen.{on_output};
 ghost use Rattle.mesh_files.specs.Halts.{halted};
-ghost use Rattle.command_ends.specs.Endings.{TellsAs};
-ghost use Rattle.command_ends.specs.Statuses.{status_number};
+ghost use Rattle.mesh_commands.specs.Endings.{TellsAs};
+ghost use Rattle.mesh_commands.specs.Statuses.{status_number};
 
 use crate::status::{Status, status_of};
 use mb_outside::Sink;

@@ -4,7 +4,7 @@ ghost use Rattle.play_terms.specs.Ends.{why_status};
 ghost use Rattle.run_terms.specs.Files.{Bytes};
 ghost use Rattle.mesh_files.specs.Reasons.{why_of};
 ghost use Rattle.mesh_files.specs.Halts.{why_in};
-ghost use Rattle.command_ends.specs.Statuses.{status_number};
+ghost use Rattle.mesh_commands.specs.Statuses.{status_number};
 
 use mesh_files::{Halt, Stop};
 
@@ -23,7 +23,7 @@ pub enum Status {
 }
 
 impl Status {
-    ghost use Rattle.command_ends.specs.Statuses.{status_number};
+    ghost use Rattle.mesh_commands.specs.Statuses.{status_number};
 
     /// The exit status, from 0 to 8.
     pub fn number(self) -> u8

@@ -6,10 +6,10 @@ use Rattle.mb_outside.specs.declared.shelf.Shelf.{Ghosts as OfShelf}
 use Rattle.mb_outside.specs.declared.sink.Sink.{Ghosts as OfSink}
 use Rattle.mesh_files.specs.Halts.{halted}
 use Rattle.mesh_files.specs.declared.halt.Halt.{Halt}
-use Rattle.command_ends.specs.Endings.{TellsAs}
-use Rattle.command_ends.specs.Statuses.{status_number}
-use Rattle.command_ends.specs.declared.status.Status.{Status}
-use Rattle.command_ends.specs.declared.status.Status.TheVariants.{Done}
+use Rattle.mesh_commands.specs.Endings.{TellsAs}
+use Rattle.mesh_commands.specs.Statuses.{status_number}
+use Rattle.mesh_commands.specs.declared.status.Status.{Status}
+use Rattle.mesh_commands.specs.declared.status.Status.TheVariants.{Done}
 
 -- the task was met, and where the command stopped it may stop
 pub record IsMet {S O : Type 0} (s : OfShelf S) (o : OfSink O) (task : Task (Unit {0})) (MayHalt : Halt → Type 0) (old new : S × O) (ended : Result (Unit {0}) Halt) : Type 0 where

@@ -1,7 +1,7 @@
 -- The statuses of a run by number.
 use Rattle.std.specs.Prelude.{◌≡◌, ℕ, ◌⊎◌}
-use Rattle.command_ends.specs.declared.status.Status.{Status}
-use Rattle.command_ends.specs.declared.status.Status.TheVariants.{Done, Usage, BadScript, MissingFile, BadMesh, Limit, ReadFault, WriteFault, NoMemory}
+use Rattle.mesh_commands.specs.declared.status.Status.{Status}
+use Rattle.mesh_commands.specs.declared.status.Status.TheVariants.{Done, Usage, BadScript, MissingFile, BadMesh, Limit, ReadFault, WriteFault, NoMemory}
 
 abbrev pub status_number : Status → ℕ
 status_number Done = 0

@@ -1,8 +1,8 @@
 use Rattle.std.proofs.Common.{◌∙◌, ap, inl, refl, sym}
 use Rattle.mb_outside.proofs.Adds.{added_none}
-use Rattle.command_ends.specs.Statuses.{status_number}
-use Rattle.command_ends.proofs.Ends.{not_done}
-use Rattle.command_ends.proofs.ending.concluded.Goals as goal
+use Rattle.mesh_commands.specs.Statuses.{status_number}
+use Rattle.mesh_commands.proofs.Ends.{not_done}
+use Rattle.mesh_commands.proofs.ending.concluded.Goals as goal
 
 pub returns-in-Ok-clause-told : goal.returns-in-Ok-clause-told
 returns-in-Ok-clause-told g c = rw c.in-Ok.is (refl, inl (added_none _, refl))

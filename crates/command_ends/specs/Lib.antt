@@ -1,3 +1,0 @@
-pub mod Commands
-pub mod Endings
-pub mod Statuses
