@@ -1,5 +1,5 @@
 -- Paths and rounds: joined, turned, and the differences along them.
-use Rattle.std.specs.Prelude.{◌≡◌, ℕ, ℤ, pos, ◌+ℤ◌, ◌-ℤ◌, List, [], ◌∷◌, ◌++◌, length}
+use Rattle.std.specs.Prelude.{◌≡◌, ℕ, ℤ, ◌+ℤ◌, List, [], ◌∷◌, ◌++◌, length}
 use Rattle.std.specs.List.Sorted.{IsPermutation}
 use Rattle.std.proofs.Common.{arith, refl, sym, ap, subst, ◌∙◌}
 use Rattle.std.proofs.lemmas.Int.{ints}
@@ -33,16 +33,6 @@ pub round_edges-turned : (x : ℕ) (r : List ℕ) → IsPermutation (round_edges
 round_edges-turned x [] = IsPermutation-refl (round_edges (x ∷ []))
 round_edges-turned x (y ∷ s) =
     subst (λ es. IsPermutation es (round_edges (x ∷ y ∷ s))) (sym (round_edges-later x y s)) (IsPermutation-to_front (path y s ++ (last_of y s, x) ∷ []) (x, y))
-
--- the differences of a function of the vertices add up along a path
-pub path_differences : (g : ℕ → ℤ) (x : ℕ) (r : List ℕ) → total (λ e. g e.1 -ℤ g e.0) (path x r) ≡ g (last_of x r) -ℤ g x
-path_differences g x [] = omega (arith, ints)
-path_differences g x (y ∷ r) = omega (arith, ints, path_differences g y r)
-
--- and once round to nothing
-pub round_differences : (g : ℕ → ℤ) (r : List ℕ) → total (λ e. g e.1 -ℤ g e.0) (round_edges r) ≡ pos 0
-round_differences g [] = refl
-round_differences g (x ∷ r) = omega (arith, ints, total-round_edges (λ e. g e.1 -ℤ g e.0) x r, path_differences g x r)
 
 -- a path has an edge for each vertex after the first
 pub length-path : (x : ℕ) (r : List ℕ) → length (path x r) ≡ length r

@@ -11,7 +11,7 @@ use Rattle.chain_terms.specs.Sums.{total}
 use Rattle.chain_terms.specs.Odd.{IsOdd, along, turned_edge, backward, SameChain}
 use Rattle.chain_terms.specs.Chains.{is_edge, one_if, dir, IsClosed, boundary}
 use Rattle.chain_laws.specs.Sums.{total-append, total-map}
-use Rattle.chain_laws.specs.Counts.{count_by-cons, total-count_by, same_counts}
+use Rattle.chain_laws.specs.Counts.{count_by-cons, same_counts}
 use Rattle.chain_laws.specs.Firsts.{counted, passing}
 
 -- an edge that runs from a to b is that edge
@@ -53,10 +53,6 @@ dir-count_by (e ∷ es) a b = omega (arith, dir-count_by es a b, count_by-cons (
 pub dir-append : (es ms : List (ℕ × ℕ)) (a b : ℕ) → dir (es ++ ms) a b ≡ dir es a b + dir ms a b
 dir-append [] ms a b = omega arith
 dir-append (e ∷ es) ms a b = omega (arith, dir-append es ms a b)
-
--- and a sum of ones
-pub total-dir : (es : List (ℕ × ℕ)) (a b : ℕ) → total (λ e. pos (one_if (is_edge e a b))) es ≡ pos (dir es a b)
-total-dir es a b = omega (arith, ints, total-count_by (same_edge (a, b)) es, dir-count_by es a b)
 
 -- in another order an edge occurs as often
 pub dir-permutation : (es ms : List (ℕ × ℕ)) → IsPermutation es ms → (a b : ℕ) → dir ms a b ≡ dir es a b
@@ -125,14 +121,6 @@ closed_from_sums es same a b = let e = boundary_same es [] same a b in omega (ar
 pub sums_from_closed : (es : List (ℕ × ℕ)) → IsClosed es → SameChain es []
 sums_from_closed es closed f odd = odd_sum f odd es closed
 
--- having the same sums is symmetric
-pub same_chain-sym : (es ms : List (ℕ × ℕ)) → SameChain es ms → SameChain ms es
-same_chain-sym es ms h f odd = sym (h f odd)
-
--- and transitive
-pub same_chain-trans : (es ms ns : List (ℕ × ℕ)) → SameChain es ms → SameChain ms ns → SameChain es ns
-same_chain-trans es ms ns h k f odd = h f odd ∙ k f odd
-
 -- chains with the same sums, one after the other
 pub same_chain-append : (es ms fs ns : List (ℕ × ℕ)) → SameChain es ms → SameChain fs ns → SameChain (es ++ fs) (ms ++ ns)
 same_chain-append es ms fs ns h k f odd = omega (arith, ints, h f odd, k f odd, total-append (along f) es fs, total-append (along f) ms ns)
@@ -141,29 +129,13 @@ same_chain-append es ms fs ns h k f odd = omega (arith, ints, h f odd, k f odd, 
 pub closed_same : (es ms : List (ℕ × ℕ)) → SameChain es ms → IsClosed ms → IsClosed es
 closed_same es ms h closed = closed_from_sums es (λ f odd. h f odd ∙ odd_sum f odd ms closed)
 
--- a closed chain in another order is closed
-pub closed-permutation : (es ms : List (ℕ × ℕ)) → IsPermutation es ms → IsClosed es → IsClosed ms
-closed-permutation es ms moved closed a b = omega (arith, closed a b, dir-permutation es ms moved a b, dir-permutation es ms moved b a)
-
 -- a closed chain after a closed chain is closed
 pub closed-append : (es ms : List (ℕ × ℕ)) → IsClosed es → IsClosed ms → IsClosed (es ++ ms)
 closed-append es ms h k a b = omega (arith, h a b, k a b, dir-append es ms a b, dir-append es ms b a)
 
--- where a chain and its front are closed, the rest is closed
-pub closed-rest : (es ms : List (ℕ × ℕ)) → IsClosed (es ++ ms) → IsClosed es → IsClosed ms
-closed-rest es ms h k a b = omega (arith, h a b, k a b, dir-append es ms a b, dir-append es ms b a)
-
 -- the turned chain of a closed one is closed
 pub closed-backward : (es : List (ℕ × ℕ)) → IsClosed es → IsClosed (backward es)
 closed-backward es closed a b = omega (arith, closed a b, dir-backward es a b, dir-backward es b a)
-
--- chains with the same sums have that turned
-pub same_chain-backward : (es ms : List (ℕ × ℕ)) → SameChain es ms → SameChain (backward es) (backward ms)
-same_chain-backward es ms h f odd = omega (arith, ints, h f odd, total-backward f odd es, total-backward f odd ms)
-
--- a chain and its turned one add up to nothing
-pub backward_cancels : (es : List (ℕ × ℕ)) → SameChain (es ++ backward es) []
-backward_cancels es f odd = omega (arith, ints, total-append (along f) es (backward es), total-backward f odd es)
 
 -- the edge with its vertices renamed
 abbrev pub renamed : (ℕ → ℕ) → (ℕ × ℕ) → ℕ × ℕ

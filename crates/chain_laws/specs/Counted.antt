@@ -1,15 +1,13 @@
 -- The entries with a count on each side of a signed list, above and not above.
-use Rattle.std.specs.Prelude.{◌≡◌, ◌≢◌, ◌<◌, ◌≤◌, ℤ, pos, negsuc, nat_abs, List, [], ◌∷◌, map, true, false, Bool, cond, nat_lt, count_by}
+use Rattle.std.specs.Prelude.{◌≡◌, ◌≢◌, ◌<◌, ◌≤◌, ℤ, pos, nat_abs, List, [], ◌∷◌, map, true, false, Bool, nat_lt, count_by}
 use Rattle.std.specs.List.Sorted.{IsPermutation}
-use Rattle.std.proofs.Common.{arith, refl, ap, ◌∙◌, inl, inr}
-use Rattle.std.proofs.lemmas.Int.{ints}
-use Rattle.std.proofs.lemmas.Bool.{cases_Bool, cond_both, ltb-true, ltb-false}
+use Rattle.std.proofs.Common.{arith, refl, ap, inl, inr}
+use Rattle.std.proofs.lemmas.Bool.{cases_Bool, ltb-true, ltb-false}
 use Rattle.std.proofs.lemmas.List.Sums.{sum_by-cons}
 use Rattle.chain_terms.specs.Chains.{one_if}
 use Rattle.chain_laws.specs.Counts.{one_if-true, one_if-false, count_by-cons, count_by-map}
-use Rattle.chain_laws.specs.Firsts.{first_of, first_of-permutation, Passing, passing, total-first}
-use Rattle.chain_laws.specs.Sums.{total-same}
-use Rattle.chain_laws.specs.Signs.{signed_at, size_at, whole, sum_at, number, weight, weight_at, number_sides, one_on_each_side}
+use Rattle.chain_laws.specs.Firsts.{first_of, first_of-permutation, Passing, passing}
+use Rattle.chain_laws.specs.Signs.{size_at, whole, number, weight, weight_at, number_sides, one_on_each_side}
 
 -- the entry has a count and stands on side b
 abbrev pub counts_at : Bool → (ℤ × Bool) → Bool
@@ -46,33 +44,6 @@ counts_at-some b (e ∷ es) h = elim (cases_Bool (counts_at b e)) as (λ _. 0 < 
 pub entry_at : (es : List (ℤ × Bool)) → whole es ≡ pos 0 → number es ≢ pos 0 → (b : Bool) → Passing (counts_at b) es
 entry_at es none some b = passing (counts_at b) es (counts_at-some b es (number_sides es none some b))
 
--- a number of size 0 is 0
-pub zero_size : (z : ℤ) → nat_abs z ≤ 0 → z ≡ pos 0
-zero_size (pos n) h = omega (arith, ints, h)
-zero_size (negsuc n) h = absurd (omega (arith, h))
-
--- an entry that does not count on a side adds nothing to its sum
-pub signed_at-none : (b : Bool) (e : ℤ × Bool) → counts_at b e ≡ false → signed_at b e ≡ pos 0
-signed_at-none true (z, true) h = zero_size z (ltb-false 0 (nat_abs z) h)
-signed_at-none true (z, false) h = refl
-signed_at-none false (z, true) h = refl
-signed_at-none false (z, false) h = zero_size z (ltb-false 0 (nat_abs z) h)
-
--- one that counts adds its count
-pub signed_at-some : (b : Bool) (e : ℤ × Bool) → counts_at b e ≡ true → signed_at b e ≡ e.0
-signed_at-some true (z, true) h = refl
-signed_at-some true (z, false) h = absurd (omega (arith, ltb-true 0 0 h))
-signed_at-some false (z, true) h = absurd (omega (arith, ltb-true 0 0 h))
-signed_at-some false (z, false) h = refl
-
--- so it adds its count where it counts, else 0
-pub signed_at-cond : (b : Bool) (e : ℤ × Bool) → signed_at b e ≡ cond (counts_at b e) e.0 (pos 0)
-signed_at-cond b e = cond_both (counts_at b e) e.0 (pos 0) (λ z. signed_at b e ≡ z) (signed_at-some b e) (signed_at-none b e)
-
--- where at most one entry counts on a side, its sum is the count of the first that does
-pub sum_at-first : (b : Bool) (es : List (ℤ × Bool)) → count_by (counts_at b) es ≤ 1 → sum_at b es ≡ first_of (counts_at b) (λ e. e.0) (pos 0) es
-sum_at-first b es few = total-same (signed_at b) (λ e. cond (counts_at b e) e.0 (pos 0)) (signed_at-cond b) es ∙ total-first (counts_at b) (λ e. e.0) es few
-
 -- whole 0, a weight of at most 3 and a number that is not 0: one entry counts on each side
 pub one_counts : (es : List (ℤ × Bool)) → whole es ≡ pos 0 → weight es ≤ 3 → number es ≢ pos 0 → (b : Bool) → count_by (counts_at b) es ≡ 1
 one_counts es none few some b = omega (arith, counts_at-weight b es, counts_at-some b es (number_sides es none some b), one_at b)
@@ -80,10 +51,6 @@ one_counts es none few some b = omega (arith, counts_at-weight b es, counts_at-s
     one_at : (b : Bool) → weight_at b es ≡ 1
     one_at true = (one_on_each_side es none few some).0
     one_at false = (one_on_each_side es none few some).1
-
--- then the number is the count of the one above
-pub number_of_first : (es : List (ℤ × Bool)) → whole es ≡ pos 0 → weight es ≤ 3 → number es ≢ pos 0 → number es ≡ first_of (counts_at true) (λ e. e.0) (pos 0) es
-number_of_first es none few some = sum_at-first true es (omega (arith, one_counts es none few some true))
 
 -- and what the first entry on a side carries is the same in every order of the list
 pub first_at-permutation : {X Y : Type 0} (entry : X → ℤ × Bool) (v : X → Y) (d : Y) (xs ys : List X) → whole (map entry xs) ≡ pos 0 → weight (map entry xs) ≤ 3 → number (map entry xs) ≢ pos 0 →

@@ -1,6 +1,6 @@
 -- Products of whole numbers: the laws that linear arithmetic lacks.
 use Rattle.std.specs.Prelude.{◌≡◌, zero, suc, ◌+◌, ◌*◌, ℤ, pos, negsuc, neg_ℤ, ◌+ℤ◌, ◌-ℤ◌, ◌*ℤ◌, ◌<ℤ◌, List, [], ◌∷◌}
-use Rattle.std.proofs.Common.{arith, refl, ap}
+use Rattle.std.proofs.Common.{arith, ap}
 use Rattle.std.proofs.lemmas.Int.{ints}
 use Rattle.std.proofs.Math.IntN.{pos-*ℤ-negsuc, negsuc-*ℤ-pos, *ℤ_comm}
 use borrow.Author.Differences.{up, down}
@@ -70,18 +70,6 @@ mul-assoc a b c =
     let r : up a * (up (b *ℤ c) + (up b * down c + down b * up c)) ≡ up a * (down (b *ℤ c) + (up b * up c + down b * down c)) = ap (λ t. up a * t) f in
     let s : down a * (up (b *ℤ c) + (up b * down c + down b * up c)) ≡ down a * (down (b *ℤ c) + (up b * up c + down b * down c)) = ap (λ t. down a * t) f in
     omega (arith, ints, p, q, r, s, (product (a *ℤ b) c).is, (product a (b *ℤ c)).is)
-
--- the first and the third of three factors exchanged
-pub ends_changed : (a b c : ℤ) → a *ℤ (b *ℤ c) ≡ c *ℤ (b *ℤ a)
-ends_changed a b c = rw (*ℤ_comm b c, ← mul-assoc a c b, *ℤ_comm a c, mul-assoc c a b, *ℤ_comm a b) refl
-
--- the first two of three factors exchanged
-pub first_changed : (a b c : ℤ) → a *ℤ (b *ℤ c) ≡ b *ℤ (a *ℤ c)
-first_changed a b c = rw (← mul-assoc a b c, *ℤ_comm a b, mul-assoc b a c) refl
-
--- the third factor put first
-pub last_first : (a b c : ℤ) → c *ℤ (a *ℤ b) ≡ a *ℤ (b *ℤ c)
-last_first a b c = rw (first_changed c a b, *ℤ_comm c b) refl
 
 -- a product of positive numbers is positive
 pub pos_mul : (a b : ℤ) → pos 0 <ℤ a → pos 0 <ℤ b → pos 0 <ℤ (a *ℤ b)

@@ -1,15 +1,13 @@
 -- Signed lists: entries of a signed count and a mark "above". The number adds up the counts that are above.
-use Rattle.std.specs.Prelude.{◌≡◌, ◌≢◌, ℕ, zero, suc, ◌+◌, ◌<◌, ◌≤◌, ℤ, pos, negsuc, nat_abs, neg_ℤ, ◌+ℤ◌, ◌-ℤ◌, List, [], ◌∷◌, length, map, true, false, Bool, not, cond, ◌⊎◌}
+use Rattle.std.specs.Prelude.{◌≡◌, ◌≢◌, ℕ, zero, suc, ◌+◌, ◌<◌, ◌≤◌, ℤ, pos, negsuc, nat_abs, neg_ℤ, ◌+ℤ◌, ◌-ℤ◌, List, [], ◌∷◌, length, true, false, Bool, not, cond, ◌⊎◌}
 use Rattle.std.specs.List.{sum_by, All}
-use Rattle.std.specs.List.Sorted.{IsPermutation}
 use Rattle.std.proofs.Common.{arith, refl, inl, inr}
 use Rattle.std.proofs.lemmas.Int.{ints}
 use Rattle.std.proofs.lemmas.Bool.{cases_eq, cases_lt}
 use Rattle.std.proofs.lemmas.List.Sums.{sum_by-cons, sum_by-le}
 use Rattle.std.proofs.lemmas.List.Elements.{All-weaker}
-use Rattle.std.proofs.lemmas.List.Sorted.{sum_by-IsPermutation}
 use Rattle.chain_terms.specs.Sums.{total}
-use Rattle.chain_laws.specs.Sums.{IsWithin, size_within, total-permutation}
+use Rattle.chain_laws.specs.Sums.{IsWithin, size_within}
 
 -- the count of an entry on one side, above (true) or not (false), else 0
 abbrev pub signed_at : Bool → (ℤ × Bool) → ℤ
@@ -139,10 +137,6 @@ one_on_each_side es none few some =
       omega (arith, ints, none, few, a, b, whole_by_sides es, weight_by_sides es, above.sum, above.weight, below.sum, below.weight),
     )
 
--- a weight of 1 above makes a number that is not 0
-pub number_of_one : (es : List (ℤ × Bool)) → weight_at true es ≡ 1 → number es ≢ pos 0
-number_of_one es one = λ e. let above = parts_at true es in omega (arith, ints, one, e, above.sum, above.weight)
-
 -- every entry with a count is on side b
 abbrev pub AllAre : Bool → List (ℤ × Bool) → Type 0
 AllAre b [] = Unit {0}
@@ -188,51 +182,14 @@ number_none_above es h = let above = parts_at true es in omega (arith, ints, wei
 abbrev pub turned : (ℤ × Bool) → ℤ × Bool
 turned e = (neg_ℤ e.0, e.1)
 
--- a turned entry has the negated count on each side
-pub signed_at-turned : (b : Bool) (e : ℤ × Bool) → signed_at b (turned e) ≡ neg_ℤ (signed_at b e)
-signed_at-turned true (z, true) = refl
-signed_at-turned true (z, false) = refl
-signed_at-turned false (z, true) = refl
-signed_at-turned false (z, false) = refl
-
--- turning all entries negates the sum of each side
-pub sum_at-turned : (b : Bool) (es : List (ℤ × Bool)) → sum_at b (map turned es) ≡ neg_ℤ (sum_at b es)
-sum_at-turned b [] = refl
-sum_at-turned b (e ∷ es) = omega (arith, ints, signed_at-turned b e, sum_at-turned b es)
-
--- and the whole
-pub whole-turned : (es : List (ℤ × Bool)) → whole (map turned es) ≡ neg_ℤ (whole es)
-whole-turned es = omega (arith, ints, whole_by_sides es, whole_by_sides (map turned es), sum_at-turned true es, sum_at-turned false es)
-
 -- a number and its negative have one size
 pub nat_abs-neg : (z : ℤ) → nat_abs (neg_ℤ z) ≡ nat_abs z
 nat_abs-neg (pos zero) = refl
 nat_abs-neg (pos (suc n)) = refl
 nat_abs-neg (negsuc n) = refl
 
--- a turned entry has the same size on each side
-pub size_at-turned : (b : Bool) (e : ℤ × Bool) → size_at b (turned e) ≡ size_at b e
-size_at-turned true (z, true) = nat_abs-neg z
-size_at-turned true (z, false) = refl
-size_at-turned false (z, true) = refl
-size_at-turned false (z, false) = nat_abs-neg z
-
--- turning all entries keeps the weight of each side
-pub weight_at-turned : (b : Bool) (es : List (ℤ × Bool)) → weight_at b (map turned es) ≡ weight_at b es
-weight_at-turned b [] = refl
-weight_at-turned b (e ∷ es) = omega (arith, size_at-turned b e, weight_at-turned b es, sum_by-cons (size_at b) e es, sum_by-cons (size_at b) (turned e) (map turned es))
-
--- and the weight
-pub weight-turned : (es : List (ℤ × Bool)) → weight (map turned es) ≡ weight es
-weight-turned es = omega (arith, weight_by_sides es, weight_by_sides (map turned es), weight_at-turned true es, weight_at-turned false es)
-
 -- counts from -1 to 1 weigh no more than their number
 pub weight_of_units : (es : List (ℤ × Bool)) → All (λ e. IsWithin e.0 1) es → weight es ≤ length es
 weight_of_units es h =
     let sizes : All (λ e. nat_abs e.0 ≤ 1) es = All-weaker (λ e. IsWithin e.0 1) (λ e. nat_abs e.0 ≤ 1) (λ e w. size_within e.0 1 w) es h in
     omega (arith, sum_by-le (λ e. nat_abs e.0) 1 es sizes)
-
--- the sums and the weight are the same in every order
-pub same_in_order : (es fs : List (ℤ × Bool)) → IsPermutation es fs → (number fs ≡ number es) × (whole fs ≡ whole es) × (weight fs ≡ weight es)
-same_in_order es fs moved =
-    (total-permutation (signed_at true) es fs moved, total-permutation (λ e. e.0) es fs moved, sum_by-IsPermutation (λ e. nat_abs e.0) es fs moved)

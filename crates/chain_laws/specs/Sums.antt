@@ -102,11 +102,6 @@ pub size_within : (z : ℤ) (b : ℕ) → IsWithin z b → nat_abs z ≤ b
 size_within (pos n) b h = omega (arith, ints, h.high)
 size_within (negsuc n) b h = omega (arith, ints, h.low)
 
--- and back
-pub within_size : (z : ℤ) (b : ℕ) → nat_abs z ≤ b → IsWithin z b
-within_size (pos n) b h = record { low = omega (arith, ints); high = omega (arith, ints, h) }
-within_size (negsuc n) b h = record { low = omega (arith, ints, h); high = omega (arith, ints) }
-
 -- a sum of n terms that are at most b in size is at most b n in size
 pub total_within : {X : Type 0} (f : X → ℤ) (b : ℕ) → (xs : List X) → All (λ x. IsWithin (f x) b) xs → IsWithin (total f xs) (b * length xs)
 total_within f b [] h = record { low = omega (arith, ints); high = omega (arith, ints) }

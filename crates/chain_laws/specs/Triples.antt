@@ -1,9 +1,8 @@
 -- Triangles as triples of vertices: their edges under turning, reversal and renaming.
-use Rattle.std.specs.Prelude.{◌≡◌, ℕ, ℤ, pos, ◌-ℤ◌, List, [], ◌∷◌, ◌++◌, map}
-use Rattle.std.proofs.Common.{◌⊎◌, inl, inr, arith, ap, refl, sym, ◌∙◌}
+use Rattle.std.specs.Prelude.{◌≡◌, ℕ, List, [], ◌∷◌, ◌++◌, map}
+use Rattle.std.proofs.Common.{arith, ap, refl, sym, ◌∙◌}
 use Rattle.std.proofs.lemmas.Int.{ints}
 use Rattle.std.proofs.lemmas.List.{append_assoc}
-use Rattle.chain_terms.specs.Sums.{total}
 use Rattle.chain_terms.specs.Chains.{IsClosed, edges, all_edges}
 use Rattle.chain_laws.specs.Sums.{total-append}
 use Rattle.chain_terms.specs.Odd.{along, backward, SameChain}
@@ -28,20 +27,6 @@ edges-turned t f odd = omega (arith, ints)
 -- an opposite triple has the turned edges
 pub edges-opposite : (t : ℕ × ℕ × ℕ) → SameChain (edges (opposite_triple t)) (backward (edges t))
 edges-opposite t f odd = omega (arith, ints)
-
--- a triple and an opposite one add up to nothing
-pub opposite_cancels : (t : ℕ × ℕ × ℕ) → SameChain (edges t ++ edges (opposite_triple t)) []
-opposite_cancels t f odd = omega (arith, ints, odd.turns t.0 t.1, odd.turns t.1 t.2, odd.turns t.2 t.0)
-
--- a triple with two equal vertices adds up to nothing
-pub edges-flat : (a b c : ℕ) → (a ≡ b) ⊎ ((b ≡ c) ⊎ (c ≡ a)) → SameChain (edges (a, b, c)) []
-edges-flat a b c (inl e) f odd = rw e (omega (arith, ints, odd.turns b b, odd.turns b c))
-edges-flat a b c (inr (inl e)) f odd = rw e (omega (arith, ints, odd.turns c c, odd.turns c a))
-edges-flat a b c (inr (inr e)) f odd = rw e (omega (arith, ints, odd.turns a a, odd.turns a b))
-
--- the differences of a function of the vertices add up to nothing round a triangle
-pub round_triangle : (g : ℕ → ℤ) (t : ℕ × ℕ × ℕ) → total (λ e. g e.1 -ℤ g e.0) (edges t) ≡ pos 0
-round_triangle g t = omega (arith, ints)
 
 -- the edges of two lists of triangles, one after the other
 pub all_edges-append : (ts us : List (ℕ × ℕ × ℕ)) → all_edges (ts ++ us) ≡ all_edges ts ++ all_edges us
