@@ -51,12 +51,12 @@ pub trait Crosses<const M: usize, const N: usize> {
 /// All shadow tests and crossings. Their counts and numbers are the signed sums of the shadows of their boundary pairs.
 pub trait Kernels: Flats + Meets<1, 3> + Meets<3, 1> + Crosses<2, 3> + Crosses<3, 2> {
     /// A vertex and a face.
-    ghost lift_02: { (k : Self) (p u v w : Corner) → AllFine (p ∷ []) → AllFine (u ∷ v ∷ w ∷ []) →
+    ghost lift_vertex_face: { (k : Self) (p u v w : Corner) → AllFine (p ∷ []) → AllFine (u ∷ v ∷ w ∷ []) →
         count_of (⟦<Self as Meets<1, 3>>⟧.meet_of k (p ∷ []) (u ∷ v ∷ w ∷ []))
         ≡ total (λ e. shadow_of (⟦<Self as Meets<1, 2>>⟧.meet_of k (p ∷ []) e)) (face_edges u v w) };
 
     /// A face and a vertex.
-    ghost lift_20: { (k : Self) (u v w q : Corner) → AllFine (u ∷ v ∷ w ∷ []) → AllFine (q ∷ []) →
+    ghost lift_face_vertex: { (k : Self) (u v w q : Corner) → AllFine (u ∷ v ∷ w ∷ []) → AllFine (q ∷ []) →
         count_of (⟦<Self as Meets<3, 1>>⟧.meet_of k (u ∷ v ∷ w ∷ []) (q ∷ []))
         ≡ total (λ e. shadow_of (⟦<Self as Meets<2, 1>>⟧.meet_of k e (q ∷ []))) (face_edges u v w) };
 

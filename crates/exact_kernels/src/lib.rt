@@ -221,9 +221,9 @@ impl<R: Rounding> Crosses<3, 2> for Exact<R> {
 }
 
 impl<R: Rounding> Kernels for Exact<R> {
-    ghost lift_02 = { λ k p u v w a b. lift02 exact (R.between_of k.rounding) p u v w };
+    ghost lift_vertex_face = { λ k p u v w a b. lift02 exact (R.between_of k.rounding) p u v w };
 
-    ghost lift_20 = { λ k u v w q a b. lift20 exact (R.between_of k.rounding) u v w q };
+    ghost lift_face_vertex = { λ k u v w q a b. lift20 exact (R.between_of k.rounding) u v w q };
 
     ghost lift_12 = { λ k a b u v w s t. lift (vertex_face exact (R.between_of k.rounding)) (edge_edge exact (R.between_of k.rounding))
         (p_point (R.between_of k.rounding) (R.settle_of k.rounding)) a b u v w };

@@ -6,7 +6,7 @@ use Rattle.std.proofs.lemmas.Bool.{cond_both, ltb-false, ltb-true}
 use Rattle.std.proofs.lemmas.List.{map-append}
 use Rattle.std.proofs.lemmas.List.Elements.{Contains-append_cases, Contains-append_left, Contains-append_right}
 use Rattle.mb_base.specs.declared.results.Entry.{Entry}
-use Rattle.face_lists.specs.declared.runs.Run.{Run}
+use Rattle.face_lists.specs.declared.runs.CopyRange.{CopyRange}
 use Rattle.face_lists.specs.Agreement.{AreInOrder}
 use Rattle.face_lists.specs.Entries.{run_entries}
 use Rattle.face_lists.specs.Parts.{end_entries, no_run}
@@ -14,7 +14,7 @@ use Rattle.face_lists.proofs.Rising.{Rises, rises_append, rises_higher, rises_lo
 use Rattle.face_lists.proofs.RunEntries.{run_rises}
 
 -- the entries of both ends, whichever comes first
-pub into_ends : (runs : List Run) (a b : ℕ) (e : Entry) → Contains (run_entries (get_or runs a no_run) true) e ⊎ Contains (run_entries (get_or runs b no_run) false) e → Contains (end_entries runs a b) e
+pub into_ends : (runs : List CopyRange) (a b : ℕ) (e : Entry) → Contains (run_entries (get_or runs a no_run) true) e ⊎ Contains (run_entries (get_or runs b no_run) false) e → Contains (end_entries runs a b) e
 into_ends runs a b e =
     let A = run_entries (get_or runs a no_run) true in
     let B = run_entries (get_or runs b no_run) false in
@@ -28,7 +28,7 @@ into_ends runs a b e =
     second A B e (inl c) = Contains-append_right B A e c
     second A B e (inr c) = Contains-append_left B A e c
 
-pub of_ends : (runs : List Run) (a b : ℕ) (e : Entry) → Contains (end_entries runs a b) e → Contains (run_entries (get_or runs a no_run) true) e ⊎ Contains (run_entries (get_or runs b no_run) false) e
+pub of_ends : (runs : List CopyRange) (a b : ℕ) (e : Entry) → Contains (end_entries runs a b) e → Contains (run_entries (get_or runs a no_run) true) e ⊎ Contains (run_entries (get_or runs b no_run) false) e
 of_ends runs a b e =
     let A = run_entries (get_or runs a no_run) true in
     let B = run_entries (get_or runs b no_run) false in
@@ -39,7 +39,7 @@ of_ends runs a b e =
     turned A B e (inr c) = inl c
 
 -- they rise, by their numbers
-both_rise : (k : ℕ) (r s : Run) (t u : Bool) → r.first + r.count ≤ s.first → s.first + s.count ≤ k → Rises 0 k (map (λ e. e.vertex) (run_entries r t ++ run_entries s u))
+both_rise : (k : ℕ) (r s : CopyRange) (t u : Bool) → r.first + r.count ≤ s.first → s.first + s.count ≤ k → Rises 0 k (map (λ e. e.vertex) (run_entries r t ++ run_entries s u))
 both_rise k r s t u between last =
     let vs = map (λ (e : Entry). e.vertex) (run_entries r t) in
     let ws = map (λ (e : Entry). e.vertex) (run_entries s u) in
@@ -47,7 +47,7 @@ both_rise k r s t u between last =
     let second : Rises (r.first + r.count) k ws = rises_lower (r.first + r.count) s.first k ws between (rises_higher s.first (s.first + s.count) k ws last (run_rises s u)) in
     subst (Rises 0 k) (sym (map-append (λ (e : Entry). e.vertex) (run_entries r t) (run_entries s u))) (rises_append 0 (r.first + r.count) k vs ws first second)
 
-pub ends_rise : (k : ℕ) (runs : List Run) → AreInOrder k runs → (a b : ℕ) → a < length runs → b < length runs → (a ≡ b → ⊥) → Rises 0 k (map (λ e. e.vertex) (end_entries runs a b))
+pub ends_rise : (k : ℕ) (runs : List CopyRange) → AreInOrder k runs → (a b : ℕ) → a < length runs → b < length runs → (a ≡ b → ⊥) → Rises 0 k (map (λ e. e.vertex) (end_entries runs a b))
 ends_rise k runs order a b a_low b_low apart =
     let r = get_or runs a no_run in
     let s = get_or runs b no_run in

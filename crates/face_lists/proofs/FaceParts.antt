@@ -3,7 +3,7 @@ use Rattle.std.proofs.Common.{◌≡◌, ℕ, ◌+◌, ◌-◌, ◌*◌, List, [
 use Rattle.side_terms.specs.Sides.{Side}
 use Rattle.face_lists.specs.Entries.{list_count, list_end}
 use Rattle.face_lists.specs.Parts.{after, front, half_part, half_segments, pairs_segments, rest, segments_by}
-use Rattle.face_lists.specs.declared.runs.Run.{Run}
+use Rattle.face_lists.specs.declared.runs.CopyRange.{CopyRange}
 use Rattle.face_lists.specs.declared.stands.Stand.{Stand}
 use Rattle.face_lists.proofs.Pieces.{slice_front, slice_rest}
 
@@ -39,7 +39,7 @@ four none s1 s2 s3 s4 a b c d e f g h i =
     i ∙ ap (λ l. l ++ d) (h ∙ ap (λ l. l ++ c) (g ∙ ap (λ l. l ++ b) (f ∙ ap (λ l. l ++ a) e))) ∙ append_assoc (a ++ b) c d ∙ append_assoc a b (c ++ d)
 
 -- the segments of the half-edges and of the pairs are those of the face
-pub whole_face : (side : Side) (runs : List Run) (points : List (List ℤ)) (f half first second third : ℕ) (ss : List Stand) (none s1 s2 s3 s4 : List (ℕ × ℕ)) → half ≡ 3 * f → AreEnds ss first second third →
+pub whole_face : (side : Side) (runs : List CopyRange) (points : List (List ℤ)) (f half first second third : ℕ) (ss : List Stand) (none s1 s2 s3 s4 : List (ℕ × ℕ)) → half ≡ 3 * f → AreEnds ss first second third →
     none ≡ [] → s1 ≡ none ++ half_segments side runs points half (take first ss) → s2 ≡ s1 ++ half_segments side runs points (half + 1) (take (second - first) (drop first ss)) →
     s3 ≡ s2 ++ half_segments side runs points (half + 2) (take (third - second) (drop second ss)) → s4 ≡ s3 ++ pairs_segments points (drop third ss) → s4 ≡ segments_by side runs points f ss
 whole_face side runs points f half first second third ss none s1 s2 s3 s4 at ends empty one two three four_ =

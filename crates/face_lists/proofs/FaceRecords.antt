@@ -10,7 +10,7 @@ use Rattle.chain_terms.specs.Chains.{all_edges}
 use Rattle.mb_base.specs.declared.results.Entry.{Entry}
 use Rattle.side_terms.specs.Sides.{Side}
 use Rattle.assembly_terms.specs.Lists.{Copy, ListName, no_copy, standing}
-use Rattle.face_lists.specs.declared.runs.Run.{Run}
+use Rattle.face_lists.specs.declared.runs.CopyRange.{CopyRange}
 use Rattle.face_lists.specs.declared.stands.Stand.{Stand}
 use Rattle.face_lists.specs.Agreement.{AreStandsOf, Ascend, HaveLists, IsHitCopy, StandsAs, list_name, no_stand, records_of}
 use Rattle.face_lists.specs.Entries.{entry_of}
@@ -119,7 +119,7 @@ list_of_face k n stands up later below x l =
     (AllPairs-filter Precedes in_list ss (face_order stands x up))
 
 -- so the records of each face tell its lists, where records tell all copies
-pub face_records : (p q : Side) (cs : List Copy) (k : ℕ) (p_runs q_runs : List Run) (stands : List Stand) → HaveLists p q cs k p_runs q_runs stands → (x : ℕ) →
+pub face_records : (p q : Side) (cs : List Copy) (k : ℕ) (p_runs q_runs : List CopyRange) (stands : List Stand) → HaveLists p q cs k p_runs q_runs stands → (x : ℕ) →
     AreRecords (all_edges p.triples) (all_edges q.triples) cs k (list_name (length p.triples) x) (records_of stands x)
 face_records p q cs k p_runs q_runs stands lists x =
     let P = all_edges p.triples in

@@ -9,7 +9,7 @@ use Rattle.side_terms.specs.Sides.{Side}
 use Rattle.assembly_terms.specs.Lists.{Copy, IsListOf}
 use Rattle.assembly_terms.specs.Standing.{IsBalanced}
 use Rattle.segment_terms.specs.Segments.{place_of, segments_of}
-use Rattle.face_lists.specs.declared.runs.Run.{Run}
+use Rattle.face_lists.specs.declared.runs.CopyRange.{CopyRange}
 use Rattle.face_lists.specs.declared.stands.Stand.{Stand}
 use Rattle.face_lists.specs.Agreement.{HaveLists, list_name, records_of}
 use Rattle.face_lists.specs.Parts.{CanBeSegments, segments_by}
@@ -45,13 +45,13 @@ known_of of stands listed x f others face records = record {
 }
 
 -- of one of P, and of one of Q
-abbrev known_p : (p q : Side) (cs : List Copy) (k : ℕ) (p_runs q_runs : List Run) (stands : List Stand) → HaveLists p q cs k p_runs q_runs stands → AreListed p q stands → (f : ℕ) → f < length p.triples → KnownFace
+abbrev known_p : (p q : Side) (cs : List Copy) (k : ℕ) (p_runs q_runs : List CopyRange) (stands : List Stand) → HaveLists p q cs k p_runs q_runs stands → AreListed p q stands → (f : ℕ) → f < length p.triples → KnownFace
 known_p p q cs k p_runs q_runs stands lists listed f low =
     let runs : HaveRuns cs k p PVertex p_runs = record { known = lists.p_side; copies = lists.p_copies; order = lists.p_order } in
     let of : KnownSide = record { p = p; q = q; side = p; origin = PVertex; copies = cs; later = k; runs = p_runs; have = runs } in
     known_of of stands listed f f (length q.triples) (face_of_p p q f low) (face_records p q cs k p_runs q_runs stands lists f)
 
-abbrev known_q : (p q : Side) (cs : List Copy) (k : ℕ) (p_runs q_runs : List Run) (stands : List Stand) → HaveLists p q cs k p_runs q_runs stands → AreListed p q stands → (g : ℕ) → g < length q.triples → KnownFace
+abbrev known_q : (p q : Side) (cs : List Copy) (k : ℕ) (p_runs q_runs : List CopyRange) (stands : List Stand) → HaveLists p q cs k p_runs q_runs stands → AreListed p q stands → (g : ℕ) → g < length q.triples → KnownFace
 known_q p q cs k p_runs q_runs stands lists listed g low =
     let x = length p.triples + g in
     let runs : HaveRuns cs k q QVertex q_runs = record { known = lists.q_side; copies = lists.q_copies; order = lists.q_order } in
@@ -59,14 +59,14 @@ known_q p q cs k p_runs q_runs stands lists listed g low =
     known_of of stands listed x g (length p.triples) (face_of_q p q g low) (face_records p q cs k p_runs q_runs stands lists x)
 
 -- the segments of each
-pub segments_given : (p q : Side) (cs : List Copy) (k : ℕ) (p_runs q_runs : List Run) (stands : List Stand) → HaveLists p q cs k p_runs q_runs stands → AreListed p q stands →
+pub segments_given : (p q : Side) (cs : List Copy) (k : ℕ) (p_runs q_runs : List CopyRange) (stands : List Stand) → HaveLists p q cs k p_runs q_runs stands → AreListed p q stands →
     ((f : ℕ) → f < length p.triples → segments_by p p_runs (map (λ c. c.point) cs) f (records_of stands f) ≡ segments_of p q cs (place_of cs) f)
     × ((g : ℕ) → g < length q.triples → segments_by q q_runs (map (λ c. c.point) cs) g (records_of stands (length p.triples + g)) ≡ segments_of p q cs (place_of cs) (length p.triples + g))
 segments_given p q cs k p_runs q_runs stands lists listed =
     ((λ f low. face_same (known_p p q cs k p_runs q_runs stands lists listed f low)), (λ g low. face_same (known_q p q cs k p_runs q_runs stands lists listed g low)))
 
 -- and that they can be paired
-pub segments_can : (p q : Side) (cs : List Copy) (k : ℕ) (p_runs q_runs : List Run) (stands : List Stand) → HaveLists p q cs k p_runs q_runs stands → AreListed p q stands → IsBalanced p q cs →
+pub segments_can : (p q : Side) (cs : List Copy) (k : ℕ) (p_runs q_runs : List CopyRange) (stands : List Stand) → HaveLists p q cs k p_runs q_runs stands → AreListed p q stands → IsBalanced p q cs →
     ((f : ℕ) → f < length p.triples → CanBeSegments p p_runs (map (λ c. c.point) cs) f (records_of stands f))
     × ((g : ℕ) → g < length q.triples → CanBeSegments q q_runs (map (λ c. c.point) cs) g (records_of stands (length p.triples + g)))
 segments_can p q cs k p_runs q_runs stands lists listed balance =

@@ -15,7 +15,7 @@ use Rattle.mb_base.specs.declared.results.Hit.{Hit}
 use Rattle.face_lists.specs.Entries.{run_entries}
 use Rattle.face_lists.specs.Runs.{runs_from}
 use Rattle.face_lists.specs.Stands.{copy_stands, hit_stands, one_hit_stands, six_stands}
-use Rattle.face_lists.specs.declared.runs.Run.{Run}
+use Rattle.face_lists.specs.declared.runs.CopyRange.{CopyRange}
 use Rattle.face_lists.specs.declared.stands.Stand.{Stand}
 
 -- a list that grew
@@ -58,7 +58,7 @@ runs_more k [] n =
     ap (λ (m : ℕ). record { first = m; count = nat_abs n; negative = int_lt n (pos 0) } ∷ []) none
 runs_more k (m ∷ ns) n =
     let sum : k + nat_abs m + sum_by nat_abs ns ≡ k + sum_by nat_abs (m ∷ ns) = omega (arith, sum_by-cons nat_abs m ns) in
-    let here : Run = record { first = k; count = nat_abs m; negative = int_lt m (pos 0) } in
+    let here : CopyRange = record { first = k; count = nat_abs m; negative = int_lt m (pos 0) } in
     ap (λ l. here ∷ l) (runs_more (k + nat_abs m) ns n ∙ ap (λ (j : ℕ). runs_from (k + nat_abs m) ns ++ record { first = j; count = nat_abs n; negative = int_lt n (pos 0) } ∷ []) sum)
 
 -- the sizes of the numbers
@@ -67,14 +67,14 @@ sum_by-numbers number [] = refl
 sum_by-numbers number (w ∷ ws) = omega (arith, sum_by-cons nat_abs (number w) (map number ws), sum_by-cons (λ v. nat_abs (number v)) w ws, sum_by-numbers number ws)
 
 -- the runs of one winding number more
-pub runs_next : (number : ℤ → ℤ) (k first count i : ℕ) (m : ℤ) (ws : List ℤ) (old new : List Run) → i < length ws → old ≡ runs_from k (map number (take i ws)) →
+pub runs_next : (number : ℤ → ℤ) (k first count i : ℕ) (m : ℤ) (ws : List ℤ) (old new : List CopyRange) → i < length ws → old ≡ runs_from k (map number (take i ws)) →
     first ≡ k + vertex_count number (take i ws) → m ≡ number (get_or ws i (pos 0)) → count ≡ nat_abs (number (get_or ws i (pos 0))) →
     new ≡ old ++ record { first = first; count = count; negative = int_lt m (pos 0) } ∷ [] → new ≡ runs_from k (map number (take (i + 1) ws))
 runs_next number k first count i m ws old new below is at value size pushed =
     let w = get_or ws i (pos 0) in
     let ns = map number (take i ws) in
     let sum : first ≡ k + sum_by nat_abs ns = at ∙ ap (λ (s : ℕ). k + s) (sym (sum_by-numbers number (take i ws))) in
-    let run : ◌≡◌ {A = Run} (record { first = first; count = count; negative = int_lt m (pos 0) }) (record { first = k + sum_by nat_abs ns; count = nat_abs (number w); negative = int_lt (number w) (pos 0) }) =
+    let run : ◌≡◌ {A = CopyRange} (record { first = first; count = count; negative = int_lt m (pos 0) }) (record { first = k + sum_by nat_abs ns; count = nat_abs (number w); negative = int_lt (number w) (pos 0) }) =
     cc in
     let more : map number (take (i + 1) ws) ≡ ns ++ number w ∷ [] = ap (map number) (take_more ws i (pos 0) below) ∙ map_push number (take i ws) w in
     pushed ∙ ap (λ l. l ++ record { first = first; count = count; negative = int_lt m (pos 0) } ∷ []) is ∙ ap (λ r. runs_from k ns ++ r ∷ []) run

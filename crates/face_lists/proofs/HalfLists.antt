@@ -15,7 +15,7 @@ use Rattle.halfedge.proofs.PairedBuckets.{edges_differ}
 use Rattle.halfedge.proofs.Starts.{start_below}
 use Rattle.assembly_terms.specs.Lists.{Copy, ListName, incidence, no_copy, standing}
 use Rattle.segment_terms.specs.Segments.{vertex_point}
-use Rattle.face_lists.specs.declared.runs.Run.{Run}
+use Rattle.face_lists.specs.declared.runs.CopyRange.{CopyRange}
 use Rattle.face_lists.specs.Agreement.{AreInOrder, AreRunsOf, IsRunOf, StandsAs}
 use Rattle.face_lists.specs.Entries.{run_entries}
 use Rattle.face_lists.specs.Parts.{end_entries, no_run}
@@ -45,7 +45,7 @@ runs_between side known h low =
     }
 
 -- the runs of a side whose vertices have such origins
-pub record HaveRuns (cs : List Copy) (k : ℕ) (side : Side) (origin : ℕ → Origin) (runs : List Run) : Type 0 where
+pub record HaveRuns (cs : List Copy) (k : ℕ) (side : Side) (origin : ℕ → Origin) (runs : List CopyRange) : Type 0 where
   pub known : IsSide side
   pub copies : AreRunsOf cs origin side runs
   pub order : AreInOrder k runs
@@ -58,7 +58,7 @@ pub record KnownSide : Type 0 where
   pub origin : ℕ → Origin
   pub copies : List Copy
   pub later : ℕ
-  pub runs : List Run
+  pub runs : List CopyRange
   pub have : HaveRuns copies later side origin runs
 
 -- what is known of the list of a half-edge: the copies at its ends by their runs, and those of hits by entries

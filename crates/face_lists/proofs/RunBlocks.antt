@@ -3,11 +3,11 @@ use Rattle.std.proofs.Common.{◌≡◌, ℕ, ◌+◌, ◌-◌, ◌<◌, ◌≤�
 use Rattle.assembly_terms.specs.Lists.{Copy, no_copy}
 use Rattle.assembly_terms.specs.Prescribed.{Included, copy_of}
 use Rattle.face_lists.specs.Agreement.{IsRunOf}
-use Rattle.face_lists.specs.declared.runs.Run.{Run}
+use Rattle.face_lists.specs.declared.runs.CopyRange.{CopyRange}
 use Rattle.face_lists.proofs.Blocks.{all_copies, before, before_all, before_ascends, copy_in, lies_in, no_included}
 
 -- the run of the j-th of what is included
-abbrev pub block_run : List Included → ℕ → Run
+abbrev pub block_run : List Included → ℕ → CopyRange
 block_run is j = record { first = before is j; count = nat_abs (get_or is j no_included).number; negative = int_lt (get_or is j no_included).number (pos 0) }
 
 -- no other is of the origin of the j-th

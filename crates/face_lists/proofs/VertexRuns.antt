@@ -11,7 +11,7 @@ use Rattle.assembly_terms.specs.Prescribed.{Included, copies_of, included_vertic
 use Rattle.face_lists.specs.Agreement.{AreInOrder}
 use Rattle.face_lists.specs.Parts.{no_run}
 use Rattle.face_lists.specs.Runs.{runs_from}
-use Rattle.face_lists.specs.declared.runs.Run.{Run}
+use Rattle.face_lists.specs.declared.runs.CopyRange.{CopyRange}
 use Rattle.face_lists.proofs.Blocks.{all_copies, before, length-copies_of, no_included}
 
 -- how often each is included
@@ -19,7 +19,7 @@ abbrev pub numbers_of : List Included → List ℤ
 numbers_of is = map (λ i. i.number) is
 
 -- the run of what is included, from number f on
-abbrev pub run_of : ℕ → Included → Run
+abbrev pub run_of : ℕ → Included → CopyRange
 run_of f i = record { first = f; count = nat_abs i.number; negative = int_lt i.number (pos 0) }
 
 -- run j begins behind the copies before it
@@ -83,7 +83,7 @@ runs_follow k (n ∷ ns) zero (suc w) l m = omega (arith, runs_start (k + nat_ab
 runs_follow k (n ∷ ns) (suc v) (suc w) l m = runs_follow (k + nat_abs n) ns v w (omega (arith, l)) (omega (arith, m))
 
 -- the run ends by that number
-abbrev EndsBy : ℕ → Run → Type 0
+abbrev EndsBy : ℕ → CopyRange → Type 0
 EndsBy last r = r.first + r.count ≤ last
 
 -- all end by the number of the copies
@@ -92,7 +92,7 @@ runs_end number k [] = All-nil (EndsBy (k + vertex_count number []))
 runs_end number k (w ∷ ws) =
     let size = nat_abs (number w) in
     let more = sum_by-cons (λ v. nat_abs (number v)) w ws in
-    let Ends : Run → Type 0 = EndsBy (k + vertex_count number (w ∷ ws)) in
+    let Ends : CopyRange → Type 0 = EndsBy (k + vertex_count number (w ∷ ws)) in
     let rest = runs_from (k + size) (map number ws) in
     let later : All Ends rest = All-weaker (EndsBy (k + size + vertex_count number ws)) Ends (λ r l. omega (arith, l, more)) rest (runs_end number (k + size) ws) in
     All-cons Ends (record { first = k; count = size; negative = int_lt (number w) (pos 0) }) rest (omega (arith, more)) later

@@ -7,25 +7,25 @@ use Rattle.mb_base.specs.declared.results.Origin.TheVariants.{PEdge, PVertex, QE
 use Rattle.side_terms.specs.Sides.{IsSide, Side}
 use Rattle.segment_terms.specs.Segments.{vertex_point}
 use Rattle.assembly_terms.specs.Lists.{Copy, HalfP, HalfQ, IsListOf, ListName, PairP, PairQ, no_copy, standing}
-use Rattle.face_lists.specs.declared.runs.Run.{Run}
+use Rattle.face_lists.specs.declared.runs.CopyRange.{CopyRange}
 use Rattle.face_lists.specs.declared.stands.Stand.{Stand}
 use Rattle.face_lists.specs.Parts.{no_run}
 use Rattle.face_lists.specs.Stands.{stands_before}
 
 -- the copies of this origin are those of the run, and lie at this point
-pub record IsRunOf (cs : List Copy) (o : Origin) (at : List ℤ) (r : Run) : Type 0 where
+pub record IsRunOf (cs : List Copy) (o : Origin) (at : List ℤ) (r : CopyRange) : Type 0 where
   pub within : r.first + r.count ≤ length cs
   pub there : (v : ℕ) → v < length cs → ((get_or cs v no_copy).origin ≡ o) ↔ ((r.first ≤ v) × (v < r.first + r.count))
   pub signed : (v : ℕ) → r.first ≤ v → v < r.first + r.count → (get_or cs v no_copy).negative ≡ r.negative
   pub lies : (v : ℕ) → r.first ≤ v → v < r.first + r.count → (get_or cs v no_copy).point ≡ at
 
 -- so for each vertex of a side
-pub record AreRunsOf (cs : List Copy) (origin : ℕ → Origin) (side : Side) (runs : List Run) : Type 0 where
+pub record AreRunsOf (cs : List Copy) (origin : ℕ → Origin) (side : Side) (runs : List CopyRange) : Type 0 where
   pub long : length runs ≡ length side.corners
   pub each : (v : ℕ) → v < length side.corners → IsRunOf cs (origin v) (vertex_point side v) (get_or runs v no_run)
 
 -- runs follow one another, and all of them end by number k
-pub record AreInOrder (k : ℕ) (runs : List Run) : Type 0 where
+pub record AreInOrder (k : ℕ) (runs : List CopyRange) : Type 0 where
   pub each : (v w : ℕ) → v < w → w < length runs → (get_or runs v no_run).first + (get_or runs v no_run).count ≤ (get_or runs w no_run).first
   pub last : All (λ r. r.first + r.count ≤ k) runs
 
@@ -65,7 +65,7 @@ abbrev pub records_of : List Stand → ℕ → List Stand
 records_of stands x = filter (λ s. s.face == x) stands
 
 -- runs and records that tell all copies: those of vertices come before number k, those of hits from there on, in lists of the two sides
-pub record HaveLists (p q : Side) (cs : List Copy) (k : ℕ) (p_runs q_runs : List Run) (stands : List Stand) : Type 0 where
+pub record HaveLists (p q : Side) (cs : List Copy) (k : ℕ) (p_runs q_runs : List CopyRange) (stands : List Stand) : Type 0 where
   pub p_side : IsSide p
   pub q_side : IsSide q
   pub p_copies : AreRunsOf cs PVertex p p_runs

@@ -2,11 +2,11 @@
 use Rattle.std.specs.Prelude.{ℕ, suc, ◌+◌, List, [], ◌∷◌, Bool, not, cond, ◌==◌, map, drop}
 use Rattle.chain_terms.specs.Sums.{up_from}
 use Rattle.mb_base.specs.declared.results.Entry.{Entry}
-use Rattle.face_lists.specs.declared.runs.Run.{Run}
+use Rattle.face_lists.specs.declared.runs.CopyRange.{CopyRange}
 use Rattle.face_lists.specs.declared.stands.Stand.{Stand}
 
 -- a vertex's copies as entries, at the start of a half-edge or at its end
-abbrev pub run_entries : Run → Bool → List Entry
+abbrev pub run_entries : CopyRange → Bool → List Entry
 run_entries r at_start = map (λ v. record { vertex = v; start = cond at_start (not r.negative) r.negative }) (up_from r.first r.count)
 
 -- the entry of a record

@@ -8,7 +8,7 @@ use Rattle.assembly_terms.specs.Lists.{Copy}
 use Rattle.assembly_terms.specs.Prescribed.{Numbers, p_kept, p_number, prescribed, q_kept, q_number}
 use Rattle.assembly_terms.specs.Standing.{IsBalanced}
 use Rattle.segment_terms.specs.Segments.{place_of, segments_of}
-use Rattle.face_lists.specs.declared.runs.Run.{Run}
+use Rattle.face_lists.specs.declared.runs.CopyRange.{CopyRange}
 use Rattle.face_lists.specs.declared.stands.Stand.{Stand}
 use Rattle.face_lists.specs.Agreement.{HaveLists, records_of}
 use Rattle.face_lists.specs.Parts.{CanBeSegments, segments_by}
@@ -24,12 +24,12 @@ PrescribedHaveLists = (op : Op) (p q : Side) (n : Numbers) → IsSide p → IsSi
 
 -- the segments that runs and records give a face are its segments
 abbrev pub ListsGiveSegments : Type 0
-ListsGiveSegments = (p q : Side) (cs : List Copy) (k : ℕ) (p_runs q_runs : List Run) (stands : List Stand) → HaveLists p q cs k p_runs q_runs stands →
+ListsGiveSegments = (p q : Side) (cs : List Copy) (k : ℕ) (p_runs q_runs : List CopyRange) (stands : List Stand) → HaveLists p q cs k p_runs q_runs stands →
     ((f : ℕ) → f < length p.triples → segments_by p p_runs (map (λ c. c.point) cs) f (records_of stands f) ≡ segments_of p q cs (place_of cs) f)
     × ((g : ℕ) → g < length q.triples → segments_by q q_runs (map (λ c. c.point) cs) g (records_of stands (length p.triples + g)) ≡ segments_of p q cs (place_of cs) (length p.triples + g))
 
 -- and where each list has as many starts as ends, they can be paired
 abbrev pub ListsCanBeSegments : Type 0
-ListsCanBeSegments = (p q : Side) (cs : List Copy) (k : ℕ) (p_runs q_runs : List Run) (stands : List Stand) → HaveLists p q cs k p_runs q_runs stands → IsBalanced p q cs →
+ListsCanBeSegments = (p q : Side) (cs : List Copy) (k : ℕ) (p_runs q_runs : List CopyRange) (stands : List Stand) → HaveLists p q cs k p_runs q_runs stands → IsBalanced p q cs →
     ((f : ℕ) → f < length p.triples → CanBeSegments p p_runs (map (λ c. c.point) cs) f (records_of stands f))
     × ((g : ℕ) → g < length q.triples → CanBeSegments q q_runs (map (λ c. c.point) cs) g (records_of stands (length p.triples + g)))

@@ -9,20 +9,20 @@ use Rattle.side_terms.specs.Sides.{Side}
 use Rattle.edge_pairing.specs.Entries.{ends_of, place_in, starts_of}
 use Rattle.edge_pairing.specs.Pairing.{paired_across}
 use Rattle.segment_terms.specs.Segments.{paired_on_edge}
-use Rattle.face_lists.specs.declared.runs.Run.{Run}
+use Rattle.face_lists.specs.declared.runs.CopyRange.{CopyRange}
 use Rattle.face_lists.specs.declared.stands.Stand.{Stand}
 use Rattle.face_lists.specs.Entries.{entry_of, list_count, run_entries}
 
-abbrev pub no_run : Run
+abbrev pub no_run : CopyRange
 no_run = record { first = 0; count = 0; negative = false }
 
 -- the copies of two vertices as entries of the half-edge from the one to the other, by their numbers
-abbrev pub end_entries : List Run → ℕ → ℕ → List Entry
+abbrev pub end_entries : List CopyRange → ℕ → ℕ → List Entry
 end_entries runs a b =
     cond (nat_lt a b) (run_entries (get_or runs a no_run) true ++ run_entries (get_or runs b no_run) false) (run_entries (get_or runs b no_run) false ++ run_entries (get_or runs a no_run) true)
 
 -- the entries of a half-edge: the copies of its ends, then those of its hits
-abbrev pub half_entries : Side → List Run → ℕ → List Stand → List Entry
+abbrev pub half_entries : Side → List CopyRange → ℕ → List Stand → List Entry
 half_entries side runs h ss = let es = all_edges side.triples in end_entries runs (start es h) (finish es h) ++ map entry_of ss
 
 -- the records of this list at the front, and what follows
@@ -33,7 +33,7 @@ abbrev pub rest : List Stand → ℕ → List Stand
 rest ss l = drop (list_count ss l) ss
 
 -- the segments of a half-edge, and of a pair of faces
-abbrev pub half_segments : Side → List Run → List (List ℤ) → ℕ → List Stand → List (ℕ × ℕ)
+abbrev pub half_segments : Side → List CopyRange → List (List ℤ) → ℕ → List Stand → List (ℕ × ℕ)
 half_segments side runs points h ss =
     let entries = half_entries side runs h ss in paired_on_edge side h (place_in points) (starts_of entries) (ends_of entries)
 
@@ -63,7 +63,7 @@ abbrev pub half_part : ℕ → List Stand → List Stand
 half_part l ss = front (after l ss) l
 
 -- the segments of a face: of its half-edges, then of its pairs
-abbrev pub segments_by : Side → List Run → List (List ℤ) → ℕ → List Stand → List (ℕ × ℕ)
+abbrev pub segments_by : Side → List CopyRange → List (List ℤ) → ℕ → List Stand → List (ℕ × ℕ)
 segments_by side runs points f ss =
     half_segments side runs points (3 * f) (half_part 0 ss)
     ++ (half_segments side runs points (3 * f + 1) (half_part 1 ss)
@@ -75,14 +75,14 @@ pub record CanBePaired (points : List (List ℤ)) (entries : List Entry) : Type 
   pub balanced : length (starts_of entries) ≡ length (ends_of entries)
 
 -- so are those of a face: of each half-edge, and of each group of pairs
-pub record CanBeSegments (side : Side) (runs : List Run) (points : List (List ℤ)) (f : ℕ) (ss : List Stand) : Type 0 where
+pub record CanBeSegments (side : Side) (runs : List CopyRange) (points : List (List ℤ)) (f : ℕ) (ss : List Stand) : Type 0 where
   pub first : CanBePaired points (half_entries side runs (3 * f) (half_part 0 ss))
   pub second : CanBePaired points (half_entries side runs (3 * f + 1) (half_part 1 ss))
   pub third : CanBePaired points (half_entries side runs (3 * f + 2) (half_part 2 ss))
   pub pairs : All (λ g. CanBePaired points (map entry_of g)) (groups (after 3 ss))
 
 -- a run for each vertex, with numbers below that of the points
-pub record AreRuns (side : Side) (points : ℕ) (runs : List Run) : Type 0 where
+pub record AreRuns (side : Side) (points : ℕ) (runs : List CopyRange) : Type 0 where
   pub each : length runs ≡ length side.corners
   pub below : All (λ r. r.first + r.count ≤ points) runs
   pub few : points ≤ most_halfedges

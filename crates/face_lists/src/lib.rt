@@ -12,6 +12,6 @@ mod segments;
 mod stands;
 
 pub use places::plane_of;
-pub use runs::{Run, runs_of};
+pub use runs::{CopyRange, runs_of};
 pub use segments::segments_of_face;
 pub use stands::{Stand, group_end, stands_of};

@@ -12,7 +12,7 @@ use std::alloc::Global;
 /// The copies of a vertex: the number of the first, how many there are, and whether the vertex is included a negative number
 /// of times.
 #[derive(Clone, Copy, Debug, PartialEq, Eq, Drop)]
-pub struct Run {
+pub struct CopyRange {
     pub first: u32,
     pub count: u32,
     pub negative: bool,
@@ -26,7 +26,7 @@ pub fn runs_of(
     operand: Operand,
     windings: &[i64],
     first: u32,
-) -> Result<Vec<Run>, NoMemory>
+) -> Result<Vec<CopyRange>, NoMemory>
     requires small { AreSmallWindings windings.now }
     requires fits { first + vertex_count (vertex_number op operand) windings.now < 2 ^ 32 }
     ensures { IfOk result (λ runs. runs.items ≡ runs_from first (map (vertex_number op operand) windings.now)) }
@@ -36,7 +36,7 @@ pub fn runs_of(
     for winding in windings {
         let number = operand.number(op, *winding);
         let count = number.unsigned_abs() as u32;
-        runs.push(Run {
+        runs.push(CopyRange {
             first,
             count,
             negative: number < 0,

@@ -9,7 +9,7 @@ ghost use Rattle.face_lists.specs.Parts.{AreRuns, CanBePaired, CanBeSegments, fr
 
 use crate::entries::{list_end, push_run, push_stands};
 use crate::places::edge_ends;
-use crate::runs::Run;
+use crate::runs::CopyRange;
 use crate::stands::Stand;
 use edge_pairing::{segments_of_edge, segments_of_pair};
 use lean::Side;
@@ -22,7 +22,7 @@ use std::alloc::Global;
 pub fn segments_of_face(
     alloc: Global,
     side: &Side,
-    runs: &[Run],
+    runs: &[CopyRange],
     face: u32,
     stands: &[Stand],
     points: &[Point],
@@ -64,7 +64,7 @@ fn push_half(
     alloc: Global,
     segments: &mut Vec<Segment>,
     side: &Side,
-    runs: &[Run],
+    runs: &[CopyRange],
     half: u32,
     stands: &[Stand],
     points: &[Point],
@@ -84,7 +84,7 @@ fn push_half(
 fn half_entries(
     alloc: Global,
     side: &Side,
-    runs: &[Run],
+    runs: &[CopyRange],
     half: u32,
     stands: &[Stand],
 ) -> Result<Vec<Entry>, NoMemory>

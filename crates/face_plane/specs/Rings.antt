@@ -46,7 +46,7 @@ pub record Three (r : List ℕ) : Type 0 where
   pub ca : c ≢ a
 
 -- what every ring keeps: three places or more, different vertices at neighbouring places, three different vertices
-pub record Ringy (r : List ℕ) : Type 0 where
+pub record IsRing (r : List ℕ) : Type 0 where
   pub long : 3 ≤ length r
   pub apart : All (λ e. e.0 ≢ e.1) (round_edges r)
   pub three : Three r

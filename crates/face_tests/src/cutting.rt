@@ -2,7 +2,7 @@
 ghost use Rattle.std.specs.Prelude.{◌≢◌, ◌<◌, ◌≤◌, IsTrue, length};
 ghost use Rattle.std.specs.List.{All};
 ghost use Rattle.chain_terms.specs.Paths.{round_edges};
-ghost use Rattle.face_plane.specs.Rings.{Ringy, Three};
+ghost use Rattle.face_plane.specs.Rings.{IsRing, Three};
 
 mod table;
 
@@ -56,7 +56,7 @@ pub fn are_below(ring: &[u32], count: usize) -> bool
 
 // Whether a ring can be cut.
 fn can_be_cut(ring: &[u32], count: usize) -> bool
-    ensures ringy { IsTrue result → Ringy ring.now }
+    ensures ringy { IsTrue result → IsRing ring.now }
     ensures below { IsTrue result → All (λ v. v < count) ring.now }
     ensures few { IsTrue result → length ring.now ≤ 100000000 }
 {

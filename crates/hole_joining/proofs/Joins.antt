@@ -13,7 +13,7 @@ use Rattle.chain_terms.specs.Paths.{path, last_of, round_edges}
 use Rattle.chain_laws.specs.Sums.{total-append}
 use Rattle.chain_laws.specs.Counts.{one_if-true, one_if-false}
 use Rattle.chain_laws.proofs.Paths.{last_of-append, path-append, total-round_edges}
-use Rattle.face_plane.specs.Rings.{In, Three, Ringy, vertex_at}
+use Rattle.face_plane.specs.Rings.{In, Three, IsRing, vertex_at}
 use Rattle.hole_joining.specs.Bridges.{join}
 use Rattle.hole_joining.specs.Holes.{turned_to}
 use Rattle.hole_joining.proofs.Turning.{once_round, round_later, round_turned, length-turned, often, often-append, often-turned, in_more}
@@ -115,7 +115,7 @@ pub three_within : (r s : List ℕ) → ((v : ℕ) → In v r → In v s) → Th
 three_within r s f t = record { a = t.a; b = t.b; c = t.c; a_in = f t.a t.a_in; b_in = f t.b t.b_in; c_in = f t.c t.c_in; ab = t.ab; bc = t.bc; ca = t.ca }
 
 -- a ring stays one where it begins at another place
-pub ringy_turned : (i : ℕ) (r : List ℕ) → Ringy r → Ringy (turned_to i r)
+pub ringy_turned : (i : ℕ) (r : List ℕ) → IsRing r → IsRing (turned_to i r)
 ringy_turned i r h = record {
   long = omega (arith, length-turned i r, h.long);
   apart = apart_from_none (round_edges (turned_to i r)) (round_turned stutter i r ∙ none_stutters (round_edges r) h.apart);
@@ -123,7 +123,7 @@ ringy_turned i r h = record {
 }
 
 -- a ring with a hole joined is one, where the hole's start is not the vertex of the place
-pub ringy_join : (r : List ℕ) (i : ℕ) (hole : List ℕ) → Ringy r → Ringy hole → i < length r → vertex_at r i ≢ vertex_at hole 0 → Ringy (join r i hole)
+pub ringy_join : (r : List ℕ) (i : ℕ) (hole : List ℕ) → IsRing r → IsRing hole → i < length r → vertex_at r i ≢ vertex_at hole 0 → IsRing (join r i hole)
 ringy_join r i [] ring h within apart = absurd (omega (arith, h.long))
 ringy_join r i (x ∷ k) ring h within apart =
     let differ : get_or r i 0 ≢ x = λ e. apart (vertex_within r i within ∙ e ∙ sym (vertex_within (x ∷ k) 0 (omega arith))) in

@@ -13,7 +13,7 @@ use Rattle.chain_terms.specs.Paths.{round_edges}
 use Rattle.chain_laws.specs.Counts.{one_if-false}
 use Rattle.chain_laws.specs.Sums.{total-flat_map}
 use Rattle.face_plane.specs.Planes.{Plane, settled_plane}
-use Rattle.face_plane.specs.Rings.{In, Ringy, vertex_at}
+use Rattle.face_plane.specs.Rings.{In, IsRing, vertex_at}
 use Rattle.hole_joining.specs.declared.bridge.Bridge.{Bridge}
 use Rattle.hole_joining.specs.Bridges.{all_bridges, chosen, is_clear_bridge, chosen_bridge, join, bridged, joined, join_holes}
 use Rattle.hole_joining.specs.Holes.{is_ring, ring_list, hole_list}
@@ -64,8 +64,8 @@ ends_none v a b xs ys p q none less = omega (arith, often-cons v a (b ∷ []), o
 
 -- rings, and holes that can be joined to them: none without a ring, and no vertex of a hole in a ring or in another hole
 pub record CanJoin (rings holes : List (List ℕ)) : Type 0 where
-  pub ringy : All Ringy rings
-  pub ringy_holes : All Ringy holes
+  pub ringy : All IsRing rings
+  pub ringy_holes : All IsRing holes
   pub some : 0 < length holes → 0 < length rings
   pub apart : (v : ℕ) → (tally v holes ≡ pos 0) ⊎ ((tally v holes ≡ pos 1) × (tally v rings ≡ pos 0))
 
@@ -73,7 +73,7 @@ pub record CanJoin (rings holes : List (List ℕ)) : Type 0 where
 ends_differ : (rings later : List (List ℕ)) (hole : List ℕ) (b : Bridge) → CanJoin rings (hole ∷ later) → LeadsTo rings b → vertex_at (get_or rings b.ring []) b.place ≢ vertex_at hole 0
 ends_differ rings later hole b can leads e =
     let h = vertex_at hole 0 in
-    let long = (All-head Ringy hole later can.ringy_holes).long in
+    let long = (All-head IsRing hole later can.ringy_holes).long in
     let here = in_often h hole (vertex_in hole 0 (omega (arith, long))) in
     let there = in_often (vertex_at (get_or rings b.ring []) b.place) (get_or rings b.ring []) (vertex_in (get_or rings b.ring []) b.place leads.place) in
     let same = ap (λ v. often v (get_or rings b.ring [])) e in
@@ -90,11 +90,11 @@ after_join rings hole b = set rings b.ring (join (get_or rings b.ring []) b.plac
 can_join_next : (rings later : List (List ℕ)) (hole : List ℕ) (b : Bridge) → CanJoin rings (hole ∷ later) → LeadsTo rings b → CanJoin (after_join rings hole b) later
 can_join_next rings later hole b can leads =
     let ring = get_or rings b.ring [] in
-    let is_ring = All-get_or Ringy rings b.ring [] leads.ring can.ringy in
-    let is_hole = All-head Ringy hole later can.ringy_holes in
+    let is_ring = All-get_or IsRing rings b.ring [] leads.ring can.ringy in
+    let is_hole = All-head IsRing hole later can.ringy_holes in
     record {
-      ringy = All-set Ringy rings b.ring (join ring b.place hole) (ringy_join ring b.place hole is_ring is_hole leads.place (ends_differ rings later hole b can leads)) can.ringy;
-      ringy_holes = All-tail Ringy hole later can.ringy_holes;
+      ringy = All-set IsRing rings b.ring (join ring b.place hole) (ringy_join ring b.place hole is_ring is_hole leads.place (ends_differ rings later hole b can leads)) can.ringy;
+      ringy_holes = All-tail IsRing hole later can.ringy_holes;
       some = λ h. omega (arith, length-set rings b.ring (join ring b.place hole), leads.ring);
       apart = λ v.
           (let put = total-set (λ r. pos (often v r)) rings b.ring (join ring b.place hole) leads.ring in
@@ -116,7 +116,7 @@ can_join_next rings later hole b can leads =
 -- what joining keeps of rings and holes
 pub record Keeps (rings holes out : List (List ℕ)) : Type 0 where
   pub count : length out ≡ length rings
-  pub ringy : All Ringy out
+  pub ringy : All IsRing out
   pub below : (n : ℕ) → All (λ r. All (λ v. v < n) r) rings → All (λ r. All (λ v. v < n) r) holes → All (λ r. All (λ v. v < n) r) out
   pub places : total (λ r. pos (length r)) out ≡ (total (λ r. pos (length r)) rings +ℤ total (λ r. pos (length r)) holes) +ℤ pos (2 * length holes)
   pub sums : (f : ℕ → ℕ → ℤ) → IsOdd f → total (once_round (along f)) out ≡ total (once_round (along f)) rings +ℤ total (once_round (along f)) holes
@@ -141,7 +141,7 @@ keeps_one : (rings later out : List (List ℕ)) (hole : List ℕ) (b : Bridge) �
 keeps_one rings later out hole b can leads k =
     let ring = get_or rings b.ring [] in
     let next = join ring b.place hole in
-    let some : 0 < length hole = omega (arith, (All-head Ringy hole later can.ringy_holes).long) in
+    let some : 0 < length hole = omega (arith, (All-head IsRing hole later can.ringy_holes).long) in
     record {
       count = k.count ∙ length-set rings b.ring next;
       ringy = k.ringy;
@@ -154,9 +154,9 @@ keeps_one rings later out hole b can leads k =
     }
 
 -- where there is a ring, a bridge is chosen
-some_bridge : (at : Plane) (h : ℕ) (clear : Bridge → Bool) (rings : List (List ℕ)) → 0 < length rings → All Ringy rings → chosen clear (all_bridges at h 0 rings) ≡ None → ⊥
+some_bridge : (at : Plane) (h : ℕ) (clear : Bridge → Bool) (rings : List (List ℕ)) → 0 < length rings → All IsRing rings → chosen clear (all_bridges at h 0 rings) ≡ None → ⊥
 some_bridge at h clear [] some ringy e = omega (arith, some)
-some_bridge at h clear ([] ∷ rest) some ringy e = omega (arith, (All-head Ringy [] rest ringy).long)
+some_bridge at h clear ([] ∷ rest) some ringy e = omega (arith, (All-head IsRing [] rest ringy).long)
 some_bridge at h clear ((r ∷ rs) ∷ rest) some ringy e = chosen_some clear _ _ e
 
 -- every hole joined
@@ -185,8 +185,8 @@ can_join at loops points f =
     let p = settled_plane at loops in
     let ringy = ringy_loops loops f.long (each_once loops (often_once (concat loops) f.different)) in
     record {
-      ringy = All-kept Ringy (is_ring p) loops ringy;
-      ringy_holes = All-hole_list p Ringy (λ l h. ringy_turned _ l h) loops ringy;
+      ringy = All-kept IsRing (is_ring p) loops ringy;
+      ringy_holes = All-hole_list p IsRing (λ l h. ringy_turned _ l h) loops ringy;
       some = λ h. some_ring p loops (settled_up at loops) (omega (arith, h, length-hole_list p loops));
       apart = λ v.
           (let told = told_total p (λ r. pos (often v r)) (λ l. ap pos (often-turned v _ l)) loops in

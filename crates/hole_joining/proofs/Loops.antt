@@ -12,7 +12,7 @@ use Rattle.chain_terms.specs.Paths.{path, last_of, round_edges}
 use Rattle.chain_laws.specs.Counts.{one_if-true, one_if-false}
 use Rattle.chain_laws.specs.Sums.{total-append, total-map, total-same, total-neg}
 use Rattle.face_plane.specs.Planes.{Plane, across, area, exchanged, settled_plane, is_turned}
-use Rattle.face_plane.specs.Rings.{In, Ringy, vertex_at}
+use Rattle.face_plane.specs.Rings.{In, IsRing, vertex_at}
 use Rattle.hole_joining.specs.Holes.{comes_first, from_start, is_ring, is_hole, ring_list, put_hole, put_all, hole_list}
 use Rattle.face_loops.specs.Segments.{AreDifferent}
 use Rattle.hole_joining.proofs.Turning.{often, often-append, often-cons, often_in, in_often}
@@ -74,7 +74,7 @@ path_apart x (y ∷ r) once =
     omega (arith, ints, here, path_apart y r (λ v. omega (arith, once v, often-cons v x (y ∷ r))))
 
 -- a loop of three vertices or more, none twice, is a ring
-pub ringy_loop : (l : List ℕ) → 3 ≤ length l → IsOnce l → Ringy l
+pub ringy_loop : (l : List ℕ) → 3 ≤ length l → IsOnce l → IsRing l
 ringy_loop [] long once = absurd (omega (arith, long))
 ringy_loop (a ∷ []) long once = absurd (omega (arith, long))
 ringy_loop (a ∷ b ∷ []) long once = absurd (omega (arith, long))
@@ -97,10 +97,10 @@ ringy_loop (a ∷ b ∷ c ∷ r) long once = record {
 }
 
 -- so all loops are
-pub ringy_loops : (ls : List (List ℕ)) → All (λ l. 3 ≤ length l) ls → All IsOnce ls → All Ringy ls
-ringy_loops [] long once = All-nil Ringy
+pub ringy_loops : (ls : List (List ℕ)) → All (λ l. 3 ≤ length l) ls → All IsOnce ls → All IsRing ls
+ringy_loops [] long once = All-nil IsRing
 ringy_loops (l ∷ ls) long once =
-    All-cons Ringy l ls (ringy_loop l (All-head (λ (l : List ℕ). 3 ≤ length l) l ls long) (All-head IsOnce l ls once)) (ringy_loops ls (All-tail (λ (l : List ℕ). 3 ≤ length l) l ls long) (All-tail IsOnce l ls once))
+    All-cons IsRing l ls (ringy_loop l (All-head (λ (l : List ℕ). 3 ≤ length l) l ls long) (All-head IsOnce l ls once)) (ringy_loops ls (All-tail (λ (l : List ℕ). 3 ≤ length l) l ls long) (All-tail IsOnce l ls once))
 
 -- a loop is a ring or a hole, by the sign of its area
 ring_or_hole : (z : ℤ) → ((int_le (pos 0) z ≡ true) × (int_lt z (pos 0) ≡ false)) ⊎ ((int_le (pos 0) z ≡ false) × (int_lt z (pos 0) ≡ true))

@@ -6,7 +6,7 @@ use Rattle.chain_terms.specs.Paths.{round_edges}
 use Rattle.mesh_terms.specs.Limits.{most_halfedges}
 use Rattle.face_loops.specs.Segments.{AreDifferent}
 use Rattle.face_plane.specs.Planes.{Plane, settled_plane, plane_of, point_at}
-use Rattle.face_plane.specs.Rings.{Ringy}
+use Rattle.face_plane.specs.Rings.{IsRing}
 use Rattle.hole_joining.specs.Holes.{ring_count, hole_count}
 
 -- the plane that drops an axis, exchanged where the areas of the loops add up to less than 0
@@ -30,7 +30,7 @@ HasPlaces at loops rings = length (concat rings) ≡ length (concat loops) + 2 *
 -- every odd function, so the boundary and the area of the loops
 pub record IsJoining (at : Plane) (loops rings : List (List ℕ)) (points : ℕ) : Type 0 where
   pub count : length rings ≡ ring_count at loops
-  pub ringy : All Ringy rings
+  pub ringy : All IsRing rings
   pub below : All (λ ring. All (λ v. v < points) ring) rings
   pub places : HasPlaces at loops rings
   pub chain : SameChain (flat_map round_edges rings) (flat_map round_edges loops)

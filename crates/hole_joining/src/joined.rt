@@ -4,7 +4,7 @@ ghost use Rattle.std.specs.List.{All, flat_map};
 ghost use Rattle.chain_terms.specs.Odd.{SameChain};
 ghost use Rattle.chain_terms.specs.Paths.{round_edges};
 ghost use Rattle.face_plane.specs.Planes.{is_turned, plane_of, point_at};
-ghost use Rattle.face_plane.specs.Rings.{Ringy};
+ghost use Rattle.face_plane.specs.Rings.{IsRing};
 ghost use Rattle.hole_joining.specs.Bridges.{join_holes};
 ghost use Rattle.hole_joining.specs.Holes.{ring_count};
 ghost use Rattle.hole_joining.specs.Laws.{AreFillable, HasPlaces, settled_in};
@@ -58,7 +58,7 @@ pub fn join_holes(
     ensures places { IfOk result (λ j. HasPlaces (settled_in plane.drop points.now loops.now) loops.now j.rings.items) }
 
     // Each ring has different neighbours and three different vertices, each with a point.
-    ensures ringy { IfOk result (λ j. All Ringy j.rings.items) }
+    ensures ringy { IfOk result (λ j. All IsRing j.rings.items) }
     ensures below { IfOk result (λ j. All (λ ring. All (λ v. v < length points.now) ring) j.rings.items) }
 
     // Every odd function has the same sum round the rings as round the loops, so boundary and areas are the same.

@@ -1,10 +1,10 @@
 // Meshes of boxes.
 use lean::Side;
 use mesh_check::Mesh;
-use sample_lines::plain_side;
-use samples::{BOX, box_points, soup_of};
 use std::alloc::Global;
 use std::test::Fail;
+use test_soups::{BOX, box_points, soup_of};
+use test_tables::plain_side;
 
 // The lowest and the highest corner of a box.
 pub(crate) type Span = [[i32; 3]; 2];

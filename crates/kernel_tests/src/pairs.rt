@@ -4,10 +4,10 @@ use crossings::crossings;
 use lean::Side;
 use mb_base::{Hit, Op};
 use rounding::Nearest;
-use sample_lines::marked_side;
 use shadow_kernels::Grid;
 use std::alloc::Global;
 use std::test::Fail;
+use test_tables::marked_side;
 
 const CUBE: Span = [[0; 3], [10; 3]];
 

@@ -10,13 +10,13 @@ use lean::{Side, corner_of};
 use mb_base::Point;
 use mesh_check::Mesh;
 use rounding::Nearest;
-use samples::{BOX, box_points};
 use shadow_kernels::Grid;
 use std::alloc::Global;
 use std::marker::Brand;
 use std::sync::ledger::{Blank, Ledger};
 use std::test::Fail;
 use steps::Steps;
+use test_soups::{BOX, box_points};
 use winding::{winding_at, winding_sum};
 
 const CUBE: Span = [[0; 3], [100_000; 3]];

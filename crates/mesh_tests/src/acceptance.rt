@@ -3,10 +3,10 @@ mod table;
 
 use crate::lines::{DOUBLED, consists_of, line_mesh, read_row};
 use mesh_check::{Mesh, MeshFault, is_plainly_reduced, reduce};
-use samples::{BOX, TETRAHEDRON, line_soup};
 use std::alloc::Global;
 use std::test::Fail;
 use table::{BOX_AND_SHEET, ROWS, SHEET_AND_BOX, SHEETS_AND_TETRAHEDRON};
+use test_soups::{BOX, TETRAHEDRON, line_soup};
 
 // Where the mesh of these triangles is open.
 fn fault_of(alloc: Global, count: u8, triples: &[[u32; 3]]) -> Result<Option<MeshFault>, Fail> {

@@ -1,9 +1,9 @@
 // Meshes over points on a line, and lines of text that tell of them.
 use mb_base::{Point, Soup};
 use mesh_check::Mesh;
-use samples::line_soup;
 use std::alloc::Global;
 use std::test::Fail;
+use test_soups::line_soup;
 
 // A tetrahedron whose triangles come twice: two half-edges run the same way along each edge.
 pub(crate) const DOUBLED: [[u32; 3]; 8] = [

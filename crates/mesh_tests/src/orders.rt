@@ -1,10 +1,10 @@
 // Forests of small meshes, worked out by hand.
 use crate::lines::line_mesh;
 use mesh_check::Mesh;
-use samples::{TETRAHEDRON, two_boxes};
 use spanning_forest::{Entrance, forest};
 use std::alloc::Global;
 use std::test::Fail;
+use test_soups::{TETRAHEDRON, two_boxes};
 
 // The roots of a mesh's forest.
 fn roots_of(alloc: Global, mesh: &Mesh) -> Result<Vec<u32>, Fail> {

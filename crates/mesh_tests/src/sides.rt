@@ -3,10 +3,10 @@ use crate::lines::accepted;
 use lean::{Side, leans};
 use mb_base::{Box3, Corner, Op, UNIT};
 use mesh_check::Mesh;
-use samples::{box_soup, soup_of};
 use std::alloc::Global;
 use std::process::Abort;
 use std::test::Fail;
+use test_soups::{box_soup, soup_of};
 
 // The box from the origin to (10, 10, 10).
 fn box_mesh(alloc: Global) -> Result<Mesh, Fail> {

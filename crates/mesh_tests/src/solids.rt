@@ -6,9 +6,9 @@ use mesh_make::{
     MakeFault, make_box, make_lattice, make_prism, make_tetra, measure, mirror, quarter_turn,
     scale, shift, volume6,
 };
-use samples::{BOX, soup_of, two_boxes};
 use std::alloc::Global;
 use std::test::Fail;
+use test_soups::{BOX, soup_of, two_boxes};
 
 const GRID_END: i32 = 1 << 30;
 

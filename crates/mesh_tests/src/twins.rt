@@ -1,9 +1,9 @@
 // Small meshes, with twins and fans known from outside.
 use crate::lines::DOUBLED;
 use halfedge::{Fans, TwinFault, Twins};
-use samples::{TETRAHEDRON, line_soup, two_boxes};
 use std::alloc::Global;
 use std::test::Fail;
+use test_soups::{TETRAHEDRON, line_soup, two_boxes};
 
 // The twins of triangles over so many points on a line.
 fn line_twins(alloc: Global, count: u8, triples: &[[u32; 3]]) -> Result<Twins, Fail> {

@@ -11,7 +11,6 @@ use mesh_boolean::{Outcome, boolean};
 use mesh_check::Mesh;
 use retained_verts::PrescribeFault;
 use rounding::{High, Low, Nearest, Rounding};
-use sample_lines::{read_meshes, read_pair};
 use std::alloc::Global;
 use std::marker::Brand;
 use std::process::Abort;
@@ -19,6 +18,7 @@ use std::sync::ledger::{Blank, Ledger};
 use std::test::Fail;
 use steps::Steps;
 use table::PAIRS;
+use test_tables::{read_meshes, read_pair};
 
 // What an operation gives under kernels.
 fn answer<K: Kernels, L: Ledger>(

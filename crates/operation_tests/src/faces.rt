@@ -14,11 +14,11 @@ use lean::Side;
 use mb_base::{Hits, Limits, Op, Windings};
 use mesh_check::{Mesh, reduce};
 use retained_verts::prescribe;
-use sample_lines::{marked_side, plain_side, read_numbers, read_pair};
 use std::alloc::Global;
 use std::process::Abort;
 use std::test::Fail;
 use table::PAIRS;
+use test_tables::{marked_side, plain_side, read_numbers, read_pair};
 use text::push_prescribed;
 use words::push_faces;
 

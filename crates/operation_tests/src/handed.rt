@@ -6,7 +6,7 @@ ghost use Rattle.side_terms.specs.Hits.{AreHits};
 
 use lean::Side;
 use mb_base::{Hits, Windings};
-use sample_lines::{are_hits, are_windings};
+use test_tables::{are_hits, are_windings};
 
 /// Whether these are numbers of two sides.
 pub fn are_of_sides(p: &Side, q: &Side, windings: &Windings, hits: &Hits) -> bool

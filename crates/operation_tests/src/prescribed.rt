@@ -8,11 +8,11 @@ use lean::Side;
 use mb_base::{Limits, Op};
 use mesh_check::Mesh;
 use retained_verts::{PrescribeFault, Prescribed, prescribe};
-use sample_lines::{POST_IN_BOX, plain_side, read_meshes, read_numbers, read_pair};
 use std::alloc::Global;
 use std::process::Abort;
 use std::test::Fail;
 use table::PAIRS;
+use test_tables::{POST_IN_BOX, plain_side, read_meshes, read_numbers, read_pair};
 use text::text_of;
 
 // What the numbers of a line prescribe for two sides.

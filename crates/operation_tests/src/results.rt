@@ -12,7 +12,6 @@ use mesh_boolean::{Outcome, boolean};
 use mesh_check::Mesh;
 use retained_verts::PrescribeFault;
 use rounding::{High, Low, Nearest};
-use sample_lines::{POST_IN_BOX, read_meshes, read_pair};
 use shadow_kernels::Grid;
 use std::alloc::Global;
 use std::marker::Brand;
@@ -21,6 +20,7 @@ use std::sync::ledger::{Blank, Ledger};
 use std::test::Fail;
 use steps::Steps;
 use table::{FARTHEST, LOOSE, SOLIDS, WORKED};
+use test_tables::{POST_IN_BOX, read_meshes, read_pair};
 use text::text_of;
 use volume::volume6;
 

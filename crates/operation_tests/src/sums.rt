@@ -11,13 +11,13 @@ use mesh_check::{Mesh, reduce};
 use mesh_make::{make_box, make_lattice};
 use mesh_measures::measure;
 use rounding::Nearest;
-use samples::{box_points, soup_of, two_boxes};
 use shadow_kernels::Grid;
 use std::alloc::Global;
 use std::marker::Brand;
 use std::sync::ledger::{Blank, Ledger};
 use std::test::Fail;
 use steps::Steps;
+use test_soups::{box_points, soup_of, two_boxes};
 
 // How many components a mesh has once it is reduced.
 fn reduced_components(alloc: Global, mesh: &Mesh) -> Result<u64, NoMemory>

@@ -4,7 +4,7 @@ use Rattle.std.proofs.Common.{arith, refl, sym, subst, ap, ◌∙◌, inl, inr}
 use Rattle.std.proofs.lemmas.Bool.{cases_eq}
 use Rattle.std.proofs.lemmas.List.{append_assoc}
 use Rattle.chain_terms.specs.Paths.{round_edges}
-use Rattle.face_plane.specs.Rings.{In, Three, Ringy}
+use Rattle.face_plane.specs.Rings.{In, Three, IsRing}
 use Rattle.ring_cutting.proofs.Members.{head_or, in_front, in_back, in_either, three_within}
 use Rattle.ring_cutting.proofs.Rounds.{Apart, parts_at}
 use Rattle.ring_cutting.proofs.Allowed.{Cuts, three_steps, Allowed, middle_cut, next_cut, behind_cut, front_cut}
@@ -85,34 +85,34 @@ stands_round a p x n b q s round v h = elim (in_either v a (p ∷ x ∷ n ∷ b)
   ]
 ]
 
-steps_at : (a : List ℕ) (p x n : ℕ) (b : List ℕ) (q : ℕ) (s : List ℕ) → b ++ a ≡ q ∷ s → p ≢ n → Ringy (a ++ p ∷ x ∷ n ∷ b) → Cuts p x n q s
+steps_at : (a : List ℕ) (p x n : ℕ) (b : List ℕ) (q : ℕ) (s : List ℕ) → b ++ a ≡ q ∷ s → p ≢ n → IsRing (a ++ p ∷ x ∷ n ∷ b) → Cuts p x n q s
 steps_at a p x n b q s round pn ringy =
     three_steps p x n q s pn (next_apart a p x n b q s round ringy.apart) (three_within (a ++ p ∷ x ∷ n ∷ b) (p ∷ x ∷ n ∷ q ∷ s) (stands_round a p x n b q s round) ringy.three)
 
 -- the three places, where the ring goes on behind them, and where it goes on in front
-allowed_behind : (a : List ℕ) (p x n q : ℕ) (b : List ℕ) → p ≢ n → Ringy (a ++ p ∷ x ∷ n ∷ q ∷ b) → Allowed (a ++ p ∷ x ∷ n ∷ q ∷ b)
+allowed_behind : (a : List ℕ) (p x n q : ℕ) (b : List ℕ) → p ≢ n → IsRing (a ++ p ∷ x ∷ n ∷ q ∷ b) → Allowed (a ++ p ∷ x ∷ n ∷ q ∷ b)
 allowed_behind a p x n q b pn ringy = elim (steps_at a p x n (q ∷ b) q (b ++ a) refl pn ringy) as (λ _. Allowed (a ++ p ∷ x ∷ n ∷ q ∷ b)) [
   | inl may ↦ middle_cut a p x n (q ∷ b) may
   | inr (inl may) ↦ next_cut a p x n q (b ++ a) (q ∷ b) refl may
   | inr (inr may) ↦ behind_cut a p x n q b may
 ]
 
-allowed_front : (p x n q : ℕ) (a : List ℕ) → p ≢ n → Ringy ((q ∷ a) ++ p ∷ x ∷ n ∷ []) → Allowed ((q ∷ a) ++ p ∷ x ∷ n ∷ [])
+allowed_front : (p x n q : ℕ) (a : List ℕ) → p ≢ n → IsRing ((q ∷ a) ++ p ∷ x ∷ n ∷ []) → Allowed ((q ∷ a) ++ p ∷ x ∷ n ∷ [])
 allowed_front p x n q a pn ringy = elim (steps_at (q ∷ a) p x n [] q a refl pn ringy) as (λ _. Allowed ((q ∷ a) ++ p ∷ x ∷ n ∷ [])) [
   | inl may ↦ middle_cut (q ∷ a) p x n [] may
   | inr (inl may) ↦ next_cut (q ∷ a) p x n q a [] refl may
   | inr (inr may) ↦ front_cut p x n q a may
 ]
 
-allowed_of : (a : List ℕ) (p x n : ℕ) (b : List ℕ) → p ≢ n → Ringy (a ++ p ∷ x ∷ n ∷ b) → 4 ≤ length (a ++ p ∷ x ∷ n ∷ b) → Allowed (a ++ p ∷ x ∷ n ∷ b)
+allowed_of : (a : List ℕ) (p x n : ℕ) (b : List ℕ) → p ≢ n → IsRing (a ++ p ∷ x ∷ n ∷ b) → 4 ≤ length (a ++ p ∷ x ∷ n ∷ b) → Allowed (a ++ p ∷ x ∷ n ∷ b)
 allowed_of a p x n (q ∷ b) pn ringy four = allowed_behind a p x n q b pn ringy
 allowed_of (q ∷ a) p x n [] pn ringy four = allowed_front p x n q a pn ringy
 allowed_of [] p x n [] pn ringy four = absurd (omega (arith, four))
 
 -- every ring of four or more places has an allowed place
-pub some_allowed : (r : List ℕ) → Ringy r → 4 ≤ length r → Allowed r
+pub some_allowed : (r : List ℕ) → IsRing r → 4 ≤ length r → Allowed r
 some_allowed r ringy four =
     let b = some_bent r (omega (arith, four)) ringy.three in
-    let P : List ℕ → Type 0 = λ l. Ringy l → 4 ≤ length l → Allowed l in
+    let P : List ℕ → Type 0 = λ l. IsRing l → 4 ≤ length l → Allowed l in
     let f : P r = subst P (sym b.joined) (allowed_of b.front b.before b.vertex b.after b.back b.bent) in
     f ringy four

@@ -9,7 +9,7 @@ use Rattle.chain_terms.specs.Odd.{IsOdd, along}
 use Rattle.chain_terms.specs.Paths.{round_edges, last_of}
 use Rattle.mesh_terms.specs.Meshes.{HasThree}
 use Rattle.face_plane.specs.Planes.{Plane, orient}
-use Rattle.face_plane.specs.Rings.{In, Ringy, without_place, vertex_at, vertex_before, vertex_after}
+use Rattle.face_plane.specs.Rings.{In, IsRing, without_place, vertex_at, vertex_before, vertex_after}
 use Rattle.ring_cutting.specs.Cuts.{is_allowed, is_ear, first_ear, first_allowed, cut_place, forced_here, triple_at}
 use Rattle.ring_cutting.specs.Laws.{IsOf}
 use Rattle.ring_cutting.proofs.Members.{head_or, in_wider, in_middle, in_moved, last_in, head_in}
@@ -21,7 +21,7 @@ use Rattle.ring_cutting.proofs.FirstPlaces.{passes, not_before}
 
 -- what a cut at a place gives and leaves
 pub record IsStep (r : List ℕ) (i : ℕ) : Type 0 where
-  pub ringy : Ringy (without_place i r)
+  pub ringy : IsRing (without_place i r)
   pub shorter : length r ≡ suc (length (without_place i r))
   pub sums : (f : ℕ → ℕ → ℤ) → IsOdd f → total (along f) (round_edges r) ≡ total (along f) (edges (triple_at r i)) +ℤ total (along f) (round_edges (without_place i r))
   pub three : HasThree (triple_at r i)
@@ -32,7 +32,7 @@ pub record IsStep (r : List ℕ) (i : ℕ) : Type 0 where
 in_ring : (a : List ℕ) (x : ℕ) (b : List ℕ) (v : ℕ) → In v (x ∷ (b ++ a)) → In v (a ++ x ∷ b)
 in_ring a x b v h = in_moved v (x ∷ b) a h
 
-step_middle : (a : List ℕ) (x : ℕ) (b : List ℕ) → Ringy (a ++ x ∷ b) → 4 ≤ length (a ++ x ∷ b) → is_allowed (a ++ x ∷ b) (length a) ≡ true → IsStep (a ++ x ∷ b) (length a)
+step_middle : (a : List ℕ) (x : ℕ) (b : List ℕ) → IsRing (a ++ x ∷ b) → 4 ≤ length (a ++ x ∷ b) → is_allowed (a ++ x ∷ b) (length a) ≡ true → IsStep (a ++ x ∷ b) (length a)
 step_middle a x b ringy four allowed =
     let may = from_allowed a x b allowed in
     let long : length (a ++ x ∷ b) ≡ suc (length (a ++ b)) = omega (arith, split_length a x b, length-append a b) in
@@ -49,10 +49,10 @@ step_middle a x b ringy four allowed =
     }
 
 -- an allowed place may be cut
-pub step : (r : List ℕ) (i : ℕ) → Ringy r → 4 ≤ length r → i < length r → is_allowed r i ≡ true → IsStep r i
+pub step : (r : List ℕ) (i : ℕ) → IsRing r → 4 ≤ length r → i < length r → is_allowed r i ≡ true → IsStep r i
 step r i ringy four within allowed =
     let s = splits_at r i within in
-    let P : List ℕ → Type 0 = λ l. Ringy l → 4 ≤ length l → is_allowed l (length s.front) ≡ true → IsStep l (length s.front) in
+    let P : List ℕ → Type 0 = λ l. IsRing l → 4 ≤ length l → is_allowed l (length s.front) ≡ true → IsStep l (length s.front) in
     let Q : ℕ → Type 0 = λ k. is_allowed r k ≡ true → IsStep r k in
     let f : P r = subst P (sym s.joined) (step_middle s.front s.vertex s.back) in
     let g : Q i = subst Q (sym s.place) (f ringy four) in
@@ -74,14 +74,14 @@ chosen_ear at r l =
     let both = and_parts (is_allowed r i) (int_lt (pos 0) (orient at (vertex_before r i) (vertex_at r i) (vertex_after r i))) left.0 in
     record { within = rw test l; allowed = rw test both.0; left = λ _. rw test both.1; once = rw test (omega arith) }
 
-chosen_allowed : (at : Plane) (r : List ℕ) → Ringy r → 4 ≤ length r → length r ≤ first_ear at r → IsChosen at r
+chosen_allowed : (at : Plane) (r : List ℕ) → IsRing r → 4 ≤ length r → length r ≤ first_ear at r → IsChosen at r
 chosen_allowed at r ringy four l =
     let some = some_allowed r ringy four in
     let low : first_allowed r < length r = omega (arith, some.within, not_before (is_allowed r) (length r) some.place some.within some.allowed) in
     let test : nat_lt (first_ear at r) (length r) ≡ false = le-ltb (first_ear at r) (length r) l in
     record { within = rw test low; allowed = rw test (passes (is_allowed r) (length r) low); left = λ none. absurd (omega (arith, rw test at none)); once = rw test (omega arith) }
 
-pub chosen : (at : Plane) (r : List ℕ) → Ringy r → 4 ≤ length r → IsChosen at r
+pub chosen : (at : Plane) (r : List ℕ) → IsRing r → 4 ≤ length r → IsChosen at r
 chosen at r ringy four = elim (cases_lt (first_ear at r) (length r)) as (λ _. IsChosen at r) [
   | inl l ↦ chosen_ear at r l
   | inr l ↦ chosen_allowed at r ringy four l

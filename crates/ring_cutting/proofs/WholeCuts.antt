@@ -9,7 +9,7 @@ use Rattle.chain_terms.specs.Chains.{edges, all_edges}
 use Rattle.chain_terms.specs.Odd.{along}
 use Rattle.mesh_terms.specs.Meshes.{Triple, HasThree, IsBelow}
 use Rattle.face_plane.specs.Planes.{Plane, orient}
-use Rattle.face_plane.specs.Rings.{Ringy, without_place}
+use Rattle.face_plane.specs.Rings.{IsRing, without_place}
 use Rattle.ring_cutting.specs.Cuts.{Cut, cut_place, forced_here, triple_at, last_triple, with_triple, cut_of, cut_ring}
 use Rattle.ring_cutting.specs.Laws.{TurnsLeft, IsOf, IsCutting}
 use Rattle.ring_cutting.proofs.Members.{all_in}
@@ -32,7 +32,7 @@ none_forced true h = refl
 none_forced false h = absurd (omega (arith, h))
 
 -- three places are their triangle
-last_cutting : (at : Plane) (a b c : ℕ) → Ringy (a ∷ b ∷ c ∷ []) → IsCutting at (a ∷ b ∷ c ∷ []) (last_triple at (a ∷ b ∷ c ∷ []))
+last_cutting : (at : Plane) (a b c : ℕ) → IsRing (a ∷ b ∷ c ∷ []) → IsCutting at (a ∷ b ∷ c ∷ []) (last_triple at (a ∷ b ∷ c ∷ []))
 last_cutting at a b c ringy =
     let t : Triple = (a, b, c) in
     let P : (ℕ × ℕ) → Type 0 = λ e. e.0 ≢ e.1 in
@@ -62,7 +62,7 @@ more_cutting at r i n c s once left rest =
       left = λ none. All-cons (TurnsLeft at) t c.triples (left (omega (arith, none))) (rest.left (omega (arith, none)));
     }
 
-pub cutting_of : (at : Plane) (n : ℕ) (r : List ℕ) → Ringy r → length r ≡ n + 3 → IsCutting at r (cut_of at n r)
+pub cutting_of : (at : Plane) (n : ℕ) (r : List ℕ) → IsRing r → length r ≡ n + 3 → IsCutting at r (cut_of at n r)
 cutting_of at zero [] ringy long = absurd (omega (arith, long))
 cutting_of at zero (a ∷ []) ringy long = absurd (omega (arith, long))
 cutting_of at zero (a ∷ b ∷ []) ringy long = absurd (omega (arith, long))
@@ -76,7 +76,7 @@ cutting_of at (suc n) r ringy long =
     more_cutting at r i (forced_here at r) (cut_of at n (without_place i r)) s ch.once (λ none. left_of _ (ch.left none)) (cutting_of at n (without_place i r) s.ringy (omega (arith, long, s.shorter)))
 
 -- the cutting of every ring keeps what it promises
-pub cutting : (at : Plane) (r : List ℕ) → Ringy r → IsCutting at r (cut_ring at r)
+pub cutting : (at : Plane) (r : List ℕ) → IsRing r → IsCutting at r (cut_ring at r)
 cutting at r ringy = cutting_of at (length r - 3) r ringy (omega (arith, ringy.long))
 
 -- the triangles' vertices are as those of the ring

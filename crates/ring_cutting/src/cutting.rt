@@ -6,7 +6,7 @@ ghost use Rattle.chain_terms.specs.Odd.{SameChain};
 ghost use Rattle.chain_terms.specs.Paths.{round_edges};
 ghost use Rattle.mesh_terms.specs.Meshes.{HasThree, IsBelow, triple_of};
 ghost use Rattle.face_plane.specs.Planes.{Plane, face_plane, orient};
-ghost use Rattle.face_plane.specs.Rings.{Ringy};
+ghost use Rattle.face_plane.specs.Rings.{IsRing};
 ghost use Rattle.ring_cutting.specs.Cuts.{cut_ring, triple_at, is_allowed, first_allowed, turn_at};
 ghost use Rattle.ring_cutting.specs.Placed.{vertices_of, IsPlaced};
 
@@ -37,7 +37,7 @@ pub fn cut_ring(
     ring: Ring,
     points: &[Point],
 ) -> Result<Filled, NoMemory>
-    requires ringy { Ringy ring }
+    requires ringy { IsRing ring }
     requires few { length ring ≤ 100000000 }
     requires below { All (λ v. v < length points.now) ring }
     requires axis { plane.drop < 3 }
@@ -55,12 +55,12 @@ pub fn cut_ring(
 
 /// Every ring of four places or more has a place that may be cut.
 pub fn some_place_may_be_cut()
-    ensures { (r : List ℕ) → Ringy r → 4 ≤ length r → IsTrue (is_allowed r (first_allowed r)) }
+    ensures { (r : List ℕ) → IsRing r → 4 ≤ length r → IsTrue (is_allowed r (first_allowed r)) }
 {}
 
 // Cuts the places of a ring, one after the other.
 fn cut_down(alloc: Global, mut places: Vec<Place>) -> Result<Filled, NoMemory>
-    requires ringy { Ringy (vertices_of places.items) }
+    requires ringy { IsRing (vertices_of places.items) }
     requires few { length places.items ≤ 100000000 }
     ensures { (at : Plane) → IsPlaced at places.items → IfOk result (λ f. f ≡ cut_ring at (vertices_of places.items)) }
 {

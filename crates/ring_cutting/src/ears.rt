@@ -3,7 +3,7 @@ ghost use Rattle.std.specs.Prelude.{◌≡◌, ◌<◌, ◌≤◌, length, cond,
 ghost use Rattle.std.specs.List.{list_any, position};
 ghost use Rattle.chain_terms.specs.Sums.{upto};
 ghost use Rattle.face_plane.specs.Planes.{Plane};
-ghost use Rattle.face_plane.specs.Rings.{Ringy};
+ghost use Rattle.face_plane.specs.Rings.{IsRing};
 ghost use Rattle.ring_cutting.specs.Cuts.{is_allowed, is_ear, first_allowed, cut_place, forced_here};
 ghost use Rattle.ring_cutting.specs.Placed.{vertices_of, IsPlaced, is_third};
 
@@ -20,7 +20,7 @@ pub(crate) struct Choice {
 
 // The least ear, and where there is none the least place that is allowed.
 pub(crate) fn choose(places: &[Place]) -> Choice
-    requires ringy { Ringy (vertices_of places.now) }
+    requires ringy { IsRing (vertices_of places.now) }
     requires more { 4 ≤ length places.now }
     ensures within { result.place < length places.now }
     ensures allowed { IsTrue (is_allowed (vertices_of places.now) result.place) }
@@ -56,7 +56,7 @@ fn first_ear(places: &[Place]) -> Option<usize>
 
 // The least place that is allowed.
 fn first_allowed(places: &[Place]) -> usize
-    requires ringy { Ringy (vertices_of places.now) }
+    requires ringy { IsRing (vertices_of places.now) }
     requires more { 4 ≤ length places.now }
     ensures within { result < length places.now }
     ensures allowed { IsTrue (is_allowed (vertices_of places.now) result) }

@@ -4,7 +4,7 @@ use Rattle.std.proofs.lemmas.List.{length-append, length-map}
 use Rattle.chain_terms.specs.Sums.{upto}
 use Rattle.chain_laws.proofs.Places.{length-up_from}
 use Rattle.face_lists.specs.Parts.{no_run}
-use Rattle.face_lists.specs.declared.runs.Run.{Run}
+use Rattle.face_lists.specs.declared.runs.CopyRange.{CopyRange}
 use Rattle.face_plane.specs.Planes.{Plane}
 use Rattle.hole_joining.specs.Holes.{is_hole}
 use Rattle.hole_joining.specs.Laws.{AreFillable}
@@ -23,7 +23,7 @@ forced_with x c old new part before h =
     omega (arith, part, before, long, h.forced, length-map new.triples.items triple_of, length-map old.triples.items triple_of)
 
 -- it holds of the copies of a face
-pub forced_copies : (side : Side) (runs : List Run) (f : ℕ) → (face_copies side runs f).forced ≤ length (face_copies side runs f).triples
+pub forced_copies : (side : Side) (runs : List CopyRange) (f : ℕ) → (face_copies side runs f).forced ≤ length (face_copies side runs f).triples
 forced_copies side runs f =
     let t = get_or side.triples f (0, 0, 0) in
     let r = get_or runs t.0 no_run in

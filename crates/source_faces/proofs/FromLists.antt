@@ -9,7 +9,7 @@ use Rattle.side_terms.specs.Sides.{Side}
 use Rattle.assembly_terms.specs.Lists.{Copy, no_copy}
 use Rattle.segment_terms.specs.Planes.{plane_drop_of}
 use Rattle.triangulate.specs.Fills.{fill_of}
-use Rattle.face_lists.specs.declared.runs.Run.{Run}
+use Rattle.face_lists.specs.declared.runs.CopyRange.{CopyRange}
 use Rattle.face_lists.specs.declared.stands.Stand.{Stand}
 use Rattle.face_lists.specs.Agreement.{AreInOrder, AreRunsOf}
 use Rattle.face_lists.specs.Parts.{AreRuns, CanBeSegments, no_run, segments_by}
@@ -24,18 +24,18 @@ many_points : (cs : List Copy) → length (points_of_copies cs) ≡ length cs
 many_points cs = length-map cs (λ c. c.point)
 
 -- runs of copies have their numbers
-in_numbers : (side : Side) (runs : List Run) (cs : List Copy) (origin : ℕ → Origin) → AreRunsOf cs origin side runs → length cs ≤ 60000000 → AreRuns side (length (points_of_copies cs)) runs
+in_numbers : (side : Side) (runs : List CopyRange) (cs : List Copy) (origin : ℕ → Origin) → AreRunsOf cs origin side runs → length cs ≤ 60000000 → AreRuns side (length (points_of_copies cs)) runs
 in_numbers side runs cs origin h few = record {
   each = h.long;
   below = λ v d below.
       let there : v < length side.corners = omega (arith, below, h.long) in
       let same : get_or runs v d ≡ get_or runs v no_run = get_or_default runs v d no_run below in
-      subst (λ (r : Run). r.first + r.count ≤ length (points_of_copies cs)) (sym same) (omega (arith, (h.each v there).within, many_points cs));
+      subst (λ (r : CopyRange). r.first + r.count ≤ length (points_of_copies cs)) (sym same) (omega (arith, (h.each v there).within, many_points cs));
   few = omega (arith, few, many_points cs);
 }
 
 -- and lie at their vertices
-at_vertices : (side : Side) (runs : List Run) (cs : List Copy) (origin : ℕ → Origin) → AreRunsOf cs origin side runs → LieAtVertices side runs (points_of_copies cs)
+at_vertices : (side : Side) (runs : List CopyRange) (cs : List Copy) (origin : ℕ → Origin) → AreRunsOf cs origin side runs → LieAtVertices side runs (points_of_copies cs)
 at_vertices side runs cs origin h = record {
   lies = λ v i there below.
       let r = get_or runs v no_run in
@@ -46,11 +46,11 @@ at_vertices side runs cs origin h = record {
 }
 
 -- so a side has its copies
-pub have_copies : (side : Side) (runs : List Run) (cs : List Copy) (origin : ℕ → Origin) (k : ℕ) → AreRunsOf cs origin side runs → AreInOrder k runs → length cs ≤ 60000000 → HaveCopies side runs (points_of_copies cs)
+pub have_copies : (side : Side) (runs : List CopyRange) (cs : List Copy) (origin : ℕ → Origin) (k : ℕ) → AreRunsOf cs origin side runs → AreInOrder k runs → length cs ≤ 60000000 → HaveCopies side runs (points_of_copies cs)
 have_copies side runs cs origin k h order few = record { are = in_numbers side runs cs origin h few; last = k; order = order; lie = at_vertices side runs cs origin h }
 
 -- records that give a source face its segments let it be filled
-pub part_there : (p q : Side) (cs : List Copy) (x : ℕ) (side : Side) (runs : List Run) (f : ℕ) (ss : List Stand) → CanBeSegments side runs (points_of_copies cs) f ss → segments_by side runs (points_of_copies cs) f ss ≡ face_segments p q cs x → FormLoops p q cs x →
+pub part_there : (p q : Side) (cs : List Copy) (x : ℕ) (side : Side) (runs : List CopyRange) (f : ℕ) (ss : List Stand) → CanBeSegments side runs (points_of_copies cs) f ss → segments_by side runs (points_of_copies cs) f ss ≡ face_segments p q cs x → FormLoops p q cs x →
     CanBePart side runs (points_of_copies cs) f ss
 part_there p q cs x side runs f ss paired same loops = record {
   paired = paired;
@@ -61,7 +61,7 @@ part_there p q cs x side runs f ss paired same loops = record {
 }
 
 -- and that is the filling of the source face
-pub part_same : (p q : Side) (cs : List Copy) (x : ℕ) (side : Side) (runs : List Run) (f : ℕ) (ss : List Stand) → segments_by side runs (points_of_copies cs) f ss ≡ face_segments p q cs x → plane_drop_of side f ≡ source_drop p q x →
+pub part_same : (p q : Side) (cs : List Copy) (x : ℕ) (side : Side) (runs : List CopyRange) (f : ℕ) (ss : List Stand) → segments_by side runs (points_of_copies cs) f ss ≡ face_segments p q cs x → plane_drop_of side f ≡ source_drop p q x →
     filled_by side runs (points_of_copies cs) f ss ≡ filled_face p q cs x
 part_same p q cs x side runs f ss same drop =
     ap (λ n. fill_of n (points_of_copies cs) (cycles (segments_by side runs (points_of_copies cs) f ss))) drop ∙ ap (λ es. fill_of (source_drop p q x) (points_of_copies cs) (cycles es)) same

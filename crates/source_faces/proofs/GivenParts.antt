@@ -18,7 +18,7 @@ use Rattle.retained_verts.specs.Handed.{copies, numbers}
 use Rattle.retained_verts.specs.declared.list.Prescribed.{Prescribed}
 use Rattle.segment_laws.specs.Laws.{PrescribedAreNamed}
 use Rattle.segment_terms.specs.Planes.{plane_drop_of}
-use Rattle.face_lists.specs.declared.runs.Run.{Run}
+use Rattle.face_lists.specs.declared.runs.CopyRange.{CopyRange}
 use Rattle.face_lists.specs.declared.stands.Stand.{Stand}
 use Rattle.face_lists.specs.Agreement.{HaveLists, records_of}
 use Rattle.face_lists.specs.Laws.{ListsCanBeSegments, ListsGiveSegments, PrescribedHaveLists}
@@ -70,7 +70,7 @@ drop_of_q p q g =
     ap (plane_drop_of q) back ∙ sym (ap (λ b. if b then plane_drop_of p x else plane_drop_of q (x - length p.triples)) (le-ltb x (length p.triples) (omega arith)))
 
 -- runs and records that tell all copies, which can be assembled
-pub all_parts : (laws : HaveLaws) (p q : Side) (cs : List Copy) (k : ℕ) (p_runs q_runs : List Run) (stands : List Stand) → HaveLists p q cs k p_runs q_runs stands → CanBeAssembled p q cs → length cs ≤ 60000000 → HaveAllParts p q cs p_runs q_runs stands
+pub all_parts : (laws : HaveLaws) (p q : Side) (cs : List Copy) (k : ℕ) (p_runs q_runs : List CopyRange) (stands : List Stand) → HaveLists p q cs k p_runs q_runs stands → CanBeAssembled p q cs → length cs ≤ 60000000 → HaveAllParts p q cs p_runs q_runs stands
 all_parts laws p q cs k p_runs q_runs stands lists can few =
     let points = points_of_copies cs in
     let m = length p.triples in

@@ -16,7 +16,7 @@ use Rattle.side_terms.specs.Sides.{Side}
 use Rattle.edge_pairing.specs.Entries.{chosen, ends_of, is_chosen, place_in, starts_of}
 use Rattle.edge_pairing.specs.Pairing.{comes_before, pair_up, scalar_product, step}
 use Rattle.segment_terms.specs.Segments.{lower_half, vertex_point}
-use Rattle.face_lists.specs.declared.runs.Run.{Run}
+use Rattle.face_lists.specs.declared.runs.CopyRange.{CopyRange}
 use Rattle.face_lists.specs.Entries.{run_entries}
 use Rattle.face_lists.specs.Parts.{half_entries, half_segments, no_run}
 use Rattle.source_faces.proofs.Copies.{block}
@@ -64,11 +64,11 @@ chosen-other start true xs ys vs h k = chosen-second start xs ys vs h k
 chosen-other start false xs ys vs h k = chosen-first start ys xs vs k h
 
 -- a run's entries where they are of the asked kind
-pub chosen-run : (start at_start : Bool) (r : Run) → cond at_start (not r.negative) r.negative ≡ start → chosen start (run_entries r at_start) ≡ up_from r.first r.count
+pub chosen-run : (start at_start : Bool) (r : CopyRange) → cond at_start (not r.negative) r.negative ≡ start → chosen start (run_entries r at_start) ≡ up_from r.first r.count
 chosen-run start at_start r e = ap (λ b. chosen start (entries_as b (up_from r.first r.count))) e ∙ chosen-all start (up_from r.first r.count)
 
 -- and where they are not
-pub chosen-no_run : (start at_start : Bool) (r : Run) → cond at_start (not r.negative) r.negative ≡ not start → chosen start (run_entries r at_start) ≡ []
+pub chosen-no_run : (start at_start : Bool) (r : CopyRange) → cond at_start (not r.negative) r.negative ≡ not start → chosen start (run_entries r at_start) ≡ []
 chosen-no_run start at_start r e = ap (λ b. chosen start (entries_as b (up_from r.first r.count))) e ∙ chosen-none start (up_from r.first r.count)
 
 -- a number that equals another compares as equal
@@ -101,7 +101,7 @@ pub pair_up-runs : (key : ℕ → ℤ) (a b n : ℕ) (y z : ℤ) → ((i : ℕ) 
 pair_up-runs key a b n y z h k = ap (λ l. zip l (sorted_by (comes_before key) (up_from b n))) (sorted-run key a n y h) ∙ ap (zip (up_from a n)) (sorted-run key b n z k)
 
 -- a run of n copies of this sign, which all lie at this point
-pub record IsRunAt (points : List (List ℤ)) (n : ℕ) (negative : Bool) (p : List ℤ) (r : Run) : Type 0 where
+pub record IsRunAt (points : List (List ℤ)) (n : ℕ) (negative : Bool) (p : List ℤ) (r : CopyRange) : Type 0 where
   pub counted : r.count ≡ n
   pub signed : r.negative ≡ negative
   pub lies : (i : ℕ) → i < n → get_or points (r.first + i) [] ≡ p
@@ -113,7 +113,7 @@ edge_key side points h v =
     let low = lower_half es h in scalar_product (step (vertex_point side (start es low)) (vertex_point side (finish es low))) (place_in points v)
 
 -- a half-edge's segments from the copies that are its starts and from those that are its ends
-half_from : (side : Side) (runs : List Run) (points : List (List ℤ)) (h n : ℕ) (b : Bool) (r s : Run) (p q : List ℤ) → IsRunAt points n b p r → IsRunAt points n b q s →
+half_from : (side : Side) (runs : List CopyRange) (points : List (List ℤ)) (h n : ℕ) (b : Bool) (r s : CopyRange) (p q : List ℤ) → IsRunAt points n b p r → IsRunAt points n b q s →
     starts_of (half_entries side runs h []) ≡ up_from r.first r.count → ends_of (half_entries side runs h []) ≡ up_from s.first s.count → half_segments side runs points h [] ≡ block r.first s.first n
 half_from side runs points h n b r s p q at to from ends =
     let key = edge_key side points h in
@@ -124,15 +124,15 @@ half_from side runs points h n b r s p q at to from ends =
     ∙ pair_up-runs key r.first s.first n (scalar_product d p) (scalar_product d q) (λ i l. ap (scalar_product d) (at.lies i l)) (λ i l. ap (scalar_product d) (to.lies i l))
 
 -- the run of a vertex
-abbrev pub run_of : List Run → ℕ → Run
+abbrev pub run_of : List CopyRange → ℕ → CopyRange
 run_of runs v = get_or runs v no_run
 
 -- the run of a half-edge's start
-abbrev start_run : Side → List Run → ℕ → Run
+abbrev start_run : Side → List CopyRange → ℕ → CopyRange
 start_run side runs h = run_of runs (start (all_edges side.triples) h)
 
 -- and that of its end
-abbrev finish_run : Side → List Run → ℕ → Run
+abbrev finish_run : Side → List CopyRange → ℕ → CopyRange
 finish_run side runs h = run_of runs (finish (all_edges side.triples) h)
 
 -- segments from the copies of one vertex to those of another, or back where the number is below 0
@@ -140,7 +140,7 @@ abbrev pub joined_as : Bool → ℕ → ℕ → ℕ → List (ℕ × ℕ)
 joined_as negative a b n = cond negative (block b a n) (block a b n)
 
 -- a half-edge joins the copies of its ends
-half_joins : (side : Side) (runs : List Run) (points : List (List ℤ)) (h n : ℕ) (b : Bool) (p q : List ℤ) → IsRunAt points n b p (start_run side runs h) → IsRunAt points n b q (finish_run side runs h) →
+half_joins : (side : Side) (runs : List CopyRange) (points : List (List ℤ)) (h n : ℕ) (b : Bool) (p q : List ℤ) → IsRunAt points n b p (start_run side runs h) → IsRunAt points n b q (finish_run side runs h) →
     half_segments side runs points h [] ≡ joined_as b (start_run side runs h).first (finish_run side runs h).first n
 half_joins side runs points h n false p q at to =
     let r = start_run side runs h in
@@ -160,7 +160,7 @@ half_joins side runs points h n true p q at to =
     (chosen-one false first (run_entries r true) (run_entries s false) (up_from r.first r.count) (chosen-run false true r (ap not at.signed)) (chosen-no_run false false s to.signed))
 
 -- the same of a half-edge that is known by its ends
-pub half_of_ends : (side : Side) (runs : List Run) (points : List (List ℤ)) (h n : ℕ) (b : Bool) (e : ℕ × ℕ) → get_or (all_edges side.triples) h (0, 0) ≡ e →
+pub half_of_ends : (side : Side) (runs : List CopyRange) (points : List (List ℤ)) (h n : ℕ) (b : Bool) (e : ℕ × ℕ) → get_or (all_edges side.triples) h (0, 0) ≡ e →
     IsRunAt points n b (vertex_point side e.0) (run_of runs e.0) → IsRunAt points n b (vertex_point side e.1) (run_of runs e.1) →
     half_segments side runs points h [] ≡ joined_as b (run_of runs e.0).first (run_of runs e.1).first n
 half_of_ends side runs points h n b e is at to =

@@ -12,7 +12,7 @@ use Rattle.ring_cutting.specs.Cuts.{Cut}
 use Rattle.segment_terms.specs.Planes.{plane_drop_of}
 use Rattle.segment_terms.specs.Segments.{vertex_point}
 use Rattle.triangulate.specs.Fills.{fill_of}
-use Rattle.face_lists.specs.declared.runs.Run.{Run}
+use Rattle.face_lists.specs.declared.runs.CopyRange.{CopyRange}
 use Rattle.face_lists.specs.Agreement.{AreInOrder}
 use Rattle.face_lists.specs.Parts.{AreRuns, half_segments, segments_by}
 use Rattle.source_faces.specs.Adding.{are_equal_runs, copy_triple, face_copies, filled_by, is_flat, same_run, same_sign}
@@ -27,11 +27,11 @@ abbrev pub face : Side → ℕ → Triple
 face side f = get_or side.triples f (0, 0, 0)
 
 -- a vertex of a side has n copies of this sign, which lie where it does
-abbrev pub HasCopies : Side → List Run → List (List ℤ) → ℕ → Bool → ℕ → Type 0
+abbrev pub HasCopies : Side → List CopyRange → List (List ℤ) → ℕ → Bool → ℕ → Type 0
 HasCopies side runs points n negative v = IsRunAt points n negative (vertex_point side v) (run_of runs v)
 
 -- three vertices of a side that have n copies each, no copy of two of them
-pub record IsPlain (side : Side) (runs : List Run) (points : List (List ℤ)) (n : ℕ) (negative : Bool) (t : Triple) : Type 0 where
+pub record IsPlain (side : Side) (runs : List CopyRange) (points : List (List ℤ)) (n : ℕ) (negative : Bool) (t : Triple) : Type 0 where
   pub first : HasCopies side runs points n negative t.0
   pub second : HasCopies side runs points n negative t.1
   pub third : HasCopies side runs points n negative t.2
@@ -40,7 +40,7 @@ pub record IsPlain (side : Side) (runs : List Run) (points : List (List ℤ)) (n
   pub three_one : AreApart (run_of runs t.2).first (run_of runs t.0).first n
 
 -- the segments of a face with these vertices
-segments : (side : Side) (runs : List Run) (points : List (List ℤ)) (f n : ℕ) (negative : Bool) → f < length side.triples → IsPlain side runs points n negative (face side f) →
+segments : (side : Side) (runs : List CopyRange) (points : List (List ℤ)) (f n : ℕ) (negative : Bool) → f < length side.triples → IsPlain side runs points n negative (face side f) →
     segments_by side runs points f []
     ≡ joined_as negative (run_of runs (face side f).0).first (run_of runs (face side f).1).first n
     ++ (joined_as negative (run_of runs (face side f).1).first (run_of runs (face side f).2).first n ++ (joined_as negative (run_of runs (face side f).2).first (run_of runs (face side f).0).first n ++ []))
@@ -64,7 +64,7 @@ loops false a b c n ab bc ca = cycles-blocks a b c n ab bc ca
 loops true a b c n ab bc ca = cycles-exchanged_blocks b a c n (apart-sym a b n ab) (apart-sym c a n ca) (apart-sym b c n bc)
 
 -- the copies of a vertex in the plane that drops an axis
-lie : (side : Side) (runs : List Run) (points : List (List ℤ)) (n : ℕ) (negative : Bool) (axis v : ℕ) → HasCopies side runs points n negative v →
+lie : (side : Side) (runs : List CopyRange) (points : List (List ℤ)) (n : ℕ) (negative : Bool) (axis v : ℕ) → HasCopies side runs points n negative v →
     (i : ℕ) → i < n → plane_of axis (point_at points) ((run_of runs v).first + i) ≡ flat_point axis (vertex_point side v)
 lie side runs points n negative axis v has i l = ap (flat_point axis) (has.lies i l)
 
@@ -87,7 +87,7 @@ all_numbered a b c n =
     numbered a b c 0 n ∙ ap (λ x. loop_triples x (b + 0) (c + 0) n) one ∙ ap (λ y. loop_triples a y (c + 0) n) two ∙ ap (λ z. loop_triples a b z n) three
 
 -- the copies of three vertices as triangles, turned over where the number is below 0
-all_copies : (negative : Bool) (r s u : Run) (n : ℕ) → r.negative ≡ negative → map (copy_triple r s u) (upto n) ≡ cond negative (loop_triples s.first r.first u.first n) (loop_triples r.first s.first u.first n)
+all_copies : (negative : Bool) (r s u : CopyRange) (n : ℕ) → r.negative ≡ negative → map (copy_triple r s u) (upto n) ≡ cond negative (loop_triples s.first r.first u.first n) (loop_triples r.first s.first u.first n)
 all_copies negative r s u n e =
     ap (λ t. map (λ i. cond t (s.first + i, r.first + i, u.first + i) (r.first + i, s.first + i, u.first + i)) (upto n)) e ∙ by_sign negative
   where
@@ -121,7 +121,7 @@ filled side points f true a b c n at =
     (ap (λ x. cond x n 0) (turned_tells p q r ∙ turn_tells (vertex_point side t.0) (vertex_point side t.1) (vertex_point side t.2)))
 
 -- so a face whose vertices have n copies each is filled by these
-pub plain_filled : (side : Side) (runs : List Run) (points : List (List ℤ)) (f n : ℕ) (negative : Bool) → f < length side.triples → IsPlain side runs points n negative (face side f) →
+pub plain_filled : (side : Side) (runs : List CopyRange) (points : List (List ℤ)) (f n : ℕ) (negative : Bool) → f < length side.triples → IsPlain side runs points n negative (face side f) →
     filled_by side runs points f [] ≡ face_copies side runs f
 plain_filled side runs points f n negative below plain =
     let t = face side f in
@@ -141,7 +141,7 @@ plain_filled side runs points f n negative below plain =
     (sym (ap (λ m. map (copy_triple r s u) (upto m)) plain.first.counted ∙ all_copies negative r s u n plain.first.signed)) (sym (ap (λ m. cond (is_flat side f) m 0) plain.first.counted))
 
 -- the runs of two vertices have no copy of both
-runs_apart : (k : ℕ) (runs : List Run) → AreInOrder k runs → (v w n : ℕ) → v < length runs → w < length runs → v ≢ w → (run_of runs v).count ≡ n → (run_of runs w).count ≡ n → AreApart (run_of runs v).first (run_of runs w).first n
+runs_apart : (k : ℕ) (runs : List CopyRange) → AreInOrder k runs → (v w n : ℕ) → v < length runs → w < length runs → v ≢ w → (run_of runs v).count ≡ n → (run_of runs w).count ≡ n → AreApart (run_of runs v).first (run_of runs w).first n
 runs_apart k runs order v w n v_in w_in differ one other i j l m e =
     elim (cases_lt v w) as (λ _. ⊥) [
       | inl before ↦ omega (arith, order.each v w before w_in, one, l, e)
@@ -157,11 +157,11 @@ same_signs true b h = h
 same_signs false b h = not-true b h
 
 -- runs of one number have one count and one sign
-one_number : (r s : Run) → same_run r s ≡ true → (s.count ≡ r.count) × (s.negative ≡ r.negative)
+one_number : (r s : CopyRange) → same_run r s ≡ true → (s.count ≡ r.count) × (s.negative ≡ r.negative)
 one_number r s h = let p = and_parts (r.count == s.count) (same_sign r.negative s.negative) h in (sym (eqb-true r.count s.count p.0), same_signs r.negative s.negative p.1)
 
 -- the three vertices of a face with equal runs have copies in common numbers
-pub plain_face : (side : Side) (runs : List Run) (points : List (List ℤ)) (k : ℕ) → IsSide side → AreRuns side (length points) runs → AreInOrder k runs → LieAtVertices side runs points → (f : ℕ) → f < length side.triples →
+pub plain_face : (side : Side) (runs : List CopyRange) (points : List (List ℤ)) (k : ℕ) → IsSide side → AreRuns side (length points) runs → AreInOrder k runs → LieAtVertices side runs points → (f : ℕ) → f < length side.triples →
     are_equal_runs runs (face side f) ≡ true → IsPlain side runs points (run_of runs (face side f).0).count (run_of runs (face side f).0).negative (face side f)
 plain_face side runs points k known are order there f below equal =
     let t = face side f in

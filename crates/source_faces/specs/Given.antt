@@ -10,7 +10,7 @@ use Rattle.side_terms.specs.Sides.{Side}
 use Rattle.assembly_terms.specs.Lists.{Copy}
 use Rattle.assembly_terms.specs.Prescribed.{Numbers, crossing_count, p_kept, p_number, q_kept, q_number}
 use Rattle.assembly_terms.specs.Standing.{StandInLists, count_all_starts}
-use Rattle.face_lists.specs.declared.runs.Run.{Run}
+use Rattle.face_lists.specs.declared.runs.CopyRange.{CopyRange}
 use Rattle.face_lists.specs.declared.stands.Stand.{Stand}
 use Rattle.face_lists.specs.Runs.{runs_from}
 use Rattle.face_lists.specs.Stands.{sorted_stands}
@@ -37,7 +37,7 @@ pub record AreGiven (op : Op) (p q : Side) (windings : Windings) (hits : Hits) (
   pub few : count_all_starts p q (copies op p q windings hits) ≤ 60000000
 
 -- the faces of both sides are filled from runs and records, P's first, and these fillings are those of all source faces
-pub record HaveAllParts (p q : Side) (cs : List Copy) (p_runs q_runs : List Run) (stands : List Stand) : Type 0 where
+pub record HaveAllParts (p q : Side) (cs : List Copy) (p_runs q_runs : List CopyRange) (stands : List Stand) : Type 0 where
   pub p_parts : HaveParts p p_runs (points_of_copies cs) 0 stands
   pub q_parts : HaveParts q q_runs (points_of_copies cs) (length p.triples) stands
   pub all : both_parts p q p_runs q_runs (points_of_copies cs) stands ≡ all_filled p q cs
@@ -47,10 +47,10 @@ abbrev pub given_stands : Op → Side → Side → Numbers → List Stand
 given_stands op p q n = sorted_stands op p q n.x12 n.x21 (p_kept op n + q_kept op n)
 
 -- the runs of P's vertices, and of Q's
-abbrev pub given_p_runs : Op → Numbers → List Run
+abbrev pub given_p_runs : Op → Numbers → List CopyRange
 given_p_runs op n = runs_from 0 (map (p_number op) n.w03)
 
-abbrev pub given_q_runs : Op → Numbers → List Run
+abbrev pub given_q_runs : Op → Numbers → List CopyRange
 given_q_runs op n = runs_from (p_kept op n) (map (q_number op) n.w30)
 
 -- so they are from the runs and records of what is given

@@ -4,7 +4,7 @@ use Rattle.chain_terms.specs.Sums.{upto}
 use Rattle.mesh_terms.specs.Meshes.{triples_of}
 use Rattle.ring_cutting.specs.Cuts.{Cut}
 use Rattle.side_terms.specs.Sides.{Side}
-use Rattle.face_lists.specs.declared.runs.Run.{Run}
+use Rattle.face_lists.specs.declared.runs.CopyRange.{CopyRange}
 use Rattle.face_lists.specs.declared.stands.Stand.{Stand}
 use Rattle.face_lists.specs.Agreement.{AreInOrder, Ascend, records_of}
 use Rattle.face_lists.specs.Parts.{AreRuns, CanBeSegments}
@@ -14,25 +14,25 @@ use Rattle.source_faces.specs.Plain.{LieAtVertices}
 use Rattle.source_faces.specs.declared.triangles.SourceTriangles.{SourceTriangles}
 
 -- runs of a side's vertices, one after the other, whose copies lie at the vertices
-pub record HaveCopies (side : Side) (runs : List Run) (points : List (List ℤ)) : Type 0 where
+pub record HaveCopies (side : Side) (runs : List CopyRange) (points : List (List ℤ)) : Type 0 where
   pub are : AreRuns side (length points) runs
   pub last : ℕ
   pub order : AreInOrder last runs
   pub lie : LieAtVertices side runs points
 
 -- the records of a face give it segments, and these form loops that can be filled
-pub record CanBePart (side : Side) (runs : List Run) (points : List (List ℤ)) (f : ℕ) (ss : List Stand) : Type 0 where
+pub record CanBePart (side : Side) (runs : List CopyRange) (points : List (List ℤ)) (f : ℕ) (ss : List Stand) : Type 0 where
   pub paired : CanBeSegments side runs points f ss
   pub filled : CanBeFilled side runs points f ss
 
 -- so do those of each face of a side, of which the first one is source face number x, among records that ascend
-pub record HaveParts (side : Side) (runs : List Run) (points : List (List ℤ)) (x : ℕ) (stands : List Stand) : Type 0 where
+pub record HaveParts (side : Side) (runs : List CopyRange) (points : List (List ℤ)) (x : ℕ) (stands : List Stand) : Type 0 where
   pub copies : HaveCopies side runs points
   pub ascend : Ascend stands
   pub each : (f : ℕ) → f < length side.triples → CanBePart side runs points f (records_of stands (x + f))
 
 -- the fillings of its first n faces
-abbrev pub parts_of : Side → List Run → List (List ℤ) → ℕ → List Stand → ℕ → List Cut
+abbrev pub parts_of : Side → List CopyRange → List (List ℤ) → ℕ → List Stand → ℕ → List Cut
 parts_of side runs points x stands n = map (λ f. filled_by side runs points f (records_of stands (x + f))) (upto n)
 
 -- the fillings of source faces from number x on were added
@@ -42,7 +42,7 @@ pub record AreAdded (x : ℕ) (cs : List Cut) (old new : SourceTriangles) : Type
   pub forced : new.forced ≡ old.forced + forced_of cs
 
 -- the fillings of the faces of both sides, P's first
-abbrev pub both_parts : Side → Side → List Run → List Run → List (List ℤ) → List Stand → List Cut
+abbrev pub both_parts : Side → Side → List CopyRange → List CopyRange → List (List ℤ) → List Stand → List Cut
 both_parts p q p_runs q_runs points stands = parts_of p p_runs points 0 stands (length p.triples) ++ parts_of q q_runs points (length p.triples) stands (length q.triples)
 
 -- these are all triangles, with their source faces

@@ -10,7 +10,7 @@ ghost use Rattle.source_faces.specs.Parts.{AreAdded, AreAll, HaveParts, both_par
 use crate::face::push_face;
 use crate::given::given_have_parts;
 use crate::triangles::SourceTriangles;
-use face_lists::{Run, Stand, group_end, runs_of, stands_of};
+use face_lists::{CopyRange, Stand, group_end, runs_of, stands_of};
 use lean::Side;
 use mb_base::{Hits, NoMemory, Op, Point, Windings};
 use retained_verts::{Operand, Prescribed};
@@ -46,8 +46,8 @@ fn filled_of(
     alloc: Global,
     p: &Side,
     q: &Side,
-    p_runs: &[Run],
-    q_runs: &[Run],
+    p_runs: &[CopyRange],
+    q_runs: &[CopyRange],
     stands: &[Stand],
     points: &[Point],
 ) -> Result<SourceTriangles, NoMemory>
@@ -68,7 +68,7 @@ fn push_faces(
     alloc: Global,
     all: &mut SourceTriangles,
     side: &Side,
-    runs: &[Run],
+    runs: &[CopyRange],
     first: u32,
     stands: &[Stand],
     begin: usize,

@@ -6,7 +6,7 @@ ghost use Rattle.source_faces.specs.Parts.{CanBePart, HaveCopies};
 
 use crate::plain::{are_equal, push_copies};
 use crate::triangles::SourceTriangles;
-use face_lists::{Run, Stand, plane_of, segments_of_face};
+use face_lists::{CopyRange, Stand, plane_of, segments_of_face};
 use face_loops::loops;
 use lean::Side;
 use mb_base::{NoMemory, Point};
@@ -20,7 +20,7 @@ pub fn push_face(
     alloc: Global,
     all: &mut SourceTriangles,
     side: &Side,
-    runs: &[Run],
+    runs: &[CopyRange],
     face: u32,
     source: u32,
     stands: &[Stand],
@@ -44,7 +44,7 @@ pub fn push_face(
 fn filled_face(
     alloc: Global,
     side: &Side,
-    runs: &[Run],
+    runs: &[CopyRange],
     face: u32,
     stands: &[Stand],
     points: &[Point],

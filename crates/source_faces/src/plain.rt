@@ -6,13 +6,13 @@ ghost use Rattle.side_terms.specs.Sides.{IsSide};
 ghost use Rattle.source_faces.specs.Adding.{IsAdded, are_equal_runs, copy_triple, face_copies, is_flat, same_run};
 
 use crate::triangles::SourceTriangles;
-use face_lists::Run;
+use face_lists::CopyRange;
 use lean::Side;
 use mb_base::{NoMemory, cross};
 use retained_verts::point_of;
 
 /// Whether the three vertices of a triangle are included one number of times.
-pub fn are_equal(runs: &[Run], triple: [u32; 3]) -> bool
+pub fn are_equal(runs: &[CopyRange], triple: [u32; 3]) -> bool
     requires { IsBelow (length runs.now) (triple_of triple) }
     ensures { result ≡ are_equal_runs runs.now (triple_of triple) }
 {
@@ -22,7 +22,7 @@ pub fn are_equal(runs: &[Run], triple: [u32; 3]) -> bool
 }
 
 // Whether two vertices are included one number of times.
-fn are_alike(one: Run, other: Run) -> bool
+fn are_alike(one: CopyRange, other: CopyRange) -> bool
     ensures { result ≡ same_run one other }
 {
     one.count == other.count && one.negative == other.negative
@@ -33,7 +33,7 @@ fn are_alike(one: Run, other: Run) -> bool
 pub fn push_copies(
     all: &mut SourceTriangles,
     side: &Side,
-    runs: &[Run],
+    runs: &[CopyRange],
     face: u32,
     source: u32,
 ) -> Result<(), NoMemory>
@@ -53,7 +53,7 @@ pub fn push_copies(
 }
 
 // The triangle of copies number i of three vertices, turned over where the number of the first one is below 0.
-fn copy_triple(a: Run, b: Run, c: Run, i: u32) -> [u32; 3]
+fn copy_triple(a: CopyRange, b: CopyRange, c: CopyRange, i: u32) -> [u32; 3]
     requires a { a.first + i < 2 ^ 32 }
     requires b { b.first + i < 2 ^ 32 }
     requires c { c.first + i < 2 ^ 32 }

@@ -14,7 +14,7 @@ use Rattle.chain_terms.specs.Odd.{along}
 use Rattle.chain_terms.specs.Paths.{round_edges}
 use Rattle.mesh_terms.specs.Meshes.{Triple, HasThree, IsBelow}
 use Rattle.face_plane.specs.Planes.{Plane, plane_of, point_at, face_plane, exchanged, is_turned, settled_plane}
-use Rattle.face_plane.specs.Rings.{Ringy}
+use Rattle.face_plane.specs.Rings.{IsRing}
 use Rattle.ring_cutting.specs.Cuts.{Cut, cut_ring}
 use Rattle.ring_cutting.specs.Laws.{TurnsLeft, IsCutting}
 use Rattle.ring_cutting.proofs.WholeCuts.{cutting, below_of}
@@ -42,7 +42,7 @@ one_more at n r rs c d below h k = record {
 }
 
 -- the cuttings of rings
-pub cuttings : (at : Plane) (n : ℕ) (rs : List (List ℕ)) → All Ringy rs → All (λ r. All (λ v. v < n) r) rs → AreCuttings at n rs (cuts at rs)
+pub cuttings : (at : Plane) (n : ℕ) (rs : List (List ℕ)) → All IsRing rs → All (λ r. All (λ v. v < n) r) rs → AreCuttings at n rs (cuts at rs)
 cuttings at n [] ringy below = record {
   count = refl;
   chain = λ f odd. refl;
@@ -53,8 +53,8 @@ cuttings at n [] ringy below = record {
 }
 cuttings at n (r ∷ rs) ringy below =
     let Below : List ℕ → Type 0 = λ s. All (λ v. v < n) s in
-    one_more at n r rs (cut_ring at r) (cuts at rs) (All-head Below r rs below) (cutting at r (All-head Ringy r rs ringy))
-    (cuttings at n rs (All-tail Ringy r rs ringy) (All-tail Below r rs below))
+    one_more at n r rs (cut_ring at r) (cuts at rs) (All-head Below r rs below) (cutting at r (All-head IsRing r rs ringy))
+    (cuttings at n rs (All-tail IsRing r rs ringy) (All-tail Below r rs below))
 
 -- each ring has no more places than all
 pub all_short : (rs : List (List ℕ)) (m : ℕ) → length (concat rs) ≤ m → All (λ r. length r ≤ m) rs

@@ -6,7 +6,7 @@ ghost use Rattle.chain_terms.specs.Odd.{SameChain};
 ghost use Rattle.chain_terms.specs.Paths.{round_edges};
 ghost use Rattle.mesh_terms.specs.Meshes.{HasThree, IsBelow};
 ghost use Rattle.face_plane.specs.Planes.{face_plane, orient};
-ghost use Rattle.face_plane.specs.Rings.{Ringy};
+ghost use Rattle.face_plane.specs.Rings.{IsRing};
 ghost use Rattle.hole_joining.specs.Laws.{AreFillable, settled_in};
 ghost use Rattle.triangulate.specs.Fills.{cuts, fill_of};
 ghost use Rattle.triangulate.specs.Laws.{HasCount, HasAreas};
@@ -62,7 +62,7 @@ fn cut_all(
     rings: Vec<Ring>,
     points: &[Point],
 ) -> Result<Filled, NoMemory>
-    requires ringy { All Ringy rings.items }
+    requires ringy { All IsRing rings.items }
     requires few { All (λ r. length r ≤ 100000000) rings.items }
     requires below { All (λ r. All (λ v. v < length points.now) r) rings.items }
     requires axis { plane.drop < 3 }

@@ -1,8 +1,8 @@
 // What clones share.
 use crate::Twins;
-use samples::TETRAHEDRON;
 use std::rc::Rc;
 use std::test::Fail;
+use test_soups::TETRAHEDRON;
 
 #[test]
 fn a_clone_shares_both_lists(rt: HostRuntime) -> Result<(), Fail> {

@@ -5,13 +5,13 @@ use lean::Side;
 use mb_base::Op;
 use mesh_check::Mesh;
 use rounding::{Low, Nearest, Rounding};
-use sample_lines::{POST_IN_BOX, marked_side, plain_side, read_meshes, read_pair, write_numbers};
 use shadow_kernels::Grid;
 use std::alloc::Global;
 use std::marker::Brand;
 use std::process::Abort;
 use std::sync::ledger::Blank;
 use std::test::Fail;
+use test_tables::{POST_IN_BOX, marked_side, plain_side, read_meshes, read_pair, write_numbers};
 
 // The answers of two sides, as the table writes them.
 fn answers_of<R: Rounding + Copy>(

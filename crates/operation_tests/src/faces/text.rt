@@ -1,7 +1,7 @@
 // The vertices that the numbers prescribe, as the table writes them.
 use retained_verts::Prescribed;
-use sample_lines::push_vertex;
 use std::test::Fail;
+use test_tables::push_vertex;
 
 /// Adds a word for each prescribed vertex, and a bar.
 pub fn push_prescribed(text: &mut String, all: &Prescribed) -> Result<(), Fail> {

@@ -5,15 +5,15 @@ ghost use Rattle.face_lists.specs.Parts.{AreRuns};
 ghost use Rattle.source_faces.specs.Given.{AreGiven};
 ghost use Rattle.source_faces.specs.Parts.{CanBePart, HaveParts};
 
-use face_lists::{Run, Stand, group_end, runs_of, segments_of_face, stands_of};
+use face_lists::{CopyRange, Stand, group_end, runs_of, segments_of_face, stands_of};
 use face_loops::loops;
 use lean::Side;
 use mb_base::{Hits, Op, Point, Windings};
 use retained_verts::{Operand, Prescribed};
-use sample_lines::push_digit;
 use source_faces::given::given_have_parts;
 use std::alloc::Global;
 use std::test::Fail;
+use test_tables::push_digit;
 
 /// Adds a word for each face, those of the first side before those of the second.
 pub fn push_faces(
@@ -51,8 +51,8 @@ fn push_both(
     text: &mut String,
     p: &Side,
     q: &Side,
-    p_runs: &[Run],
-    q_runs: &[Run],
+    p_runs: &[CopyRange],
+    q_runs: &[CopyRange],
     stands: &[Stand],
     points: &[Point],
 ) -> Result<(), Fail>
@@ -71,7 +71,7 @@ fn push_side(
     alloc: Global,
     text: &mut String,
     side: &Side,
-    runs: &[Run],
+    runs: &[CopyRange],
     first: u32,
     stands: &[Stand],
     begin: usize,
@@ -97,7 +97,7 @@ fn push_face(
     alloc: Global,
     text: &mut String,
     side: &Side,
-    runs: &[Run],
+    runs: &[CopyRange],
     face: u32,
     stands: &[Stand],
     points: &[Point],

@@ -1,8 +1,8 @@
 // What numbers prescribe, as the table writes it.
 use retained_verts::Prescribed;
-use sample_lines::push_vertex;
 use std::alloc::Global;
 use std::test::Fail;
+use test_tables::push_vertex;
 
 /// What is prescribed, as the table writes it.
 pub fn text_of(alloc: Global, all: &Prescribed) -> Result<String, Fail> {

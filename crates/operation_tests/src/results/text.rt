@@ -1,9 +1,9 @@
 // What operations give, as the tables write it.
 use mb_base::{Origin, Point};
 use mesh_boolean::Outcome;
-use sample_lines::push_digit;
 use std::alloc::Global;
 use std::test::Fail;
+use test_tables::push_digit;
 
 // A number below 61 is a digit, a small letter or a great one; a greater number is Z and then 61 less.
 fn push_number(text: &mut String, number: u64) -> Result<(), Fail> {

@@ -5,7 +5,7 @@ use Rattle.std.proofs.lemmas.List.Edits.{length-remove}
 use Rattle.mesh_terms.specs.Meshes.{Triple, triple_of, triples_of}
 use Rattle.std.specs.Prelude.{int_lt, pos}
 use Rattle.face_plane.specs.Planes.{Plane, orient}
-use Rattle.face_plane.specs.Rings.{Ringy, vertex_at, vertex_before, vertex_after}
+use Rattle.face_plane.specs.Rings.{IsRing, vertex_at, vertex_before, vertex_after}
 use Rattle.ring_cutting.specs.declared.place.Place.{Place}
 use Rattle.ring_cutting.specs.Cuts.{is_allowed, triple_at, cut_place, forced_here}
 use Rattle.ring_cutting.specs.Placed.{vertices_of, IsPlaced}
@@ -16,11 +16,11 @@ use Rattle.ring_cutting.proofs.cutting.cut_down.Goals.{then-next, else-next, the
 use Rattle.ring_cutting.proofs.cutting.cut_down.Goals as goal
 
 -- the places left are a ring
-still_ringy : (ps new : List Place) (i : ℕ) → Ringy (vertices_of ps) → 4 ≤ length ps → i < length ps → is_allowed (vertices_of ps) i ≡ true → new ≡ remove ps i → Ringy (vertices_of new)
+still_ringy : (ps new : List Place) (i : ℕ) → IsRing (vertices_of ps) → 4 ≤ length ps → i < length ps → is_allowed (vertices_of ps) i ≡ true → new ≡ remove ps i → IsRing (vertices_of new)
 still_ringy ps new i ringy four within allowed is =
     let n = length-vertices ps in
     let left = (step (vertices_of ps) i ringy (omega (arith, four, n)) (omega (arith, within, n)) allowed).ringy in
-    subst Ringy (sym (ap vertices_of is ∙ without_vertices ps i)) left
+    subst IsRing (sym (ap vertices_of is ∙ without_vertices ps i)) left
 
 -- one triangle more
 triples_more : (ts new : List (List ℕ)) (t : List ℕ) → new ≡ ts ++ t ∷ [] → triples_of new ≡ triples_of ts ++ triple_of t ∷ []

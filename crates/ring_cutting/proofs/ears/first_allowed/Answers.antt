@@ -1,7 +1,7 @@
 use Rattle.std.proofs.Common.{◌≡◌, ◌<◌, ◌≤◌, ℕ, List, false, length, sym, ◌∙◌, arith, inl, inr}
 use Rattle.std.proofs.lemmas.Bool.{cases_lt, both_ways}
 use borrow.Author.Count.{below_more}
-use Rattle.face_plane.specs.Rings.{Ringy}
+use Rattle.face_plane.specs.Rings.{IsRing}
 use Rattle.ring_cutting.specs.declared.place.Place.{Place}
 use Rattle.ring_cutting.specs.Cuts.{is_allowed}
 use Rattle.ring_cutting.specs.Placed.{vertices_of}
@@ -11,7 +11,7 @@ use Rattle.ring_cutting.proofs.Reading.{length-vertices}
 use Rattle.ring_cutting.proofs.ears.first_allowed.Goals as goal
 
 -- where no place before i is allowed, i is a place
-still_within : (ps : List Place) (i : ℕ) → Ringy (vertices_of ps) → 4 ≤ length ps → ((k : ℕ) → k < i → is_allowed (vertices_of ps) k ≡ false) → i < length ps
+still_within : (ps : List Place) (i : ℕ) → IsRing (vertices_of ps) → 4 ≤ length ps → ((k : ℕ) → k < i → is_allowed (vertices_of ps) k ≡ false) → i < length ps
 still_within ps i ringy four none =
     let some = some_allowed (vertices_of ps) ringy (omega (arith, four, length-vertices ps)) in
     elim (cases_lt some.place i) as (λ _. i < length ps) [

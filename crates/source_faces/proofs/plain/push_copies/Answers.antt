@@ -3,7 +3,7 @@ use Rattle.std.proofs.lemmas.List.{map_push}
 use Rattle.chain_terms.specs.Sums.{upto}
 use Rattle.chain_laws.proofs.Places.{upto_more}
 use Rattle.face_lists.specs.Parts.{no_run}
-use Rattle.face_lists.specs.declared.runs.Run.{Run}
+use Rattle.face_lists.specs.declared.runs.CopyRange.{CopyRange}
 use Rattle.mesh_terms.specs.Meshes.{Triple, triple_of, triples_of}
 use Rattle.ring_cutting.specs.Cuts.{Cut}
 use Rattle.side_terms.specs.Sides.{Side}
@@ -22,13 +22,13 @@ step x n f i t old mid new h triples is source forced =
     subst (λ ts. IsAdded x (record { triples = ts; forced = n }) old new) same (one_added x (record { triples = map f (upto i); forced = n }) t old mid new h triples source forced)
 
 -- so many copies of a triangle of a side
-abbrev copies_in : Side → List Run → ℕ → Triple → ℕ → Cut
+abbrev copies_in : Side → List CopyRange → ℕ → Triple → ℕ → Cut
 copies_in side runs f t n =
     let r = get_or runs t.0 no_run in
     record { triples = map (copy_triple r (get_or runs t.1 no_run) (get_or runs t.2 no_run)) (upto n); forced = cond (is_flat side f) r.count 0 }
 
 -- all copies of a face
-all_copies : (side : Side) (runs : List Run) (f i : ℕ) (t : Triple) (x : ℕ) (old new : SourceTriangles) → t ≡ get_or side.triples f (0, 0, 0) → i ≡ (get_or runs t.0 no_run).count → IsAdded x (copies_in side runs f t i) old new → IsAdded x (face_copies side runs f) old new
+all_copies : (side : Side) (runs : List CopyRange) (f i : ℕ) (t : Triple) (x : ℕ) (old new : SourceTriangles) → t ≡ get_or side.triples f (0, 0, 0) → i ≡ (get_or runs t.0 no_run).count → IsAdded x (copies_in side runs f t i) old new → IsAdded x (face_copies side runs f) old new
 all_copies side runs f i t x old new same all h =
     let here = subst (λ n. IsAdded x (copies_in side runs f t n) old new) all h in
     subst (λ (u : Triple). IsAdded x (copies_in side runs f u (get_or runs u.0 no_run).count) old new) same here

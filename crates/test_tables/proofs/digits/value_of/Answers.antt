@@ -1,5 +1,5 @@
 use Rattle.std.proofs.Common.{arith}
-use Rattle.sample_lines.proofs.digits.value_of.Goals as goal
+use Rattle.test_tables.proofs.digits.value_of.Goals as goal
 
 pub returns-in-48-to-57 : goal.returns-in-48-to-57
 returns-in-48-to-57 c = omega arith

@@ -4,8 +4,8 @@ use Rattle.chain_terms.specs.Chains.{all_edges}
 use Rattle.chain_terms.specs.Ranks.{twin}
 use Rattle.mb_base.specs.declared.results.Hit.{Hit}
 use Rattle.side_terms.specs.Hits.{IsBefore, IsNumber}
-use Rattle.sample_lines.proofs.HitLists.{hits_more}
-use Rattle.sample_lines.proofs.handed.are_hits.Goals as goal
+use Rattle.test_tables.proofs.HitLists.{hits_more}
+use Rattle.test_tables.proofs.handed.are_hits.Goals as goal
 
 pub loop-i-preserved : goal.loop-i-preserved
 loop-i-preserved c =
