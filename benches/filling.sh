@@ -9,6 +9,7 @@ git clone -q "$top" "$copy/here" && cd "$copy/here" || exit 1
 echo "filling_bench: mesh_terms mb_base face_loops face_plane ring_cutting hole_joining triangulate" >> crates.txt
 mkdir -p crates/filling_bench/src
 cp "$top/benches/filling/main.rt.txt" crates/filling_bench/src/main.rt
+cp "$top/benches/filling/loops.rt.txt" crates/filling_bench/src/loops.rt
 cp -r "$top/benches/filling/proofs" crates/filling_bench/proofs
 find crates/filling_bench/proofs -name '*.txt' | while read -r file; do mv "$file" "${file%.txt}"; done
 cd crates/filling_bench || exit 1

@@ -5,3 +5,4 @@ pub mod Sinks
 pub mod Store
 pub mod ShelfState
 pub mod SureState
+pub mod ShortState

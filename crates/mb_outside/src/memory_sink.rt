@@ -77,6 +77,8 @@ impl Sink for MemorySink {
 
     ghost room = { room_left };
 
+    ghost other_spare = { λ _. None };
+
     ghost loan = { λ _. None };
 
     fn write(&mut self, piece: &[u8]) -> Result<usize, Failed>

@@ -13,8 +13,8 @@ use crate::shelf::Failed;
 /// stood at 2^64 - 1, the last value that it can have.
 ///
 /// A sink that is one file of a shelf also has what belongs to the shelf and no write changes: two
-/// numbers beside the count, the other files, and the loan by which it holds the shelf. It may tell a
-/// room: a piece that fits it is not refused.
+/// numbers beside the count, the other files, the spare of another file, and the loan by which it holds
+/// the shelf. It may tell a room: a piece that fits it is not refused.
 pub trait Sink {
     /// The bytes taken so far, where they are told.
     ghost told: { Self → Option Bytes };
@@ -35,6 +35,9 @@ pub trait Sink {
     /// How many bytes the sink can still take, where that is told.
     ghost room: { Self → Option ℕ };
 
+    /// The shelf's spare, where the sink is a file of one and the spare is another file's. No write changes it.
+    ghost other_spare: { Self → Option (Bytes × ℕ) };
+
     /// The loan that the sink writes through, where it has one. No write changes it, so whoever lent
     /// a shelf to the sink knows the shelf again once the sink is gone.
     ghost loan: { Self → Option GName };
@@ -42,8 +45,8 @@ pub trait Sink {
     /// Takes the first bytes of a piece, and answers how many: at least one where the piece is not
     /// empty.
     ///
-    /// `Failed` comes only where the count rose, and then the bytes stay. Where a room is told and
-    /// the piece fits it, the answer is Ok, and the room is less by the bytes taken.
+    /// `Failed` comes only where the count rose, and then the bytes and the room stay. Where a room is
+    /// told and the piece fits it, the answer is Ok. An answer Ok lowers the room by the bytes taken.
     fn write(&mut self, piece: &[u8]) -> Result<usize, Failed>
         ensures within { IfOk result (λ count. count ≤ length piece.now) }
         ensures some { IfOk result (λ count. count ≡ 0 → length piece.now ≡ 0) }
@@ -56,6 +59,7 @@ pub trait Sink {
         ensures rest { rest self.new ≡ rest self.old }
         ensures loan { loan self.new ≡ loan self.old }
         ensures sure { (free : ℕ) → room self.old ≡ Some free → length piece.now ≤ free → IsOk result }
-        ensures less { IfOk result (λ count. (free : ℕ) → room self.old ≡ Some free →
-            length piece.now ≤ free → room self.new ≡ Some (free - count)) };
+        ensures less { IfOk result (λ count. room self.new ≡ option_map (λ free. free - count) (room self.old)) }
+        ensures room { OnErr result (room self.new ≡ room self.old) }
+        ensures other_spare { other_spare self.new ≡ other_spare self.old };
 }

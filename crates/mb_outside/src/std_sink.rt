@@ -37,6 +37,8 @@ impl<W: Write + Drop> Sink for StdSink<W> {
 
     ghost room = { λ _. None };
 
+    ghost other_spare = { λ _. None };
+
     ghost loan = { λ _. None };
 
     fn write(&mut self, piece: &[u8]) -> Result<usize, Failed> {

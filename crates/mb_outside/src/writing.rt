@@ -2,7 +2,7 @@
 ghost use Rattle.std.specs.Prelude.{◌≡◌, ◌≤◌, ◌++◌, ◌-◌, ℕ, Some, [], length, IsOk, OnOk, OnErr};
 ghost use Rattle.std.specs.Option.{option_map};
 ghost use Rattle.run_terms.specs.Files.{Counts};
-ghost use Rattle.mb_outside.specs.Sinks.{AddsPart};
+ghost use Rattle.mb_outside.specs.Sinks.{TakesPart};
 
 use crate::shelf::Failed;
 use crate::sink::Sink;
@@ -10,18 +10,20 @@ use crate::sink::Sink;
 /// Writes a text to a sink, piece after piece, until all of it is taken.
 ///
 /// After `Failed`, which comes only where the sink's count rose, a first part of the text was taken. A text that fits the
-/// room that the sink tells is taken whole. An empty text leaves the sink as it was.
+/// room that the sink tells is taken whole. The room is less by what was taken, whole or in part. An empty text leaves the
+/// sink as it was.
 pub fn write_all<K: Sink>(sink: &mut K, text: &[u8]) -> Result<(), Failed>
     ensures added { OnOk result (K.told sink.new ≡ option_map (λ held. held ++ text.now) (K.told sink.old)) }
-    ensures part { OnErr result (AddsPart text.now (K.told sink.old) (K.told sink.new)) }
+    ensures less { OnOk result (K.room sink.new ≡ option_map (λ free. free - length text.now) (K.room sink.old)) }
+    ensures part { OnErr result (TakesPart text.now (K.told sink.old) (K.told sink.new) (K.room sink.old) (K.room sink.new)) }
     ensures count { Counts (K.faults sink.old) (K.faults sink.new) result }
     ensures idle { text.now ≡ [] → sink.new ≡ sink.old }
     ensures other { K.other sink.new ≡ K.other sink.old }
     ensures second { K.second sink.new ≡ K.second sink.old }
     ensures rest { K.rest sink.new ≡ K.rest sink.old }
     ensures loan { K.loan sink.new ≡ K.loan sink.old }
+    ensures other_spare { K.other_spare sink.new ≡ K.other_spare sink.old }
     ensures sure { (free : ℕ) → K.room sink.old ≡ Some free → length text.now ≤ free → IsOk result }
-    ensures less { OnOk result ((free : ℕ) → K.room sink.old ≡ Some free → length text.now ≤ free → K.room sink.new ≡ Some (free - length text.now)) }
 {
     let mut done = 0;
     while done < text.len() {

@@ -46,6 +46,11 @@ pub begun_in_part : (name text : Bytes) (old new : Files) → IsKeptOrEmpty (old
 begun_in_part name text old new (inl kept) others = inl (kept_all name old new kept others)
 begun_in_part name text old new (inr empty) others = inr ([], (text, refl), written name [] old new empty others)
 
+-- the same with the part
+pub begun_files : (name : Bytes) (old new : Files) → IsKeptOrEmpty (old name) (new name) → OthersStay name old new → (◌≡◌ {A = Bytes} [] [] × (new ≡ old)) ⊎ (new ≡ put name [] old)
+begun_files name old new (inl kept) others = inl (refl, kept_all name old new kept others)
+begun_files name old new (inr empty) others = inr (written name [] old new empty others)
+
 -- a file that was begun, and then written in two steps of which the second left the others
 pub written_after : (name text : Bytes) (old mid new : Files) → new name ≡ Some text → OthersStay name old mid → without name new ≡ without name mid → new ≡ put name text old
 written_after name text old mid new here begun same =

@@ -1,5 +1,5 @@
 // Reading a file of a shelf, whole and in pieces. What is read is what the file holds, and a fault comes only where the shelf had one.
-ghost use Rattle.std.specs.Prelude.{◌≡◌, ◌≤◌, ◌<◌, ◌+◌, Ok, Err, false, length, IsTrue, IfOk, OnErr, OnOk, IfErr, vec_len};
+ghost use Rattle.std.specs.Prelude.{◌≡◌, ◌≤◌, ◌<◌, ◌+◌, ◌-◌, min, Ok, Err, false, length, IsTrue, IfOk, OnErr, OnOk, IfErr, vec_len};
 ghost use Rattle.mesh_terms.specs.Limits.{IsLawful, Limits as Bounds};
 ghost use Rattle.run_terms.specs.Files.{text_of, Counts, Grew};
 ghost use Rattle.play_terms.specs.Commands.{ask_file};
@@ -32,6 +32,16 @@ fn size_of<S: Shelf>(name: &str, limits: &Limits, shelf: &mut S) -> Result<usize
         return Err(Stop::ReadFault);
     };
     size_within(size, most)
+}
+
+// How many bytes the next read asks for: as many as are left, and at most a piece.
+fn asked(have: usize, size: usize) -> usize
+    requires { have < size }
+    ensures exact { result ≡ min 65536 (size - have) }
+    ensures some { 0 < result }
+    ensures within { have + result ≤ size }
+{
+    PIECE.min(size - have)
 }
 
 // Reads one piece more of a file, into these places, and answers how many bytes came.
@@ -87,7 +97,7 @@ fn read_some<S: Shelf>(
     ensures files { S.files shelf.new ≡ S.files shelf.old }
     ensures spare { S.spare shelf.new ≡ S.spare shelf.old }
 {
-    let end = have + PIECE.min(bytes.len() - have);
+    let end = have + asked(have, bytes.len());
     let Ok(count) = read_piece(shelf, name, bytes, have, end) else {
         return Err(Stop::ReadFault);
     };

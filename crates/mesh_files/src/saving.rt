@@ -1,15 +1,15 @@
 // Saving a mesh to a shelf.
-ghost use Rattle.std.specs.Prelude.{◌≡◌, ◌≤◌, ◌++◌, ℕ, Some, [], length, IsTrue, IsOk, OnErr, OnOk, IfErr};
+ghost use Rattle.std.specs.Prelude.{◌≡◌, ◌≤◌, ◌++◌, ◌-◌, ℕ, Some, [], length, IsTrue, IsOk, OnErr, OnOk, IfErr};
 ghost use Rattle.std.specs.Option.{option_map};
 ghost use Rattle.run_terms.specs.Files.{Counts};
 ghost use Rattle.run_terms.specs.Meets.{Meets};
 ghost use Rattle.play_terms.specs.Commands.{write_mesh};
 ghost use Rattle.play_terms.specs.Formats.{mesh_text};
 ghost use Rattle.mb_outside.specs.Seen.{MeetsOnShelf};
-ghost use Rattle.mb_outside.specs.Sinks.{AddsPart};
+ghost use Rattle.mb_outside.specs.Sinks.{TakesPart};
 ghost use Rattle.mesh_writer.specs.Pages.{without};
 ghost use Rattle.mesh_files.specs.Reasons.{saved};
-ghost use Rattle.mesh_files.specs.Pieces.{HasRoom, HoldsPart, text_in};
+ghost use Rattle.mesh_files.specs.Pieces.{HasRoom, HoldsPart, WritesPart, spare_after, text_in};
 
 use crate::stop::Stop;
 use mb_outside::{Failed, Shelf, Sink};
@@ -21,12 +21,14 @@ use mesh_writer::{PageSink, write_obj, write_stl};
 fn write_text<K: Sink>(mesh: &Mesh, name: &str, digits: u8, sink: &mut K) -> Result<(), Failed>
     requires { digits ≤ 6 }
     ensures added { OnOk result (K.told sink.new ≡ option_map (λ held. held ++ text_in digits name.now mesh.now) (K.told sink.old)) }
-    ensures part { OnErr result (AddsPart (text_in digits name.now mesh.now) (K.told sink.old) (K.told sink.new)) }
+    ensures less { OnOk result (K.room sink.new ≡ option_map (λ free. free - length (text_in digits name.now mesh.now)) (K.room sink.old)) }
+    ensures part { OnErr result (TakesPart (text_in digits name.now mesh.now) (K.told sink.old) (K.told sink.new) (K.room sink.old) (K.room sink.new)) }
     ensures count { Counts (K.faults sink.old) (K.faults sink.new) result }
     ensures other { K.other sink.new ≡ K.other sink.old }
     ensures second { K.second sink.new ≡ K.second sink.old }
     ensures rest { K.rest sink.new ≡ K.rest sink.old }
     ensures loan { K.loan sink.new ≡ K.loan sink.old }
+    ensures other_spare { K.other_spare sink.new ≡ K.other_spare sink.old }
     ensures sure { (free : ℕ) → K.room sink.old ≡ Some free → length (text_in digits name.now mesh.now) ≤ free → IsOk result }
 {
     if is_stl_name(name.as_bytes()) {
@@ -41,7 +43,9 @@ fn append_text<S: Shelf>(mesh: &Mesh, name: &str, digits: u8, shelf: &mut S) -> 
     requires digits { digits ≤ 6 }
     requires empty { IsTrue (S.tells shelf.old) → S.files shelf.old name.now ≡ Some [] }
     ensures text { OnOk result (IsTrue (S.tells shelf.old) → S.files shelf.new name.now ≡ Some (text_in digits name.now mesh.now)) }
-    ensures part { OnErr result (IsTrue (S.tells shelf.old) → HoldsPart (S.files shelf.new name.now) (text_in digits name.now mesh.now)) }
+    ensures spare { OnOk result (S.spare shelf.new ≡ spare_after name.now (length (text_in digits name.now mesh.now)) (S.spare shelf.old)) }
+    ensures part { OnErr result (HoldsPart (S.tells shelf.old) (S.files shelf.new name.now) name.now (text_in digits name.now mesh.now)
+        (S.spare shelf.old) (S.spare shelf.new)) }
     ensures others { IsTrue (S.tells shelf.old) → without name.now (S.files shelf.new) ≡ without name.now (S.files shelf.old) }
     ensures writes { Counts (S.write_faults shelf.old) (S.write_faults shelf.new) result }
     ensures reads { S.read_faults shelf.new ≡ S.read_faults shelf.old }
@@ -58,11 +62,15 @@ fn append_text<S: Shelf>(mesh: &Mesh, name: &str, digits: u8, shelf: &mut S) -> 
 ///
 /// The only stop is `WriteFault`, which comes only where the shelf's count of write faults rose. The file then holds a first part
 /// of its text, or what it held. No other file changes. Where the shelf's spare is this file's and the text fits its
-/// room, the mesh is saved. It takes no memory.
+/// room, the mesh is saved. Such a spare is less by what was written, whole or in part; any other is as it was. It takes no memory.
 pub fn save_mesh<S: Shelf>(mesh: &Mesh, name: &str, digits: u8, shelf: &mut S) -> Result<(), Stop>
     requires { digits ≤ 6 }
     ensures meets { MeetsOnShelf S.Shelf (write_mesh digits name.now mesh.now.points mesh.now.triples) shelf.old shelf.new (saved name.now result) }
     ensures stop { IfErr result (λ stop. stop ≡ Stop.WriteFault) }
+    ensures spare { OnOk result (S.spare shelf.new ≡
+        spare_after name.now (length (mesh_text digits name.now mesh.now.points mesh.now.triples)) (S.spare shelf.old)) }
+    ensures part { OnErr result (WritesPart (S.tells shelf.old) name.now (mesh_text digits name.now mesh.now.points mesh.now.triples)
+        (S.files shelf.old) (S.files shelf.new) (S.spare shelf.old) (S.spare shelf.new)) }
     ensures sure { HasRoom (S.spare shelf.old) name.now (mesh_text digits name.now mesh.now.points mesh.now.triples) → IsOk result }
 {
     let Ok(()) = shelf.begin(name) else {

@@ -9,10 +9,10 @@ use Rattle.mesh_writer.proofs.Passing.{passed-none, passed-put, passed-page, sto
 module _ {K : Type 0} (k : OfSink K) where
   -- a sink that was not touched
   pub kept-same : (s : K) → Kept k s s
-  kept-same s = record { other = refl; second = refl; rest = refl; loan = refl }
+  kept-same s = record { other = refl; second = refl; rest = refl; loan = refl; other_spare = refl }
 
   pub kept-then : (s t u : K) → Kept k s t → Kept k t u → Kept k s u
-  kept-then s t u p q = record { other = q.other ∙ p.other; second = q.second ∙ p.second; rest = q.rest ∙ p.rest; loan = q.loan ∙ p.loan }
+  kept-then s t u p q = record { other = q.other ∙ p.other; second = q.second ∙ p.second; rest = q.rest ∙ p.rest; loan = q.loan ∙ p.loan; other_spare = q.other_spare ∙ p.other_spare }
 
   -- nothing was written
   pub wrote-none : (held : Bytes) (s : K) → Wrote k [] (held, held) (s, s)
@@ -29,7 +29,7 @@ module _ {K : Type 0} (k : OfSink K) where
   -- the sink failed in the later text
   pub broke-then : (a b h0 h1 : Bytes) (s t u : K) → Wrote k a (h0, h1) (s, t) → Broke k b h1 (t, u) → Broke k (a ++ b) h0 (s, u)
   broke-then a b h0 h1 s t u p q = record {
-    stopped = stopped-then a b h0 h1 _ _ _ _ _ p.passed q.stopped;
+    stopped = stopped-then a b h0 h1 _ _ _ _ _ _ p.passed q.stopped;
     later = rw (← p.count) q.later;
     rose = rw (← p.count) q.rose;
     kept = kept-then s t u p.kept q.kept;
@@ -37,7 +37,7 @@ module _ {K : Type 0} (k : OfSink K) where
 
   -- or in the first
   pub broke-longer : (a b h0 : Bytes) (s u : K) → Broke k a h0 (s, u) → Broke k (a ++ b) h0 (s, u)
-  broke-longer a b h0 s u q = record { stopped = stopped-longer a b h0 _ _ _ q.stopped; later = q.later; rose = q.rose; kept = q.kept }
+  broke-longer a b h0 s u q = record { stopped = stopped-longer a b h0 _ _ _ _ q.stopped; later = q.later; rose = q.rose; kept = q.kept }
 
   module _ {X : Type 0} (f : X → Bytes) (xs : List X) (i : ℕ) (d x : X) (is : x ≡ get_or xs i d) (within : i < length xs) (h0 h1 : Bytes) (s t : K) where
     -- the text of one element more was written
@@ -66,7 +66,7 @@ module _ {K : Type 0} (k : OfSink K) where
     pub line-broke : (r : Result T E) → OnErr r (StoppedOn k [] h1 (s, t)) → Counts (k.faults s) (k.faults t) r → OnErr r (Broke k text h0 (s, t))
     line-broke (Ok x) stopped count = search rules
     line-broke (Err e) stopped count = record {
-      stopped = stopped-page text h0 h1 _ _ _ _ _ (passed-put [] text h0 h0 h1 _ _ _ _ (passed-none h0 (k.told s) (k.room s)) put) stopped;
+      stopped = stopped-page text h0 h1 _ _ _ _ _ _ (passed-put [] text h0 h0 h1 _ _ _ _ (passed-none h0 (k.told s) (k.room s)) put) stopped;
       later = count.later;
       rose = count.failed (search rules);
       kept = kept;

@@ -10,3 +10,8 @@ without name files n = if bytes_eq n name then None else files n
 abbrev pub room_of : Bytes → Option (Bytes × ℕ) → Option ℕ
 room_of name None = None
 room_of name (Some p) = if bytes_eq p.0 name then Some p.1 else None
+
+-- the spare, where it is another file's
+abbrev pub spare_beside : Bytes → Option (Bytes × ℕ) → Option (Bytes × ℕ)
+spare_beside name None = None
+spare_beside name (Some p) = if bytes_eq p.0 name then None else Some p

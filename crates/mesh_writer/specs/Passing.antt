@@ -2,7 +2,7 @@
 use Rattle.std.specs.Prelude.{◌≡◌, ℕ, ◌+◌, ◌-◌, ◌≤◌, ◌++◌, length, Option, Some}
 use Rattle.std.specs.Option.{option_map}
 use Rattle.run_terms.specs.Files.{Bytes, Rose}
-use Rattle.mb_outside.specs.Sinks.{AddsPart}
+use Rattle.mb_outside.specs.Sinks.{TakesPart}
 use Rattle.mb_outside.specs.declared.sink.Sink.{Ghosts as OfSink}
 
 -- the sink took what the page held and a first part of the text, and the page holds the rest
@@ -10,11 +10,11 @@ pub record Passed (text held_old held_new : Bytes) (told_old told_new : Option B
   pub sent : Bytes
   pub split : sent ++ held_new ≡ held_old ++ text
   pub told : told_new ≡ option_map (λ held. held ++ sent) told_old
-  pub room : (free : ℕ) → room_old ≡ Some free → length held_old + length text ≤ free → room_new ≡ Some (free - length sent)
+  pub room : room_new ≡ option_map (λ free. free - length sent) room_old
 
 -- the sink failed after a first part of what the page held and of the text, and only where its room was too small
-pub record Stopped (text held_old : Bytes) (told_old told_new : Option Bytes) (room_old : Option ℕ) : Type 0 where
-  pub told : AddsPart (held_old ++ text) told_old told_new
+pub record Stopped (text held_old : Bytes) (told_old told_new : Option Bytes) (room_old room_new : Option ℕ) : Type 0 where
+  pub part : TakesPart (held_old ++ text) told_old told_new room_old room_new
   pub small : (free : ℕ) → room_old ≡ Some free → length held_old + length text ≤ free → ⊥
 
 -- the first, of what a page held before and holds now, and of a sink of any type before and now
@@ -23,7 +23,7 @@ PassedOn k text held sink = Passed text held.0 held.1 (k.told sink.0) (k.told si
 
 -- the second, of what a page held, and of a sink of any type before and now
 abbrev pub StoppedOn : {K : Type 0} → OfSink K → Bytes → Bytes → K × K → Type 0
-StoppedOn k text held sink = Stopped text held (k.told sink.0) (k.told sink.1) (k.room sink.0)
+StoppedOn k text held sink = Stopped text held (k.told sink.0) (k.told sink.1) (k.room sink.0) (k.room sink.1)
 
 -- a sink is as it was, but for the bytes that it took, its room and its count of faults
 pub record Kept {K : Type 0} (k : OfSink K) (old new : K) : Type 0 where
@@ -31,6 +31,7 @@ pub record Kept {K : Type 0} (k : OfSink K) (old new : K) : Type 0 where
   pub second : k.second new ≡ k.second old
   pub rest : k.rest new ≡ k.rest old
   pub loan : k.loan new ≡ k.loan old
+  pub other_spare : k.other_spare new ≡ k.other_spare old
 
 -- the text passed by a page, of what it held before and holds now, to a sink, before and now
 pub record Wrote {K : Type 0} (k : OfSink K) (text : Bytes) (held : Bytes × Bytes) (sink : K × K) : Type 0 where

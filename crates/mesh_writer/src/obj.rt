@@ -1,12 +1,12 @@
 // The OBJ text of a mesh.
-ghost use Rattle.std.specs.Prelude.{◌≡◌, ◌≤◌, ◌++◌, ℕ, Some, [], length, IsOk, OnOk, OnErr};
+ghost use Rattle.std.specs.Prelude.{◌≡◌, ◌≤◌, ◌++◌, ◌-◌, ℕ, Some, [], length, IsOk, OnOk, OnErr};
 ghost use Rattle.std.specs.Option.{option_map};
 ghost use Rattle.std.specs.List.{flat_map};
 ghost use Rattle.arrayvec.specs.ArrayVec.{array_vec_len};
 ghost use Rattle.run_terms.specs.Files.{Counts};
 ghost use Rattle.mesh_terms.specs.Meshes.{triple_of};
 ghost use Rattle.obj_terms.specs.Written.{point_line, face_line, obj_text};
-ghost use Rattle.mb_outside.specs.Sinks.{AddsPart};
+ghost use Rattle.mb_outside.specs.Sinks.{TakesPart};
 ghost use Rattle.mesh_writer.specs.Passing.{PassedOn, StoppedOn};
 
 use crate::lines::{put_face, put_point};
@@ -33,6 +33,7 @@ fn write_points<K: Sink>(
     ensures second { K.second sink.new ≡ K.second sink.old }
     ensures rest { K.rest sink.new ≡ K.rest sink.old }
     ensures loan { K.loan sink.new ≡ K.loan sink.old }
+    ensures other_spare { K.other_spare sink.new ≡ K.other_spare sink.old }
 {
     for point in points {
         put_point(page, point, digits);
@@ -52,6 +53,7 @@ fn write_faces<K: Sink>(triples: &[[u32; 3]], page: &mut Page, sink: &mut K) -> 
     ensures second { K.second sink.new ≡ K.second sink.old }
     ensures rest { K.rest sink.new ≡ K.rest sink.old }
     ensures loan { K.loan sink.new ≡ K.loan sink.old }
+    ensures other_spare { K.other_spare sink.new ≡ K.other_spare sink.old }
 {
     for triple in triples {
         put_face(page, triple);
@@ -64,18 +66,22 @@ fn write_faces<K: Sink>(triples: &[[u32; 3]], page: &mut Page, sink: &mut K) -> 
 /// line `f A B C` for each triangle, its vertices counted from 1.
 ///
 /// After `Failed`, which comes only where the sink's count of faults rose, a first part of the text was written. A text that fits
-/// the room that the sink tells is written whole. It takes no memory; a page of 4,096 bytes goes to the sink
-/// where fewer than 128 bytes are free on it, and at the end where it is not empty. So of an empty mesh nothing is written.
+/// the room that the sink tells is written whole. The room is less by what was written, whole or in part. It takes no memory; a page
+/// of 4,096 bytes goes to the sink where after a line fewer than 128 bytes are free on it, and at the end where it is not empty. So of
+/// an empty mesh nothing is written.
 pub fn write_obj<K: Sink>(mesh: &Mesh, digits: u8, sink: &mut K) -> Result<(), Failed>
     requires { digits ≤ 6 }
     ensures added { OnOk result (K.told sink.new ≡ option_map (λ held. held ++ obj_text digits mesh.now.points mesh.now.triples) (K.told sink.old)) }
-    ensures part { OnErr result (AddsPart (obj_text digits mesh.now.points mesh.now.triples) (K.told sink.old) (K.told sink.new)) }
+    ensures less { OnOk result (K.room sink.new ≡ option_map (λ free. free - length (obj_text digits mesh.now.points mesh.now.triples)) (K.room sink.old)) }
+    ensures part { OnErr result (TakesPart (obj_text digits mesh.now.points mesh.now.triples) (K.told sink.old) (K.told sink.new)
+        (K.room sink.old) (K.room sink.new)) }
     ensures idle { obj_text digits mesh.now.points mesh.now.triples ≡ [] → sink.new ≡ sink.old }
     ensures count { Counts (K.faults sink.old) (K.faults sink.new) result }
     ensures other { K.other sink.new ≡ K.other sink.old }
     ensures second { K.second sink.new ≡ K.second sink.old }
     ensures rest { K.rest sink.new ≡ K.rest sink.old }
     ensures loan { K.loan sink.new ≡ K.loan sink.old }
+    ensures other_spare { K.other_spare sink.new ≡ K.other_spare sink.old }
     ensures sure { (free : ℕ) → K.room sink.old ≡ Some free → length (obj_text digits mesh.now.points mesh.now.triples) ≤ free → IsOk result }
 {
     let mut page = Page::new();

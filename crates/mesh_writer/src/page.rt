@@ -1,5 +1,5 @@
 // The page that lines are put on before they go to a sink.
-ghost use Rattle.std.specs.Prelude.{◌≡◌, ◌≤◌, ◌+◌, ◌++◌, [], length, OnOk, OnErr};
+ghost use Rattle.std.specs.Prelude.{◌≡◌, ◌≤◌, ◌<◌, ◌+◌, ◌++◌, [], length, IsOk, OnOk, OnErr};
 ghost use Rattle.arrayvec.specs.ArrayVec.{array_vec_len};
 ghost use Rattle.run_terms.specs.Files.{Counts};
 ghost use Rattle.mesh_writer.specs.Passing.{Passed, Stopped};
@@ -28,16 +28,20 @@ pub fn put_text(page: &mut Page, text: &[u8])
     }
 }
 
-// Sends the page to the sink where fewer bytes are free than a line may need.
+// Sends the page to the sink where fewer than 128 bytes are free, which a line may need. Where more are free it stays, and the
+// sink is not asked.
 pub fn send_full<K: Sink>(page: &mut Page, sink: &mut K) -> Result<(), Failed>
     ensures passed { OnOk result (Passed [] page.old.items page.new.items (K.told sink.old) (K.told sink.new) (K.room sink.old) (K.room sink.new)) }
-    ensures stopped { OnErr result (Stopped [] page.old.items (K.told sink.old) (K.told sink.new) (K.room sink.old)) }
+    ensures stopped { OnErr result (Stopped [] page.old.items (K.told sink.old) (K.told sink.new) (K.room sink.old) (K.room sink.new)) }
+    ensures goes { 3968 < array_vec_len page.old → OnOk result (page.new.items ≡ []) }
+    ensures stays { array_vec_len page.old ≤ 3968 → IsOk result × (page.new.items ≡ page.old.items) × (sink.new ≡ sink.old) }
     ensures free { OnOk result (array_vec_len page.new ≤ 3968) }
     ensures count { Counts (K.faults sink.old) (K.faults sink.new) result }
     ensures other { K.other sink.new ≡ K.other sink.old }
     ensures second { K.second sink.new ≡ K.second sink.old }
     ensures rest { K.rest sink.new ≡ K.rest sink.old }
     ensures loan { K.loan sink.new ≡ K.loan sink.old }
+    ensures other_spare { K.other_spare sink.new ≡ K.other_spare sink.old }
 {
     if PAGE - page.len() < LINE {
         write_all(sink, page.as_slice())?;

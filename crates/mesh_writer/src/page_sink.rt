@@ -1,6 +1,6 @@
 // One file of a shelf as a sink.
 ghost use Rattle.std.specs.Prelude.{◌≡◌, IsTrue, IsSome, Some, None, if◌then◌else◌};
-ghost use Rattle.mesh_writer.specs.Pages.{without, room_of};
+ghost use Rattle.mesh_writer.specs.Pages.{without, room_of, spare_beside};
 
 use mb_outside::{Failed, Shelf, Sink};
 
@@ -8,8 +8,8 @@ use mb_outside::{Failed, Shelf, Sink};
 ///
 /// Where the shelf tells its files, the file is there; the sink's bytes are the file's, and its rest is the file's name with the
 /// shelf's other files. Its count of faults is the shelf's of writing, its other number the shelf's of reading, its second number the
-/// shelf's of reads that gave nothing. Where
-/// the shelf's spare is this file's, the sink's room is the spare's number.
+/// shelf's of reads that gave nothing. Where the shelf's spare is this file's, the sink's room is the spare's number; a spare of another
+/// file is the sink's other spare.
 #[derive(Drop)]
 pub struct PageSink<'a, S: Shelf> {
     shelf: &'a mut S,
@@ -41,6 +41,8 @@ impl<'a, S: Shelf> Sink for PageSink<'a, S> {
     ghost rest = { λ p. if S.tells p.shelf.now then Some (p.name.now, without p.name.now (S.files p.shelf.now)) else None };
 
     ghost room = { λ p. room_of p.name.now (S.spare p.shelf.now) };
+
+    ghost other_spare = { λ p. spare_beside p.name.now (S.spare p.shelf.now) };
 
     ghost loan = { λ p. Some p.shelf.ghost_name };
 

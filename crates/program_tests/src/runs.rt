@@ -1,4 +1,5 @@
 // Whole runs over memory, with what users and scripts see of them: status, output, error line, files.
+mod faults;
 mod files;
 mod made;
 mod scripts;
@@ -211,22 +212,6 @@ fn copied<'a>(
 }
 
 #[test]
-fn what_is_copied_is_saved_and_reported(rt: HostRuntime) -> Result<(), Fail> {
-    let words = ["copy", "t.obj", "u.obj"];
-    let mut case = copied(
-        &words,
-        "t.obj",
-        TETRAHEDRON,
-        b"copied u.obj: points 4, triangles 4, unused 0\n",
-        TETRAHEDRON,
-    );
-    // The size, one read, the beginning and one piece: a fifth call would fail.
-    case.shelf_fails = 5;
-    judge(&rt, &case)?;
-    Ok(())
-}
-
-#[test]
 fn meshes_that_touch_or_are_flat_are_copied(rt: HostRuntime) -> Result<(), Fail> {
     let words = ["copy", "t.obj", "u.obj"];
     let flat = copied(
@@ -326,62 +311,6 @@ fn a_missing_file_is_named(rt: HostRuntime) -> Result<(), Fail> {
     Ok(())
 }
 
-// A copy of the tetrahedron, or of so many blanks, under small limits.
-fn limited<'a>(
-    words: &'a [&'a str],
-    bytes: &'a [u8],
-    limits: Limits,
-    call: u64,
-    err: &'a [u8],
-) -> Case<'a> {
-    Case {
-        words,
-        name: "t.obj",
-        bytes,
-        to: "u.obj",
-        most: ROOM,
-        shelf_fails: call,
-        out_fails: 0,
-        limits,
-        status: 5,
-        out: b"",
-        err,
-        is_saved: false,
-        saved: b"",
-    }
-}
-
-#[test]
-fn the_first_count_past_its_limit_is_named(rt: HostRuntime) -> Result<(), Fail> {
-    let words = ["copy", "t.obj", "u.obj"];
-    let limits = Limits::of(187, 3, 2, 0).ok_or("these limits are lawful")?;
-    let case = limited(&words, TETRAHEDRON, limits, 0, b"limit points 4\n");
-    judge(&rt, &case)?;
-    Ok(())
-}
-
-#[test]
-fn a_read_fault_ends_the_run(rt: HostRuntime) -> Result<(), Fail> {
-    let words = ["copy", "t.obj", "u.obj"];
-    let case = Case {
-        words: &words,
-        name: "t.obj",
-        bytes: TETRAHEDRON,
-        to: "u.obj",
-        most: ROOM,
-        shelf_fails: 2,
-        out_fails: 0,
-        limits: Limits::program(),
-        status: 6,
-        out: b"",
-        err: b"t.obj: read fault\n",
-        is_saved: false,
-        saved: b"",
-    };
-    judge(&rt, &case)?;
-    Ok(())
-}
-
 #[test]
 fn a_write_fault_leaves_a_part(rt: HostRuntime) -> Result<(), Fail> {
     let words = ["copy", "t.obj", "u.obj"];
@@ -399,28 +328,6 @@ fn a_write_fault_leaves_a_part(rt: HostRuntime) -> Result<(), Fail> {
         err: b"u.obj: write fault\n",
         is_saved: true,
         saved: b"v 0 0 0\nv 1 0 0\nv 0 ",
-    };
-    judge(&rt, &case)?;
-    Ok(())
-}
-
-#[test]
-fn a_fault_of_the_report_comes_after_the_file(rt: HostRuntime) -> Result<(), Fail> {
-    let words = ["copy", "t.obj", "u.obj"];
-    let case = Case {
-        words: &words,
-        name: "t.obj",
-        bytes: TETRAHEDRON,
-        to: "u.obj",
-        most: ROOM,
-        shelf_fails: 0,
-        out_fails: 2,
-        limits: Limits::program(),
-        status: 7,
-        out: b"copied ",
-        err: b"report: write fault\n",
-        is_saved: true,
-        saved: TETRAHEDRON,
     };
     judge(&rt, &case)?;
     Ok(())
@@ -452,17 +359,6 @@ fn a_file_is_read_in_pieces(rt: HostRuntime) -> Result<(), Fail> {
     // The size is asked and two pieces are read; the fourth call begins the copy.
     let bytes = vec![in alloc; 32; 65_537]?;
     let case = blanks(&words, &bytes, 4);
-    judge(&rt, &case)?;
-    Ok(())
-}
-
-#[test]
-fn the_size_is_asked_before_a_byte_is_read(rt: HostRuntime) -> Result<(), Fail> {
-    let words = ["copy", "t.obj", "u.obj"];
-    let limits = Limits::of(187, 3, 2, 0).ok_or("these limits are lawful")?;
-    let blanks = [32; 188];
-    // A second call would fail.
-    let case = limited(&words, &blanks, limits, 2, b"limit file_bytes 188\n");
     judge(&rt, &case)?;
     Ok(())
 }
@@ -527,6 +423,8 @@ fn a_mesh_winds_round_a_point(rt: HostRuntime) -> Result<(), Fail> {
     judge_winding(&rt, &greatest, CUBE, b"winding 1\n")?;
     let least = ["inside", "c.obj", "0", "0", "0"];
     judge_winding(&rt, &least, CUBE, b"winding 0\n")?;
+    let below = ["inside", "c.obj", "--", "-5", "4", "3"];
+    judge_winding(&rt, &below, CUBE, b"winding 0\n")?;
     Ok(())
 }
 

@@ -1,81 +1,27 @@
 // Reading from a shelf that tells no files, and reading and saving over one that does.
-ghost use Rattle.std.specs.Prelude.{◌≡◌, false, None};
+ghost use Rattle.std.specs.Prelude.{◌≤◌, ◌++◌, IsOk};
+ghost use Rattle.mesh_files.specs.Pieces.{HasRoom, text_in};
 
 use crate::obj::TETRAHEDRON;
 use crate::shelves::{holds, shelf_with};
 use mb_base::{Limits, NoMemory};
-use mb_outside::{Failed, MemoryShelf, Shelf};
+use mb_outside::{MemoryShelf, Shelf, ShortShelf, SureShelf};
+use mesh_check::Mesh;
 use mesh_files::{Stop, read_mesh, save_mesh};
 use std::alloc::Global;
 use std::test::Fail;
 
-const BLANKS: [u8; 100] = [b' '; 100];
-
-// A shelf of one file, which states so many bytes and gives so many blanks.
-#[derive(Drop)]
-struct StatingShelf {
-    stated: u64,
-    given: u64,
-    last: u64,
-    short_reads: u64,
-}
-
-impl Shelf for StatingShelf {
-    ghost tells = { λ _. false };
-
-    ghost files = { λ _ _. None };
-
-    ghost read_faults = { λ _. 0 };
-
-    ghost write_faults = { λ _. 0 };
-
-    ghost stated = { λ shelf. shelf.last };
-
-    ghost short_reads = { λ shelf. shelf.short_reads };
-
-    ghost spare = { λ _. None };
-
-    ghost spare_is_told = { λ shelf told is. Prim.cc };
-
-    fn size(&mut self, _name: &str) -> Result<Option<u64>, Failed> {
-        self.last = self.stated;
-        Ok(Some(self.stated))
-    }
-
-    fn read_at(&mut self, _name: &str, at: u64, into: &mut [u8]) -> Result<usize, Failed> {
-        let left = BLANKS.len().min(self.given.saturating_sub(at) as usize);
-        let count = into.len().min(left);
-        into[..count].copy_from_slice(&BLANKS[..count]);
-        if count == 0 && !into.is_empty() && at < self.last {
-            self.short_reads = self.short_reads.saturating_add(1);
-        }
-        Ok(count)
-    }
-
-    fn begin(&mut self, _name: &str) -> Result<(), Failed> {
-        Ok(())
-    }
-
-    fn append(&mut self, _name: &str, piece: &[u8]) -> Result<usize, Failed> {
-        Ok(piece.len())
-    }
-}
-
-// How the reading of blanks ends, of which so many are stated and so many given.
-fn read_from(alloc: Global, stated: u64, given: u64) -> Option<Stop> {
-    let mut shelf = StatingShelf {
-        stated,
-        given,
-        last: 0,
-        short_reads: 0,
-    };
-    read_mesh(alloc, "t.obj", 4, &Limits::program(), &mut shelf).err()
+// How the reading of so many blanks ends, of which so many are stated.
+fn read_from(alloc: Global, stated: u64, given: &[u8]) -> Result<Option<Stop>, NoMemory> {
+    let mut shelf = ShortShelf::of(alloc, "t.obj", given, stated)?;
+    Ok(read_mesh(alloc, "t.obj", 4, &Limits::program(), &mut shelf).err())
 }
 
 #[test]
-fn a_file_that_ends_early_is_a_read_fault(rt: HostRuntime) {
-    assert!(rt; read_from(rt.alloc(), 100, 64) == Some(Stop::ReadFault));
-    assert!(rt; read_from(rt.alloc(), 64, 100).is_none());
+fn a_file_that_ends_early_is_a_read_fault(rt: HostRuntime) -> Result<(), Fail> {
+    assert!(rt; read_from(rt.alloc(), 100, &[b' '; 64])? == Some(Stop::ReadFault));
+    assert!(rt; read_from(rt.alloc(), 64, &[b' '; 100])?.is_none());
+    Ok(())
 }
 
 // A shelf with one file.
@@ -112,5 +58,30 @@ fn what_was_read_is_saved(rt: HostRuntime) -> Result<(), Fail> {
 fn what_is_no_mesh_says_why(rt: HostRuntime) -> Result<(), Fail> {
     let open = b"v 0 0 0\nv 1 0 0\nv 0 1 0\nf 1 2 3\n";
     assert!(rt; stop_of(rt.alloc(), open)? == Some(Stop::BadEdge { from: 0, to: 1 }));
+    Ok(())
+}
+
+// Saves a mesh twice to a file. Where the file is the shelf's spare and has room for both texts, both are written.
+fn save_twice<S: Shelf>(mesh: &Mesh, name: &str, digits: u8, shelf: &mut S) -> Result<(), Stop>
+    requires { digits ≤ 6 }
+    ensures { HasRoom (S.spare shelf.old) name.now (text_in digits name.now mesh.now ++ text_in digits name.now mesh.now) → IsOk result }
+{
+    save_mesh(mesh, name, digits, shelf)?;
+    save_mesh(mesh, name, digits, shelf)
+}
+
+// Whether the tetrahedron is saved twice to a file with so much room.
+fn is_saved_twice(alloc: Global, room: usize) -> Result<bool, NoMemory> {
+    let mut shelf = SureShelf::of(alloc, "t.obj", TETRAHEDRON, "u.obj", room)?;
+    match read_mesh(alloc, "t.obj", 4, &Limits::program(), &mut shelf) {
+        Ok(read) => Ok(save_twice(&read.mesh, "u.obj", 4, &mut shelf).is_ok()),
+        Err(_) => Ok(false),
+    }
+}
+
+#[test]
+fn each_save_takes_its_text_off_the_room(rt: HostRuntime) -> Result<(), Fail> {
+    assert!(rt; is_saved_twice(rt.alloc(), 128)?);
+    assert!(rt; !is_saved_twice(rt.alloc(), 127)?);
     Ok(())
 }

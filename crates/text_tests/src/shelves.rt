@@ -2,7 +2,9 @@
 ghost use Rattle.std.specs.Prelude.{◌<◌};
 
 use mb_base::NoMemory;
-use mb_outside::{Failed, FolderShelf, MemoryShelf, MemorySink, Shelf, Sink, StdSink, SureShelf};
+use mb_outside::{
+    Failed, FolderShelf, MemoryShelf, MemorySink, Shelf, Sink, StdSink, SureShelf, write_all,
+};
 use std::alloc::Global;
 use std::fs;
 use std::io::{self, Write};
@@ -266,13 +268,74 @@ fn a_writer_of_std_gets_what_was_written(rt: HostRuntime) -> Result<(), Fail> {
     Ok(())
 }
 
-// A writer that takes one byte at a time.
-#[derive(Drop)]
-struct SlowWriter;
+// 200,000 bytes, of which each part differs from those near it.
+fn long_text(alloc: Global) -> Result<Vec<u8>, NoMemory> {
+    let mut text = Vec::new(alloc);
+    for i in 0..200_000u32 {
+        text.push((i % 251) as u8)?;
+    }
+    Ok(text)
+}
 
-impl Write for SlowWriter {
+// Whether each piece of a text is added at the end of a file.
+fn appends<S: Shelf>(shelf: &mut S, name: &str, text: &[u8]) -> bool {
+    let mut all = true;
+    for piece in text.chunks(7_000) {
+        if shelf.append(name, piece) != Ok(piece.len()) {
+            all = false;
+        }
+    }
+    all
+}
+
+// Whether each piece of a text is read at its place.
+fn reads_back<S: Shelf>(shelf: &mut S, name: &str, text: &[u8]) -> bool {
+    let mut into = [0u8; 9_000];
+    let mut at = 0u64;
+    let mut all = true;
+    for piece in text.chunks(9_000) {
+        if shelf.read_at(name, at, &mut into) != Ok(piece.len()) || !into.starts_with(piece) {
+            all = false;
+        }
+        at = at.saturating_add(piece.len() as u64);
+    }
+    all
+}
+
+#[test]
+fn a_long_file_of_the_folder_is_read_back(rt: HostRuntime) -> Result<(), Fail> {
+    let text = long_text(rt.alloc())?;
+    let mut shelf = FolderShelf::of(&rt);
+    assert!(rt; shelf.begin("long.txt").is_ok());
+    assert!(rt; appends(&mut shelf, "long.txt", &text));
+    assert!(rt; shelf.size("long.txt") == Ok(Some(200_000)));
+    assert!(rt; reads_back(&mut shelf, "long.txt", &text));
+    assert!(rt; shelf.begin("long.txt").is_ok());
+    assert!(rt; shelf.size("long.txt") == Ok(Some(0)));
+    // A folder has a size.
+    assert!(rt; matches!(shelf.size("."), Ok(Some(_))));
+    fs::remove_file(&rt, "long.txt")?;
+    Ok(())
+}
+
+// A writer that takes 7 bytes, then one, then all, and so on.
+#[derive(Drop)]
+struct FitfulWriter<'a> {
+    taken: &'a mut Vec<u8>,
+    calls: u32,
+}
+
+impl<'a> Write for FitfulWriter<'a> {
     fn write(&mut self, piece: &[u8]) -> io::Result<usize> {
-        Ok(piece.len().min(1))
+        let most = match self.calls % 3 {
+            0 => 7,
+            1 => 1,
+            _ => piece.len(),
+        };
+        self.calls = self.calls.saturating_add(1);
+        let count = most.min(piece.len());
+        self.taken.extend_from_slice(&piece[..count])?;
+        Ok(count)
     }
 
     fn flush(&mut self) -> io::Result<()> {
@@ -280,10 +343,22 @@ impl Write for SlowWriter {
     }
 }
 
-static PART: [(&[u8], Answer); 1] = [(b"said", Ok(Some(1)))];
+// Whether a writer of std that takes parts gets all of a text.
+fn goes_out(alloc: Global, text: &[u8]) -> Result<bool, NoMemory> {
+    let mut taken = Vec::with_capacity(alloc, text.len())?;
+    let is_written = {
+        let mut sink = StdSink::over(FitfulWriter {
+            taken: &mut taken,
+            calls: 0,
+        });
+        write_all(&mut sink, text).is_ok()
+    };
+    Ok(is_written && taken.as_slice() == text)
+}
 
 #[test]
-fn a_writer_of_std_may_take_a_part(rt: HostRuntime) {
-    let mut sink = StdSink::over(SlowWriter);
-    assert!(rt; takes(&mut sink, &PART));
+fn a_writer_of_std_may_take_parts(rt: HostRuntime) -> Result<(), Fail> {
+    let text = long_text(rt.alloc())?;
+    assert!(rt; goes_out(rt.alloc(), &text)?);
+    Ok(())
 }

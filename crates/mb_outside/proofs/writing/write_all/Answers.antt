@@ -1,7 +1,8 @@
 use Rattle.std.proofs.Common.{◌∙◌, ℕ, ◌-◌, List, le_antisymm, arith, ap, Some, rules, ◌≡◌, ◌+◌, ◌≤◌, ◌++◌, length}
 use Rattle.std.specs.Option.{option_map}
 use Rattle.std.proofs.lemmas.List.{take_all}
-use Rattle.mb_outside.proofs.Adds.{told_on}
+use Rattle.std.proofs.lemmas.Result.{err_from_is_err_and}
+use Rattle.mb_outside.proofs.Adds.{first_taken, lowered_twice, told_on}
 use Rattle.mb_outside.proofs.writing.write_all.Goals as goal
 
 pub loop-done-preserved : goal.loop-done-preserved
@@ -17,17 +18,23 @@ loop-done-preserved g c =
       second = e.second ∙ inv.second;
       rest = e.rest ∙ inv.rest;
       loan = e.loan ∙ inv.loan;
-      room = λ free is fits.
-          let left : length c.split_at.result.1.now ≤ free - c.loop-done.done = omega (arith, c.split_at.ensures.back_len, inv.within, fits) in
-          let same : free - c.loop-done.done - c.in_ok-done.field-0 ≡ free - (c.loop-done.done + c.in_ok-done.field-0) = omega arith in
-          e.less (free - c.loop-done.done) (inv.room free is fits) left ∙ ap Some same;
+      other_spare = e.other_spare ∙ inv.other_spare;
+      room = lowered_twice _ _ _ c.loop-done.done c.in_ok-done.field-0 inv.room e.less;
     }
 
 pub returns-in_err-done-clause-sure : goal.returns-in_err-done-clause-sure
 returns-in_err-done-clause-sure g c free is fits =
     let fits_rest : length c.split_at.result.1.now ≤ free - c.loop-done.done = omega (arith, c.split_at.ensures.back_len, c.loop-done.invariant.within, fits) in
-    let ok = c.in_err-done.ensures.sure (free - c.loop-done.done) (c.loop-done.invariant.room free is fits) fits_rest in
+    let left = c.loop-done.invariant.room ∙ ap (option_map (λ (n : ℕ). n - c.loop-done.done)) is in
+    let ok = c.in_err-done.ensures.sure (free - c.loop-done.done) left fits_rest in
     cc
+
+pub returns-in_err-done-clause-part : goal.returns-in_err-done-clause-part
+returns-in_err-done-clause-part g c =
+    let p = err_from_is_err_and c.from_residual.result c.from_residual.ensures.1 in
+    let inv = c.loop-done.invariant in
+    let e = c.in_err-done.ensures in
+    rw p.1 (first_taken c.args.text.now c.loop-done.done _ _ _ _ inv.within (e.kept ∙ inv.told) (e.room ∙ inv.room))
 
 pub returns-clause-added : goal.returns-clause-added
 returns-clause-added g c =
@@ -35,6 +42,6 @@ returns-clause-added g c =
     c.loop-done.invariant.told ∙ ap (λ (text : List ℕ). option_map (λ (held : List ℕ). held ++ text) (g.K.Sink.told c.args.sink.now)) all
 
 pub returns-clause-less : goal.returns-clause-less
-returns-clause-less g c free is fits =
+returns-clause-less g c =
     let all : c.loop-done.done ≡ length c.args.text.now = le_antisymm c.loop-done.invariant.within c.loop-done-test.false in
-    c.loop-done.invariant.room free is fits ∙ ap (λ (n : ℕ). Some (free - n)) all
+    c.loop-done.invariant.room ∙ ap (λ (n : ℕ). option_map (λ (free : ℕ). free - n) (g.K.Sink.room c.args.sink.now)) all

@@ -1,4 +1,4 @@
-use Rattle.std.proofs.Common.{length, ℕ, ◌-◌, ◌≡◌, ◌≤◌, ◌++◌, take, Some}
+use Rattle.std.proofs.Common.{length, ◌-◌, ◌≡◌, ◌≤◌, ◌++◌, take}
 use Rattle.std.specs.Option.{option_map}
 use Rattle.mb_outside.proofs.writing.write_all.Given as goal
 
@@ -12,7 +12,8 @@ invariant-loop-done g l = record {
   second : g.K.Sink.second l.sink ≡ g.K.Sink.second l.initial.sink;
   rest : g.K.Sink.rest l.sink ≡ g.K.Sink.rest l.initial.sink;
   loan : g.K.Sink.loan l.sink ≡ g.K.Sink.loan l.initial.sink;
-  room : (free : ℕ) → g.K.Sink.room l.initial.sink ≡ Some free → length l.text ≤ free → g.K.Sink.room l.sink ≡ Some (free - l.done);
+  other_spare : g.K.Sink.other_spare l.sink ≡ g.K.Sink.other_spare l.initial.sink;
+  room : g.K.Sink.room l.sink ≡ option_map (λ free. free - l.done) (g.K.Sink.room l.initial.sink);
 }
 
 abbrev pub decreases-loop-done : goal.decreases-loop-done

@@ -15,6 +15,7 @@ loop-triple-init g c = record {
   second = search rules;
   rest = search rules;
   loan = search rules;
+  other_spare = search rules;
 }
 
 pub loop-triple-preserved : goal.loop-triple-preserved
@@ -30,9 +31,10 @@ loop-triple-preserved g c =
       second = e.second ∙ inv.second;
       rest = e.rest ∙ inv.rest;
       loan = e.loan ∙ inv.loan;
+      other_spare = e.other_spare ∙ inv.other_spare;
     }
 
 pub returns-in_err-send_full-clause-stopped : goal.returns-in_err-send_full-clause-stopped
 returns-in_err-send_full-clause-stopped g c =
     let p = err_from_is_err_and c.from_residual.result c.from_residual.ensures.1 in
-    rw p.1 (line_stopped (λ t. face_line (triple_of t)) c.args.triples.now c.loop-triple.triple-index [] (get_or c.args.triples.now c.loop-triple.triple-index []) refl c.loop-triple-test.true _ _ _ _ _ _ _ _ c.loop-triple.invariant.passed c.put_face.ensures c.in_err-send_full.ensures.stopped)
+    rw p.1 (line_stopped (λ t. face_line (triple_of t)) c.args.triples.now c.loop-triple.triple-index [] (get_or c.args.triples.now c.loop-triple.triple-index []) refl c.loop-triple-test.true _ _ _ _ _ _ _ _ _ c.loop-triple.invariant.passed c.put_face.ensures c.in_err-send_full.ensures.stopped)

@@ -5,8 +5,8 @@ use Rattle.std.proofs.lemmas.List.Folds.{flat_map-map}
 use Rattle.std.proofs.lemmas.Result.{err_from_is_err_and, on_ok_weaker, on_err_weaker}
 use Rattle.mesh_terms.specs.Meshes.{Triple, triple_of, triples_of}
 use Rattle.obj_terms.specs.Written.{point_line, face_line, obj_text}
-use Rattle.mb_outside.specs.Sinks.{AddsPart}
-use Rattle.mesh_writer.proofs.Passing.{passed-then, stopped-then, stopped-longer, ended, ended_in_part, last_fits}
+use Rattle.mb_outside.specs.Sinks.{TakesPart}
+use Rattle.mesh_writer.proofs.Passing.{passed-then, stopped-then, stopped-longer, ended, ended_room, ended_in_part, last_fits, left_of}
 use Rattle.mesh_writer.proofs.obj.write_obj.Goals as goal
 
 -- the text of a mesh by the lists that it is made of
@@ -34,22 +34,22 @@ returns-in_err-write_points-clause-part g c =
     let k = c.args.digits in
     let mesh = c.args.mesh.now in
     let stopped = rw c.new-page.ensures at c.in_err-write_points.ensures.stopped in
-    let whole = stopped-longer (flat_map (point_line k) c.points.result.now) (flat_map face_line mesh.triples) [] _ _ _ stopped in
-    let P : List (List ℤ) → Type 0 = λ points. AddsPart (flat_map (point_line k) points ++ flat_map face_line mesh.triples) (g.K.Sink.told c.args.sink.now) (g.K.Sink.told c.write_points.new.sink) in
-    rw p.1 (subst P c.points.ensures.value whole.told)
+    let whole = stopped-longer (flat_map (point_line k) c.points.result.now) (flat_map face_line mesh.triples) [] _ _ _ _ stopped in
+    let P : List (List ℤ) → Type 0 = λ points. TakesPart (flat_map (point_line k) points ++ flat_map face_line mesh.triples) (g.K.Sink.told c.args.sink.now) (g.K.Sink.told c.write_points.new.sink) (g.K.Sink.room c.args.sink.now) (g.K.Sink.room c.write_points.new.sink) in
+    rw p.1 (subst P c.points.ensures.value whole.part)
 
 pub returns-in_err-write_faces-clause-part : goal.returns-in_err-write_faces-clause-part
 returns-in_err-write_faces-clause-part g c =
     let p = err_from_is_err_and c.from_residual-in_err-write_faces.result c.from_residual-in_err-write_faces.ensures.1 in
     let same = text_of_lists c.args.digits c.points.result.now c.args.mesh.now.points c.triples.result.now c.args.mesh.now.triples c.points.ensures.value c.triples.ensures.value in
-    let P : List ℕ → Type 0 = λ text. AddsPart text (g.K.Sink.told c.args.sink.now) (g.K.Sink.told c.write_faces.new.sink) in
-    rw p.1 (subst P same (stopped-then _ _ [] _ _ _ _ _ _ (rw c.new-page.ensures at c.in_ok-write_points.ensures.passed) c.in_err-write_faces.ensures.stopped).told)
+    let P : List ℕ → Type 0 = λ text. TakesPart text (g.K.Sink.told c.args.sink.now) (g.K.Sink.told c.write_faces.new.sink) (g.K.Sink.room c.args.sink.now) (g.K.Sink.room c.write_faces.new.sink) in
+    rw p.1 (subst P same (stopped-then _ _ [] _ _ _ _ _ _ _ (rw c.new-page.ensures at c.in_ok-write_points.ensures.passed) c.in_err-write_faces.ensures.stopped).part)
 
 pub returns-in_err-write_faces-clause-sure : goal.returns-in_err-write_faces-clause-sure
 returns-in_err-write_faces-clause-sure g c free is fits =
     let same = text_of_lists c.args.digits c.points.result.now c.args.mesh.now.points c.triples.result.now c.args.mesh.now.triples c.points.ensures.value c.triples.ensures.value in
     let P : List ℕ → Type 0 = λ text. length text ≤ free in
-    absurd ((stopped-then _ _ [] _ _ _ _ _ _ (rw c.new-page.ensures at c.in_ok-write_points.ensures.passed) c.in_err-write_faces.ensures.stopped).small free is (let f = subst P (sym same) fits in omega (arith, f)))
+    absurd ((stopped-then _ _ [] _ _ _ _ _ _ _ (rw c.new-page.ensures at c.in_ok-write_points.ensures.passed) c.in_err-write_faces.ensures.stopped).small free is (let f = subst P (sym same) fits in omega (arith, f)))
 
 pub returns-clause-added : goal.returns-clause-added
 returns-clause-added g c =
@@ -59,12 +59,20 @@ returns-clause-added g c =
     (λ added. ended _ _ _ _ _ _ _ whole (rw c.as_slice.ensures.value at added) ∙ ap (λ text. option_map (λ held. held ++ text) (g.K.Sink.told c.args.sink.now)) same)
     c.write_all.ensures.added
 
+pub returns-clause-less : goal.returns-clause-less
+returns-clause-less g c =
+    let same = text_of_lists c.args.digits c.points.result.now c.args.mesh.now.points c.triples.result.now c.args.mesh.now.triples c.points.ensures.value c.triples.ensures.value in
+    let whole = passed-then _ _ [] _ _ _ _ _ _ _ _ (rw c.new-page.ensures at c.in_ok-write_points.ensures.passed) c.in_ok-write_faces.ensures.passed in
+    on_ok_weaker c.write_all.result
+    (λ less. ended_room _ _ _ _ _ _ _ whole (rw c.as_slice.ensures.value at less) ∙ ap (λ (text : List ℕ). option_map (λ (free : ℕ). free - length text) (g.K.Sink.room c.args.sink.now)) same)
+    c.write_all.ensures.less
+
 pub returns-clause-part : goal.returns-clause-part
 returns-clause-part g c =
     let same = text_of_lists c.args.digits c.points.result.now c.args.mesh.now.points c.triples.result.now c.args.mesh.now.triples c.points.ensures.value c.triples.ensures.value in
     let whole = passed-then _ _ [] _ _ _ _ _ _ _ _ (rw c.new-page.ensures at c.in_ok-write_points.ensures.passed) c.in_ok-write_faces.ensures.passed in
-    let P : List ℕ → Type 0 = λ text. AddsPart text (g.K.Sink.told c.args.sink.now) (g.K.Sink.told c.write_all.new.sink) in
-    on_err_weaker c.write_all.result (λ part. subst P same (ended_in_part _ _ _ _ _ _ _ whole (rw c.as_slice.ensures.value at part))) c.write_all.ensures.part
+    let P : List ℕ → Type 0 = λ text. TakesPart text (g.K.Sink.told c.args.sink.now) (g.K.Sink.told c.write_all.new.sink) (g.K.Sink.room c.args.sink.now) (g.K.Sink.room c.write_all.new.sink) in
+    on_err_weaker c.write_all.result (λ part. subst P same (ended_in_part _ _ _ _ _ _ _ _ whole (rw c.as_slice.ensures.value at part))) c.write_all.ensures.part
 
 pub returns-clause-sure : goal.returns-clause-sure
 returns-clause-sure g c free is fits =
@@ -73,7 +81,7 @@ returns-clause-sure g c free is fits =
     let P : List ℕ → Type 0 = λ text. length text ≤ free in
     let short = subst P (sym same) fits in
     let left = last_fits _ _ _ _ _ _ whole free short in
-    c.write_all.ensures.sure (free - length whole.sent) (whole.room free is (omega (arith, short))) (rw c.as_slice.ensures.value left)
+    c.write_all.ensures.sure (free - length whole.sent) (left_of _ _ free (length whole.sent) whole.room is) (rw c.as_slice.ensures.value left)
 
 pub returns-in_err-write_points-clause-idle : goal.returns-in_err-write_points-clause-idle
 returns-in_err-write_points-clause-idle g c none =

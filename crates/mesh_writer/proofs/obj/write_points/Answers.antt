@@ -14,6 +14,7 @@ loop-point-init g c = record {
   second = search rules;
   rest = search rules;
   loan = search rules;
+  other_spare = search rules;
 }
 
 pub loop-point-preserved : goal.loop-point-preserved
@@ -29,9 +30,10 @@ loop-point-preserved g c =
       second = e.second ∙ inv.second;
       rest = e.rest ∙ inv.rest;
       loan = e.loan ∙ inv.loan;
+      other_spare = e.other_spare ∙ inv.other_spare;
     }
 
 pub returns-in_err-send_full-clause-stopped : goal.returns-in_err-send_full-clause-stopped
 returns-in_err-send_full-clause-stopped g c =
     let p = err_from_is_err_and c.from_residual.result c.from_residual.ensures.1 in
-    rw p.1 (line_stopped (point_line c.args.digits) c.args.points.now c.loop-point.point-index c.point-item.result c.point-item.result c.point-item.is c.loop-point-test.true _ _ _ _ _ _ _ _ c.loop-point.invariant.passed c.put_point.ensures c.in_err-send_full.ensures.stopped)
+    rw p.1 (line_stopped (point_line c.args.digits) c.args.points.now c.loop-point.point-index c.point-item.result c.point-item.result c.point-item.is c.loop-point-test.true _ _ _ _ _ _ _ _ _ c.loop-point.invariant.passed c.put_point.ensures c.in_err-send_full.ensures.stopped)

@@ -15,4 +15,5 @@ invariant-loop-point g l = record {
   second : g.K.Sink.second l.sink ≡ g.K.Sink.second l.initial.sink;
   rest : g.K.Sink.rest l.sink ≡ g.K.Sink.rest l.initial.sink;
   loan : g.K.Sink.loan l.sink ≡ g.K.Sink.loan l.initial.sink;
+  other_spare : g.K.Sink.other_spare l.sink ≡ g.K.Sink.other_spare l.initial.sink;
 }

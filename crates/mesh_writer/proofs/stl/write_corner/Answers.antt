@@ -12,7 +12,7 @@ put g c =
     subst P (c.index-points-vertex.is ∙ get_or_default c.args.points.now c.args.vertex c.index-points-vertex.result [] c.requires.within) c.put_corner.ensures
 
 kept : (g : _) (c : goal.After-send_full g) → Kept g.K.Sink c.args.sink.now c.send_full.new.sink
-kept g c = let e = c.send_full.ensures in record { other = e.other; second = e.second; rest = e.rest; loan = e.loan }
+kept g c = let e = c.send_full.ensures in record { other = e.other; second = e.second; rest = e.rest; loan = e.loan; other_spare = e.other_spare }
 
 pub returns-clause-wrote : goal.returns-clause-wrote
 returns-clause-wrote g c =

@@ -1,18 +1,18 @@
 use Rattle.std.proofs.Common.{◌++◌}
 use Rattle.std.proofs.lemmas.Result.{err_from_is_err_and, on_err_weaker}
-use Rattle.mb_outside.proofs.Adds.{part_after, part_longer}
+use Rattle.mb_outside.proofs.Adds.{adds_part, part_after, part_longer}
 use Rattle.report_lines.proofs.script_report.say_five.Goals as goal
 
 pub returns-in_err-write_all-clause-part : goal.returns-in_err-write_all-clause-part
 returns-in_err-write_all-clause-part g c =
     let p = err_from_is_err_and c.from_residual.result c.from_residual.ensures.1 in
-    rw p.1 (part_longer _ _ c.args.head.now (c.args.name.now ++ (c.args.between.now ++ (c.args.other.now ++ c.args.tail.now))) c.in_err-write_all.ensures.part)
+    rw p.1 (part_longer _ _ c.args.head.now (c.args.name.now ++ (c.args.between.now ++ (c.args.other.now ++ c.args.tail.now))) (adds_part _ _ _ _ _ c.in_err-write_all.ensures.part))
 
 pub returns-in_err-write_all-2-clause-part : goal.returns-in_err-write_all-2-clause-part
 returns-in_err-write_all-2-clause-part g c =
     let p = err_from_is_err_and c.from_residual-in_err-write_all-2.result c.from_residual-in_err-write_all-2.ensures.1 in
     let rest = c.args.between.now ++ (c.args.other.now ++ c.args.tail.now) in
-    rw p.1 (part_after _ _ _ c.args.head.now (c.args.name.now ++ rest) c.in_ok-write_all.ensures.added (part_longer _ _ c.args.name.now rest c.in_err-write_all-2.ensures.part))
+    rw p.1 (part_after _ _ _ c.args.head.now (c.args.name.now ++ rest) c.in_ok-write_all.ensures.added (part_longer _ _ c.args.name.now rest (adds_part _ _ _ _ _ c.in_err-write_all-2.ensures.part)))
 
 pub returns-clause-part : goal.returns-clause-part
 returns-clause-part g c =

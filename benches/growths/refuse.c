@@ -1,0 +1,33 @@
+// Stands before the allocator of a program, by LD_PRELOAD: the growth of memory whose number is in REFUSE is refused, which is told on standard output at once.
+#define _GNU_SOURCE
+#include <dlfcn.h>
+#include <stdlib.h>
+#include <unistd.h>
+
+static unsigned long refused, count;
+static void *(*next_malloc)(size_t), *(*next_realloc)(void *, size_t);
+
+__attribute__((constructor)) static void begin(void) {
+    const char *number = getenv("REFUSE");
+    next_malloc = (void *(*)(size_t))dlsym(RTLD_NEXT, "malloc");
+    next_realloc = (void *(*)(void *, size_t))dlsym(RTLD_NEXT, "realloc");
+    refused = number ? strtoul(number, NULL, 10) : 0;
+    count = 0;
+}
+
+static int is_refused(void) {
+    if (++count != refused) return 0;
+    static const char line[] = "refused\n";
+    if (write(1, line, sizeof line - 1) < 0) abort();
+    return 1;
+}
+
+void *malloc(size_t size) {
+    if (!next_malloc) next_malloc = (void *(*)(size_t))dlsym(RTLD_NEXT, "malloc");
+    return is_refused() ? NULL : next_malloc(size);
+}
+
+void *realloc(void *old, size_t size) {
+    if (!next_realloc) next_realloc = (void *(*)(void *, size_t))dlsym(RTLD_NEXT, "realloc");
+    return is_refused() ? NULL : next_realloc(old, size);
+}
