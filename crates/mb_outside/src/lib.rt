@@ -2,8 +2,9 @@
 //!
 //! Code above is proved once for every shelf and every sink. It learns what the files hold where the
 //! shelf tells them, and that a refusal comes only where a count of faults rose. `MemoryShelf`, `SureShelf`
-//! and `MemorySink` tell all they hold and say exactly when they fail; `FolderShelf` and `StdSink` are the
-//! edge to the system, and tell nothing.
+//! and `MemorySink` tell all they hold and say exactly when they fail; `ShortShelf` says so too, and tells
+//! nothing, for tests of files that end early; `FolderShelf` and `StdSink` are the edge to the system, and
+//! tell nothing.
 #![tactic(auto)]
 
 mod calls;

@@ -2,8 +2,8 @@
 //!
 //! Each call meets its task, whatever the shelf: `read_file` that of asking for a file, `read_mesh` that of reading a mesh, and
 //! `save_mesh` that of writing one. What is read is what the file holds, what is saved is the mesh's text or a first part of it,
-//! and a fault comes only where the shelf had one. `ask_bytes`, `ask` and `write` are the same for the files of a command, whose
-//! name the stop of each carries.
+//! and a fault comes only where the shelf had one. `Stop` says why one of them, or another part of a run, stopped. `ask_bytes`,
+//! `ask` and `write` call them for the files of a command, and a `Halt` of theirs carries the file's name beside the stop.
 #![tactic(auto)]
 
 mod files;

@@ -1,4 +1,4 @@
-// Why a file was not read or saved.
+// Why a part of a run stopped: at the words, at a script or a step of one, or at a file.
 ghost use Rattle.std.specs.Prelude.{◌≡◌};
 
 use mb_base::{Counted, TextFault, TextKind};

@@ -10,6 +10,7 @@
 //! | `save` | OLD FILE | a mesh goes to a file |
 //! | `measure` | OLD | tells the measures of a mesh |
 //! | `union` `intersect` `subtract` | NAME OLD OLD | the operation on two meshes |
+//! | `exact` | | operations on later lines are taken under exact kernels |
 //! | `box` | NAME X Y Z X Y Z | the box between two corners, the low one first |
 //! | `tetra` | NAME X Y Z SIZE | a tetrahedron with a right angle at a corner |
 //! | `prism` | NAME X Y Z SIZE HEIGHT | a prism with a right angle at a corner |

@@ -11,7 +11,7 @@ use mesh_files::{Stop, read_mesh, save_mesh};
 use std::alloc::Global;
 use std::test::Fail;
 
-// How the reading of so many blanks ends, of which so many are stated.
+// How the reading of a mesh ends from a shelf that holds these bytes and states this size of them.
 fn read_from(alloc: Global, stated: u64, given: &[u8]) -> Result<Option<Stop>, NoMemory> {
     let mut shelf = ShortShelf::of(alloc, "t.obj", given, stated)?;
     Ok(read_mesh(alloc, "t.obj", 4, &Limits::program(), &mut shelf).err())

@@ -41,7 +41,7 @@ fn copy<'a>(bytes: &'a [u8], status: u8, line: &'a [u8], saved: Option<&'a [u8]>
     }
 }
 
-// Which call of the shelf fails and which write of the output, the status, what the output and the error line tell, and what is saved.
+// Which call of the shelf fails and which write of the output, 0 for none, the status, what the output and the error line tell, and what is saved.
 static FAILING: [(u64, u64, u8, &[u8], &[u8], Option<&[u8]>); 7] = [
     (1, 0, 6, b"", READ_FAULT, None),
     (2, 0, 6, b"", READ_FAULT, None),
@@ -72,7 +72,7 @@ fn the_first_call_that_fails_ends_the_run(rt: HostRuntime) -> Result<(), Fail> {
     Ok(())
 }
 
-// The status of a copy of no file where the error line fails, and whether nothing was told.
+// Whether a copy of no file ends with this status and tells nothing, where the first write of the error line fails.
 fn is_silent<R: AllocGlobal>(rt: &R, status: u8) -> Result<bool, NoMemory> {
     let alloc = rt.alloc();
     let mut shelf = MemoryShelf::of(alloc, 4, ROOM, ROOM, Vec::new(alloc))?;
@@ -92,7 +92,7 @@ fn an_error_line_that_fails_changes_no_status(rt: HostRuntime) -> Result<(), Fai
     Ok(())
 }
 
-// A copy of the tetrahedron's 64 bytes, of which so many are stated.
+// A copy of the tetrahedron's 64 bytes from a shelf that states this size of them and takes no byte.
 fn judge_stated<R: Abort + AllocGlobal>(
     rt: &R,
     stated: u64,
