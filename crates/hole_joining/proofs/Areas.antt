@@ -1,9 +1,16 @@
--- Rings and holes told by the areas in the plane that is not exchanged.
+-- Rings and holes told by the areas in the plane that is not exchanged, and areas over one chain.
 use Rattle.std.specs.Prelude.{◌≡◌, ℕ, ◌<◌, ℤ, pos, neg_ℤ, int_lt, int_le, List, [], Bool, true, false, cond, not, length, get_or, map}
 use Rattle.std.proofs.Common.{arith, refl, sym, ap, ◌∙◌}
 use Rattle.std.proofs.lemmas.Int.{ints}
 use Rattle.std.proofs.lemmas.List.{get_or-map}
-use Rattle.face_plane.specs.Planes.{Plane, area, face_plane}
+use Rattle.std.specs.List.{flat_map}
+use Rattle.chain_terms.specs.Odd.{SameChain}
+use Rattle.chain_terms.specs.Paths.{round_edges}
+use Rattle.chain_laws.specs.Areas.{area_at}
+use Rattle.chain_laws.specs.Sums.{total-flat_map}
+use Rattle.chain_laws.proofs.Areas.{area_odd}
+use Rattle.face_plane.specs.Planes.{Plane, across, area, face_plane}
+use Rattle.hole_joining.specs.Laws.{KeepsAreas}
 use Rattle.hole_joining.specs.declared.flat.FlatPoints.{FlatPoints}
 use Rattle.hole_joining.specs.Seen.{plane_at, straight_at}
 use Rattle.hole_joining.specs.Holes.{is_ring, is_hole}
@@ -36,3 +43,10 @@ no_ring at l = other (area at l)
   where
     other : (z : ℤ) → not (int_le (pos 0) z) ≡ int_lt z (pos 0)
     other z = grind (arith, ints)
+
+-- rings with the chain of loops have areas with the same sum
+pub areas_kept : (at : Plane) (loops rings : List (List ℕ)) → SameChain (flat_map round_edges rings) (flat_map round_edges loops) → KeepsAreas at loops rings
+areas_kept at loops rings same =
+    let u : ℕ → ℤ = λ v. (at v).0 in
+    let w : ℕ → ℤ = λ v. (at v).1 in
+    sym (total-flat_map (across at) round_edges rings) ∙ same (area_at u w) (area_odd u w) ∙ total-flat_map (across at) round_edges loops

@@ -1,10 +1,12 @@
 -- The bridge that is taken: the first clear one in the order of length, ring and place.
 use Rattle.std.specs.Prelude.{◌≡◌, ℕ, zero, suc, ◌+◌, ◌<◌, ◌≤◌, ◌⊎◌, pos, List, [], ◌∷◌, ◌++◌, true, false, Bool, cond, ◌&&◌, ◌||◌, ◌==◌, nat_lt, length, get_or, drop, filter, unsigned_abs, Option, Some, None}
 use Rattle.std.specs.Bool.{Decides}
+use Rattle.std.specs.List.{All}
 use Rattle.std.specs.Option.{option_or}
 use Rattle.std.proofs.Common.{arith, refl, sym, ap, subst, ◌∙◌, inl, inr}
 use Rattle.std.proofs.lemmas.Bool.{cases_Bool, ltb-true, ltb-false, lt-ltb, le-ltb, and_parts, and_from, and_right, both_ways, false_from_ne_true, cond-true, cond-false}
 use Rattle.std.proofs.lemmas.List.{at_drop_more}
+use Rattle.std.proofs.lemmas.List.Elements.{All-head}
 use Rattle.std.proofs.lemmas.Option.{same_Some, none-some}
 use Rattle.std.proofs.lemmas.Bool.Decides.{Decides-or, Decides-and, Decides-ltb, Decides-eqb}
 use Rattle.hole_joining.specs.declared.bridge.Bridge.{Bridge}
@@ -396,3 +398,9 @@ chosen_some clear b bs e = by_first (shortest (filter clear (b ∷ bs))) e
     by_first : (o : Option Bridge) → option_or o (shortest (b ∷ bs)) ≡ None → ⊥
     by_first None e = empty b bs (shortest_none (b ∷ bs) e)
     by_first (Some c) e = absurd (none-some c (sym e))
+
+-- so where there is a ring and no ring is empty
+pub no_bridge : (at : Plane) (h : ℕ) (clear : Bridge → Bool) (rings : List (List ℕ)) → 0 < length rings → All (λ r. 0 < length r) rings → chosen clear (all_bridges at h 0 rings) ≡ None → ⊥
+no_bridge at h clear [] one long e = omega (arith, one)
+no_bridge at h clear ([] ∷ rest) one long e = omega (arith, All-head (λ (r : List ℕ). 0 < length r) [] rest long)
+no_bridge at h clear ((r ∷ rs) ∷ rest) one long e = chosen_some clear _ _ e

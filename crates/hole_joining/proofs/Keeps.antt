@@ -1,11 +1,11 @@
 -- What rings keep while holes are joined to them, one after the other.
-use Rattle.std.specs.Prelude.{◌≡◌, ◌≢◌, ℕ, zero, suc, ◌+◌, ◌*◌, ◌<◌, ◌⊎◌, ℤ, pos, ◌+ℤ◌, ◌≤ℤ◌, List, [], ◌∷◌, ◌++◌, ◌==◌, Bool, length, get_or, set, take, drop, Option, Some, None}
+use Rattle.std.specs.Prelude.{◌≡◌, ◌≢◌, ℕ, zero, suc, ◌+◌, ◌*◌, ◌<◌, ◌⊎◌, ℤ, pos, ◌+ℤ◌, ◌≤ℤ◌, List, [], ◌∷◌, ◌++◌, ◌==◌, length, get_or, set, take, drop, Option, Some, None}
 use Rattle.std.specs.List.{All, concat}
 use Rattle.std.proofs.Common.{arith, refl, sym, ap, subst, ◌∙◌, inl, inr}
 use Rattle.std.proofs.lemmas.Int.{ints}
 use Rattle.std.proofs.lemmas.Bool.{cases_eq, cases_lt, ne_eqb}
 use Rattle.std.proofs.lemmas.List.{length-set, take_at, drop_at}
-use Rattle.std.proofs.lemmas.List.Elements.{All-cons, All-head, All-tail, All-nil, All-set, All-get_or, All-same, All-append, All-take, All-drop}
+use Rattle.std.proofs.lemmas.List.Elements.{All-cons, All-head, All-tail, All-nil, All-set, All-get_or, All-same, All-append, All-take, All-drop, All-weaker}
 use Rattle.chain_terms.specs.Chains.{one_if}
 use Rattle.chain_terms.specs.Odd.{IsOdd, along}
 use Rattle.chain_terms.specs.Sums.{total}
@@ -15,10 +15,10 @@ use Rattle.chain_laws.specs.Sums.{total-flat_map}
 use Rattle.face_plane.specs.Planes.{Plane, settled_plane}
 use Rattle.face_plane.specs.Rings.{In, IsRing, vertex_at}
 use Rattle.hole_joining.specs.declared.bridge.Bridge.{Bridge}
-use Rattle.hole_joining.specs.Bridges.{all_bridges, chosen, is_clear_bridge, chosen_bridge, join, bridged, joined, join_holes}
+use Rattle.hole_joining.specs.Bridges.{is_clear_bridge, chosen_bridge, join, bridged, joined, join_holes}
 use Rattle.hole_joining.specs.Holes.{is_ring, ring_list, hole_list}
 use Rattle.hole_joining.specs.Laws.{AreFillable, IsJoining}
-use Rattle.hole_joining.proofs.Choice.{LeadsTo, chosen_leads, chosen_some}
+use Rattle.hole_joining.proofs.Choice.{LeadsTo, chosen_leads, no_bridge}
 use Rattle.hole_joining.proofs.Turning.{once_round, round_turned, length-turned, often, often-cons, often-turned, in_often}
 use Rattle.hole_joining.proofs.Joins.{vertex_within, join_total, length-join, often-join, ringy_join, ringy_turned}
 use Rattle.hole_joining.proofs.Loops.{often_once, total-often, total-length, each_once, ringy_loops, told_total, length-hole_list, All-kept, All-hole_list, some_ring, settled_up}
@@ -38,7 +38,7 @@ tally_one v (l ∷ ls) zero h = omega (arith, ints, tally_low v ls)
 tally_one v (l ∷ ls) (suc i) h = omega (arith, ints, tally_one v ls i (omega (arith, h)))
 
 -- one list put in the place of another
-total-set : (g : List ℕ → ℤ) (ls : List (List ℕ)) (i : ℕ) (x : List ℕ) → i < length ls → total g (set ls i x) +ℤ g (get_or ls i []) ≡ total g ls +ℤ g x
+pub total-set : (g : List ℕ → ℤ) (ls : List (List ℕ)) (i : ℕ) (x : List ℕ) → i < length ls → total g (set ls i x) +ℤ g (get_or ls i []) ≡ total g ls +ℤ g x
 total-set g [] i x h = absurd (omega (arith, h))
 total-set g (l ∷ ls) zero x h = omega (arith, ints)
 total-set g (l ∷ ls) (suc i) x h = omega (arith, ints, total-set g ls i x (omega (arith, h)))
@@ -153,19 +153,13 @@ keeps_one rings later out hole b can leads k =
       sums = λ f odd. omega (arith, ints, k.sums f odd, total-set (once_round (along f)) rings b.ring next leads.ring, join_sum f odd ring b.place hole leads.place some);
     }
 
--- where there is a ring, a bridge is chosen
-some_bridge : (at : Plane) (h : ℕ) (clear : Bridge → Bool) (rings : List (List ℕ)) → 0 < length rings → All IsRing rings → chosen clear (all_bridges at h 0 rings) ≡ None → ⊥
-some_bridge at h clear [] some ringy e = omega (arith, some)
-some_bridge at h clear ([] ∷ rest) some ringy e = omega (arith, (All-head IsRing [] rest ringy).long)
-some_bridge at h clear ((r ∷ rs) ∷ rest) some ringy e = chosen_some clear _ _ e
-
 -- every hole joined
 pub joined_keeps : (at : Plane) (rings holes : List (List ℕ)) → CanJoin rings holes → Keeps rings holes (joined at rings holes)
 joined_keeps at rings [] can = record { count = refl; ringy = can.ringy; below = λ n all more. all; places = omega (arith, ints); sums = λ f odd. omega (arith, ints) }
 joined_keeps at rings (hole ∷ later) can = by_bridge (chosen_bridge at rings hole later) refl (λ r c. joined_keeps at r later c)
   where
     by_bridge : (o : Option Bridge) → chosen_bridge at rings hole later ≡ o → ((r : List (List ℕ)) → CanJoin r later → Keeps r later (joined at r later)) → Keeps rings (hole ∷ later) (joined at (bridged hole rings o) later)
-    by_bridge None e rest = absurd (some_bridge at (vertex_at hole 0) (is_clear_bridge at rings hole later) rings (can.some (omega arith)) can.ringy e)
+    by_bridge None e rest = absurd (no_bridge at (vertex_at hole 0) (is_clear_bridge at rings hole later) rings (can.some (omega arith)) (All-weaker IsRing (λ r. 0 < length r) (λ r h. omega (arith, h.long)) rings can.ringy) e)
     by_bridge (Some b) e rest =
         let leads = chosen_leads at (vertex_at hole 0) rings (is_clear_bridge at rings hole later) b e in
         keeps_one rings later (joined at (after_join rings hole b) later) hole b can leads (rest (after_join rings hole b) (can_join_next rings later hole b can leads))

@@ -1,10 +1,13 @@
 pub mod Areas
+pub mod Barring
 pub mod Choice
 pub mod Circles
+pub mod Following
 pub mod Joins
 pub mod Keeps
 pub mod Lists
 pub mod Loops
 pub mod Room
 pub mod Rounds
+pub mod Sorting
 pub mod Turning

@@ -1,14 +1,17 @@
 -- Rings are so short that all holes fit into each.
-use Rattle.std.specs.Prelude.{◌≡◌, ℕ, ◌+◌, ◌*◌, ◌^◌, ◌<◌, ◌≤◌, pos, List, [], ◌∷◌, length, get_or, drop, Option, Some, None}
+use Rattle.std.specs.Prelude.{◌≡◌, ℕ, ◌+◌, ◌*◌, ◌^◌, ◌<◌, ◌≤◌, pos, List, [], ◌∷◌, ◌++◌, length, get_or, drop, Option, Some, None}
 use Rattle.std.specs.List.{All, concat}
 use Rattle.std.proofs.Common.{arith, refl, sym, subst, ap}
 use Rattle.std.proofs.lemmas.Int.{ints}
-use Rattle.std.proofs.lemmas.List.{length-append, at_drop_more}
+use Rattle.std.proofs.lemmas.List.{length-append, length-set, at_drop_more}
 use Rattle.std.proofs.lemmas.List.Elements.{All-cons, All-head, All-tail, All-nil, All-set, All-get_or, All-weaker}
+use Rattle.chain_terms.specs.Paths.{round_edges}
+use Rattle.chain_laws.proofs.Paths.{length-round_edges}
+use Rattle.mesh_terms.specs.Limits.{most_halfedges}
 use Rattle.face_plane.specs.Planes.{Plane}
 use Rattle.face_plane.specs.Rings.{vertex_at}
 use Rattle.hole_joining.specs.declared.bridge.Bridge.{Bridge}
-use Rattle.hole_joining.specs.Bridges.{join, bridged, chosen_bridge, is_clear_bridge, joined_one}
+use Rattle.hole_joining.specs.Bridges.{edges_of, join, bridged, chosen_bridge, is_clear_bridge, joined_one}
 use Rattle.hole_joining.specs.Holes.{is_ring, ring_list, hole_list}
 use Rattle.hole_joining.specs.Laws.{AreFillable}
 use Rattle.hole_joining.specs.Room.{added}
@@ -52,6 +55,16 @@ room_next m at rings holes now k within few e = subst (All Later) (sym e) (by_br
         let there : Later (join ring b.place hole) = omega (arith, here, added_on holes k within, length-join ring b.place hole) in
         All-set Later rings b.ring (join ring b.place hole) there others
 
+-- and there is still a ring, and none is empty
+pub some_next : (at : Plane) (rings later now : List (List ℕ)) (hole : List ℕ) → now ≡ joined_one at rings hole later → 0 < length rings → All (λ r. 0 < length r) rings → (0 < length now) × All (λ r. 0 < length r) now
+some_next at rings later now hole e one long = subst (λ (l : List (List ℕ)). (0 < length l) × All (λ r. 0 < length r) l) (sym e) (by_bridge (chosen_bridge at rings hole later))
+  where
+    by_bridge : (o : Option Bridge) → (0 < length (bridged hole rings o)) × All (λ r. 0 < length r) (bridged hole rings o)
+    by_bridge None = (one, long)
+    by_bridge (Some b) =
+        let next = join (get_or rings b.ring []) b.place hole in
+        (omega (arith, one, length-set rings b.ring next), All-set (λ r. 0 < length r) rings b.ring next (omega (arith, length-join (get_or rings b.ring []) b.place hole)) long)
+
 -- all that holes add
 added_is : (holes : List (List ℕ)) → added holes ≡ length (concat holes) + 2 * length holes
 added_is [] = refl
@@ -93,3 +106,27 @@ some_rings p loops points f =
 
 pub some_holes : (p : Plane) (loops : List (List ℕ)) (points : ℕ) → AreFillable loops points → All (λ h. 0 < length h) (hole_list p loops)
 some_holes p loops points f = All-weaker (λ r. 3 ≤ length r) (λ r. 0 < length r) (λ r h. omega (arith, h)) (hole_list p loops) (long_holes p loops f.long)
+
+-- there is an edge for each place
+length-edges : (ls : List (List ℕ)) → length (edges_of ls) ≡ length (concat ls)
+length-edges [] = refl
+length-edges (l ∷ ls) = omega (arith, length-append (round_edges l) (edges_of ls), length-append l (concat ls), length-round_edges l, length-edges ls)
+
+-- loops that can be filled have few edges
+pub few_edges : (p : Plane) (loops rings holes : List (List ℕ)) (points : ℕ) → AreFillable loops points → rings ≡ ring_list p loops → holes ≡ hole_list p loops → length (edges_of rings ++ edges_of holes) ≤ most_halfedges
+few_edges p loops rings holes points f e g =
+    let told = told_total p (λ r. pos (length r)) (λ l. ap pos (length-turned _ l)) loops in
+    omega (
+      arith,
+      ints,
+      told,
+      total-length (ring_list p loops),
+      total-length (hole_list p loops),
+      total-length loops,
+      length-append (edges_of rings) (edges_of holes),
+      length-edges rings,
+      length-edges holes,
+      ap (λ (ls : List (List ℕ)). length (concat ls)) e,
+      ap (λ (ls : List (List ℕ)). length (concat ls)) g,
+      f.few,
+    )

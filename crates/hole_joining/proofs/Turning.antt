@@ -1,5 +1,5 @@
 -- Lists turned: what does not change when a list begins at another place.
-use Rattle.std.specs.Prelude.{◌≡◌, ℕ, ◌+◌, ◌<◌, ◌≤◌, ℤ, List, [], ◌∷◌, ◌++◌, ◌==◌, cond, length, take, drop, count_by}
+use Rattle.std.specs.Prelude.{◌≡◌, ℕ, zero, suc, ◌+◌, ◌-◌, ◌<◌, ◌≤◌, ◌⊎◌, ℤ, List, [], ◌∷◌, ◌++◌, ◌==◌, cond, length, take, drop, count_by}
 use Rattle.std.proofs.Common.{arith, sym, ap, ◌∙◌, inl, inr, append_assoc}
 use Rattle.std.proofs.lemmas.Bool.{cases_eq, eq-eqb, ne_eqb}
 use Rattle.std.proofs.lemmas.List.{append-nil, length-append, take-append-drop}
@@ -11,6 +11,7 @@ use Rattle.chain_terms.specs.Paths.{round_edges}
 use Rattle.chain_laws.specs.Sums.{total-permutation}
 use Rattle.chain_laws.specs.Counts.{count_by-cons, one_if-true, one_if-false}
 use Rattle.chain_laws.proofs.Paths.{round_edges-turned}
+use Rattle.loop_ring.proofs.Reading.{turned_more}
 use Rattle.face_plane.specs.Rings.{In}
 use Rattle.hole_joining.specs.Holes.{turned_to}
 
@@ -68,3 +69,28 @@ often_in v (x ∷ xs) h = elim (cases_eq x v) as (λ _. In v (x ∷ xs)) [
 -- a list that has each vertex at least as often has what the other has
 pub in_more : (r s : List ℕ) → ((v : ℕ) → often v r ≤ often v s) → (v : ℕ) → In v r → In v s
 in_more r s more v h = often_in v s (omega (arith, in_often v r h, more v))
+
+-- turned twice: by no more than once round together
+pub turned_within : (b a : ℕ) (xs : List ℕ) → a + b ≤ length xs → turned_to b (turned_to a xs) ≡ turned_to (a + b) xs
+turned_within zero a xs h = let here : a ≡ a + 0 = omega arith in append-nil (turned_to a xs) ∙ ap (λ k. turned_to k xs) here
+turned_within (suc b) a xs h =
+    let ys = turned_to a xs in
+    let more : suc b ≡ b + 1 = omega arith in
+    let last : a + b + 1 ≡ a + suc b = omega arith in
+    ap (λ k. turned_to k ys) more ∙ sym (turned_more b ys (omega (arith, h, length-turned a xs))) ∙ ap (turned_to 1) (turned_within b a xs (omega (arith, h))) ∙ turned_more (a + b) xs (omega (arith, h))
+    ∙ ap (λ k. turned_to k xs) last
+
+-- and by more
+pub turned_past : (b a c : ℕ) (xs : List ℕ) → a ≤ length xs → b ≤ length xs → c + length xs ≡ a + b → turned_to b (turned_to a xs) ≡ turned_to c xs
+turned_past b a c xs first second past =
+    let n = length xs in
+    let ys = turned_to a xs in
+    let split : b ≡ (n - a) + c = omega (arith, first, past) in
+    let whole : a + (n - a) ≡ n = omega (arith, first) in
+    ap (λ k. turned_to k ys) split ∙ sym (turned_within c (n - a) ys (omega (arith, first, second, past, length-turned a xs)))
+    ∙ ap (turned_to c) (turned_within (n - a) a xs (omega (arith, first)) ∙ ap (λ k. turned_to k xs) whole ∙ turned_all xs)
+
+-- the two ways to count the steps of both turns
+pub turned_together : (first second count : ℕ) (xs : List ℕ) → first ≤ length xs → second ≤ length xs → count ≤ length xs → (count ≡ first + second) ⊎ (count + length xs ≡ first + second) → turned_to count xs ≡ turned_to second (turned_to first xs)
+turned_together first second count xs a b within (inl e) = ap (λ k. turned_to k xs) e ∙ sym (turned_within second first xs (omega (arith, e, within)))
+turned_together first second count xs a b within (inr e) = sym (turned_past second first count xs a b e)

@@ -3,9 +3,10 @@ use Rattle.std.specs.Prelude.{◌≡◌, ℕ, ◌+◌, ◌*◌, ◌<◌, ◌≤�
 use Rattle.std.specs.List.{All, concat, flat_map}
 use Rattle.chain_terms.specs.Odd.{SameChain}
 use Rattle.chain_terms.specs.Paths.{round_edges}
+use Rattle.chain_terms.specs.Sums.{total}
 use Rattle.mesh_terms.specs.Limits.{most_halfedges}
 use Rattle.face_loops.specs.Segments.{AreDifferent}
-use Rattle.face_plane.specs.Planes.{Plane, settled_plane, plane_of, point_at}
+use Rattle.face_plane.specs.Planes.{Plane, area, settled_plane, plane_of, point_at}
 use Rattle.face_plane.specs.Rings.{IsRing}
 use Rattle.hole_joining.specs.Holes.{ring_count, hole_count}
 
@@ -24,6 +25,10 @@ pub record AreFillable (loops : List (List ℕ)) (points : ℕ) : Type 0 where
 -- two places for each hole beside those of the loops
 abbrev pub HasPlaces : Plane → List (List ℕ) → List (List ℕ) → Type 0
 HasPlaces at loops rings = length (concat rings) ≡ length (concat loops) + 2 * hole_count at loops
+
+-- the doubled areas of the rings add up to those of the loops
+abbrev pub KeepsAreas : Plane → List (List ℕ) → List (List ℕ) → Type 0
+KeepsAreas at loops rings = total (area at) rings ≡ total (area at) loops
 
 -- what joining makes of the loops: one ring for each loop of area at least 0, with neighbours that differ and three
 -- different vertices, each of which has a point; two places for each hole beside those of the loops; the same sums of

@@ -2,6 +2,8 @@ pub mod Bridges
 pub mod Cones
 pub mod Holes
 pub mod Laws
+pub mod Obstacles
 pub mod Passes
 pub mod Room
+pub mod Runs
 pub mod Seen

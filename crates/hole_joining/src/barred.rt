@@ -1,15 +1,12 @@
 // Edges that bar a bridge.
-ghost use Rattle.std.specs.Prelude.{◌≡◌, ◌∷◌, int_le};
+ghost use Rattle.std.specs.Prelude.{◌≡◌, int_le};
 ghost use Rattle.std.specs.List.{list_any};
 ghost use Rattle.std.specs.Int.{int_min, int_max};
-ghost use Rattle.chain_terms.specs.Paths.{round_edges};
 ghost use Rattle.hole_joining.specs.Seen.{plane_at, segment_of, is_end_of, bars_segment};
-ghost use Rattle.hole_joining.specs.Bridges.{edges_of};
 ghost use Rattle.hole_joining.specs.Cones.{overlap, on_both_sides, boxes_meet, lines_meet, segments_meet, bars};
 ghost use Rattle.face_plane.specs.Planes.{turn};
 
 use crate::flat::{BridgeLine, FlatPoints, FlatVertex};
-use crate::places::Places;
 use face_plane::FlatPoint;
 
 // Whether the least of a and b is at most the greatest of c and d.
@@ -86,41 +83,22 @@ fn bars(segment: &BridgeLine, c: &FlatVertex, d: &FlatVertex) -> bool
     !ended && segments_meet(segment.from.at, segment.to.at, c.at, d.at)
 }
 
-/// Whether an edge once round the loop bars the segment between two vertices.
-pub fn round_bars(flat: &FlatPoints, segment: &BridgeLine, ring: &[u32]) -> bool
+/// Whether an edge bars the segment between two vertices.
+pub fn edge_bars(flat: &FlatPoints, segment: &BridgeLine, edge: (u32, u32)) -> bool
     requires { segment.now ≡ segment_of (plane_at flat.now) segment.now.from.vertex segment.now.to.vertex }
-    ensures { result ≡ list_any (bars (plane_at flat.now) segment.now.from.vertex segment.now.to.vertex) (round_edges ring.now) }
+    ensures { result ≡ bars (plane_at flat.now) segment.now.from.vertex segment.now.to.vertex edge }
 {
-    match ring.split_first() {
-        None => false,
-        Some((first, rest)) => round_bars_from(flat, segment, *first, rest),
-    }
+    let (from, to) = edge;
+    bars(segment, &flat.vertex(from), &flat.vertex(to))
 }
 
-// The same for a loop of a first vertex and others.
-fn round_bars_from(flat: &FlatPoints, segment: &BridgeLine, first: u32, rest: &[u32]) -> bool
+/// Whether one of the edges bars it.
+pub fn any_bars(flat: &FlatPoints, segment: &BridgeLine, edges: &[(u32, u32)]) -> bool
     requires { segment.now ≡ segment_of (plane_at flat.now) segment.now.from.vertex segment.now.to.vertex }
-    ensures { result ≡ list_any (bars (plane_at flat.now) segment.now.from.vertex segment.now.to.vertex) (round_edges (first ∷ rest.now)) }
+    ensures { result ≡ list_any (bars (plane_at flat.now) segment.now.from.vertex segment.now.to.vertex) edges.now }
 {
-    let start = flat.vertex(first);
-    let mut last = start;
-    for vertex in rest {
-        let next = flat.vertex(*vertex);
-        if bars(segment, &last, &next) {
-            return true;
-        }
-        last = next;
-    }
-    bars(segment, &last, &start)
-}
-
-/// Whether an edge of one of the loops bars it.
-pub fn any_bars(flat: &FlatPoints, segment: &BridgeLine, loops: &[Places]) -> bool
-    requires { segment.now ≡ segment_of (plane_at flat.now) segment.now.from.vertex segment.now.to.vertex }
-    ensures { result ≡ list_any (bars (plane_at flat.now) segment.now.from.vertex segment.now.to.vertex) (edges_of loops.now) }
-{
-    for ring in loops {
-        if round_bars(flat, segment, &ring.places) {
+    for edge in edges {
+        if edge_bars(flat, segment, *edge) {
             return true;
         }
     }

@@ -1,11 +1,10 @@
 // Clear bridges.
 ghost use Rattle.std.specs.Prelude.{◌≡◌, ◌∷◌, ◌<◌, ◌≤◌, length, get_or, []};
 ghost use Rattle.std.specs.List.{list_any};
-ghost use Rattle.hole_joining.specs.Seen.{plane_at, clear_of, asked_edges};
+ghost use Rattle.hole_joining.specs.Seen.{plane_at, clear_of, asked_edges, KnowsObstacles};
 ghost use Rattle.face_plane.specs.Rings.{vertex_at, vertex_before, vertex_after};
 ghost use Rattle.hole_joining.specs.Cones.{in_cone, bars};
 
-use crate::barred::{any_bars, round_bars};
 use crate::bridge::Bridge;
 use crate::flat::FlatPoints;
 use crate::joining::Joining;
@@ -40,16 +39,15 @@ fn corner(ring: &[u32], place: usize) -> [u32; 3]
 impl Joining<'_> {
     // Whether an edge of the rings, the hole or a later hole bars the segment between two vertices.
     fn is_barred(&self, h: u32, r: u32) -> bool
+        requires { KnowsObstacles self.now }
         ensures { result ≡ list_any (bars (plane_at self.now.flat) h r) (asked_edges self.now) }
     {
-        let segment = self.flat.segment(h, r);
-        any_bars(&self.flat, &segment, self.rings)
-            || round_bars(&self.flat, &segment, self.hole)
-            || any_bars(&self.flat, &segment, self.later)
+        self.obstacles.bar(&self.flat, &self.flat.segment(h, r))
     }
 
     /// Whether the bridge lies in the cones at both its ends, and no edge bars it.
     pub fn is_clear(&self, bridge: Bridge) -> bool
+        requires obstacles { KnowsObstacles self.now }
         requires ring { bridge.ring < length self.now.rings.now }
         requires place { bridge.place < length (get_or self.now.rings.now bridge.ring []) }
         ensures { result ≡ clear_of self.now bridge }

@@ -1,5 +1,7 @@
 // The points of vertices in the plane of a face.
 ghost use Rattle.std.specs.Prelude.{◌≡◌};
+ghost use Rattle.std.specs.Int.{int_min, int_max};
+ghost use Rattle.mesh_terms.specs.Points.{IsOnGrid};
 ghost use Rattle.hole_joining.specs.Seen.{plane_at, flat_vertex, segment_of};
 
 use face_plane::{FacePlane, FlatPoint};
@@ -62,4 +64,42 @@ impl FlatPoints<'_> {
             to: self.vertex(to),
         }
     }
+}
+
+// The lesser of two coordinates.
+fn lesser_of(a: i64, b: i64) -> i32
+    requires a_grid { IsOnGrid a }
+    requires b_grid { IsOnGrid b }
+    ensures value { result ≡ int_min a b }
+    ensures on_grid { IsOnGrid result }
+{
+    a.min(b) as i32
+}
+
+// The greater one.
+fn greater_of(a: i64, b: i64) -> i32
+    requires a_grid { IsOnGrid a }
+    requires b_grid { IsOnGrid b }
+    ensures value { result ≡ int_max a b }
+    ensures on_grid { IsOnGrid result }
+{
+    a.max(b) as i32
+}
+
+/// The lesser coordinates of two points.
+pub fn lesser(a: FlatPoint, b: FlatPoint) -> FlatPoint
+    ensures { result ≡ (int_min a.0 b.0, int_min a.1 b.1) }
+{
+    let u = lesser_of(a.u(), b.u());
+    let v = lesser_of(a.v(), b.v());
+    FlatPoint::of(u, v)
+}
+
+/// The greater ones.
+pub fn greater(a: FlatPoint, b: FlatPoint) -> FlatPoint
+    ensures { result ≡ (int_max a.0 b.0, int_max a.1 b.1) }
+{
+    let u = greater_of(a.u(), b.u());
+    let v = greater_of(a.v(), b.v());
+    FlatPoint::of(u, v)
 }

@@ -1,17 +1,19 @@
 // Every hole of a face joined.
-ghost use Rattle.std.specs.Prelude.{◌≡◌, ◌<◌, IfOk, length};
+ghost use Rattle.std.specs.Prelude.{◌≡◌, ℕ, ◌<◌, IfOk, length};
 ghost use Rattle.std.specs.List.{All, flat_map};
+ghost use Rattle.chain_terms.specs.Chains.{boundary};
 ghost use Rattle.chain_terms.specs.Odd.{SameChain};
 ghost use Rattle.chain_terms.specs.Paths.{round_edges};
 ghost use Rattle.face_plane.specs.Planes.{is_turned, plane_of, point_at};
 ghost use Rattle.face_plane.specs.Rings.{IsRing};
 ghost use Rattle.hole_joining.specs.Bridges.{join_holes};
 ghost use Rattle.hole_joining.specs.Holes.{ring_count};
-ghost use Rattle.hole_joining.specs.Laws.{AreFillable, HasPlaces, settled_in};
+ghost use Rattle.hole_joining.specs.Laws.{AreFillable, HasPlaces, KeepsAreas, settled_in};
 
 use crate::area::{areas_of, is_turned};
+use crate::circle::{circles_of, rings_of_circles};
 use crate::flat::FlatPoints;
-use crate::splice::{circles_of, join_all};
+use crate::splice::join_all;
 use crate::start::{holes_of, rings_of};
 use face_loops::Loop;
 use face_plane::FacePlane;
@@ -39,9 +41,9 @@ pub struct Joined {
 /// neither of its two vertices; of equal ones the first by ring, then by place; where there is none, the shortest of all by
 /// the same rule. After that place come the hole from its start, the start again, and the place's vertex again.
 ///
-/// Each bridge that is asked costs a pass over all places and one over all edges, and nearly always one of a hole's first
-/// two is taken. Where many are refused, each place may be tried against every edge. `NoMemory` may come for any loops.
-/// The rule is this project's own.
+/// A hole costs a pass over runs of places, of which those far away are left out, and for each bridge that is asked a search
+/// in a tree over the edges; nearly always one of a hole's first two bridges is taken. Where many are refused, each place may
+/// be tried against every edge. `NoMemory` may come for any loops. The rule is this project's own.
 pub fn join_holes(
     alloc: Global,
     plane: FacePlane,
@@ -61,7 +63,9 @@ pub fn join_holes(
     ensures ringy { IfOk result (λ j. All IsRing j.rings.items) }
     ensures below { IfOk result (λ j. All (λ ring. All (λ v. v < length points.now) ring) j.rings.items) }
 
-    // Every odd function has the same sum round the rings as round the loops, so boundary and areas are the same.
+    // The rings have the boundary of the loops, and doubled areas with the same sum; and so has every odd function.
+    ensures boundary { IfOk result (λ j. (a b : ℕ) → boundary (flat_map round_edges j.rings.items) a b ≡ boundary (flat_map round_edges loops.now) a b) }
+    ensures areas { IfOk result (λ j. KeepsAreas (settled_in plane.drop points.now loops.now) loops.now j.rings.items) }
     ensures chain { IfOk result (λ j. SameChain (flat_map round_edges j.rings.items) (flat_map round_edges loops.now)) }
 {
     let straight = FlatPoints {
@@ -80,8 +84,6 @@ pub fn join_holes(
     let holes = holes_of(alloc, &flat, loops, &areas.each)?;
     let mut circles = circles_of(alloc, &rings)?;
     join_all(alloc, &flat, &mut rings, &mut circles, &holes)?;
-    Ok(Joined {
-        rings: circles,
-        turned,
-    })
+    let rings = rings_of_circles(alloc, circles)?;
+    Ok(Joined { rings, turned })
 }

@@ -10,11 +10,15 @@
 mod area;
 mod barred;
 mod bridge;
+mod circle;
 mod clear;
+mod edges;
 mod flat;
 mod joined;
 mod joining;
+mod obstacles;
 mod places;
+mod runs;
 mod search;
 mod splice;
 mod start;

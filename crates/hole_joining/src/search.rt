@@ -1,6 +1,6 @@
 // The search for the bridge of a hole.
-ghost use Rattle.std.specs.Prelude.{◌≡◌, ◌<◌, length, get_or, []};
-ghost use Rattle.hole_joining.specs.Seen.{clear_of, bridges_in, bridges_of};
+ghost use Rattle.std.specs.Prelude.{◌≡◌, ◌<◌, ◌≤◌, length, get_or, []};
+ghost use Rattle.hole_joining.specs.Seen.{clear_of, bridges_from, bridges_in, bridges_of, IsReady, KnowsObstacles};
 ghost use Rattle.hole_joining.specs.Bridges.{chosen};
 ghost use Rattle.hole_joining.specs.Passes.{is_after, is_nearer, better, best_of, passes};
 
@@ -39,6 +39,7 @@ fn is_nearer(best: Option<Bridge>, b: Bridge) -> bool
 impl Joining<'_> {
     // Whether b comes after the last refused bridge, and is clear where that is asked.
     fn passes(&self, b: Bridge, asks: bool, refused: Option<Bridge>) -> bool
+        requires obstacles { KnowsObstacles self.now }
         requires ring { b.ring < length self.now.rings.now }
         requires place { b.place < length (get_or self.now.rings.now b.ring []) }
         ensures { result ≡ passes (clear_of self.now) asks refused b }
@@ -58,6 +59,7 @@ impl Joining<'_> {
         asks: bool,
         refused: Option<Bridge>,
     ) -> Option<Bridge>
+        requires obstacles { KnowsObstacles self.now }
         requires ring { b.ring < length self.now.rings.now }
         requires place { b.place < length (get_or self.now.rings.now b.ring []) }
         ensures { result ≡ better (passes (clear_of self.now) asks refused) best b }
@@ -69,23 +71,31 @@ impl Joining<'_> {
         }
     }
 
-    // The best after a pass over the places of one ring.
-    fn best_in(
+    // The best after a pass over the places of one ring from one place on up to another.
+    fn best_among(
         &self,
         best: Option<Bridge>,
         ring: usize,
+        from: usize,
+        to: usize,
         asks: bool,
         refused: Option<Bridge>,
     ) -> Option<Bridge>
-        requires { ring < length self.now.rings.now }
-        ensures { result ≡ best_of (passes (clear_of self.now) asks refused) best (bridges_in self.now ring) }
+        requires obstacles { KnowsObstacles self.now }
+        requires ring { ring < length self.now.rings.now }
+        requires order { from ≤ to }
+        requires within { to ≤ length (get_or self.now.rings.now ring []) }
+        ensures { best_of (passes (clear_of self.now) asks refused) result (bridges_from self.now ring to) ≡ best_of (passes (clear_of self.now) asks refused) best (bridges_from self.now ring from) }
     {
         let start = self.flat.at(vertex_at(self.hole, 0));
         let rings = self.rings;
         let places = &rings[ring];
         let mut best = best;
-        for (place, vertex) in places.places.iter().enumerate() {
-            let squared_length = FlatPoint::squared_distance(start, self.flat.at(*vertex));
+        for place in from..to {
+            let squared_length = FlatPoint::squared_distance(
+                start,
+                self.flat.at(places.places[place]),
+            );
             best = self.better(
                 best,
                 Bridge {
@@ -100,8 +110,39 @@ impl Joining<'_> {
         best
     }
 
+    // The best after a pass over the places of one ring. Runs of places that are farther away than the best so far are left
+    // out.
+    fn best_in(
+        &self,
+        best: Option<Bridge>,
+        ring: usize,
+        asks: bool,
+        refused: Option<Bridge>,
+    ) -> Option<Bridge>
+        requires ready { IsReady self.now }
+        requires ring { ring < length self.now.rings.now }
+        ensures { result ≡ best_of (passes (clear_of self.now) asks refused) best (bridges_in self.now ring) }
+    {
+        let start = self.flat.at(vertex_at(self.hole, 0));
+        let rings = self.rings;
+        let places = &rings[ring];
+        let len = places.places.len();
+        let runs = self.runs;
+        let mut best = best;
+        let mut place = 0;
+        for run in runs[ring].as_slice() {
+            let end = place + run.count;
+            if !run.is_far(start, best) {
+                best = self.best_among(best, ring, place, end, asks, refused);
+            }
+            place = end;
+        }
+        self.best_among(best, ring, place, len, asks, refused)
+    }
+
     // The best after a pass over all places.
     fn best(&self, asks: bool, refused: Option<Bridge>) -> Option<Bridge>
+        requires { IsReady self.now }
         ensures { result ≡ best_of (passes (clear_of self.now) asks refused) None (bridges_of self.now) }
     {
         let mut best = None;
@@ -115,6 +156,7 @@ impl Joining<'_> {
     /// the same rule. The bridges are asked in this order, each found by a pass over all places: nearly always one of the
     /// first two is clear. After some refusals all the rest is asked in one pass.
     pub fn choose(&self) -> Option<Bridge>
+        requires { IsReady self.now }
         ensures { result ≡ chosen (clear_of self.now) (bridges_of self.now) }
     {
         let any = self.best(false, None);

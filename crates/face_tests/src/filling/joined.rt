@@ -1,5 +1,5 @@
 // Rings after joining against two tables.
-use super::joined_rows::{RANDOM_ROWS, ROWS};
+use super::joined_rows::{MANY_HOLES, RANDOM_ROWS, ROWS};
 use super::{can_fill, loops_of, points_of};
 use crate::rings::has;
 use crate::rows::{Kind, expect_rows};
@@ -51,4 +51,9 @@ fn holes_are_joined_to_the_rings_of_the_table(rt: HostRuntime) -> Result<(), Fai
 #[test]
 fn random_holes_are_joined_as_in_the_table(rt: HostRuntime) -> Result<(), Fail> {
     expect_rows(&rt, rt.alloc(), &Kind::Rings, RANDOM_ROWS, 150)
+}
+
+#[test]
+fn many_holes_are_joined_as_in_the_table(rt: HostRuntime) -> Result<(), Fail> {
+    expect_rows(&rt, rt.alloc(), &Kind::Rings, MANY_HOLES, 3)
 }

@@ -1,12 +1,15 @@
 use Rattle.std.proofs.Common.{◌≡◌, ◌<◌, ℕ, ℤ, pos, List, Bool, true, false, cond, length, refl, ap, sym, subst, ◌∙◌}
 use Rattle.std.specs.Prelude.{int_lt}
-use Rattle.std.specs.List.{All}
+use Rattle.std.specs.List.{All, flat_map}
+use Rattle.chain_terms.specs.Paths.{round_edges}
+use Rattle.chain_laws.specs.Chains.{boundary_same}
 use Rattle.face_plane.specs.Planes.{Plane, exchanged, plane_of, point_at, face_plane, is_turned}
 use Rattle.hole_joining.specs.Holes.{ring_list, hole_list}
 use Rattle.hole_joining.specs.Bridges.{joined, join_holes}
 use Rattle.hole_joining.specs.Laws.{AreFillable, IsJoining, settled_in}
+use Rattle.hole_joining.proofs.Areas.{areas_kept}
 use Rattle.hole_joining.proofs.Keeps.{is_joining}
-use Rattle.hole_joining.proofs.Room.{has_room, some_rings, some_holes}
+use Rattle.hole_joining.proofs.Room.{few_edges, has_room, some_rings, some_holes}
 use Rattle.hole_joining.proofs.joined.join_holes.Goals as goal
 
 -- the plane that is exchanged or not
@@ -33,23 +36,29 @@ kept drop_axis points loops now fits e =
 
 pub returns-clause-rings : goal.returns-clause-rings
 returns-clause-rings c =
-    made c.args.plane.drop c.args.points.now c.args.loops.now c.in_ok-rings.rings.items c.in_ok-holes.holes.items c.join_all.new.circles.items c.is_turned-turned.result (c.is_turned-turned.ensures ∙ ap (λ (z : ℤ). int_lt z (pos 0)) c.in_ok-areas.ensures.sum) c.in_ok-rings.ensures
-    c.in_ok-holes.ensures (c.in_ok-join_all.ensures ∙ ap (joined (face_plane c.args.plane.drop c.is_turned-turned.result c.args.points.now) c.in_ok-rings.rings.items) c.deref-4.ensures.value)
+    made c.args.plane.drop c.args.points.now c.args.loops.now c.in_ok-rings.rings.items c.in_ok-holes.holes.items c.in_ok-rings-2.rings.items c.is_turned-turned.result (c.is_turned-turned.ensures ∙ ap (λ (z : ℤ). int_lt z (pos 0)) c.in_ok-areas.ensures.sum) c.in_ok-rings.ensures
+    c.in_ok-holes.ensures (c.in_ok-rings-2.ensures ∙ c.in_ok-join_all.ensures ∙ ap (joined (face_plane c.args.plane.drop c.is_turned-turned.result c.args.points.now) c.in_ok-rings.rings.items) c.deref-4.ensures.value)
 
 pub returns-clause-count : goal.returns-clause-count
-returns-clause-count c = (kept c.args.plane.drop c.args.points.now c.args.loops.now c.join_all.new.circles.items c.requires.loops (returns-clause-rings c)).count
+returns-clause-count c = (kept c.args.plane.drop c.args.points.now c.args.loops.now c.in_ok-rings-2.rings.items c.requires.loops (returns-clause-rings c)).count
 
 pub returns-clause-places : goal.returns-clause-places
-returns-clause-places c = (kept c.args.plane.drop c.args.points.now c.args.loops.now c.join_all.new.circles.items c.requires.loops (returns-clause-rings c)).places
+returns-clause-places c = (kept c.args.plane.drop c.args.points.now c.args.loops.now c.in_ok-rings-2.rings.items c.requires.loops (returns-clause-rings c)).places
 
 pub returns-clause-ringy : goal.returns-clause-ringy
-returns-clause-ringy c = (kept c.args.plane.drop c.args.points.now c.args.loops.now c.join_all.new.circles.items c.requires.loops (returns-clause-rings c)).ringy
+returns-clause-ringy c = (kept c.args.plane.drop c.args.points.now c.args.loops.now c.in_ok-rings-2.rings.items c.requires.loops (returns-clause-rings c)).ringy
 
 pub returns-clause-below : goal.returns-clause-below
-returns-clause-below c = (kept c.args.plane.drop c.args.points.now c.args.loops.now c.join_all.new.circles.items c.requires.loops (returns-clause-rings c)).below
+returns-clause-below c = (kept c.args.plane.drop c.args.points.now c.args.loops.now c.in_ok-rings-2.rings.items c.requires.loops (returns-clause-rings c)).below
 
 pub returns-clause-chain : goal.returns-clause-chain
-returns-clause-chain c = (kept c.args.plane.drop c.args.points.now c.args.loops.now c.join_all.new.circles.items c.requires.loops (returns-clause-rings c)).chain
+returns-clause-chain c = (kept c.args.plane.drop c.args.points.now c.args.loops.now c.in_ok-rings-2.rings.items c.requires.loops (returns-clause-rings c)).chain
+
+pub returns-clause-boundary : goal.returns-clause-boundary
+returns-clause-boundary c = boundary_same (flat_map round_edges c.in_ok-rings-2.rings.items) (flat_map round_edges c.args.loops.now) (returns-clause-chain c)
+
+pub returns-clause-areas : goal.returns-clause-areas
+returns-clause-areas c = areas_kept (settled_in c.args.plane.drop c.args.points.now c.args.loops.now) c.args.loops.now c.in_ok-rings-2.rings.items (returns-clause-chain c)
 
 pub circles_of-requires : goal.circles_of-requires
 circles_of-requires c =
@@ -62,3 +71,11 @@ join_all-requires-clause-some c =
 pub join_all-requires-clause-few : goal.join_all-requires-clause-few
 join_all-requires-clause-few c =
     has_room (face_plane c.args.plane.drop c.is_turned-turned.result c.args.points.now) c.args.loops.now c.in_ok-rings.rings.items c.deref-4.result.now (length c.args.points.now) c.requires.loops c.in_ok-rings.ensures (c.deref-4.ensures.value ∙ c.in_ok-holes.ensures)
+
+pub join_all-requires-clause-long : goal.join_all-requires-clause-long
+join_all-requires-clause-long c =
+    subst (λ (rs : List (List ℕ)). All (λ r. 0 < length r) rs) (sym c.in_ok-rings.ensures) (some_rings (face_plane c.args.plane.drop c.is_turned-turned.result c.args.points.now) c.args.loops.now (length c.args.points.now) c.requires.loops)
+
+pub join_all-requires-clause-edges : goal.join_all-requires-clause-edges
+join_all-requires-clause-edges c =
+    few_edges (face_plane c.args.plane.drop c.is_turned-turned.result c.args.points.now) c.args.loops.now c.in_ok-rings.rings.items c.deref-4.result.now (length c.args.points.now) c.requires.loops c.in_ok-rings.ensures (c.deref-4.ensures.value ∙ c.in_ok-holes.ensures)

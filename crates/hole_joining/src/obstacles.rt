@@ -1,0 +1,159 @@
+// What bars bridges.
+ghost use Rattle.std.specs.Prelude.{◌≡◌, ◌+◌, ◌≤◌, ◌∷◌, ◌++◌, [], map, length, IfOk, OnOk};
+ghost use Rattle.std.specs.List.{concat, list_any};
+ghost use Rattle.box_tree.specs.Touching.{IsBox};
+ghost use Rattle.mesh_terms.specs.Limits.{most_halfedges};
+ghost use Rattle.hole_joining.specs.Bridges.{edges_of};
+ghost use Rattle.hole_joining.specs.Cones.{bars};
+ghost use Rattle.hole_joining.specs.Obstacles.{AreBoxed, all_edges, box_round, edge_box};
+ghost use Rattle.hole_joining.specs.Seen.{plane_at, segment_of};
+
+use crate::barred::{any_bars, edge_bars};
+use crate::edges::push_edges;
+use crate::flat::{BridgeLine, FlatPoints, greater, lesser};
+use crate::places::Places;
+use box_tree::{Boxes, MOST_BOXES, Tree};
+use face_plane::FlatPoint;
+use mb_base::{Box3, NoMemory};
+use std::alloc::Global;
+
+// How many bridges are a list, at least, and what part of the edges, at most.
+const FEW: usize = 32;
+
+/// What bars bridges: the edges of rings and holes, of which those near a segment are found by a tree, and the bridges so
+/// far, each both ways.
+#[derive(Drop)]
+pub struct Obstacles {
+    pub edges: Vec<(u32, u32)>,
+    // Over the boxes of the edges.
+    pub tree: Tree,
+    pub bridges: Vec<(u32, u32)>,
+}
+
+// The box of a segment, in the plane where the third coordinate is 0.
+fn box_round(a: FlatPoint, b: FlatPoint) -> Box3
+    ensures { result ≡ box_round a b }
+{
+    let low = lesser(a, b);
+    let high = greater(a, b);
+    Box3 {
+        low: [low.u(), low.v(), 0],
+        high: [high.u(), high.v(), 0],
+    }
+}
+
+// The box of an edge.
+fn box_of(flat: &FlatPoints, edge: (u32, u32)) -> Box3
+    ensures { result ≡ edge_box (plane_at flat.now) edge }
+{
+    let (from, to) = edge;
+    box_round(flat.at(from), flat.at(to))
+}
+
+// The boxes of edges, in order.
+#[derive(Drop)]
+struct EdgeBoxes<'a> {
+    flat: FlatPoints<'a>,
+    edges: &'a [(u32, u32)],
+}
+
+impl Boxes for EdgeBoxes<'_> {
+    ghost boxes = { λ s. map (edge_box (plane_at s.flat)) s.edges.now };
+
+    #[inline]
+    fn count(&self) -> usize {
+        self.edges.len()
+    }
+
+    #[inline]
+    fn box_at(&self, number: usize) -> Box3 {
+        box_of(&self.flat, self.edges[number])
+    }
+}
+
+// The tree over the boxes of edges.
+fn tree_over(alloc: Global, flat: &FlatPoints, edges: &[(u32, u32)]) -> Result<Tree, NoMemory>
+    requires { length edges.now ≤ MOST_BOXES }
+    ensures { IfOk result (λ tree. tree ≡ map (edge_box (plane_at flat.now)) edges.now) }
+{
+    Tree::over(alloc, &EdgeBoxes { flat: *flat, edges })
+}
+
+impl Obstacles {
+    /// The edges of rings and holes; no bridges so far.
+    pub fn of(
+        alloc: Global,
+        flat: &FlatPoints,
+        rings: &[Places],
+        holes: &[Places],
+    ) -> Result<Obstacles, NoMemory>
+        requires { length (edges_of rings.now ++ edges_of holes.now) ≤ most_halfedges }
+        ensures boxed { IfOk result (λ o. AreBoxed (plane_at flat.now) o) }
+        ensures all { IfOk result (λ o. all_edges o ≡ edges_of rings.now ++ edges_of holes.now) }
+    {
+        let mut edges = Vec::new(alloc);
+        push_edges(&mut edges, rings)?;
+        push_edges(&mut edges, holes)?;
+        let tree = tree_over(alloc, flat, &edges)?;
+        let bridges = Vec::new(alloc);
+        Ok(Obstacles {
+            edges,
+            tree,
+            bridges,
+        })
+    }
+
+    // Takes the bridges among the edges of the tree once they are many.
+    fn gather(&mut self, alloc: Global, flat: &FlatPoints) -> Result<(), NoMemory>
+        requires { AreBoxed (plane_at flat.now) self.old }
+        ensures boxed { OnOk result (AreBoxed (plane_at flat.now) self.new) }
+        ensures all { OnOk result (all_edges self.new ≡ all_edges self.old) }
+    {
+        let (old, new) = (self.edges.len(), self.bridges.len());
+        if new > FEW && new > old / FEW && new <= MOST_BOXES && old <= MOST_BOXES - new {
+            self.edges.append(&mut self.bridges)?;
+            self.tree = tree_over(alloc, flat, &self.edges)?;
+        }
+        Ok(())
+    }
+
+    /// Adds the bridge between two vertices, both ways.
+    pub fn add(
+        &mut self,
+        alloc: Global,
+        flat: &FlatPoints,
+        from: u32,
+        to: u32,
+    ) -> Result<(), NoMemory>
+        requires { AreBoxed (plane_at flat.now) self.old }
+        ensures boxed { OnOk result (AreBoxed (plane_at flat.now) self.new) }
+        ensures all { OnOk result (all_edges self.new ≡ all_edges self.old ++ (from, to) ∷ (to, from) ∷ []) }
+    {
+        self.bridges.extend_from_slice(&[(from, to), (to, from)])?;
+        self.gather(alloc, flat)
+    }
+
+    // Whether an edge bars the segment between two vertices. Only those are asked whose boxes touch its box.
+    fn edges_bar(&self, flat: &FlatPoints, segment: &BridgeLine) -> bool
+        requires boxed { AreBoxed (plane_at flat.now) self.now }
+        requires segment { segment.now ≡ segment_of (plane_at flat.now) segment.now.from.vertex segment.now.to.vertex }
+        ensures { result ≡ list_any (bars (plane_at flat.now) segment.now.from.vertex segment.now.to.vertex) self.now.edges.items }
+    {
+        let area = box_round(segment.from.at, segment.to.at);
+        for number in self.tree.touching(area) {
+            if edge_bars(flat, segment, self.edges[number as usize]) {
+                return true;
+            }
+        }
+        false
+    }
+
+    /// Whether an edge or a bridge bars the segment between two vertices.
+    pub fn bar(&self, flat: &FlatPoints, segment: &BridgeLine) -> bool
+        requires boxed { AreBoxed (plane_at flat.now) self.now }
+        requires segment { segment.now ≡ segment_of (plane_at flat.now) segment.now.from.vertex segment.now.to.vertex }
+        ensures { result ≡ list_any (bars (plane_at flat.now) segment.now.from.vertex segment.now.to.vertex) (all_edges self.now) }
+    {
+        self.edges_bar(flat, segment) || any_bars(flat, segment, &self.bridges)
+    }
+}
