@@ -10,7 +10,7 @@ use crate::rows::{Kind, expect_rows};
 use crate::words::{is_filling, parts_of, points_of, vertices_of};
 use face_plane::FacePlane;
 use loop_ring::Ring;
-use ring_cutting::{Filled, cut_ring, some_place_may_be_cut};
+use ring_cutting::{Filled, cut_ring, cut_ring_long_from, some_place_may_be_cut};
 use std::alloc::Global;
 use std::test::Fail;
 use table::ROWS;
@@ -64,8 +64,8 @@ fn can_be_cut(ring: &[u32], count: usize) -> bool
     some && are_apart(ring) && has_third(ring) && are_below(ring, count)
 }
 
-// The triangles of a ring, cut in the plane of a sign.
-fn cut(alloc: Global, sign: &str, points: &str, ring: &str) -> Result<Filled, Fail> {
+// The triangles of a ring, cut in the plane of a sign, as a short ring or as a long one.
+fn cut(alloc: Global, sign: &str, points: &str, ring: &str, is_long: bool) -> Result<Filled, Fail> {
     let points = points_of(alloc, points, 2)?;
     let places = vertices_of(alloc, ring)?;
     if !can_be_cut(&places, points.len()) {
@@ -73,18 +73,30 @@ fn cut(alloc: Global, sign: &str, points: &str, ring: &str) -> Result<Filled, Fa
     }
     let plane = FacePlane { drop: 2 };
     let turned = sign == "~";
-    Ok(cut_ring(alloc, plane, turned, Ring::of(alloc, &places)?, &points)?)
+    let ring = Ring::of(alloc, &places)?;
+    if is_long {
+        Ok(cut_ring_long_from(alloc, plane, turned, ring, &points, 3)?)
+    } else {
+        Ok(cut_ring(alloc, plane, turned, ring, &points)?)
+    }
 }
 
-/// Whether a ring is cut into the triangles of its line.
+// Whether the triangles of a ring are those of a line.
+fn is_cut(alloc: Global, parts: [&str; 5], is_long: bool) -> Result<bool, Fail> {
+    let [sign, points, ring, triples, forced] = parts;
+    let filled = cut(alloc, sign, points, ring, is_long)?;
+    let wanted = vertices_of(alloc, triples)?;
+    is_filling(alloc, &filled, &wanted, forced.parse::<u32>()? as u64)
+}
+
+/// Whether a ring is cut into the triangles of its line, as a short ring and as a long one.
 pub fn agrees(alloc: Global, line: &str) -> Result<bool, Fail> {
     let parts = parts_of(alloc, line, " : ")?;
     let [sign, points, ring, triples, forced] = parts.as_slice() else {
         return Err("five parts".into());
     };
-    let filled = cut(alloc, sign, points, ring)?;
-    let wanted = vertices_of(alloc, triples)?;
-    is_filling(alloc, &filled, &wanted, forced.parse::<u32>()? as u64)
+    let parts = [*sign, *points, *ring, *triples, *forced];
+    Ok(is_cut(alloc, parts, false)? && is_cut(alloc, parts, true)?)
 }
 
 #[test]

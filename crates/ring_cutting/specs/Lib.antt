@@ -1,3 +1,5 @@
 pub mod Cuts
 pub mod Laws
+pub mod Left
 pub mod Placed
+pub mod Spans

@@ -1,17 +1,19 @@
 // A ring is cut into triangles.
 ghost use Rattle.std.specs.Prelude.{◌≡◌, ◌<◌, ◌≤◌, ◌+◌, ℕ, List, length, IfOk, IsTrue, pos, ◌<ℤ◌, int_lt};
 ghost use Rattle.std.specs.List.{All};
-ghost use Rattle.chain_terms.specs.Chains.{all_edges};
+ghost use Rattle.chain_terms.specs.Chains.{all_edges, boundary};
 ghost use Rattle.chain_terms.specs.Odd.{SameChain};
 ghost use Rattle.chain_terms.specs.Paths.{round_edges};
+ghost use Rattle.chain_terms.specs.Sums.{total};
 ghost use Rattle.mesh_terms.specs.Meshes.{HasThree, IsBelow, triple_of};
-ghost use Rattle.face_plane.specs.Planes.{Plane, face_plane, orient};
+ghost use Rattle.face_plane.specs.Planes.{Plane, area, face_plane, orient};
 ghost use Rattle.face_plane.specs.Rings.{IsRing};
 ghost use Rattle.ring_cutting.specs.Cuts.{cut_ring, triple_at, is_allowed, first_allowed, turn_at};
 ghost use Rattle.ring_cutting.specs.Placed.{vertices_of, IsPlaced};
 
 use crate::Filled;
 use crate::ears::choose;
+use crate::long::cut_long;
 use crate::place::{Place, after, before, here, placed};
 use face_plane::{FacePlane, FlatPoint};
 use loop_ring::Ring;
@@ -26,8 +28,11 @@ use std::alloc::Global;
 /// different ones. It is an ear where it may be cut, turns left, and no vertex but those three lies in their triangle,
 /// rim included. Each time the least ear is cut, and where there is none the least place that may be cut, which counts as
 /// forced; the last three places are the last triangle, forced where it does not turn left. There always is a place that
-/// may be cut. Time grows with the square of the places of rings as they come, with the cube at worst. `NoMemory` may come
-/// for any ring.
+/// may be cut. `NoMemory` may come for any ring.
+///
+/// A ring of n places takes memory in proportion to n. On all rings that were tried it took time in proportion to n log n
+/// or little more, since a long ring's places are asked again only where what was found may have changed, but some two or
+/// three times each; no bound below the cube of n is known for every ring.
 ///
 /// The rule is this project's own; the Manifold library cuts ears too.
 pub fn cut_ring(
@@ -43,14 +48,44 @@ pub fn cut_ring(
     requires axis { plane.drop < 3 }
     ensures value { IfOk result (λ f. f ≡ cut_ring (face_plane plane.drop turned points.now) ring) }
     ensures count { IfOk result (λ f. length f.triples + 2 ≡ length ring) }
+
+    // The triangles have the boundary of the ring, and doubled areas whose sum is the ring's; and so has every odd function.
+    ensures boundary { IfOk result (λ f. (a b : ℕ) → boundary (all_edges f.triples) a b ≡ boundary (round_edges ring) a b) }
+    ensures areas { IfOk result (λ f. total (λ t. orient (face_plane plane.drop turned points.now) t.0 t.1 t.2) f.triples ≡ area (face_plane plane.drop turned points.now) ring) }
     ensures chain { IfOk result (λ f. SameChain (all_edges f.triples) (round_edges ring)) }
     ensures three { IfOk result (λ f. All HasThree f.triples) }
     ensures below { IfOk result (λ f. All (IsBelow (length points.now)) f.triples) }
     ensures most { IfOk result (λ f. f.forced ≤ length f.triples) }
     ensures left { IfOk result (λ f. f.forced ≡ 0 → All (λ t. pos 0 <ℤ orient (face_plane plane.drop turned points.now) t.0 t.1 t.2) f.triples) }
 {
+    cut_ring_long_from(alloc, plane, turned, ring, points, LONG)
+}
+
+// The number of places from which a ring is long.
+const LONG: usize = 64;
+
+/// The same, where a ring is long from this number of places on. A short ring's places are asked again for each cut; a long
+/// one's only where what was found may have changed.
+pub fn cut_ring_long_from(
+    alloc: Global,
+    plane: FacePlane,
+    turned: bool,
+    ring: Ring,
+    points: &[Point],
+    long: usize,
+) -> Result<Filled, NoMemory>
+    requires ringy { IsRing ring }
+    requires few { length ring ≤ 100000000 }
+    requires below { All (λ v. v < length points.now) ring }
+    requires axis { plane.drop < 3 }
+    ensures { IfOk result (λ f. f ≡ cut_ring (face_plane plane.drop turned points.now) ring) }
+{
     let places = placed(alloc, plane, turned, ring, points)?;
-    cut_down(alloc, places)
+    if places.len() < long {
+        cut_down(alloc, places)
+    } else {
+        cut_long(alloc, &places)
+    }
 }
 
 /// Every ring of four places or more has a place that may be cut.

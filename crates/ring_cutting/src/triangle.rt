@@ -19,7 +19,7 @@ fn covers(a: FlatPoint, b: FlatPoint, c: FlatPoint, x: FlatPoint) -> bool
 }
 
 // Whether a place has another vertex than the three, with its point in their triangle.
-fn blocks(p: Place, x: Place, n: Place, place: Place) -> bool
+pub(crate) fn blocks(p: Place, x: Place, n: Place, place: Place) -> bool
     ensures { result ≡ place_blocks p x n place }
 {
     covers(p.at, x.at, n.at, place.at)

@@ -1,14 +1,16 @@
-use Rattle.std.proofs.Common.{◌≡◌, ◌+◌, ◌≤◌, ℕ, List, Result, Ok, Err, length, sym, subst}
+use Rattle.std.proofs.Common.{◌≡◌, ◌+◌, ◌≤◌, ℕ, Result, Ok, Err, length, sym, subst}
 use Rattle.std.specs.Prelude.{IfOk}
 use Rattle.std.specs.List.{All}
-use Rattle.chain_terms.specs.Chains.{all_edges}
+use Rattle.chain_terms.specs.Chains.{all_edges, boundary}
+use Rattle.chain_laws.specs.Chains.{boundary_same}
+use Rattle.chain_terms.specs.Sums.{total}
 use Rattle.chain_terms.specs.Odd.{SameChain}
 use Rattle.chain_terms.specs.Paths.{round_edges}
 use Rattle.mesh_terms.specs.Meshes.{HasThree, IsBelow}
-use Rattle.face_plane.specs.Planes.{Plane, face_plane}
+use Rattle.face_plane.specs.Planes.{Plane, area, face_plane, orient}
 use Rattle.ring_cutting.specs.Cuts.{Cut, cut_ring}
 use Rattle.ring_cutting.specs.Laws.{TurnsLeft, IsCutting}
-use Rattle.ring_cutting.specs.Placed.{vertices_of}
+use Rattle.ring_cutting.proofs.Areas.{areas}
 use Rattle.ring_cutting.proofs.WholeCuts.{cutting, below_of}
 use Rattle.ring_cutting.proofs.cutting.cut_ring.Goals as goal
 
@@ -18,36 +20,46 @@ of_made c P (Ok f) h e = subst P (sym e) h
 of_made c P (Err x) h e = e
 
 -- the plane of the face
-abbrev plane_at : goal.After-cut_down → Plane
+abbrev plane_at : goal.After-cut_ring_long_from → Plane
 plane_at c = face_plane c.args.plane.drop c.args.turned c.args.points.now
 
-made : (c : goal.After-cut_down) → IfOk c.cut_down.result (λ f. f ≡ cut_ring (plane_at c) c.args.ring)
-made c =
-    let ring : vertices_of c.in_ok-places.places.items ≡ c.args.ring = c.in_ok-places.ensures.vertices in
-    subst (λ (r : List ℕ). IfOk c.cut_down.result (λ f. f ≡ cut_ring (plane_at c) r)) ring (c.cut_down.ensures (plane_at c) c.in_ok-places.ensures.at)
+made : (c : goal.After-cut_ring_long_from) → IfOk c.cut_ring_long_from.result (λ f. f ≡ cut_ring (plane_at c) c.args.ring)
+made c = c.cut_ring_long_from.ensures
 
-laws : (c : goal.After-cut_down) → IsCutting (plane_at c) c.args.ring (cut_ring (plane_at c) c.args.ring)
+laws : (c : goal.After-cut_ring_long_from) → IsCutting (plane_at c) c.args.ring (cut_ring (plane_at c) c.args.ring)
 laws c = cutting (plane_at c) c.args.ring c.requires.ringy
 
 pub returns-clause-value : goal.returns-clause-value
 returns-clause-value c = made c
 
 pub returns-clause-count : goal.returns-clause-count
-returns-clause-count c = of_made (cut_ring (plane_at c) c.args.ring) (λ f. length f.triples + 2 ≡ length c.args.ring) c.cut_down.result (laws c).count (made c)
+returns-clause-count c = of_made (cut_ring (plane_at c) c.args.ring) (λ f. length f.triples + 2 ≡ length c.args.ring) c.cut_ring_long_from.result (laws c).count (made c)
 
 pub returns-clause-chain : goal.returns-clause-chain
-returns-clause-chain c = of_made (cut_ring (plane_at c) c.args.ring) (λ f. SameChain (all_edges f.triples) (round_edges c.args.ring)) c.cut_down.result (laws c).chain (made c)
+returns-clause-chain c = of_made (cut_ring (plane_at c) c.args.ring) (λ f. SameChain (all_edges f.triples) (round_edges c.args.ring)) c.cut_ring_long_from.result (laws c).chain (made c)
+
+pub returns-clause-boundary : goal.returns-clause-boundary
+returns-clause-boundary c =
+    let whole = cut_ring (plane_at c) c.args.ring in
+    of_made whole (λ f. (a b : ℕ) → boundary (all_edges f.triples) a b ≡ boundary (round_edges c.args.ring) a b) c.cut_ring_long_from.result
+    (boundary_same (all_edges whole.triples) (round_edges c.args.ring) (laws c).chain) (made c)
+
+pub returns-clause-areas : goal.returns-clause-areas
+returns-clause-areas c =
+    let whole = cut_ring (plane_at c) c.args.ring in
+    of_made whole (λ f. total (λ t. orient (plane_at c) t.0 t.1 t.2) f.triples ≡ area (plane_at c) c.args.ring) c.cut_ring_long_from.result
+    (areas (plane_at c) c.args.ring whole.triples (laws c).chain) (made c)
 
 pub returns-clause-three : goal.returns-clause-three
-returns-clause-three c = of_made (cut_ring (plane_at c) c.args.ring) (λ f. All HasThree f.triples) c.cut_down.result (laws c).three (made c)
+returns-clause-three c = of_made (cut_ring (plane_at c) c.args.ring) (λ f. All HasThree f.triples) c.cut_ring_long_from.result (laws c).three (made c)
 
 pub returns-clause-below : goal.returns-clause-below
 returns-clause-below c =
     let whole = cut_ring (plane_at c) c.args.ring in
-    of_made whole (λ f. All (IsBelow (length c.args.points.now)) f.triples) c.cut_down.result (below_of (length c.args.points.now) c.args.ring whole.triples c.requires.below (laws c).of) (made c)
+    of_made whole (λ f. All (IsBelow (length c.args.points.now)) f.triples) c.cut_ring_long_from.result (below_of (length c.args.points.now) c.args.ring whole.triples c.requires.below (laws c).of) (made c)
 
 pub returns-clause-most : goal.returns-clause-most
-returns-clause-most c = of_made (cut_ring (plane_at c) c.args.ring) (λ f. f.forced ≤ length f.triples) c.cut_down.result (laws c).few (made c)
+returns-clause-most c = of_made (cut_ring (plane_at c) c.args.ring) (λ f. f.forced ≤ length f.triples) c.cut_ring_long_from.result (laws c).few (made c)
 
 pub returns-clause-left : goal.returns-clause-left
-returns-clause-left c = of_made (cut_ring (plane_at c) c.args.ring) (λ f. f.forced ≡ 0 → All (TurnsLeft (plane_at c)) f.triples) c.cut_down.result (laws c).left (made c)
+returns-clause-left c = of_made (cut_ring (plane_at c) c.args.ring) (λ f. f.forced ≡ 0 → All (TurnsLeft (plane_at c)) f.triples) c.cut_ring_long_from.result (laws c).left (made c)
