@@ -13,6 +13,8 @@ use std::test::Fail;
 
 static COPY: [&str; 3] = ["copy", "t.obj", "u.obj"];
 
+static RUN: [&str; 2] = ["run", "s.txt"];
+
 const NOTHING: &[u8] = b"";
 
 const READ_FAULT: &[u8] = b"t.obj: read fault\n";
@@ -195,7 +197,7 @@ const NUMBERS: &[u8] =
     b" 1 2 3 4 5 6 7 8 9 10 11 12 13 14 15 16 17 18 19 20 21 22 23 24 25 26 27 28 29 30 31 32 33 34 35 36 37 38 39 40 41 42 43 44 45 46 47 48 49 50 51 52 53 54 55 56 57 58 59 60 61 62 63 64 65 66 67 68 69 70 71 72 73 74 75 76 77 78 79 80 81 82 83 84 85 86 87 88 89 90 91 92 93 94 95 96 97 98 99 100 101 102 103 104 105 106 107 108 109 110 111 112 113 114 115 116 117 118 119 120 121 122 123 124 125 126 127 128 129 130 131 132 133 134 135 136 137 138 139 140 141 142 143 144 145 146 147 148 149 150\n";
 
 // These texts as one.
-fn joined(alloc: Global, parts: &[(&[u8], u32)]) -> Result<Vec<u8>, NoMemory> {
+fn joined(alloc: Global, parts: &'static [(&'static [u8], u32)]) -> Result<Vec<u8>, NoMemory> {
     let mut bytes = Vec::new(alloc);
     for (part, times) in parts {
         for _ in 0..*times {
@@ -209,15 +211,26 @@ fn joined(alloc: Global, parts: &[(&[u8], u32)]) -> Result<Vec<u8>, NoMemory> {
 fn judge_past<R: Abort + AllocGlobal>(
     rt: &R,
     limits: Limits,
-    parts: &[(&[u8], u32)],
+    parts: &'static [(&'static [u8], u32)],
     shelf_fails: u64,
-    line: &[u8],
+    line: &'static [u8],
 ) -> Result<(), NoMemory> {
     let bytes = joined(rt.alloc(), parts)?;
-    let mut case = copy(&bytes, 5, line, None);
-    case.limits = limits;
-    case.most = ROOM;
-    case.shelf_fails = shelf_fails;
+    let case = Case {
+        words: &COPY,
+        name: "t.obj",
+        bytes: &bytes,
+        to: "u.obj",
+        most: ROOM,
+        shelf_fails,
+        out_fails: 0,
+        limits,
+        status: 5,
+        out: NOTHING,
+        err: line,
+        is_saved: false,
+        saved: NOTHING,
+    };
     judge(rt, &case)
 }
 
@@ -235,17 +248,22 @@ fn the_first_count_past_its_limit_is_named(rt: HostRuntime) -> Result<(), Fail> 
 
 #[test]
 fn a_script_is_read_whole_before_a_mesh_is_asked_for(rt: HostRuntime) -> Result<(), Fail> {
-    let words = ["run", "s.txt"];
-    let mut case = copy(
-        b"load a a.obj\nunion c a b\n",
-        2,
-        b"s.txt:2: 23 NameNotDefined\n",
-        None,
-    );
-    case.words = &words;
-    case.name = "s.txt";
-    // The size and one read: a third call would be that for the mesh.
-    case.shelf_fails = 3;
+    let case = Case {
+        words: &RUN,
+        name: "s.txt",
+        bytes: b"load a a.obj\nunion c a b\n",
+        to: "u.obj",
+        most: 64,
+        // The size and one read: a third call would be that for the mesh.
+        shelf_fails: 3,
+        out_fails: 0,
+        limits: Limits::program(),
+        status: 2,
+        out: NOTHING,
+        err: b"s.txt:2: 23 NameNotDefined\n",
+        is_saved: false,
+        saved: NOTHING,
+    };
     judge(&rt, &case)?;
     Ok(())
 }
