@@ -1,5 +1,6 @@
 -- The copies of what is included lie in blocks, one behind the other.
-use Rattle.std.proofs.Common.{◌≡◌, ℕ, zero, suc, ◌+◌, ◌-◌, ◌<◌, ◌≤◌, pos, List, [], ◌∷◌, ◌++◌, length, get_or, nat_abs, refl, ap, ◌∙◌, arith, inl, inr}
+use Rattle.std.proofs.Common.{◌≡◌, ℕ, zero, suc, ◌+◌, ◌-◌, ◌<◌, ◌≤◌, pos, List, [], ◌∷◌, ◌++◌, length, get_or, nat_abs}
+use Rattle.std.proofs.Common.{refl, ap, ◌∙◌, arith, inl, inr}
 use Rattle.std.specs.List.{flat_map}
 use Rattle.std.proofs.lemmas.List.{get_or_append_left, get_or-append_right, get_or-replicate, length-append, length-replicate}
 use Rattle.std.proofs.lemmas.Bool.{cases_lt}
@@ -25,16 +26,19 @@ pub length-copies_of : (i : Included) → length (copies_of i) ≡ nat_abs i.num
 length-copies_of i = length-replicate (nat_abs i.number) (copy_of i)
 
 -- copy k of the j-th is a copy of it
-pub copy_in : (is : List Included) (j k : ℕ) → j < length is → k < nat_abs (get_or is j no_included).number → get_or (all_copies is) (before is j + k) no_copy ≡ copy_of (get_or is j no_included)
+pub copy_in : (is : List Included) (j k : ℕ) → j < length is → k < nat_abs (get_or is j no_included).number →
+    get_or (all_copies is) (before is j + k) no_copy ≡ copy_of (get_or is j no_included)
 copy_in [] j k l m = absurd (omega (arith, l))
 copy_in (i ∷ is) zero k l m =
     let inside : k < length (copies_of i) = omega (arith, m, length-copies_of i) in
     let here : 0 + k ≡ k = omega arith in
-    ap (λ n. get_or (copies_of i ++ all_copies is) n no_copy) here ∙ get_or_append_left (copies_of i) (all_copies is) no_copy k inside ∙ get_or-replicate (nat_abs i.number) k (copy_of i) no_copy m
+    ap (λ n. get_or (copies_of i ++ all_copies is) n no_copy) here ∙ get_or_append_left (copies_of i) (all_copies is) no_copy k inside
+    ∙ get_or-replicate (nat_abs i.number) k (copy_of i) no_copy m
 copy_in (i ∷ is) (suc j) k l m =
     let at = nat_abs i.number + before is j + k in
     let shift : at - nat_abs i.number ≡ before is j + k = omega arith in
-    get_or-append_right (copies_of i) (all_copies is) (nat_abs i.number) at no_copy (length-copies_of i) (omega arith) ∙ ap (λ n. get_or (all_copies is) n no_copy) shift ∙ copy_in is j k (omega (arith, l)) m
+    get_or-append_right (copies_of i) (all_copies is) (nat_abs i.number) at no_copy (length-copies_of i) (omega arith)
+    ∙ ap (λ n. get_or (all_copies is) n no_copy) shift ∙ copy_in is j k (omega (arith, l)) m
 
 -- where a copy lies
 pub record LiesIn (is : List Included) (v : ℕ) : Type 0 where
@@ -50,7 +54,14 @@ lies_in (i ∷ is) v l = elim (cases_lt v (nat_abs i.number)) as (λ _. LiesIn (
   | inl here ↦ record { block = 0; place = v; within = omega arith; inside = here; at = omega arith }
   | inr past ↦
       let later = lies_in is (v - nat_abs i.number) (omega (arith, past, l, length-append (copies_of i) (all_copies is), length-copies_of i)) in
-      record { block = suc later.block; place = later.place; within = omega (arith, later.within); inside = later.inside; at = omega (arith, past, later.at) }
+      record {
+        block = suc later.block;
+        place = later.place;
+        within = omega (arith, later.within);
+        inside = later.inside;
+        at =
+            omega (arith, past, later.at);
+      }
 ]
 
 -- blocks ascend

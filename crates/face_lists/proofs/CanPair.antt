@@ -18,18 +18,25 @@ use Rattle.face_lists.proofs.Told.{Tell, told}
 
 -- such entries of a list
 can_be_paired : (k : KnownFace) (name : ListName) (entries : List Entry) → Tell (length k.of.copies) (number_in k name) entries →
-    length (starts (all_edges k.of.p.triples) (all_edges k.of.q.triples) k.of.copies name) ≡ length (ends (all_edges k.of.p.triples) (all_edges k.of.q.triples) k.of.copies name) → CanBePaired (points_of k) entries
+    length (starts (all_edges k.of.p.triples) (all_edges k.of.q.triples) k.of.copies name) ≡
+    length (ends (all_edges k.of.p.triples) (all_edges k.of.q.triples) k.of.copies name) → CanBePaired (points_of k) entries
 can_be_paired k name entries tell even = record {
-  below = λ i d l. let e = get_or entries i d in let low = (tell.only e.vertex e.start (Contains-get_or entries i d l)).0 in omega (arith, low, length-map k.of.copies (λ (c : Copy). c.point));
-  balanced = ap length (told (length k.of.copies) (number_in k name) entries true tell) ∙ even ∙ sym (ap length (told (length k.of.copies) (number_in k name) entries false tell));
+  below =
+      λ i d l. let e = get_or entries i d in let low = (tell.only e.vertex e.start (Contains-get_or entries i d l)).0 in
+      omega (arith, low, length-map k.of.copies (λ (c : Copy). c.point));
+  balanced =
+      ap length (told (length k.of.copies) (number_in k name) entries true tell) ∙ even
+      ∙ sym (ap length (told (length k.of.copies) (number_in k name) entries false tell));
 }
 
 -- those of a half-edge, and of a pair
 half_can : (k : KnownFace) → IsBalanced k.of.p k.of.q k.of.copies → (l : ℕ) → l < 3 → CanBePaired (points_of k) (half_list k l)
-half_can k balance l low = can_be_paired k (k.name l) (half_list k l) (half_told k l low) (balance.even (k.name l) (k.face.listed l (omega (arith, low))))
+half_can k balance l low =
+    can_be_paired k (k.name l) (half_list k l) (half_told k l low) (balance.even (k.name l) (k.face.listed l (omega (arith, low))))
 
 pair_can : (k : KnownFace) → IsBalanced k.of.p k.of.q k.of.copies → (j : ℕ) → j < k.others → CanBePaired (points_of k) (pair_list k j)
-pair_can k balance j low = can_be_paired k (k.name (3 + j)) (pair_list k j) (pair_told k j) (balance.even (k.name (3 + j)) (k.face.listed (3 + j) (omega (arith, low))))
+pair_can k balance j low =
+    can_be_paired k (k.name (3 + j)) (pair_list k j) (pair_told k j) (balance.even (k.name (3 + j)) (k.face.listed (3 + j) (omega (arith, low))))
 
 -- what holds of each number below n
 each_below : (P : ℕ → Type 0) (n : ℕ) → ((i : ℕ) → i < n → P i) → All P (upto n)
@@ -44,9 +51,11 @@ face_can k balance =
     let all = upto k.others in
     let zeroth : 3 * k.number + 0 ≡ 3 * k.number = omega arith in
     record {
-      first = subst (λ h. CanBePaired (points_of k) (half_entries k.of.side k.of.runs h (half_part 0 k.stands))) zeroth (half_can k balance 0 (omega arith));
+      first = subst (λ h. CanBePaired (points_of k) (half_entries k.of.side k.of.runs h (half_part 0 k.stands))) zeroth
+          (half_can k balance 0 (omega arith));
       second = half_can k balance 1 (omega arith);
       third = half_can k balance 2 (omega arith);
       pairs = subst (All Paired) (sym (pairs_are k.others k.stands k.records.steps k.few))
-          (All-nonempty Paired (map (pair_records k) all) (All-map Paired (pair_records k) all (each_below (λ j. Paired (pair_records k j)) k.others (pair_can k balance))));
+          (All-nonempty Paired (map (pair_records k) all)
+          (All-map Paired (pair_records k) all (each_below (λ j. Paired (pair_records k j)) k.others (pair_can k balance))));
     }

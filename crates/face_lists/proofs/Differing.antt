@@ -12,11 +12,14 @@ use Rattle.face_lists.specs.declared.stands.Stand.{Stand}
 use Rattle.face_lists.proofs.StrictSort.{AllDiffer, Differ}
 
 -- records of copies below a number, then records of others
-pub differ_append : (m : ℕ) (ss ts : List Stand) → All (λ s. s.copy < m) ss → All (λ s. m ≤ s.copy) ts → AllDiffer ss → AllDiffer ts → AllDiffer (ss ++ ts)
+pub differ_append : (m : ℕ) (ss ts : List Stand) → All (λ s. s.copy < m) ss → All (λ s. m ≤ s.copy) ts → AllDiffer ss → AllDiffer ts →
+    AllDiffer (ss ++ ts)
 differ_append m [] ts low high d e = e
 differ_append m (s ∷ ss) ts low high d e =
-    let here = All-head (λ t. t.copy < m) s ss low in
-    (All-append (Differ s) ss ts d.0 (All-weaker (λ t. m ≤ t.copy) (Differ s) (λ t l a b c. omega (arith, here, l, c)) ts high), differ_append m ss ts (All-tail (λ t. t.copy < m) s ss low) high d.1 e)
+    let here = All-head (λ t. t.copy < m) s ss low in (
+      All-append (Differ s) ss ts d.0 (All-weaker (λ t. m ≤ t.copy) (Differ s) (λ t l a b c. omega (arith, here, l, c)) ts high),
+      differ_append m ss ts (All-tail (λ t. t.copy < m) s ss low) high d.1 e,
+    )
 
 -- a hit whose edge has two faces, and they and the crossed face have different numbers
 pub record AreThree (own other lower upper face : ℕ) : Type 0 where
@@ -50,10 +53,13 @@ module _ (own other lower upper face : ℕ) (positive : Bool) where
       let r5 : Stand = record { face = z; list = 3 + upper / 3; copy = v; start = positive } in
       let same_faces : x ≡ y → ⊥ = λ e. three.apart (omega (arith, e)) in
       let turned_faces : y ≡ x → ⊥ = λ e. three.apart (omega (arith, e)) in (
-        All-from_recursion (Differ r0) (r1 ∷ r2 ∷ r3 ∷ r4 ∷ r5 ∷ [])
-            ((λ a b c. same_faces a), ((λ a b c. omega (arith, b)), ((λ a b c. same_faces a), ((λ a b c. three.first a), ((λ a b c. three.first a), tt))))),
+        All-from_recursion (Differ r0) (r1 ∷ r2 ∷ r3 ∷ r4 ∷ r5 ∷ []) (
+          (λ a b c. same_faces a),
+          ((λ a b c. omega (arith, b)), ((λ a b c. same_faces a), ((λ a b c. three.first a), ((λ a b c. three.first a), tt)))),
+        ),
         (
-          All-from_recursion (Differ r1) (r2 ∷ r3 ∷ r4 ∷ r5 ∷ []) ((λ a b c. turned_faces a), ((λ a b c. omega (arith, b)), ((λ a b c. three.second a), ((λ a b c. three.second a), tt)))),
+          All-from_recursion (Differ r1) (r2 ∷ r3 ∷ r4 ∷ r5 ∷ [])
+              ((λ a b c. turned_faces a), ((λ a b c. omega (arith, b)), ((λ a b c. three.second a), ((λ a b c. three.second a), tt)))),
           (
             All-from_recursion (Differ r2) (r3 ∷ r4 ∷ r5 ∷ []) ((λ a b c. same_faces a), ((λ a b c. three.first a), ((λ a b c. three.first a), tt))),
             (
@@ -83,14 +89,17 @@ module _ (own other lower upper face : ℕ) (positive : Bool) where
   copies_differ k zero three = tt
   copies_differ k (suc n) three =
       let rest = times (suc k) n in
-      let low : All (λ s. s.copy < suc k) (six k) = All-weaker (IsWithinCopies k 1) (λ s. s.copy < suc k) (λ s w. omega (arith, w.1)) (six k) (six_within k) in
-      let high : All (λ s. suc k ≤ s.copy) rest = All-weaker (IsWithinCopies (suc k) n) (λ s. suc k ≤ s.copy) (λ s w. w.0) rest (copies_within (suc k) n) in
+      let low : All (λ s. s.copy < suc k) (six k) =
+      All-weaker (IsWithinCopies k 1) (λ s. s.copy < suc k) (λ s w. omega (arith, w.1)) (six k) (six_within k) in
+      let high : All (λ s. suc k ≤ s.copy) rest =
+      All-weaker (IsWithinCopies (suc k) n) (λ s. suc k ≤ s.copy) (λ s w. w.0) rest (copies_within (suc k) n) in
       differ_append (suc k) (six k) rest low high (six_differ k three) (copies_differ (suc k) n three)
 
 -- those of all hits of a chain's edges
 module _ (op : Op) (es : List (ℕ × ℕ)) (own other : ℕ) where
   one_within : (h : Hit) (k : ℕ) → All (IsWithinCopies k (nat_abs (hit_number_of op h.number))) (one_hit_stands op es own other k h)
-  one_within h k = copies_within own other h.edge (twin es h.edge) h.face (int_lt (pos 0) (hit_number_of op h.number)) k (nat_abs (hit_number_of op h.number))
+  one_within h k =
+      copies_within own other h.edge (twin es h.edge) h.face (int_lt (pos 0) (hit_number_of op h.number)) k (nat_abs (hit_number_of op h.number))
 
   pub hits_within : (k : ℕ) (hs : List Hit) → All (IsWithinCopies k (hit_count op hs)) (hit_stands op es own other k hs)
   hits_within k [] = All-nil (IsWithinCopies k 0)
@@ -101,7 +110,8 @@ module _ (op : Op) (es : List (ℕ × ℕ)) (own other : ℕ) where
       let rest = hit_stands op es own other (k + size) hs in
       let more = sum_by-cons (λ g. nat_abs (hit_number_of op g.number)) h hs in
       All-append In first rest (All-weaker (IsWithinCopies k size) In (λ s w. (w.0, omega (arith, w.1, more))) first (one_within h k))
-      (All-weaker (IsWithinCopies (k + size) (hit_count op hs)) In (λ s w. (omega (arith, w.0), omega (arith, w.1, more))) rest (hits_within (k + size) hs))
+      (All-weaker (IsWithinCopies (k + size) (hit_count op hs)) In (λ s w. (omega (arith, w.0), omega (arith, w.1, more))) rest
+      (hits_within (k + size) hs))
 
   -- the two faces of a hit's edge and the crossed face
   abbrev pub HasThree : Hit → Type 0
@@ -113,7 +123,10 @@ module _ (op : Op) (es : List (ℕ × ℕ)) (own other : ℕ) where
       let size = nat_abs (hit_number_of op h.number) in
       let first = one_hit_stands op es own other k h in
       let rest = hit_stands op es own other (k + size) hs in
-      let one = copies_differ own other h.edge (twin es h.edge) h.face (int_lt (pos 0) (hit_number_of op h.number)) k size (All-head HasThree h hs three) in
-      let low : All (λ s. s.copy < k + size) first = All-weaker (IsWithinCopies k size) (λ s. s.copy < k + size) (λ s w. w.1) first (one_within h k) in
-      let high : All (λ s. k + size ≤ s.copy) rest = All-weaker (IsWithinCopies (k + size) (hit_count op hs)) (λ s. k + size ≤ s.copy) (λ s w. w.0) rest (hits_within (k + size) hs) in
+      let one =
+      copies_differ own other h.edge (twin es h.edge) h.face (int_lt (pos 0) (hit_number_of op h.number)) k size (All-head HasThree h hs three) in
+      let low : All (λ s. s.copy < k + size) first =
+      All-weaker (IsWithinCopies k size) (λ s. s.copy < k + size) (λ s w. w.1) first (one_within h k) in
+      let high : All (λ s. k + size ≤ s.copy) rest =
+      All-weaker (IsWithinCopies (k + size) (hit_count op hs)) (λ s. k + size ≤ s.copy) (λ s w. w.0) rest (hits_within (k + size) hs) in
       differ_append (k + size) first rest low high one (hits_differ (k + size) hs (All-tail HasThree h hs three))

@@ -1,5 +1,6 @@
 -- The segments that runs and records give a face are those of its lists.
-use Rattle.std.proofs.Common.{◌≡◌, ℕ, ◌+◌, ◌*◌, ◌<◌, true, false, ℤ, List, [], ◌∷◌, ◌++◌, map, length, get_or, append-nil, append_assoc, refl, sym, ap, subst, ◌∙◌, arith}
+use Rattle.std.proofs.Common.{◌≡◌, ℕ, ◌+◌, ◌*◌, ◌<◌, true, false, ℤ, List, [], ◌∷◌, ◌++◌, map, length, get_or}
+use Rattle.std.proofs.Common.{append-nil, append_assoc, refl, sym, ap, subst, ◌∙◌, arith}
 use Rattle.std.specs.List.{All, flat_map}
 use Rattle.std.proofs.lemmas.Grind.{flat_map-append}
 use Rattle.std.proofs.lemmas.List.Folds.{flat_map-map}
@@ -76,25 +77,30 @@ half_told k l low =
       is_half = k.face.halves l low;
       told = k.records.lists l;
     } in
-    subst (λ part. Tell (length k.of.copies) (number_in k (k.name l)) (half_entries k.of.side k.of.runs h part)) (sym (part_is l k.stands low k.records.steps)) (half_tells half)
+    subst (λ part. Tell (length k.of.copies) (number_in k (k.name l)) (half_entries k.of.side k.of.runs h part))
+    (sym (part_is l k.stands low k.records.steps)) (half_tells half)
 
 pub pair_told : (k : KnownFace) (j : ℕ) → Tell (length k.of.copies) (number_in k (k.name (3 + j))) (pair_list k j)
 pair_told k j = pair_tells k.of.p k.of.q k.of.copies k.of.later (k.name (3 + j)) (pair_list k j) (k.face.pairs j) (k.records.lists (3 + j))
 
 -- so their starts and ends are those of the lists
-from_told : (k : KnownFace) (name : ListName) (entries : List Entry) → Tell (length k.of.copies) (number_in k name) entries → starts_of entries ≡ starts_in k name
+from_told : (k : KnownFace) (name : ListName) (entries : List Entry) → Tell (length k.of.copies) (number_in k name) entries →
+    starts_of entries ≡ starts_in k name
 from_told k name entries tell = told (length k.of.copies) (number_in k name) entries true tell
 
-to_told : (k : KnownFace) (name : ListName) (entries : List Entry) → Tell (length k.of.copies) (number_in k name) entries → ends_of entries ≡ ends_in k name
+to_told : (k : KnownFace) (name : ListName) (entries : List Entry) → Tell (length k.of.copies) (number_in k name) entries →
+    ends_of entries ≡ ends_in k name
 to_told k name entries tell = told (length k.of.copies) (number_in k name) entries false tell
 
 -- and the segments are the same: of a half-edge
-half_same : (k : KnownFace) (l : ℕ) → l < 3 → half_segments k.of.side k.of.runs (points_of k) (3 * k.number + l) (half_part l k.stands) ≡ segments k (k.name l)
+half_same : (k : KnownFace) (l : ℕ) → l < 3 →
+    half_segments k.of.side k.of.runs (points_of k) (3 * k.number + l) (half_part l k.stands) ≡ segments k (k.name l)
 half_same k l low =
     let name = k.name l in
     let tell = half_told k l low in
     let along : List ℕ → List ℕ → List (ℕ × ℕ) = paired_on_edge k.of.side (3 * k.number + l) (place_of k.of.copies) in
-    ap (λ s. along s (ends_of (half_list k l))) (from_told k name (half_list k l) tell) ∙ ap (along (starts_in k name)) (to_told k name (half_list k l) tell)
+    ap (λ s. along s (ends_of (half_list k l))) (from_told k name (half_list k l) tell)
+    ∙ ap (along (starts_in k name)) (to_told k name (half_list k l) tell)
     ∙ sym ((k.face.halves l low).paired (place_of k.of.copies) (starts_in k name) (ends_in k name))
 
 -- of a pair
@@ -103,7 +109,8 @@ pair_same k j =
     let name = k.name (3 + j) in
     let tell = pair_told k j in
     let across : List ℕ → List ℕ → List (ℕ × ℕ) = paired_across (place_of k.of.copies) in
-    ap (λ s. across s (ends_of (pair_list k j))) (from_told k name (pair_list k j) tell) ∙ ap (across (starts_in k name)) (to_told k name (pair_list k j) tell)
+    ap (λ s. across s (ends_of (pair_list k j))) (from_told k name (pair_list k j) tell)
+    ∙ ap (across (starts_in k name)) (to_told k name (pair_list k j) tell)
     ∙ sym ((k.face.pairs j).paired (place_of k.of.copies) (starts_in k name) (ends_in k name))
 
 -- lists that are the same one by one
@@ -116,15 +123,18 @@ pairs_same : (k : KnownFace) → pairs_segments (points_of k) (after 3 k.stands)
 pairs_same k =
     let made : List Stand → List (ℕ × ℕ) = pair_segments (points_of k) in
     let all = upto k.others in
-    ap (flat_map made) (pairs_are k.others k.stands k.records.steps k.few) ∙ flat-nonempty made refl (map (pair_records k) all) ∙ flat_map-map made (pair_records k) all
-    ∙ flat_map-same (λ j. made (pair_records k j)) (λ j. segments k (k.name (3 + j))) (pair_same k) all ∙ sym (flat_map-map (segments k) (λ j. k.name (3 + j)) all)
+    ap (flat_map made) (pairs_are k.others k.stands k.records.steps k.few) ∙ flat-nonempty made refl (map (pair_records k) all)
+    ∙ flat_map-map made (pair_records k) all
+    ∙ flat_map-same (λ j. made (pair_records k j)) (λ j. segments k (k.name (3 + j))) (pair_same k) all
+    ∙ sym (flat_map-map (segments k) (λ j. k.name (3 + j)) all)
 
 -- three lists, then one more
 four_lists : {Y : Type 0} (a b c d : List Y) → (a ++ (b ++ (c ++ []))) ++ d ≡ a ++ (b ++ (c ++ d))
 four_lists a b c d = ap (λ l. (a ++ (b ++ l)) ++ d) (append-nil c) ∙ append_assoc a (b ++ c) d ∙ ap (λ l. a ++ l) (append_assoc b c d)
 
 -- of the face
-pub face_same : (k : KnownFace) → segments_by k.of.side k.of.runs (points_of k) k.number k.stands ≡ segments_of k.of.p k.of.q k.of.copies (place_of k.of.copies) k.source
+pub face_same : (k : KnownFace) →
+    segments_by k.of.side k.of.runs (points_of k) k.number k.stands ≡ segments_of k.of.p k.of.q k.of.copies (place_of k.of.copies) k.source
 face_same k =
     let of = segments k in
     let pairs = map (λ j. k.name (3 + j)) (upto k.others) in
@@ -134,7 +144,9 @@ face_same k =
     let second = half_same k 1 (omega arith) in
     let third = half_same k 2 (omega arith) in
     let last = pairs_same k in
-    let all = ap (flat_map of) k.face.lists ∙ flat_map-append of (map k.name (upto 3)) pairs ∙ four_lists (of (k.name 0)) (of (k.name 1)) (of (k.name 2)) (flat_map of pairs) in
+    let all =
+    ap (flat_map of) k.face.lists ∙ flat_map-append of (map k.name (upto 3)) pairs
+    ∙ four_lists (of (k.name 0)) (of (k.name 1)) (of (k.name 2)) (flat_map of pairs) in
     ap (λ l. l ++ (half (3 * k.number + 1) 1 ++ (half (3 * k.number + 2) 2 ++ pairs_segments (points_of k) (after 3 k.stands)))) first
     ∙ ap (λ l. of (k.name 0) ++ (l ++ (half (3 * k.number + 2) 2 ++ pairs_segments (points_of k) (after 3 k.stands)))) second
     ∙ ap (λ l. of (k.name 0) ++ (of (k.name 1) ++ (l ++ pairs_segments (points_of k) (after 3 k.stands)))) third

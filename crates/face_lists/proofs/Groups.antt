@@ -1,5 +1,6 @@
 -- Records in the order of their faces, face by face.
-use Rattle.std.proofs.Common.{is_lt, ◌≡◌, ℕ, suc, ◌+◌, ◌-◌, ◌<◌, ◌≤◌, ◌==◌, nat_lt, List, [], ◌∷◌, true, cond, length, take, drop, get_or, refl, ap, ◌∙◌, arith, inl, inr}
+use Rattle.std.proofs.Common.{is_lt, ◌≡◌, ℕ, suc, ◌+◌, ◌-◌, ◌<◌, ◌≤◌, ◌==◌, nat_lt, List, [], ◌∷◌, true, cond, length}
+use Rattle.std.proofs.Common.{take, drop, get_or, refl, ap, ◌∙◌, arith, inl, inr}
 use Rattle.std.specs.List.{All}
 use Rattle.std.specs.Ordering.{nat_cmp, ordering_then}
 use Rattle.std.specs.declared.cmp.Ordering.{Ordering}
@@ -46,7 +47,12 @@ pub earlier_none : (ss : List Stand) (x : ℕ) → AreFrom x ss → earlier ss x
 earlier_none [] x from = refl
 earlier_none (s ∷ ss) x from =
     let P : Stand → Type 0 = λ t. x ≤ t.face in
-    omega (arith, count_by-cons (λ (t : Stand). nat_lt t.face x) s ss, ap one_if (not_below s.face x (All-head P s ss from)), earlier_none ss x (All-tail P s ss from))
+    omega (
+      arith,
+      count_by-cons (λ (t : Stand). nat_lt t.face x) s ss,
+      ap one_if (not_below s.face x (All-head P s ss from)),
+      earlier_none ss x (All-tail P s ss from),
+    )
 
 -- one more is of an earlier face
 earlier_more : (s : Stand) (ss : List Stand) (x : ℕ) → s.face < x → earlier (s ∷ ss) x ≡ suc (earlier ss x)
@@ -62,21 +68,25 @@ later_none (s ∷ ss) x from =
 -- the first record with those behind it
 from_first : (s : Stand) (ss : List Stand) (x : ℕ) → FacesAscend (s ∷ ss) → x ≤ s.face → AreFrom x (s ∷ ss)
 from_first s ss x up l =
-    All-cons (λ (t : Stand). x ≤ t.face) s ss l (All-weaker (λ (t : Stand). s.face ≤ t.face) (λ t. x ≤ t.face) (λ t h. omega (arith, h, l)) ss (head_first s ss up))
+    All-cons (λ (t : Stand). x ≤ t.face) s ss l
+    (All-weaker (λ (t : Stand). s.face ≤ t.face) (λ t. x ≤ t.face) (λ t h. omega (arith, h, l)) ss (head_first s ss up))
 
 -- the records of a face stand behind those of the faces before it
-pub group_records : (ss : List Stand) (x : ℕ) → FacesAscend ss → take (face_count (drop (earlier ss x) ss) x) (drop (earlier ss x) ss) ≡ records_of ss x
+pub group_records : (ss : List Stand) (x : ℕ) → FacesAscend ss →
+    take (face_count (drop (earlier ss x) ss) x) (drop (earlier ss x) ss) ≡ records_of ss x
 group_records [] x up = refl
 group_records (s ∷ ss) x up =
     let P : Stand → Type 0 = λ t. x ≤ t.face in
     let rest = group_records ss x (faces_tail s ss up) in
-    elim (cases_lt s.face x) as (λ _. take (face_count (drop (earlier (s ∷ ss) x) (s ∷ ss)) x) (drop (earlier (s ∷ ss) x) (s ∷ ss)) ≡ records_of (s ∷ ss) x) [
+    elim (cases_lt s.face x)
+    as (λ _. take (face_count (drop (earlier (s ∷ ss) x) (s ∷ ss)) x) (drop (earlier (s ∷ ss) x) (s ∷ ss)) ≡ records_of (s ∷ ss) x) [
       | inl l ↦ rw (earlier_more s ss x l, not_same s.face x (λ e. omega (arith, e, l))) rest
       | inr l ↦
           let from = from_first s ss x up l in
           let none = earlier_none (s ∷ ss) x from in
           let none_behind = earlier_none ss x (All-tail P s ss from) in
-          elim (cases_lt x s.face) as (λ _. take (face_count (drop (earlier (s ∷ ss) x) (s ∷ ss)) x) (drop (earlier (s ∷ ss) x) (s ∷ ss)) ≡ records_of (s ∷ ss) x) [
+          elim (cases_lt x s.face)
+          as (λ _. take (face_count (drop (earlier (s ∷ ss) x) (s ∷ ss)) x) (drop (earlier (s ∷ ss) x) (s ∷ ss)) ≡ records_of (s ∷ ss) x) [
             | inl m ↦
                 let later = later_none ss x (All-tail (λ (t : Stand). x + 1 ≤ t.face) s ss (from_first s ss (x + 1) up (omega (arith, m)))) in
                 rw (none, not_same s.face x (λ e. omega (arith, e, m)), later) refl
@@ -106,7 +116,8 @@ group_ends (s ∷ ss) x up =
                 let first : face_count (s ∷ ss) x ≡ 0 = ap (λ b. cond b (suc (face_count ss x)) 0) (not_same s.face x (λ e. omega (arith, e, m))) in
                 omega (arith, none, all, first, earlier_none (s ∷ ss) (x + 1) (from_first s ss (x + 1) up (omega (arith, m))))
             | inr m ↦
-                let first : face_count (s ∷ ss) x ≡ suc (face_count ss x) = ap (λ b. cond b (suc (face_count ss x)) 0) (is_same s.face x (omega (arith, l, m))) in
+                let first : face_count (s ∷ ss) x ≡ suc (face_count ss x) =
+                ap (λ b. cond b (suc (face_count ss x)) 0) (is_same s.face x (omega (arith, l, m))) in
                 let behind = ap (λ n. face_count (drop n ss) x) none_behind in
                 omega (arith, rest, none, none_behind, all, first, behind, earlier_more s ss (x + 1) (omega (arith, m)))
           ]
@@ -114,10 +125,12 @@ group_ends (s ∷ ss) x up =
 
 -- those of each face are a group
 pub faces_are_groups : (ss : List Stand) (x : ℕ) → FacesAscend ss → IsGroup ss x
-faces_are_groups ss x up = record { begins = count_by-le-length (λ (s : Stand). nat_lt s.face x) ss; records = group_records ss x up; ends = group_ends ss x up }
+faces_are_groups ss x up =
+    record { begins = count_by-le-length (λ (s : Stand). nat_lt s.face x) ss; records = group_records ss x up; ends = group_ends ss x up }
 
 -- the part of a list from a group's begin to its end has the records of the face
-pub group_slice : (ss : List Stand) (x : ℕ) → FacesAscend ss → take (group_end ss (earlier ss x) x - earlier ss x) (drop (earlier ss x) ss) ≡ records_of ss x
+pub group_slice : (ss : List Stand) (x : ℕ) → FacesAscend ss →
+    take (group_end ss (earlier ss x) x - earlier ss x) (drop (earlier ss x) ss) ≡ records_of ss x
 group_slice ss x up =
     let begin = earlier ss x in
     let size : group_end ss begin x - begin ≡ face_count (drop begin ss) x = omega arith in

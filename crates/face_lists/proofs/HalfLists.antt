@@ -1,5 +1,6 @@
 -- The entries of a half-edge's list tell how all copies stand in it.
-use Rattle.std.proofs.Common.{◌≡◌, ℕ, ◌+◌, ◌<◌, inl, inr, Bool, true, false, ℤ, pos, neg_ℤ, List, ◌++◌, map, length, get_or, refl, sym, ap, subst, ◌∙◌, arith}
+use Rattle.std.proofs.Common.{◌≡◌, ℕ, ◌+◌, ◌<◌, inl, inr, Bool, true, false, ℤ, pos, neg_ℤ, List, ◌++◌, map, length}
+use Rattle.std.proofs.Common.{get_or, refl, sym, ap, subst, ◌∙◌, arith}
 use Rattle.std.specs.List.{Contains}
 use Rattle.std.proofs.lemmas.Bool.{cases_eq}
 use Rattle.std.proofs.lemmas.List.{map-append}
@@ -94,38 +95,45 @@ at_from : (k : KnownHalf) (o : Origin) → o ≡ k.of.origin (from_of k) → wei
 at_from k o e =
     let a = from_of k in
     let b = to_of k in
-    ap (weight k) e ∙ k.is_half.of_vertex a ∙ end_at (all_edges k.of.side.triples) k.half a (pos 1) (pos 0) (same_at a a refl) (apart_at b a (λ s. k.ends.apart (sym s)))
+    ap (weight k) e ∙ k.is_half.of_vertex a
+    ∙ end_at (all_edges k.of.side.triples) k.half a (pos 1) (pos 0) (same_at a a refl) (apart_at b a (λ s. k.ends.apart (sym s)))
 
 at_to : (k : KnownHalf) (o : Origin) → o ≡ k.of.origin (to_of k) → weight k o ≡ neg_ℤ (pos 1)
 at_to k o e =
     let a = from_of k in
     let b = to_of k in
-    ap (weight k) e ∙ k.is_half.of_vertex b ∙ end_at (all_edges k.of.side.triples) k.half b (pos 0) (pos 1) (apart_at a b k.ends.apart) (same_at b b refl)
+    ap (weight k) e ∙ k.is_half.of_vertex b
+    ∙ end_at (all_edges k.of.side.triples) k.half b (pos 0) (pos 1) (apart_at a b k.ends.apart) (same_at b b refl)
 
 elsewhere : (k : KnownHalf) (o : Origin) (w : ℕ) → o ≡ k.of.origin w → (from_of k ≡ w → ⊥) → (to_of k ≡ w → ⊥) → weight k o ≡ pos 0
 elsewhere k o w e d f =
-    ap (weight k) e ∙ k.is_half.of_vertex w ∙ end_at (all_edges k.of.side.triples) k.half w (pos 0) (pos 0) (apart_at (from_of k) w d) (apart_at (to_of k) w f)
+    ap (weight k) e ∙ k.is_half.of_vertex w
+    ∙ end_at (all_edges k.of.side.triples) k.half w (pos 0) (pos 0) (apart_at (from_of k) w d) (apart_at (to_of k) w f)
 
 -- the run of a vertex
-run_of : (k : KnownHalf) (v : ℕ) → v < length k.of.side.corners → IsRunOf k.of.copies (k.of.origin v) (vertex_point k.of.side v) (get_or k.of.runs v no_run)
+run_of : (k : KnownHalf) (v : ℕ) → v < length k.of.side.corners →
+    IsRunOf k.of.copies (k.of.origin v) (vertex_point k.of.side v) (get_or k.of.runs v no_run)
 run_of k v low = k.of.have.copies.each v low
 
 -- a copy of a vertex is in the entries of its run
-end_each : (k : KnownHalf) (begins : Bool) (a v : ℕ) (at_start : Bool) → a < length k.of.side.corners → v < length k.of.copies → (get_or k.of.copies v no_copy).origin ≡ k.of.origin a →
+end_each : (k : KnownHalf) (begins : Bool) (a v : ℕ) (at_start : Bool) → a < length k.of.side.corners → v < length k.of.copies →
+    (get_or k.of.copies v no_copy).origin ≡ k.of.origin a →
     at_start ≡ side_of begins (get_or k.of.copies v no_copy).negative → Contains (run_entries (get_or k.of.runs a no_run) begins) (entry v at_start)
 end_each k begins a v at_start inside low here is =
     subst (λ t. Contains (run_entries (get_or k.of.runs a no_run) begins) (entry v t)) (sym is)
     (run_each k.of.copies (k.of.origin a) (vertex_point k.of.side a) (get_or k.of.runs a no_run) (run_of k a inside) begins v low here)
 
 -- a copy of the vertex at which it starts is an entry, and so is one of that at which it ends
-from_each : (k : KnownHalf) (v : ℕ) (at_start : Bool) → v < length k.of.copies → (get_or k.of.copies v no_copy).origin ≡ k.of.origin (from_of k) → StandsAs at_start (number k v) →
+from_each : (k : KnownHalf) (v : ℕ) (at_start : Bool) → v < length k.of.copies →
+    (get_or k.of.copies v no_copy).origin ≡ k.of.origin (from_of k) → StandsAs at_start (number k v) →
     Contains (end_entries k.of.runs (from_of k) (to_of k)) (entry v at_start)
 from_each k v at_start low here so =
     let c = get_or k.of.copies v no_copy in
     let is = start_side c.negative at_start (weight k c.origin) (at_from k c.origin here) so in
     into_ends k.of.runs (from_of k) (to_of k) (entry v at_start) (inl (end_each k true (from_of k) v at_start k.ends.from_low low here is))
 
-to_each : (k : KnownHalf) (v : ℕ) (at_start : Bool) → v < length k.of.copies → (get_or k.of.copies v no_copy).origin ≡ k.of.origin (to_of k) → StandsAs at_start (number k v) →
+to_each : (k : KnownHalf) (v : ℕ) (at_start : Bool) → v < length k.of.copies →
+    (get_or k.of.copies v no_copy).origin ≡ k.of.origin (to_of k) → StandsAs at_start (number k v) →
     Contains (end_entries k.of.runs (from_of k) (to_of k)) (entry v at_start)
 to_each k v at_start low here so =
     let c = get_or k.of.copies v no_copy in
@@ -133,7 +141,8 @@ to_each k v at_start low here so =
     into_ends k.of.runs (from_of k) (to_of k) (entry v at_start) (inr (end_each k false (to_of k) v at_start k.ends.to_low low here is))
 
 -- each copy that stands in the list is an entry
-half_each : (k : KnownHalf) (v : ℕ) (at_start : Bool) → v < length k.of.copies → StandsAs at_start (number k v) → Contains (entries_of k) (entry v at_start)
+half_each : (k : KnownHalf) (v : ℕ) (at_start : Bool) → v < length k.of.copies → StandsAs at_start (number k v) →
+    Contains (entries_of k) (entry v at_start)
 half_each k v at_start low so =
     let c = get_or k.of.copies v no_copy in
     let ends = end_entries k.of.runs (from_of k) (to_of k) in
@@ -151,7 +160,8 @@ half_each k v at_start low so =
     ]
 
 -- and there are no others
-half_only : (k : KnownHalf) (v : ℕ) (at_start : Bool) → Contains (entries_of k) (entry v at_start) → (v < length k.of.copies) × StandsAs at_start (number k v)
+half_only : (k : KnownHalf) (v : ℕ) (at_start : Bool) → Contains (entries_of k) (entry v at_start) →
+    (v < length k.of.copies) × StandsAs at_start (number k v)
 half_only k v at_start listed =
     let a = from_of k in
     let b = to_of k in
@@ -161,10 +171,14 @@ half_only k v at_start listed =
       | inr hit ↦ k.told.only v at_start hit
       | inl end ↦ elim (of_ends k.of.runs a b (entry v at_start) end) as (λ _. (v < length k.of.copies) × Fact at_start) [
         | inl from ↦
-            let r = run_only k.of.copies (k.of.origin a) (vertex_point k.of.side a) (get_or k.of.runs a no_run) (run_of k a k.ends.from_low) true v at_start from in
+            let r =
+            run_only k.of.copies (k.of.origin a) (vertex_point k.of.side a) (get_or k.of.runs a no_run) (run_of k a k.ends.from_low)
+            true v at_start from in
             (r.below, subst Fact (sym r.stands) (starts_as c.negative (weight k c.origin) (at_from k c.origin r.origin)))
         | inr to ↦
-            let r = run_only k.of.copies (k.of.origin b) (vertex_point k.of.side b) (get_or k.of.runs b no_run) (run_of k b k.ends.to_low) false v at_start to in
+            let r =
+            run_only k.of.copies (k.of.origin b) (vertex_point k.of.side b) (get_or k.of.runs b no_run) (run_of k b k.ends.to_low) false
+            v at_start to in
             (r.below, subst Fact (sym r.stands) (finishes_as c.negative (weight k c.origin) (at_to k c.origin r.origin)))
       ]
     ]
@@ -176,10 +190,13 @@ half_tells k =
     let vertex : Entry → ℕ = λ e. e.vertex in
     let long = k.of.have.copies.long in
     let top = k.of.later + length k.of.copies in
-    let first = ends_rise k.of.later k.of.runs k.of.have.order (from_of k) (to_of k) (omega (arith, long, k.ends.from_low)) (omega (arith, long, k.ends.to_low)) k.ends.apart in
+    let first =
+    ends_rise k.of.later k.of.runs k.of.have.order (from_of k) (to_of k) (omega (arith, long, k.ends.from_low))
+    (omega (arith, long, k.ends.to_low)) k.ends.apart in
     record {
       end = top;
-      rise = subst (Rises 0 top) (sym (map-append vertex ends k.hits)) (rises_append 0 k.of.later top (map vertex ends) (map vertex k.hits) first k.told.rise);
+      rise = subst (Rises 0 top) (sym (map-append vertex ends k.hits))
+          (rises_append 0 k.of.later top (map vertex ends) (map vertex k.hits) first k.told.rise);
       each = half_each k;
       only = half_only k;
     }

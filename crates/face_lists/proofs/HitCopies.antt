@@ -1,5 +1,6 @@
 -- The records of hits say how the copies stand, where the copies of each hit are told by their numbers.
-use Rattle.std.proofs.Common.{◌≡◌, ℕ, zero, suc, ◌+◌, ◌<◌, Bool, not, ℤ, pos, negsuc, List, length, get_or, nat_abs, int_lt, refl, sym, ap, ◌∙◌, subst, arith}
+use Rattle.std.proofs.Common.{◌≡◌, ℕ, zero, suc, ◌+◌, ◌<◌, Bool, not, ℤ, pos, negsuc, List, length, get_or, nat_abs}
+use Rattle.std.proofs.Common.{int_lt, refl, sym, ap, ◌∙◌, subst, arith}
 use Rattle.std.specs.List.{Contains}
 use Rattle.std.proofs.lemmas.Bool.{le-ltb, lt-ltb}
 use Rattle.std.proofs.lemmas.List.Elements.{All-contains}
@@ -30,14 +31,17 @@ one_sign (negsuc n) some = refl
 abbrev pub copy_as : Op → (ℕ → ℕ → Origin) → Hit → Copy
 copy_as op origin h = record { origin = origin h.edge h.face; negative = not (int_lt (pos 0) (hit_number_of op h.number)); point = h.at }
 
-pub is_copy_as : (op : Op) (origin : ℕ → ℕ → Origin) (h : Hit) → 0 < nat_abs (hit_number_of op h.number) → copy_of (hit_as op origin h) ≡ copy_as op origin h
-is_copy_as op origin h some = ap (λ b. record { origin = origin h.edge h.face; negative = b; point = h.at }) (one_sign (hit_number_of op h.number) some)
+pub is_copy_as : (op : Op) (origin : ℕ → ℕ → Origin) (h : Hit) → 0 < nat_abs (hit_number_of op h.number) →
+    copy_of (hit_as op origin h) ≡ copy_as op origin h
+is_copy_as op origin h some =
+    ap (λ b. record { origin = origin h.edge h.face; negative = b; point = h.at }) (one_sign (hit_number_of op h.number) some)
 
 -- the number of a copy of a hit, where they are numbered from k
 abbrev pub copy_number : Op → (ℕ → ℕ → Origin) → ℕ → List Hit → (j i : ℕ) → ℕ
 copy_number op origin k hs j i = k + (before (included_hits origin (hit_number_of op) hs) j + i)
 
-module _ (op : Op) (P Q : List (ℕ × ℕ)) (faces : ℕ) (cs : List Copy) (es : List (ℕ × ℕ)) (Own Other : ℕ → Type 0) (own other : ℕ) (origin : ℕ → ℕ → Origin) (k : ℕ) (hs : List Hit) where
+module _ (op : Op) (P Q : List (ℕ × ℕ)) (faces : ℕ) (cs : List Copy) (es : List (ℕ × ℕ)) (Own Other : ℕ → Type 0) (own other : ℕ)
+    (origin : ℕ → ℕ → Origin) (k : ℕ) (hs : List Hit) where
   -- hit j has a copy i
   abbrev pub IsTurn : (j i : ℕ) → Type 0
   IsTurn j i = (j < length hs) × (i < times_of op (get_or hs j no_hit))
@@ -51,17 +55,21 @@ module _ (op : Op) (P Q : List (ℕ × ℕ)) (faces : ℕ) (cs : List Copy) (es 
     pub of_hits : (e f : ℕ) → IsHitCopy (origin e f)
     pub within : (j i : ℕ) → IsTurn j i → copy_number op origin k hs j i < length cs
     pub copy : (j i : ℕ) → IsTurn j i → get_or cs (copy_number op origin k hs j i) no_copy ≡ copy_as op origin (get_or hs j no_hit)
-    pub seen : (j : ℕ) → j < length hs → let h = get_or hs j no_hit in IsSeen (stands_in j) Own Other own other h.edge (twin es h.edge) h.face (int_lt (pos 0) (hit_number_of op h.number))
+    pub seen : (j : ℕ) → j < length hs → let h = get_or hs j no_hit in
+        IsSeen (stands_in j) Own Other own other h.edge (twin es h.edge) h.face (int_lt (pos 0) (hit_number_of op h.number))
 
   -- then each record says how its copy stands
   pub told_only : AreTold → (s : Stand) → Contains (hit_stands op es own other k hs) s →
-      (s.copy < length cs) × IsHitCopy (get_or cs s.copy no_copy).origin × StandsAs s.start (standing P Q (list_name faces s.face s.list) (get_or cs s.copy no_copy))
+      (s.copy < length cs) × IsHitCopy (get_or cs s.copy no_copy).origin
+      × StandsAs s.start (standing P Q (list_name faces s.face s.list) (get_or cs s.copy no_copy))
   told_only known s c =
       let r = of_hit op es own other origin k hs s c in
       let h = get_or hs r.hit no_hit in
       let v = copy_number op origin k hs r.hit r.turn in
       let turn : IsTurn r.hit r.turn = (r.within, r.inside) in
-      let six = six_say (stands_in r.hit) Own Other own other h.edge (twin es h.edge) h.face (int_lt (pos 0) (hit_number_of op h.number)) (known.seen r.hit r.within) v in
+      let six =
+      six_say (stands_in r.hit) Own Other own other h.edge (twin es h.edge) h.face (int_lt (pos 0) (hit_number_of op h.number))
+      (known.seen r.hit r.within) v in
       let says = All-contains (SaysHow (stands_in r.hit) v) (six_of op es own other h v) s six r.one in
       let copy : copy_as op origin h ≡ get_or cs s.copy no_copy = sym (known.copy r.hit r.turn turn) ∙ ap (λ w. get_or cs w no_copy) (sym says.0) in
       let inside = known.within r.hit r.turn turn in (
@@ -72,11 +80,14 @@ module _ (op : Op) (P Q : List (ℕ × ℕ)) (faces : ℕ) (cs : List Copy) (es 
 
   -- and each list in which a copy stands has its record
   pub told_each : AreTold → (j i : ℕ) → IsTurn j i → (x l v : ℕ) (start : Bool) → v ≡ copy_number op origin k hs j i →
-      StandsAs start (standing P Q (list_name faces x l) (get_or cs v no_copy)) → Contains (hit_stands op es own other k hs) (record { face = x; list = l; copy = v; start = start })
+      StandsAs start (standing P Q (list_name faces x l) (get_or cs v no_copy)) →
+      Contains (hit_stands op es own other k hs) (record { face = x; list = l; copy = v; start = start })
   told_each known j i turn x l v start at stands =
       let h = get_or hs j no_hit in
       let s : Stand = record { face = x; list = l; copy = v; start = start } in
       let copy : get_or cs v no_copy ≡ copy_as op origin h = ap (λ w. get_or cs w no_copy) at ∙ known.copy j i turn in
       let so : StandsAs start (stands_in j x l) = subst (λ (d : Copy). StandsAs start (standing P Q (list_name faces x l) d)) copy stands in
-      let six = is_one_of_six (stands_in j) Own Other own other h.edge (twin es h.edge) h.face (int_lt (pos 0) (hit_number_of op h.number)) (known.seen j turn.0) v x l start so in
+      let six =
+      is_one_of_six (stands_in j) Own Other own other h.edge (twin es h.edge) h.face (int_lt (pos 0) (hit_number_of op h.number))
+      (known.seen j turn.0) v x l start so in
       hit_listed op es own other origin k hs s j i turn.0 turn.1 (subst (λ w. Contains (six_of op es own other h w) s) at six)

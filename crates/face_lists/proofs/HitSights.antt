@@ -1,5 +1,6 @@
 -- Where a copy of a hit stands in the lists of source faces, by the two half-edges of its edge.
-use Rattle.std.proofs.Common.{◌≡◌, ℕ, ◌+◌, ◌-◌, ◌*◌, ◌/◌, ◌<◌, ◌≤◌, ◌==◌, Bool, true, false, not, cond, if◌then◌else◌, nat_lt, ℤ, pos, neg_ℤ, ◌-ℤ◌, List, length, ◌⊎◌, inl, inr, refl, ap, ◌∙◌, arith}
+use Rattle.std.proofs.Common.{◌≡◌, ℕ, ◌+◌, ◌-◌, ◌*◌, ◌/◌, ◌<◌, ◌≤◌, ◌==◌, Bool, true, false, not, cond, if◌then◌else◌}
+use Rattle.std.proofs.Common.{nat_lt, ℤ, pos, neg_ℤ, ◌-ℤ◌, List, length, ◌⊎◌, inl, inr, refl, ap, ◌∙◌, arith}
 use Rattle.std.proofs.lemmas.Int.{ints}
 use Rattle.std.proofs.lemmas.Bool.{cases_lt, le-ltb, lt-ltb}
 use Rattle.chain_terms.specs.Chains.{all_edges}
@@ -15,9 +16,11 @@ use Rattle.face_lists.proofs.Sights.{IsSeen}
 
 -- each list of a face by its name
 list_is : (n x l : ℕ) (s t : Bool) → nat_lt x n ≡ s → nat_lt l 3 ≡ t →
-    list_name n x l ≡ (if s then (if t then HalfP (3 * x + l) else PairP x (l - 3)) else (if t then HalfQ (3 * (x - n) + l) else PairQ (x - n) (l - 3)))
+    list_name n x l ≡
+    (if s then (if t then HalfP (3 * x + l) else PairP x (l - 3)) else (if t then HalfQ (3 * (x - n) + l) else PairQ (x - n) (l - 3)))
 list_is n x l s t a b =
-    ap (λ u. if u then (if nat_lt l 3 then HalfP (3 * x + l) else PairP x (l - 3)) else (if nat_lt l 3 then HalfQ (3 * (x - n) + l) else PairQ (x - n) (l - 3))) a
+    ap (λ u. if u then (if nat_lt l 3 then HalfP (3 * x + l) else PairP x (l - 3)) else
+    (if nat_lt l 3 then HalfQ (3 * (x - n) + l) else PairQ (x - n) (l - 3))) a
     ∙ ap (λ u. if s then (if u then HalfP (3 * x + l) else PairP x (l - 3)) else (if u then HalfQ (3 * (x - n) + l) else PairQ (x - n) (l - 3))) b
 
 -- the number of a copy that is included a positive number of times, or of one that is not, from that of its origin: along a half-edge
@@ -26,14 +29,16 @@ half_value true w u d h = omega (arith, ints, h)
 half_value false w u d h = omega (arith, ints, h)
 
 -- with a face, seen from one of the edge's own
-pair_value : (positive t : Bool) (w : ℤ) (u d : ℕ) → w ≡ pos u -ℤ pos d → cond (not positive) (neg_ℤ (cond t w (pos 0))) (cond t w (pos 0)) ≡ cond t (between positive u d) (pos 0)
+pair_value : (positive t : Bool) (w : ℤ) (u d : ℕ) → w ≡ pos u -ℤ pos d →
+    cond (not positive) (neg_ℤ (cond t w (pos 0))) (cond t w (pos 0)) ≡ cond t (between positive u d) (pos 0)
 pair_value true true w u d h = h
 pair_value false true w u d h = omega (arith, ints, h)
 pair_value true false w u d h = refl
 pair_value false false w u d h = refl
 
 -- and from that face
-turned_value : (positive t : Bool) (w : ℤ) (u d : ℕ) → w ≡ pos u -ℤ pos d → cond (not positive) (neg_ℤ (neg_ℤ (cond t w (pos 0)))) (neg_ℤ (cond t w (pos 0))) ≡ cond t (between (not positive) u d) (pos 0)
+turned_value : (positive t : Bool) (w : ℤ) (u d : ℕ) → w ≡ pos u -ℤ pos d →
+    cond (not positive) (neg_ℤ (neg_ℤ (cond t w (pos 0)))) (neg_ℤ (cond t w (pos 0))) ≡ cond t (between (not positive) u d) (pos 0)
 turned_value true true w u d h = omega (arith, ints, h)
 turned_value false true w u d h = omega (arith, ints, h)
 turned_value true false w u d h = refl
@@ -47,7 +52,8 @@ second_pair_value false true w u d h = omega (arith, ints, h)
 second_pair_value true false w u d h = refl
 second_pair_value false false w u d h = refl
 
-second_turned_value : (positive t : Bool) (w : ℤ) (u d : ℕ) → w ≡ pos u -ℤ pos d → cond (not positive) (neg_ℤ (cond t (neg_ℤ w) (pos 0))) (cond t (neg_ℤ w) (pos 0)) ≡ cond t (between (not positive) u d) (pos 0)
+second_turned_value : (positive t : Bool) (w : ℤ) (u d : ℕ) → w ≡ pos u -ℤ pos d →
+    cond (not positive) (neg_ℤ (cond t (neg_ℤ w) (pos 0))) (cond t (neg_ℤ w) (pos 0)) ≡ cond t (between (not positive) u d) (pos 0)
 second_turned_value true true w u d h = omega (arith, ints, h)
 second_turned_value false true w u d h = omega (arith, ints, h)
 second_turned_value true false w u d h = refl
@@ -60,7 +66,8 @@ no_value false = refl
 
 -- copies of hits of the first mesh's edges
 pub p_seen : (p q : Side) → IsSide p → (e f : ℕ) (positive : Bool) (at : List ℤ) → e < length (all_edges p.triples) →
-    IsSeen (λ x l. standing (all_edges p.triples) (all_edges q.triples) (list_name (length p.triples) x l) (record { origin = PEdge e f; negative = not positive; point = at }))
+    IsSeen (λ x l. standing (all_edges p.triples) (all_edges q.triples) (list_name (length p.triples) x l)
+    (record { origin = PEdge e f; negative = not positive; point = at }))
     (λ x. x < length p.triples) (λ x. length p.triples ≤ x) 0 (length p.triples) e (twin (all_edges p.triples) e) f positive
 p_seen p q known e f positive at below =
     let es = all_edges p.triples in
@@ -87,7 +94,8 @@ p_seen p q known e f positive at below =
           ap (λ name. standing es ds name c) (list_is n x l true false (lt-ltb x n mine) (le-ltb l 3 high))
           ∙ pair_value positive (f == l - 3) (way_round es x e) (same x (e / 3)) (same x (t / 3)) (way_round_is es x e)
           ∙ ap (λ y. cond (f == l - 3) (between positive (same y (e / 3)) (same y (t / 3))) (pos 0)) here;
-      in_no_half = λ x l theirs low. ap (λ name. standing es ds name c) (list_is n x l false true (le-ltb x n theirs) (lt-ltb l 3 low)) ∙ no_value positive;
+      in_no_half = λ x l theirs low. ap (λ name. standing es ds name c) (list_is n x l false true (le-ltb x n theirs) (lt-ltb l 3 low))
+          ∙ no_value positive;
       in_turned = λ x l theirs high.
           ap (λ name. standing es ds name c) (list_is n x l false false (le-ltb x n theirs) (le-ltb l 3 high))
           ∙ turned_value positive (f == x - n) (way_round es (l - 3) e) (same (l - 3) (e / 3)) (same (l - 3) (t / 3)) (way_round_is es (l - 3) e);
@@ -100,7 +108,8 @@ turned_either (inr b) = inl b
 
 -- copies of hits of the second mesh's edges
 pub q_seen : (p q : Side) → IsSide q → (e f : ℕ) (positive : Bool) (at : List ℤ) → e < length (all_edges q.triples) → f < length p.triples →
-    IsSeen (λ x l. standing (all_edges p.triples) (all_edges q.triples) (list_name (length p.triples) x l) (record { origin = QEdge e f; negative = not positive; point = at }))
+    IsSeen (λ x l. standing (all_edges p.triples) (all_edges q.triples) (list_name (length p.triples) x l)
+    (record { origin = QEdge e f; negative = not positive; point = at }))
     (λ x. length p.triples ≤ x) (λ x. x < length p.triples) (length p.triples) 0 e (twin (all_edges q.triples) e) f positive
 q_seen p q known e f positive at below within =
     let es = all_edges p.triples in
@@ -119,12 +128,14 @@ q_seen p q known e f positive at below within =
       apart = faces.apart;
       in_half = λ x l mine low.
           let h = 3 * (x - n) + l in
-          ap (λ name. standing es ds name c) (list_is n x l false true (le-ltb x n mine) (lt-ltb l 3 low)) ∙ half_value positive (way ds h e) (same h e) (same h t) (way_is ds h e);
+          ap (λ name. standing es ds name c) (list_is n x l false true (le-ltb x n mine) (lt-ltb l 3 low))
+          ∙ half_value positive (way ds h e) (same h e) (same h t) (way_is ds h e);
       in_pair = λ x l mine high.
           let g = x - n in
           ap (λ name. standing es ds name c) (list_is n x l false false (le-ltb x n mine) (le-ltb l 3 high))
           ∙ second_pair_value positive (f == l - 3) (way_round ds g e) (same g (e / 3)) (same g (t / 3)) (way_round_is ds g e);
-      in_no_half = λ x l theirs low. ap (λ name. standing es ds name c) (list_is n x l true true (lt-ltb x n theirs) (lt-ltb l 3 low)) ∙ no_value positive;
+      in_no_half = λ x l theirs low. ap (λ name. standing es ds name c) (list_is n x l true true (lt-ltb x n theirs) (lt-ltb l 3 low))
+          ∙ no_value positive;
       in_turned = λ x l theirs high.
           let here : x ≡ x - 0 = omega arith in
           let g = l - 3 in

@@ -1,5 +1,6 @@
 -- Records by the numbers of their lists: at the front, and in groups.
-use Rattle.std.proofs.Common.{◌≡◌, ℕ, zero, suc, ◌+◌, ◌<◌, ◌≤◌, true, cond, ◌==◌, List, [], ◌∷◌, ◌++◌, map, filter, take, drop, refl, sym, ap, ◌∙◌, arith, inl, inr}
+use Rattle.std.proofs.Common.{◌≡◌, ℕ, zero, suc, ◌+◌, ◌<◌, ◌≤◌, true, cond, ◌==◌, List, [], ◌∷◌, ◌++◌, map, filter}
+use Rattle.std.proofs.Common.{take, drop, refl, sym, ap, ◌∙◌, arith, inl, inr}
 use Rattle.std.specs.List.{All}
 use Rattle.std.proofs.lemmas.Bool.{cases_eq, cond_both, eq-eqb, eqb-true, ne_eqb}
 use Rattle.std.proofs.lemmas.List.{take-append-drop}
@@ -32,7 +33,8 @@ of_list_other l s ss d = ap (λ b. cond b (s ∷ of_list l ss) (of_list l ss)) (
 -- none are of a list before the first
 of_list_none : (l k : ℕ) (ss : List Stand) → l < k → Steps k ss → of_list l ss ≡ []
 of_list_none l k [] below h = refl
-of_list_none l k (s ∷ ss) below h = let low = h.0 in of_list_other l s ss (λ e. omega (arith, below, low, e)) ∙ of_list_none l s.list ss (omega (arith, below, low)) h.1
+of_list_none l k (s ∷ ss) below h =
+    let low = h.0 in of_list_other l s ss (λ e. omega (arith, below, low, e)) ∙ of_list_none l s.list ss (omega (arith, below, low)) h.1
 
 -- what follows one record at the front
 front_same : (l : ℕ) (s : Stand) (ss : List Stand) → s.list ≡ l → front (s ∷ ss) l ≡ s ∷ front ss l
@@ -112,37 +114,47 @@ with_later s (t ∷ ss) h =
 groups_front : (k : ℕ) (ss later : List Stand) → All (λ s. s.list ≡ k) ss → Steps (suc k) later → groups (ss ++ later) ≡ some_group ss (groups later)
 groups_front k [] later same h = refl
 groups_front k (s ∷ []) later same h =
-    let e : s.list ≡ k = All-head (λ (t : Stand). t.list ≡ k) s [] same in with_later s later (steps_lower (suc s.list) (suc k) later (omega (arith, e)) h)
+    let e : s.list ≡ k =
+    All-head (λ (t : Stand). t.list ≡ k) s [] same in with_later s later (steps_lower (suc s.list) (suc k) later (omega (arith, e)) h)
 groups_front k (s ∷ t ∷ ss) later same h =
     let rest = All-tail (λ (u : Stand). u.list ≡ k) s (t ∷ ss) same in
     let e : s.list ≡ k = All-head (λ (u : Stand). u.list ≡ k) s (t ∷ ss) same in
-    let f : t.list ≡ k = All-head (λ (u : Stand). u.list ≡ k) t ss rest in ap (with_stand s) (groups_front k (t ∷ ss) later rest h) ∙ with_same s t ss (groups later) (f ∙ sym e)
+    let f : t.list ≡ k =
+    All-head (λ (u : Stand). u.list ≡ k) t ss rest in
+    ap (with_stand s) (groups_front k (t ∷ ss) later rest h) ∙ with_same s t ss (groups later) (f ∙ sym e)
 
 pub of_list_all : (k : ℕ) (ss : List Stand) → All (λ s. s.list ≡ k) (of_list k ss)
-of_list_all k ss = All-weaker (λ (s : Stand). (s.list == k) ≡ true) (λ s. s.list ≡ k) (λ s y. eqb-true s.list k y) (of_list k ss) (filter_passes (λ (s : Stand). s.list == k) ss)
+of_list_all k ss =
+    All-weaker (λ (s : Stand). (s.list == k) ≡ true) (λ s. s.list ≡ k) (λ s y. eqb-true s.list k y) (of_list k ss)
+    (filter_passes (λ (s : Stand). s.list == k) ss)
 
 groups_step : (k : ℕ) (ss : List Stand) → Steps k ss → groups ss ≡ some_group (of_list k ss) (groups (rest ss k))
 groups_step k ss h =
-    ap groups (sym (take-append-drop (list_count ss k) ss) ∙ ap (λ f. f ++ rest ss k) (front_is k ss h)) ∙ groups_front k (of_list k ss) (rest ss k) (of_list_all k ss) (rest_steps k ss h)
+    ap groups (sym (take-append-drop (list_count ss k) ss) ∙ ap (λ f. f ++ rest ss k) (front_is k ss h))
+    ∙ groups_front k (of_list k ss) (rest ss k) (of_list_all k ss) (rest_steps k ss h)
 
 -- values that agree on the numbers from k on
 pub map-up_from_same : {Y : Type 0} (f g : ℕ → Y) (k n : ℕ) → ((i : ℕ) → k ≤ i → i < k + n → f i ≡ g i) → map f (up_from k n) ≡ map g (up_from k n)
 map-up_from_same f g k zero h = refl
 map-up_from_same f g k (suc n) h =
-    ap (λ y. y ∷ map f (up_from (suc k) n)) (h k (omega arith) (omega arith)) ∙ ap (λ l. g k ∷ l) (map-up_from_same f g (suc k) n (λ i l m. h i (omega (arith, l)) (omega (arith, m))))
+    ap (λ y. y ∷ map f (up_from (suc k) n)) (h k (omega arith) (omega arith))
+    ∙ ap (λ l. g k ∷ l) (map-up_from_same f g (suc k) n (λ i l m. h i (omega (arith, l)) (omega (arith, m))))
 
 pub map-up_from_shift : {Y : Type 0} (f : ℕ → Y) (a k n : ℕ) → map f (up_from (a + k) n) ≡ map (λ i. f (a + i)) (up_from k n)
 map-up_from_shift f a k zero = refl
 map-up_from_shift f a k (suc n) =
-    let shift : suc (a + k) ≡ a + suc k = omega arith in ap (λ j. f (a + k) ∷ map f (up_from j n)) shift ∙ ap (λ l. f (a + k) ∷ l) (map-up_from_shift f a (suc k) n)
+    let shift : suc (a + k) ≡ a + suc k =
+    omega arith in ap (λ j. f (a + k) ∷ map f (up_from j n)) shift ∙ ap (λ l. f (a + k) ∷ l) (map-up_from_shift f a (suc k) n)
 
 -- the groups of records are those of the lists that have records
-pub groups_are : (k n : ℕ) (ss : List Stand) → Steps k ss → All (λ s. s.list < k + n) ss → groups ss ≡ nonempty (map (λ l. of_list l ss) (up_from k n))
+pub groups_are : (k n : ℕ) (ss : List Stand) → Steps k ss → All (λ s. s.list < k + n) ss →
+    groups ss ≡ nonempty (map (λ l. of_list l ss) (up_from k n))
 groups_are k zero [] h few = refl
 groups_are k zero (s ∷ ss) h few = let low = h.0 in absurd (omega (arith, low, All-head (λ (t : Stand). t.list < k + 0) s ss few))
 groups_are k (suc n) ss h few =
     let count = list_count ss k in
-    let bound : All (λ s. s.list < suc k + n) ss = All-weaker (λ (s : Stand). s.list < k + suc n) (λ s. s.list < suc k + n) (λ s l. omega (arith, l)) ss few in
+    let bound : All (λ s. s.list < suc k + n) ss =
+    All-weaker (λ (s : Stand). s.list < k + suc n) (λ s. s.list < suc k + n) (λ s l. omega (arith, l)) ss few in
     let later = groups_are (suc k) n (rest ss k) (rest_steps k ss h) (All-drop (λ (s : Stand). s.list < suc k + n) count ss bound) in
     let same = map-up_from_same (λ l. of_list l (rest ss k)) (λ l. of_list l ss) (suc k) n (λ i l m. rest_has k i ss (omega (arith, l))) in
     groups_step k ss h ∙ ap (some_group (of_list k ss)) (later ∙ ap nonempty same)

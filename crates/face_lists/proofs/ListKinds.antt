@@ -1,5 +1,6 @@
 -- The lists of half-edges and of pairs, of either side alike: which copies stand in them, and how they are paired.
-use Rattle.std.proofs.Common.{◌≡◌, ◌⊎◌, ℕ, ◌+◌, ◌*◌, ◌-◌, ◌<◌, inl, inr, Bool, true, false, cond, ℤ, pos, List, length, map, ◌++◌, refl, sym, ap, subst, ◌∙◌, arith}
+use Rattle.std.proofs.Common.{◌≡◌, ◌⊎◌, ℕ, ◌+◌, ◌*◌, ◌-◌, ◌<◌, inl, inr, Bool, true, false, cond, ℤ, pos, List, length}
+use Rattle.std.proofs.Common.{map, ◌++◌, refl, sym, ap, subst, ◌∙◌, arith}
 use Rattle.std.specs.Prelude.{nat_lt}
 use Rattle.std.proofs.lemmas.Bool.{cases_lt, le-ltb, lt-ltb}
 use Rattle.chain_terms.specs.Chains.{all_edges}
@@ -47,7 +48,8 @@ half_q p q h = record { of_vertex = λ w. refl; kinds = kinds; paired = λ place
     kinds (QEdge e face) = inr (inl tt)
 
 -- of copies, those of hits alone stand in the list of a pair
-pair_kinds : (p q : Side) (name : ListName) → ((v : ℕ) → incidence (all_edges p.triples) (all_edges q.triples) name (PVertex v) ≡ pos 0) → ((v : ℕ) → incidence (all_edges p.triples) (all_edges q.triples) name (QVertex v) ≡ pos 0) →
+pair_kinds : (p q : Side) (name : ListName) → ((v : ℕ) → incidence (all_edges p.triples) (all_edges q.triples) name (PVertex v) ≡ pos 0) →
+    ((v : ℕ) → incidence (all_edges p.triples) (all_edges q.triples) name (QVertex v) ≡ pos 0) →
     (o : Origin) → IsHitCopy o ⊎ (incidence (all_edges p.triples) (all_edges q.triples) name o ≡ pos 0)
 pair_kinds p q name of_p of_q (PVertex v) = inr (of_p v)
 pair_kinds p q name of_p of_q (QVertex v) = inr (of_q v)
@@ -72,16 +74,21 @@ half_name_p : (m x l : ℕ) → x < m → l < 3 → list_name m x l ≡ HalfP (3
 half_name_p m x l below half = by_cases m x l true true (lt-ltb x m below) (lt-ltb l 3 half)
 
 pair_name_p : (m x l j : ℕ) → x < m → l ≡ 3 + j → list_name m x l ≡ PairP x j
-pair_name_p m x l j below e = let back : l - 3 ≡ j = omega (arith, e) in by_cases m x l true false (lt-ltb x m below) (le-ltb l 3 (omega (arith, e))) ∙ ap (PairP x) back
+pair_name_p m x l j below e =
+    let back : l - 3 ≡ j = omega (arith, e) in by_cases m x l true false (lt-ltb x m below) (le-ltb l 3 (omega (arith, e))) ∙ ap (PairP x) back
 
 half_name_q : (m g l : ℕ) → l < 3 → list_name m (m + g) l ≡ HalfQ (3 * g + l)
 half_name_q m g l half =
-    let back : 3 * (m + g - m) + l ≡ 3 * g + l = omega arith in by_cases m (m + g) l false true (le-ltb (m + g) m (omega arith)) (lt-ltb l 3 half) ∙ ap HalfQ back
+    let back : 3 * (m + g - m) + l ≡ 3 * g + l =
+    omega arith in by_cases m (m + g) l false true (le-ltb (m + g) m (omega arith)) (lt-ltb l 3 half) ∙ ap HalfQ back
 
 pair_name_q : (m g l j : ℕ) → l ≡ 3 + j → list_name m (m + g) l ≡ PairQ g j
 pair_name_q m g l j e =
     let face : m + g - m ≡ g = omega arith in
-    let other : l - 3 ≡ j = omega (arith, e) in by_cases m (m + g) l false false (le-ltb (m + g) m (omega arith)) (le-ltb l 3 (omega (arith, e))) ∙ ap (λ f. PairQ f (l - 3)) face ∙ ap (PairQ g) other
+    let other : l - 3 ≡ j =
+    omega (arith, e) in
+    by_cases m (m + g) l false false (le-ltb (m + g) m (omega arith)) (le-ltb l 3 (omega (arith, e))) ∙ ap (λ f. PairQ f (l - 3)) face
+    ∙ ap (PairQ g) other
 
 -- a source face: its lists are those of its three half-edges, and of its pairs with the faces of the other side
 pub record IsFace (p q side : Side) (origin : ℕ → Origin) (x f others : ℕ) (name : ℕ → ListName) : Type 0 where
@@ -117,11 +124,13 @@ face_of_p p q f low =
         | inr (j, e) ↦ let known = (subst (IsListOf m n) (pair_name_p m f l j low e) a).1 in omega (arith, known, e)
       ];
       lists = ap (λ t. cond t (lists_of_p n f) (lists_of_q m (f - m))) (lt-ltb f m low)
-          ∙ ap (λ l. l ++ map (PairP f) (upto n)) (map-up_from_same (λ i. HalfP (3 * f + i)) name 0 3 (λ i a b. sym (half_name_p m f i low (omega (arith, b)))))
+          ∙ ap (λ l. l ++ map (PairP f) (upto n))
+          (map-up_from_same (λ i. HalfP (3 * f + i)) name 0 3 (λ i a b. sym (half_name_p m f i low (omega (arith, b)))))
           ∙ ap (λ l. map name (upto 3) ++ l) (map-up_from_same (PairP f) (λ j. name (3 + j)) 0 n (λ j a b. sym (pair_name_p m f (3 + j) j low refl)));
     }
 
-pub face_of_q : (p q : Side) (g : ℕ) → g < length q.triples → IsFace p q q QVertex (length p.triples + g) g (length p.triples) (list_name (length p.triples) (length p.triples + g))
+pub face_of_q : (p q : Side) (g : ℕ) → g < length q.triples →
+    IsFace p q q QVertex (length p.triples + g) g (length p.triples) (list_name (length p.triples) (length p.triples + g))
 face_of_q p q g low =
     let m = length p.triples in
     let n = length q.triples in
@@ -141,6 +150,7 @@ face_of_q p q g low =
       ];
       lists = ap (λ t. cond t (lists_of_p n (m + g)) (lists_of_q m (m + g - m))) (le-ltb (m + g) m (omega arith))
           ∙ ap (lists_of_q m) back
-          ∙ ap (λ l. l ++ map (PairQ g) (upto m)) (map-up_from_same (λ i. HalfQ (3 * g + i)) name 0 3 (λ i a b. sym (half_name_q m g i (omega (arith, b)))))
+          ∙ ap (λ l. l ++ map (PairQ g) (upto m))
+          (map-up_from_same (λ i. HalfQ (3 * g + i)) name 0 3 (λ i a b. sym (half_name_q m g i (omega (arith, b)))))
           ∙ ap (λ l. map name (upto 3) ++ l) (map-up_from_same (PairQ g) (λ j. name (3 + j)) 0 m (λ j a b. sym (pair_name_q m g (3 + j) j refl)));
     }

@@ -39,7 +39,8 @@ copy_listed six k (suc n) zero s l c =
     let here : k + 0 ≡ k = omega arith in Contains-append_left (six k) (flat_map six (up_from (suc k) n)) s (subst (λ v. Contains (six v) s) here c)
 copy_listed six k (suc n) (suc i) s l c =
     let more : k + suc i ≡ suc k + i = omega arith in
-    Contains-append_right (six k) (flat_map six (up_from (suc k) n)) s (copy_listed six (suc k) n i s (omega (arith, l)) (subst (λ v. Contains (six v) s) more c))
+    Contains-append_right (six k) (flat_map six (up_from (suc k) n)) s
+    (copy_listed six (suc k) n i s (omega (arith, l)) (subst (λ v. Contains (six v) s) more c))
 
 -- the copies of a hit
 abbrev pub times_of : Op → Hit → ℕ
@@ -63,21 +64,37 @@ module _ (op : Op) (es : List (ℕ × ℕ)) (own other : ℕ) (origin : ℕ → 
   of_hit k [] s (i, l, e) = absurd (omega (arith, l))
   of_hit k (h ∷ hs) s c =
       let size = times_of op h in
-      elim (Contains-append_cases (one_hit_stands op es own other k h) (hit_stands op es own other (k + size) hs) s c) as (λ _. IsOfHit k (h ∷ hs) s) [
+      elim (Contains-append_cases (one_hit_stands op es own other k h) (hit_stands op es own other (k + size) hs) s c)
+      as (λ _. IsOfHit k (h ∷ hs) s) [
         | inl a ↦
             let r = of_copy (six_of op es own other h) k size s a in
             let here : k + r.turn ≡ k + (0 + r.turn) = omega arith in
-            record { hit = 0; turn = r.turn; within = omega arith; inside = r.inside; one = subst (λ v. Contains (six_of op es own other h v) s) here r.one }
+            record {
+              hit = 0;
+              turn = r.turn;
+              within = omega arith;
+              inside = r.inside;
+              one =
+                  subst (λ v. Contains (six_of op es own other h v) s) here r.one;
+            }
         | inr b ↦
             let r = of_hit (k + size) hs s b in
             let blocks = before (included_hits origin (hit_number_of op) hs) r.hit in
             let more : k + size + (blocks + r.turn) ≡ k + (size + blocks + r.turn) = omega arith in
-            record { hit = suc r.hit; turn = r.turn; within = omega (arith, r.within); inside = r.inside; one = subst (λ v. Contains (six_of op es own other (get_or hs r.hit no_hit) v) s) more r.one }
+            record {
+              hit = suc r.hit;
+              turn = r.turn;
+              within = omega (arith, r.within);
+              inside = r.inside;
+              one =
+                  subst (λ v. Contains (six_of op es own other (get_or hs r.hit no_hit) v) s) more r.one;
+            }
       ]
 
   -- and each such record is listed
   pub hit_listed : (k : ℕ) (hs : List Hit) (s : Stand) (j i : ℕ) → j < length hs → i < times_of op (get_or hs j no_hit) →
-      Contains (six_of op es own other (get_or hs j no_hit) (k + (before (included_hits origin (hit_number_of op) hs) j + i))) s → Contains (hit_stands op es own other k hs) s
+      Contains (six_of op es own other (get_or hs j no_hit) (k + (before (included_hits origin (hit_number_of op) hs) j + i))) s →
+      Contains (hit_stands op es own other k hs) s
   hit_listed k [] s j i l m c = absurd (omega (arith, l))
   hit_listed k (h ∷ hs) s zero i l m c =
       let size = times_of op h in

@@ -40,14 +40,16 @@ pub record Kept {X : Type 0} (p : X → Bool) (xs : List X) (x : X) : Type 0 whe
 kept_later : {X : Type 0} (p : X → Bool) (z : X) (xs : List X) (x : X) → Kept p xs x → Kept p (z ∷ xs) x
 kept_later p z xs x r = record { inside = contains_later x z xs r.inside; passes = r.passes }
 
-kept_first : {X : Type 0} (p : X → Bool) (z : X) (xs : List X) (x : X) → p z ≡ true → (Contains (filter p xs) x → Kept p xs x) → Contains (z ∷ filter p xs) x → Kept p (z ∷ xs) x
+kept_first : {X : Type 0} (p : X → Bool) (z : X) (xs : List X) (x : X) → p z ≡ true → (Contains (filter p xs) x → Kept p xs x) →
+    Contains (z ∷ filter p xs) x → Kept p (z ∷ xs) x
 kept_first p z xs x y later (zero, l, e) = record { inside = (0, omega arith, e); passes = ap p (sym e) ∙ y }
 kept_first p z xs x y later (suc k, l, e) = kept_later p z xs x (later (k, omega (arith, l), e))
 
 pub kept : {X : Type 0} (p : X → Bool) (xs : List X) (x : X) → Contains (filter p xs) x → Kept p xs x
 kept p [] x = λ c. let l = c.1 in absurd (omega (arith, l))
 kept p (z ∷ xs) x =
-    cond_both (p z) (z ∷ filter p xs) (filter p xs) (λ l. Contains l x → Kept p (z ∷ xs) x) (λ y. kept_first p z xs x y (kept p xs x)) (λ n c. kept_later p z xs x (kept p xs x c))
+    cond_both (p z) (z ∷ filter p xs) (filter p xs) (λ l. Contains l x → Kept p (z ∷ xs) x) (λ y. kept_first p z xs x y (kept p xs x))
+    (λ n c. kept_later p z xs x (kept p xs x c))
 
 -- the numbers from k on
 pub up_from_contains : (k n v : ℕ) → k ≤ v → v < k + n → Contains (up_from k n) v

@@ -21,7 +21,8 @@ before_right (x ∷ xs) ys j =
     omega (arith, ap (before (x ∷ xs ++ ys)) more, before_right xs ys j, length-append (copies_of x) (all_copies xs), length-copies_of x)
 
 -- so in the middle
-pub before_middle : (xs ms ys : List Included) (j : ℕ) → j ≤ length ms → before (xs ++ (ms ++ ys)) (length xs + j) ≡ length (all_copies xs) + before ms j
+pub before_middle : (xs ms ys : List Included) (j : ℕ) → j ≤ length ms →
+    before (xs ++ (ms ++ ys)) (length xs + j) ≡ length (all_copies xs) + before ms j
 before_middle xs ms ys j l = omega (arith, before_right xs (ms ++ ys) j, before_left ms ys j l)
 
 pub at_middle : (xs ms ys : List Included) (j : ℕ) → j < length ms → get_or (xs ++ (ms ++ ys)) (length xs + j) no_included ≡ get_or ms j no_included
@@ -39,7 +40,8 @@ copy_middle xs ms ys j k l m =
     let inside : length xs + j < length is = omega (arith, l, length-append xs (ms ++ ys), length-append ms ys) in
     let item = at_middle xs ms ys j l in
     let size : k < nat_abs (get_or is (length xs + j) no_included).number = omega (arith, m, ap (λ i. nat_abs i.number) item) in
-    let at : before is (length xs + j) + k ≡ length (all_copies xs) + (before ms j + k) = omega (arith, before_middle xs ms ys j (omega (arith, l))) in
+    let at : before is (length xs + j) + k ≡ length (all_copies xs) + (before ms j + k) =
+    omega (arith, before_middle xs ms ys j (omega (arith, l))) in
     record {
       within = omega (arith, at, size, before_ascends is (length xs + j) (length is) inside (omega arith), before_all is);
       copy = sym (ap (λ n. get_or (all_copies is) n no_copy) at) ∙ copy_in is (length xs + j) k inside size ∙ ap copy_of item;

@@ -1,5 +1,7 @@
 -- In one list of one source face a copy of a hit stands one way.
-use Rattle.std.proofs.Common.{◌≡◌, ◌≢◌, ℕ, zero, suc, ◌+◌, ◌/◌, ◌%◌, ◌<◌, ◌≤◌, ◌==◌, nat_lt, List, [], ◌∷◌, ◌++◌, Bool, true, false, not, cond, length, get_or, nat_abs, int_lt, pos, refl, sym, ap, ◌∙◌, arith, inl, inr}
+use Rattle.std.proofs.Common.{◌≡◌, ◌≢◌, ℕ, zero, suc, ◌+◌, ◌/◌, ◌%◌, ◌<◌, ◌≤◌, ◌==◌, nat_lt, List, [], ◌∷◌, ◌++◌}
+use Rattle.std.proofs.Common.{Bool, true, false, not, cond, length, get_or, nat_abs, int_lt, pos, refl, sym, ap, ◌∙◌}
+use Rattle.std.proofs.Common.{arith, inl, inr}
 use Rattle.std.specs.List.{All, Contains}
 use Rattle.std.proofs.lemmas.Bool.Decides.{nat_tests}
 use Rattle.std.proofs.lemmas.List.Elements.{All-append, All-cons, All-contains, All-head, All-nil, All-tail, All-weaker, Contains-append_cases}
@@ -38,18 +40,24 @@ StandsSo g s = s.start ≡ g s.face s.list
 -- what holds of each of six
 all_six : (P : Stand → Type 0) (a b c d e f : Stand) → P a → P b → P c → P d → P e → P f → All P (a ∷ b ∷ c ∷ d ∷ e ∷ f ∷ [])
 all_six P a b c d e f pa pb pc pd pe pf =
-    All-cons P a (b ∷ c ∷ d ∷ e ∷ f ∷ []) pa (All-cons P b (c ∷ d ∷ e ∷ f ∷ []) pb (All-cons P c (d ∷ e ∷ f ∷ []) pc (All-cons P d (e ∷ f ∷ []) pd (All-cons P e (f ∷ []) pe (All-cons P f [] pf (All-nil P))))))
+    All-cons P a (b ∷ c ∷ d ∷ e ∷ f ∷ []) pa
+    (All-cons P b (c ∷ d ∷ e ∷ f ∷ []) pb
+    (All-cons P c (d ∷ e ∷ f ∷ []) pc (All-cons P d (e ∷ f ∷ []) pd (All-cons P e (f ∷ []) pe (All-cons P f [] pf (All-nil P))))))
 
 -- what holds of the six records of a copy
 of_six : (P : Stand → Type 0) (own other lower upper face : ℕ) (positive : Bool) (v : ℕ) →
-    P (record { face = own + lower / 3; list = lower % 3; copy = v; start = not positive }) → P (record { face = own + upper / 3; list = upper % 3; copy = v; start = positive }) →
-    P (record { face = own + lower / 3; list = 3 + face; copy = v; start = positive }) → P (record { face = own + upper / 3; list = 3 + face; copy = v; start = not positive }) →
-    P (record { face = other + face; list = 3 + lower / 3; copy = v; start = not positive }) → P (record { face = other + face; list = 3 + upper / 3; copy = v; start = positive }) →
+    P (record { face = own + lower / 3; list = lower % 3; copy = v; start = not positive }) →
+    P (record { face = own + upper / 3; list = upper % 3; copy = v; start = positive }) →
+    P (record { face = own + lower / 3; list = 3 + face; copy = v; start = positive }) →
+    P (record { face = own + upper / 3; list = 3 + face; copy = v; start = not positive }) →
+    P (record { face = other + face; list = 3 + lower / 3; copy = v; start = not positive }) →
+    P (record { face = other + face; list = 3 + upper / 3; copy = v; start = positive }) →
     All P (six_stands own other lower upper face positive v)
 of_six P own other lower upper face positive v = all_six P _ _ _ _ _ _
 
 -- the six records of a copy stand so
-six_so : (own other lower upper face : ℕ) (positive : Bool) (v : ℕ) → AreThree own other lower upper face → All (StandsSo (way own lower upper face positive)) (six_stands own other lower upper face positive v)
+six_so : (own other lower upper face : ℕ) (positive : Bool) (v : ℕ) → AreThree own other lower upper face →
+    All (StandsSo (way own lower upper face positive)) (six_stands own other lower upper face positive v)
 six_so own other lower upper face positive v three =
     let low : nat_lt (lower % 3) 3 ≡ true = grind (arith, nat_tests) in
     let up : nat_lt (upper % 3) 3 ≡ true = grind (arith, nat_tests) in
@@ -68,7 +76,8 @@ pub copies_so : (own other lower upper face : ℕ) (positive : Bool) (k n : ℕ)
     All (StandsSo (way own lower upper face positive)) (copy_stands own other lower upper face positive k n)
 copies_so own other lower upper face positive k zero three = All-nil (StandsSo (way own lower upper face positive))
 copies_so own other lower upper face positive k (suc n) three =
-    All-append (StandsSo (way own lower upper face positive)) (six_stands own other lower upper face positive k) (copy_stands own other lower upper face positive (suc k) n)
+    All-append (StandsSo (way own lower upper face positive)) (six_stands own other lower upper face positive k)
+    (copy_stands own other lower upper face positive (suc k) n)
     (six_so own other lower upper face positive k three) (copies_so own other lower upper face positive (suc k) n three)
 
 -- the record is of a copy with a number from k on, and below m
@@ -80,18 +89,22 @@ from_wider k m i n ss low high all = All-weaker (IsFrom k m) (IsFrom i n) (λ s 
 
 six_from : (own other lower upper face : ℕ) (positive : Bool) (v : ℕ) → All (IsFrom v (v + 1)) (six_stands own other lower upper face positive v)
 six_from own other lower upper face positive v =
-    let here : (v ≤ v) × (v < v + 1) = (omega arith, omega arith) in of_six (IsFrom v (v + 1)) own other lower upper face positive v here here here here here here
+    let here : (v ≤ v) × (v < v + 1) =
+    (omega arith, omega arith) in of_six (IsFrom v (v + 1)) own other lower upper face positive v here here here here here here
 
-copies_from : (own other lower upper face : ℕ) (positive : Bool) (k n : ℕ) → All (IsFrom k (k + n)) (copy_stands own other lower upper face positive k n)
+copies_from : (own other lower upper face : ℕ) (positive : Bool) (k n : ℕ) →
+    All (IsFrom k (k + n)) (copy_stands own other lower upper face positive k n)
 copies_from own other lower upper face positive k zero = All-nil (IsFrom k (k + 0))
 copies_from own other lower upper face positive k (suc n) =
     let six = six_stands own other lower upper face positive k in
     let later = copy_stands own other lower upper face positive (suc k) n in
-    All-append (IsFrom k (k + suc n)) six later (from_wider k (k + 1) k (k + suc n) six (omega arith) (omega arith) (six_from own other lower upper face positive k))
+    All-append (IsFrom k (k + suc n)) six later
+    (from_wider k (k + 1) k (k + suc n) six (omega arith) (omega arith) (six_from own other lower upper face positive k))
     (from_wider (suc k) (suc k + n) k (k + suc n) later (omega arith) (omega arith) (copies_from own other lower upper face positive (suc k) n))
 
 -- those of all hits are of copies k, .., as many as these have
-pub hits_from : (op : Op) (es : List (ℕ × ℕ)) (own other k : ℕ) (hs : List Hit) → All (IsFrom k (k + hit_count op hs)) (hit_stands op es own other k hs)
+pub hits_from : (op : Op) (es : List (ℕ × ℕ)) (own other k : ℕ) (hs : List Hit) →
+    All (IsFrom k (k + hit_count op hs)) (hit_stands op es own other k hs)
 hits_from op es own other k [] = All-nil (IsFrom k (k + 0))
 hits_from op es own other k (h ∷ hs) =
     let size = nat_abs (hit_number_of op h.number) in
@@ -99,8 +112,10 @@ hits_from op es own other k (h ∷ hs) =
     let one = one_hit_stands op es own other k h in
     let later = hit_stands op es own other (k + size) hs in
     All-append (IsFrom k (k + hit_count op (h ∷ hs))) one later
-    (from_wider k (k + size) k (k + hit_count op (h ∷ hs)) one (omega arith) (omega (arith, sum)) (copies_from own other h.edge (twin es h.edge) h.face (int_lt (pos 0) (hit_number_of op h.number)) k size))
-    (from_wider (k + size) (k + size + hit_count op hs) k (k + hit_count op (h ∷ hs)) later (omega arith) (omega (arith, sum)) (hits_from op es own other (k + size) hs))
+    (from_wider k (k + size) k (k + hit_count op (h ∷ hs)) one (omega arith) (omega (arith, sum))
+    (copies_from own other h.edge (twin es h.edge) h.face (int_lt (pos 0) (hit_number_of op h.number)) k size))
+    (from_wider (k + size) (k + size + hit_count op hs) k (k + hit_count op (h ∷ hs)) later (omega arith) (omega (arith, sum))
+    (hits_from op es own other (k + size) hs))
 
 -- a copy stands one way in a list of a face
 abbrev pub IsOneWay : List Stand → Type 0
@@ -127,21 +142,24 @@ one_way-append m ss ts left right low high s t a b face list copy = elim (Contai
 -- records of copies up to m, and of those from m on
 one_way_from : (k m n : ℕ) (ss ts : List Stand) → IsOneWay ss → IsOneWay ts → All (IsFrom k m) ss → All (IsFrom m n) ts → IsOneWay (ss ++ ts)
 one_way_from k m n ss ts left right low high =
-    one_way-append m ss ts left right (All-weaker (IsFrom k m) (λ s. s.copy < m) (λ s f. f.1) ss low) (All-weaker (IsFrom m n) (λ t. m ≤ t.copy) (λ t f. f.0) ts high)
+    one_way-append m ss ts left right (All-weaker (IsFrom k m) (λ s. s.copy < m) (λ s f. f.1) ss low)
+    (All-weaker (IsFrom m n) (λ t. m ≤ t.copy) (λ t f. f.0) ts high)
 
 -- the edge and the face of each hit are of three source faces
 abbrev pub AllThree : List (ℕ × ℕ) → (own other : ℕ) → List Hit → Type 0
 AllThree es own other hs = All (λ h. AreThree own other h.edge (twin es h.edge) h.face) hs
 
 -- the records of hits
-pub hits_one_way : (op : Op) (es : List (ℕ × ℕ)) (own other k : ℕ) (hs : List Hit) → AllThree es own other hs → IsOneWay (hit_stands op es own other k hs)
+pub hits_one_way : (op : Op) (es : List (ℕ × ℕ)) (own other k : ℕ) (hs : List Hit) → AllThree es own other hs →
+    IsOneWay (hit_stands op es own other k hs)
 hits_one_way op es own other k [] three = λ s t a b face list copy. absurd (omega (arith, a.1))
 hits_one_way op es own other k (h ∷ hs) three =
     let size = nat_abs (hit_number_of op h.number) in
     let positive = int_lt (pos 0) (hit_number_of op h.number) in
     let P : Hit → Type 0 = λ g. AreThree own other g.edge (twin es g.edge) g.face in
     one_way_from k (k + size) (k + size + hit_count op hs) (one_hit_stands op es own other k h) (hit_stands op es own other (k + size) hs)
-    (one_way_so (way own h.edge (twin es h.edge) h.face positive) (one_hit_stands op es own other k h) (copies_so own other h.edge (twin es h.edge) h.face positive k size (All-head P h hs three)))
+    (one_way_so (way own h.edge (twin es h.edge) h.face positive) (one_hit_stands op es own other k h)
+    (copies_so own other h.edge (twin es h.edge) h.face positive k size (All-head P h hs three)))
     (hits_one_way op es own other (k + size) hs (All-tail P h hs three))
     (copies_from own other h.edge (twin es h.edge) h.face positive k size) (hits_from op es own other (k + size) hs)
 
@@ -161,7 +179,8 @@ hits_three ts own other faces hs pair are clear i d below =
     }
 
 -- the records of the hits of both sides' edges
-pub all_one_way : (op : Op) (p q : Side) (x12 x21 : List Hit) (k : ℕ) → IsSide p → IsSide q → AreHits (all_edges p.triples) (length q.triples) x12 → AreHits (all_edges q.triples) (length p.triples) x21 →
+pub all_one_way : (op : Op) (p q : Side) (x12 x21 : List Hit) (k : ℕ) → IsSide p → IsSide q →
+    AreHits (all_edges p.triples) (length q.triples) x12 → AreHits (all_edges q.triples) (length p.triples) x21 →
     IsOneWay (all_stands op p q x12 x21 k)
 all_one_way op p q x12 x21 k p_side q_side of_p of_q =
     let n = length p.triples in

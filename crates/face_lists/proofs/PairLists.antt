@@ -12,7 +12,8 @@ use Rattle.face_lists.proofs.Rising.{rises_lower}
 use Rattle.face_lists.proofs.Signs.{no_side}
 use Rattle.face_lists.proofs.Told.{Tell, entry}
 
-pub pair_tells : (p q : Side) (cs : List Copy) (k : ℕ) (name : ListName) (hits : List Entry) → IsPair p q name → TellHits (all_edges p.triples) (all_edges q.triples) cs k name hits →
+pub pair_tells : (p q : Side) (cs : List Copy) (k : ℕ) (name : ListName) (hits : List Entry) → IsPair p q name →
+    TellHits (all_edges p.triples) (all_edges q.triples) cs k name hits →
     Tell (length cs) (λ v. standing (all_edges p.triples) (all_edges q.triples) name (get_or cs v no_copy)) hits
 pair_tells p q cs k name hits pair told = record {
   end = k + length cs;
@@ -21,7 +22,8 @@ pair_tells p q cs k name hits pair told = record {
   only = told.only;
 }
   where
-    each : (p q : Side) (cs : List Copy) (k : ℕ) (name : ListName) (hits : List Entry) → IsPair p q name → TellHits (all_edges p.triples) (all_edges q.triples) cs k name hits → (v : ℕ) (start : Bool) → v < length cs →
+    each : (p q : Side) (cs : List Copy) (k : ℕ) (name : ListName) (hits : List Entry) → IsPair p q name →
+        TellHits (all_edges p.triples) (all_edges q.triples) cs k name hits → (v : ℕ) (start : Bool) → v < length cs →
         StandsAs start (standing (all_edges p.triples) (all_edges q.triples) name (get_or cs v no_copy)) → Contains hits (entry v start)
     each p q cs k name hits pair told v start low so =
         let c = get_or cs v no_copy in

@@ -36,7 +36,8 @@ rises-filter f p k m [] h = h
 rises-filter f p k m (x ∷ xs) h =
     let low = h.0 in
     let rest = rises-filter f p (suc (f x)) m xs h.1 in
-    cond_both (p x) (x ∷ filter p xs) (filter p xs) (λ l. Rises k m (map f l)) (λ y. (h.0, rest)) (λ n. rises_lower k (suc (f x)) m (map f (filter p xs)) (omega (arith, low)) rest)
+    cond_both (p x) (x ∷ filter p xs) (filter p xs) (λ l. Rises k m (map f l)) (λ y. (h.0, rest))
+    (λ n. rises_lower k (suc (f x)) m (map f (filter p xs)) (omega (arith, low)) rest)
 
 -- no number is below the first
 pub rises_at : (k m : ℕ) (xs : List ℕ) → Rises k m xs → (i : ℕ) → i < length xs → k ≤ get_or xs i 0

@@ -20,13 +20,15 @@ side_of at_start negative = cond at_start (not negative) negative
 
 -- they rise
 vertices : (r : CopyRange) (at_start : Bool) → map (λ e. e.vertex) (run_entries r at_start) ≡ up_from r.first r.count
-vertices r at_start = map-map (λ (e : Entry). e.vertex) (λ v. entry v (side_of at_start r.negative)) (up_from r.first r.count) ∙ map-id (up_from r.first r.count)
+vertices r at_start =
+    map-map (λ (e : Entry). e.vertex) (λ v. entry v (side_of at_start r.negative)) (up_from r.first r.count) ∙ map-id (up_from r.first r.count)
 
 pub run_rises : (r : CopyRange) (at_start : Bool) → Rises r.first (r.first + r.count) (map (λ e. e.vertex) (run_entries r at_start))
 run_rises r at_start = subst (Rises r.first (r.first + r.count)) (sym (vertices r at_start)) (rises-up_from r.first r.count)
 
 -- a copy of this origin is one of them
-pub run_each : (cs : List Copy) (o : Origin) (at : List ℤ) (r : CopyRange) → IsRunOf cs o at r → (at_start : Bool) (v : ℕ) → v < length cs → (get_or cs v no_copy).origin ≡ o →
+pub run_each : (cs : List Copy) (o : Origin) (at : List ℤ) (r : CopyRange) → IsRunOf cs o at r → (at_start : Bool) (v : ℕ) → v < length cs →
+    (get_or cs v no_copy).origin ≡ o →
     Contains (run_entries r at_start) (entry v (side_of at_start (get_or cs v no_copy).negative))
 run_each cs o at r run at_start v low same =
     let within = (run.there v low).0 same in
@@ -40,7 +42,8 @@ pub record IsCopyOf (cs : List Copy) (o : Origin) (at_start : Bool) (v : ℕ) (s
   pub origin : (get_or cs v no_copy).origin ≡ o
   pub stands : start ≡ side_of at_start (get_or cs v no_copy).negative
 
-pub run_only : (cs : List Copy) (o : Origin) (at : List ℤ) (r : CopyRange) → IsRunOf cs o at r → (at_start : Bool) (v : ℕ) (start : Bool) → Contains (run_entries r at_start) (entry v start) → IsCopyOf cs o at_start v start
+pub run_only : (cs : List Copy) (o : Origin) (at : List ℤ) (r : CopyRange) → IsRunOf cs o at r → (at_start : Bool) (v : ℕ) (start : Bool) →
+    Contains (run_entries r at_start) (entry v start) → IsCopyOf cs o at_start v start
 run_only cs o at r run at_start v start c =
     let found = comes_from (λ w. entry w (side_of at_start r.negative)) (up_from r.first r.count) (entry v start) c in
     let range = in_up_from r.first r.count found.from found.inside in

@@ -1,5 +1,6 @@
 -- Records of hits are of lists of the two sides, where the hits are of their edges and faces.
-use Rattle.std.proofs.Common.{◌≡◌, ◌⊎◌, ℕ, zero, suc, ◌+◌, ◌*◌, ◌<◌, inl, inr, Bool, true, false, cond, ◌==◌, ℤ, pos, negsuc, neg_ℤ, ◌+ℤ◌, ◌-ℤ◌, List, length, get_or, refl, ap, ◌∙◌, arith}
+use Rattle.std.proofs.Common.{◌≡◌, ◌⊎◌, ℕ, zero, suc, ◌+◌, ◌*◌, ◌<◌, inl, inr, Bool, true, false, cond, ◌==◌, ℤ, pos}
+use Rattle.std.proofs.Common.{negsuc, neg_ℤ, ◌+ℤ◌, ◌-ℤ◌, List, length, get_or, refl, ap, ◌∙◌, arith}
 use Rattle.std.specs.List.{All}
 use Rattle.std.proofs.lemmas.Bool.{cases_eq, ne_eqb}
 use Rattle.std.proofs.lemmas.Int.{ints}
@@ -31,7 +32,8 @@ is_one es h e some = elim (cases_eq h e) as (λ _. (h ≡ e) ⊎ (h ≡ twin es 
 ]
 
 -- both are of the side
-half_known : (side : Side) → IsSide side → (h e : ℕ) → e < length (all_edges side.triples) → (way (all_edges side.triples) h e ≡ pos 0 → ⊥) → h < 3 * length side.triples
+half_known : (side : Side) → IsSide side → (h e : ℕ) → e < length (all_edges side.triples) →
+    (way (all_edges side.triples) h e ≡ pos 0 → ⊥) → h < 3 * length side.triples
 half_known side known h e low some =
     let es = all_edges side.triples in
     elim (is_one es h e some) as (λ _. h < 3 * length side.triples) [
@@ -40,7 +42,8 @@ half_known side known h e low some =
     ]
 
 -- and so is a face round which the edge runs
-face_known : (side : Side) → IsSide side → (f e : ℕ) → e < length (all_edges side.triples) → (way_round (all_edges side.triples) f e ≡ pos 0 → ⊥) → f < length side.triples
+face_known : (side : Side) → IsSide side → (f e : ℕ) → e < length (all_edges side.triples) →
+    (way_round (all_edges side.triples) f e ≡ pos 0 → ⊥) → f < length side.triples
 face_known side known f e low some =
     let es = all_edges side.triples in
     let Known : Type 0 = f < length side.triples in
@@ -52,7 +55,8 @@ face_known side known f e low some =
     nothing (pos (suc n)) = inr (λ e. omega (arith, ints, e))
     nothing (negsuc n) = inr (λ e. omega (arith, ints, e))
 
-    by_ways : (K : Type 0) (x y z : ℤ) → ((x ≡ pos 0 → ⊥) → K) → ((y ≡ pos 0 → ⊥) → K) → ((z ≡ pos 0 → ⊥) → K) → ((x +ℤ (y +ℤ (z +ℤ pos 0)) ≡ pos 0) → ⊥) → K
+    by_ways : (K : Type 0) (x y z : ℤ) → ((x ≡ pos 0 → ⊥) → K) → ((y ≡ pos 0 → ⊥) → K) → ((z ≡ pos 0 → ⊥) → K) →
+        ((x +ℤ (y +ℤ (z +ℤ pos 0)) ≡ pos 0) → ⊥) → K
     by_ways K x y z a b c some = elim (nothing x) as (λ _. K) [
       | inr d ↦ a d
       | inl e ↦ elim (nothing y) as (λ _. K) [
@@ -76,7 +80,8 @@ choice a b z some = elim (cases_eq a b) as (λ _. (a ≡ b) × (z ≡ pos 0 → 
     both false = refl
 
 -- where a hit stands in a list, that is one of the two sides
-pub of_sides : (p q : Side) → IsSide p → IsSide q → (name : ListName) (o : Origin) → IsFrom p q o → IsHitCopy o → (incidence (all_edges p.triples) (all_edges q.triples) name o ≡ pos 0 → ⊥) →
+pub of_sides : (p q : Side) → IsSide p → IsSide q → (name : ListName) (o : Origin) → IsFrom p q o → IsHitCopy o →
+    (incidence (all_edges p.triples) (all_edges q.triples) name o ≡ pos 0 → ⊥) →
     IsListOf (length p.triples) (length q.triples) name
 of_sides p q known other name (PVertex v) from hit some = absurd hit
 of_sides p q known other name (QVertex v) from hit some = absurd hit
@@ -106,7 +111,8 @@ abbrev pub AreListed : Side → Side → List Stand → Type 0
 AreListed p q stands = All (λ s. IsListOf (length p.triples) (length q.triples) (list_name (length p.triples) s.face s.list)) stands
 
 -- so are all, where all copies are of the two sides
-pub are_listed : (p q : Side) (cs : List Copy) (stands : List Stand) → IsSide p → IsSide q → AreStandsOf (all_edges p.triples) (all_edges q.triples) (length p.triples) cs stands →
+pub are_listed : (p q : Side) (cs : List Copy) (stands : List Stand) → IsSide p → IsSide q →
+    AreStandsOf (all_edges p.triples) (all_edges q.triples) (length p.triples) cs stands →
     All (λ c. IsFrom p q c.origin) cs → AreListed p q stands
 are_listed p q cs stands known other records from i d l =
     let s = get_or stands i d in
@@ -117,6 +123,9 @@ are_listed p q cs stands known other records from i d l =
     of_sides p q known other name c.origin (from s.copy no_copy says.0) says.1 (λ none. no_side c.negative s.start z none says.2)
 
 -- those of the prescribed copies
-pub prescribed_listed : (op : Op) (p q : Side) (n : Numbers) → IsSide p → IsSide q → AreHits (all_edges p.triples) (length q.triples) n.x12 → AreHits (all_edges q.triples) (length p.triples) n.x21 →
-    (stands : List Stand) → AreStandsOf (all_edges p.triples) (all_edges q.triples) (length p.triples) (prescribed op p q n) stands → AreListed p q stands
-prescribed_listed op p q n known other x12 x21 stands records = are_listed p q (prescribed op p q n) stands known other records (all_from op p q n x12 x21)
+pub prescribed_listed : (op : Op) (p q : Side) (n : Numbers) → IsSide p → IsSide q →
+    AreHits (all_edges p.triples) (length q.triples) n.x12 → AreHits (all_edges q.triples) (length p.triples) n.x21 →
+    (stands : List Stand) → AreStandsOf (all_edges p.triples) (all_edges q.triples) (length p.triples) (prescribed op p q n) stands →
+    AreListed p q stands
+prescribed_listed op p q n known other x12 x21 stands records =
+    are_listed p q (prescribed op p q n) stands known other records (all_from op p q n x12 x21)

@@ -27,7 +27,8 @@ abbrev by_parts : Stand → Stand → Ordering
 by_parts = then_cmp (on (λ s. s.face) nat_cmp) (then_cmp (on (λ s. s.list) nat_cmp) (on (λ s. s.copy) nat_cmp))
 
 is_total : IsTotalOrder by_parts
-is_total = then_total (on_total (λ s. s.face) nat_cmp_total) (then_total (on_total (λ s. s.list) nat_cmp_total) (on_total (λ s. s.copy) nat_cmp_total))
+is_total =
+    then_total (on_total (λ s. s.face) nat_cmp_total) (then_total (on_total (λ s. s.list) nat_cmp_total) (on_total (λ s. s.copy) nat_cmp_total))
 
 -- what an answer of the order says
 less_is : (o : Ordering) → is_lt o ≡ true → o ≡ Less
@@ -66,7 +67,8 @@ chained s t u a b = ap is_lt (is_total.trans s t u (less_is (by_parts s t) a) (l
 all_inserted : {X : Type 0} (P : X → Type 0) (lt : X → X → Bool) (x : X) (ys : List X) → P x → All P ys → All P (insert_by lt x ys)
 all_inserted P lt x [] here h = All-cons P x [] here (All-nil P)
 all_inserted P lt x (y ∷ ys) here h =
-    cond_both (lt y x) (y ∷ insert_by lt x ys) (x ∷ y ∷ ys) (All P) (λ t. All-cons P y (insert_by lt x ys) (All-head P y ys h) (all_inserted P lt x ys here (All-tail P y ys h))) (λ f. All-cons P x (y ∷ ys) here h)
+    cond_both (lt y x) (y ∷ insert_by lt x ys) (x ∷ y ∷ ys) (All P)
+    (λ t. All-cons P y (insert_by lt x ys) (All-head P y ys h) (all_inserted P lt x ys here (All-tail P y ys h))) (λ f. All-cons P x (y ∷ ys) here h)
 
 pub all_sorted : {X : Type 0} (P : X → Type 0) (lt : X → X → Bool) (xs : List X) → All P xs → All P (sorted_by lt xs)
 all_sorted P lt [] h = h
@@ -83,12 +85,16 @@ climbs_inserted s (t ∷ ss) up differ =
     cond_both (stands_before t s) (t ∷ insert_by stands_before s ss) (s ∷ t ∷ ss) Climbs
     (λ y. (all_inserted (λ u. stands_before t u ≡ true) stands_before s ss y up.0, climbs_inserted s ss up.1 (All-tail (Differ s) t ss differ)))
     (λ n.
-    let first = comes_first s t n (All-head (Differ s) t ss differ) in
-    (All-cons (λ u. stands_before s u ≡ true) t ss first (All-weaker (λ u. stands_before t u ≡ true) (λ u. stands_before s u ≡ true) (λ u b. chained s t u first b) ss up.0), up))
+    let first = comes_first s t n (All-head (Differ s) t ss differ) in (
+      All-cons (λ u. stands_before s u ≡ true) t ss first
+          (All-weaker (λ u. stands_before t u ≡ true) (λ u. stands_before s u ≡ true) (λ u b. chained s t u first b) ss up.0),
+      up,
+    ))
 
 climbs_sorted : (ss : List Stand) → AllDiffer ss → Climbs (sorted_by stands_before ss)
 climbs_sorted [] differ = tt
-climbs_sorted (s ∷ ss) differ = climbs_inserted s (sorted_by stands_before ss) (climbs_sorted ss differ.1) (all_sorted (Differ s) stands_before ss differ.0)
+climbs_sorted (s ∷ ss) differ =
+    climbs_inserted s (sorted_by stands_before ss) (climbs_sorted ss differ.1) (all_sorted (Differ s) stands_before ss differ.0)
 
 by_places : (ss : List Stand) → Climbs ss → Ascend ss
 by_places [] up i j l m = absurd (omega (arith, m))

@@ -15,7 +15,8 @@ use Rattle.side_terms.specs.Hits.{AreHits}
 use Rattle.side_terms.specs.Sides.{IsSide, Side}
 use Rattle.assembly_terms.specs.Lists.{Copy, no_copy, standing}
 use Rattle.assembly_terms.specs.Points.{points_of}
-use Rattle.assembly_terms.specs.Prescribed.{Included, Numbers, copies_of, hit_count, p_hits, p_kept, p_number, p_vertices, prescribed, q_hits, q_kept, q_number, q_vertices}
+use Rattle.assembly_terms.specs.Prescribed.{Included, Numbers, copies_of, hit_count, p_hits, p_kept, p_number}
+use Rattle.assembly_terms.specs.Prescribed.{p_vertices, prescribed, q_hits, q_kept, q_number, q_vertices}
 use Rattle.retained_verts.proofs.TwoLists.{two_faces}
 use Rattle.face_lists.specs.Agreement.{AreRunsOf, AreStandsOf, HaveLists, IsHitCopy, IsRunOf, StandsAs, list_name}
 use Rattle.face_lists.specs.Laws.{PrescribedHaveLists}
@@ -47,7 +48,8 @@ first_number (QVertex v) = v
 first_number (PEdge e f) = e
 first_number (QEdge e f) = e
 
-module _ (op : Op) (p q : Side) (n : Numbers) (p_known : IsSide p) (q_known : IsSide q) (p_long : length n.w03 ≡ length p.corners) (q_long : length n.w30 ≡ length q.corners)
+module _ (op : Op) (p q : Side) (n : Numbers) (p_known : IsSide p) (q_known : IsSide q) (p_long : length n.w03 ≡ length p.corners)
+    (q_long : length n.w30 ≡ length q.corners)
     (x12 : AreHits (all_edges p.triples) (length q.triples) n.x12) (x21 : AreHits (all_edges q.triples) (length p.triples) n.x21) where
   abbrev es : List (ℕ × ℕ)
   es = all_edges p.triples
@@ -72,10 +74,14 @@ module _ (op : Op) (p q : Side) (n : Numbers) (p_known : IsSide p) (q_known : Is
   hits = p_hits op n ++ q_hits op n
 
   p_size : length (all_copies (p_vertices op p n)) ≡ p_kept op n
-  p_size = length-all_copies (p_vertices op p n) (p_number op) n.w03 (vertex_numbers PVertex (p_number op) n.w03 (points_of p.corners) (length p.corners) p_long)
+  p_size =
+      length-all_copies (p_vertices op p n) (p_number op) n.w03
+      (vertex_numbers PVertex (p_number op) n.w03 (points_of p.corners) (length p.corners) p_long)
 
   q_size : length (all_copies (q_vertices op q n)) ≡ q_kept op n
-  q_size = length-all_copies (q_vertices op q n) (q_number op) n.w30 (vertex_numbers QVertex (q_number op) n.w30 (points_of q.corners) (length q.corners) q_long)
+  q_size =
+      length-all_copies (q_vertices op q n) (q_number op) n.w30
+      (vertex_numbers QVertex (q_number op) n.w30 (points_of q.corners) (length q.corners) q_long)
 
   vertices_size : length (all_copies vertices) ≡ k
   vertices_size =
@@ -100,11 +106,13 @@ module _ (op : Op) (p q : Side) (n : Numbers) (p_known : IsSide p) (q_known : Is
   p_copies =
       let qs = q_vertices op q n in
       let Apart : Origin → Type 0 = λ o. (v : ℕ) → o ≡ PVertex v → ⊥ in
-      let apart : All (IsOther PVertex) qs = all_vertices QVertex (q_number op) n.w30 (points_of q.corners) (length q.corners) Apart (λ u v e. omega (arith, ap kind e)) in
+      let apart : All (IsOther PVertex) qs =
+      all_vertices QVertex (q_number op) n.w30 (points_of q.corners) (length q.corners) Apart (λ u v e. omega (arith, ap kind e)) in
       let others = All-append (IsOther PVertex) qs hits apart (hits_differ_from PVertex (λ v. omega arith)) in
       record {
         long = length-runs 0 (map (p_number op) n.w03) ∙ length-map n.w03 (p_number op) ∙ p_long;
-        each = vertex_run [] (qs ++ hits) PVertex (p_number op) n.w03 (points_of p.corners) (length p.corners) (λ u v e. ap first_number e) (All-nil (IsOther PVertex)) others p_long;
+        each = vertex_run [] (qs ++ hits) PVertex (p_number op) n.w03 (points_of p.corners) (length p.corners) (λ u v e. ap first_number e)
+            (All-nil (IsOther PVertex)) others p_long;
       }
 
   -- and of the second's
@@ -112,20 +120,25 @@ module _ (op : Op) (p q : Side) (n : Numbers) (p_known : IsSide p) (q_known : Is
   q_copies =
       let ps = p_vertices op p n in
       let Apart : Origin → Type 0 = λ o. (v : ℕ) → o ≡ QVertex v → ⊥ in
-      let apart : All (IsOther QVertex) ps = all_vertices PVertex (p_number op) n.w03 (points_of p.corners) (length p.corners) Apart (λ u v e. omega (arith, ap kind e)) in
+      let apart : All (IsOther QVertex) ps =
+      all_vertices PVertex (p_number op) n.w03 (points_of p.corners) (length p.corners) Apart (λ u v e. omega (arith, ap kind e)) in
       let others = hits_differ_from QVertex (λ v. omega arith) in
       record {
         long = length-runs (p_kept op n) (map (q_number op) n.w30) ∙ length-map n.w30 (q_number op) ∙ q_long;
         each = λ v l.
-            let run = vertex_run ps hits QVertex (q_number op) n.w30 (points_of q.corners) (length q.corners) (λ u w e. ap first_number e) apart others q_long v l in
-            subst (λ b. IsRunOf cs (QVertex v) (get_or (points_of q.corners) v []) (get_or (runs_from b (map (q_number op) n.w30)) v no_run)) p_size run;
+            let run =
+            vertex_run ps hits QVertex (q_number op) n.w30 (points_of q.corners) (length q.corners) (λ u w e. ap first_number e) apart
+            others q_long v l in
+            subst (λ b. IsRunOf cs (QVertex v) (get_or (points_of q.corners) v [])
+            (get_or (runs_from b (map (q_number op) n.w30)) v no_run)) p_size run;
       }
 
   -- the copies of the first mesh's hits
   p_told : AreTold op es ds faces cs es (λ x. x < faces) (λ x. faces ≤ x) 0 faces PEdge k n.x12
   p_told =
       let told : (j i : ℕ) → (j < length n.x12) × _ → HasCopy op PEdge cs (get_or n.x12 j no_hit) (copy_number op PEdge k n.x12 j i) = λ j i t.
-      subst (λ c. HasCopy op PEdge c (get_or n.x12 j no_hit) (copy_number op PEdge k n.x12 j i)) in_two (has_copy op PEdge vertices (q_hits op n) n.x12 k vertices_size j i t.0 t.1) in
+      subst (λ c. HasCopy op PEdge c (get_or n.x12 j no_hit) (copy_number op PEdge k n.x12 j i)) in_two
+      (has_copy op PEdge vertices (q_hits op n) n.x12 k vertices_size j i t.0 t.1) in
       record {
         of_hits = λ e f. tt;
         within = λ j i t. (told j i t).within;
@@ -138,18 +151,27 @@ module _ (op : Op) (p q : Side) (n : Numbers) (p_known : IsSide p) (q_known : Is
   second = k + hit_count op n.x12
 
   first_size : length (all_copies (vertices ++ p_hits op n)) ≡ second
-  first_size = omega (arith, ap length (flat_map-append copies_of vertices (p_hits op n)), length-append (all_copies vertices) (all_copies (p_hits op n)), vertices_size, length-hit_copies op PEdge n.x12)
+  first_size =
+      omega (
+        arith,
+        ap length (flat_map-append copies_of vertices (p_hits op n)),
+        length-append (all_copies vertices) (all_copies (p_hits op n)),
+        vertices_size,
+        length-hit_copies op PEdge n.x12,
+      )
 
   -- the prescribed copies, with the second mesh's hits at the end
   in_three : all_copies ((vertices ++ p_hits op n) ++ (q_hits op n ++ [])) ≡ cs
   in_three =
-      ap (λ is. all_copies ((vertices ++ p_hits op n) ++ is)) (append-nil (q_hits op n)) ∙ ap all_copies (append_assoc vertices (p_hits op n) (q_hits op n)) ∙ in_two
+      ap (λ is. all_copies ((vertices ++ p_hits op n) ++ is)) (append-nil (q_hits op n))
+      ∙ ap all_copies (append_assoc vertices (p_hits op n) (q_hits op n)) ∙ in_two
 
   -- its copies
   q_told : AreTold op es ds faces cs ds (λ x. faces ≤ x) (λ x. x < faces) faces 0 QEdge second n.x21
   q_told =
       let told : (j i : ℕ) → (j < length n.x21) × _ → HasCopy op QEdge cs (get_or n.x21 j no_hit) (copy_number op QEdge second n.x21 j i) = λ j i t.
-      subst (λ c. HasCopy op QEdge c (get_or n.x21 j no_hit) (copy_number op QEdge second n.x21 j i)) in_three (has_copy op QEdge (vertices ++ p_hits op n) [] n.x21 second first_size j i t.0 t.1) in
+      subst (λ c. HasCopy op QEdge c (get_or n.x21 j no_hit) (copy_number op QEdge second n.x21 j i)) in_three
+      (has_copy op QEdge (vertices ++ p_hits op n) [] n.x21 second first_size j i t.0 t.1) in
       record {
         of_hits = λ e f. tt;
         within = λ j i t. (told j i t).within;
@@ -174,12 +196,16 @@ module _ (op : Op) (p q : Side) (n : Numbers) (p_known : IsSide p) (q_known : Is
       let of_p = all_vertices PVertex (p_number op) n.w03 (points_of p.corners) (length p.corners) NoHit (λ u h. h) in
       let of_q = all_vertices QVertex (q_number op) n.w30 (points_of q.corners) (length q.corners) NoHit (λ u h. h) in
       let none : All (λ i. NoHit i.origin) vertices = All-append (λ i. NoHit i.origin) (p_vertices op p n) (q_vertices op q n) of_p of_q in
-      let found = numbered op vertices n.x12 n.x21 none v (omega (arith, l, ap length in_two)) (subst (λ (c : List Copy). IsHitCopy (get_or c v no_copy).origin) (sym in_two) hit) in
+      let found =
+      numbered op vertices n.x12 n.x21 none v (omega (arith, l, ap length in_two))
+      (subst (λ (c : List Copy). IsHitCopy (get_or c v no_copy).origin) (sym in_two) hit) in
       subst (λ b. IsNumbered op PEdge b n.x12 v ⊎ IsNumbered op QEdge (b + hit_count op n.x12) n.x21 v) vertices_size found
 
   -- the record says how its copy stands
   abbrev SaysSo : Stand → Type 0
-  SaysSo s = (s.copy < length cs) × IsHitCopy (get_or cs s.copy no_copy).origin × StandsAs s.start (standing es ds (list_name faces s.face s.list) (get_or cs s.copy no_copy))
+  SaysSo s =
+      (s.copy < length cs) × IsHitCopy (get_or cs s.copy no_copy).origin
+      × StandsAs s.start (standing es ds (list_name faces s.face s.list) (get_or cs s.copy no_copy))
 
   p_only : (s : Stand) → Contains p_stands s → SaysSo s
   p_only = told_only op es ds faces cs es (λ x. x < faces) (λ x. faces ≤ x) 0 faces PEdge k n.x12 p_told
@@ -188,11 +214,17 @@ module _ (op : Op) (p q : Side) (n : Numbers) (p_known : IsSide p) (q_known : Is
   q_only = told_only op es ds faces cs ds (λ x. faces ≤ x) (λ x. x < faces) faces 0 QEdge second n.x21 q_told
 
   -- each list in which a copy stands has its record
-  p_each : (s : Stand) → IsNumbered op PEdge k n.x12 s.copy → StandsAs s.start (standing es ds (list_name faces s.face s.list) (get_or cs s.copy no_copy)) → Contains p_stands s
-  p_each s a = told_each op es ds faces cs es (λ x. x < faces) (λ x. faces ≤ x) 0 faces PEdge k n.x12 p_told a.hit a.turn (a.within, a.inside) s.face s.list s.copy s.start a.at
+  p_each : (s : Stand) → IsNumbered op PEdge k n.x12 s.copy →
+      StandsAs s.start (standing es ds (list_name faces s.face s.list) (get_or cs s.copy no_copy)) → Contains p_stands s
+  p_each s a =
+      told_each op es ds faces cs es (λ x. x < faces) (λ x. faces ≤ x) 0 faces PEdge k n.x12 p_told a.hit a.turn (a.within, a.inside) s.face
+      s.list s.copy s.start a.at
 
-  q_each : (s : Stand) → IsNumbered op QEdge second n.x21 s.copy → StandsAs s.start (standing es ds (list_name faces s.face s.list) (get_or cs s.copy no_copy)) → Contains q_stands s
-  q_each s b = told_each op es ds faces cs ds (λ x. faces ≤ x) (λ x. x < faces) faces 0 QEdge second n.x21 q_told b.hit b.turn (b.within, b.inside) s.face s.list s.copy s.start b.at
+  q_each : (s : Stand) → IsNumbered op QEdge second n.x21 s.copy →
+      StandsAs s.start (standing es ds (list_name faces s.face s.list) (get_or cs s.copy no_copy)) → Contains q_stands s
+  q_each s b =
+      told_each op es ds faces cs ds (λ x. faces ≤ x) (λ x. x < faces) faces 0 QEdge second n.x21 q_told b.hit b.turn (b.within, b.inside)
+      s.face s.list s.copy s.start b.at
 
   -- so the sorted records say how the copies stand
   hit_copies : AreStandsOf es ds faces cs stands
@@ -207,7 +239,8 @@ module _ (op : Op) (p q : Side) (n : Numbers) (p_known : IsSide p) (q_known : Is
               | inr b ↦ Contains-append_right p_stands q_stands s (q_each s b so)
             ]);
         only = λ s c.
-            elim (Contains-append_cases p_stands q_stands s (Contains-permutation stands all s (IsPermutation-sym all stands moved) c)) as (λ _. SaysSo s) [
+            elim (Contains-append_cases p_stands q_stands s (Contains-permutation stands all s (IsPermutation-sym all stands moved) c))
+            as (λ _. SaysSo s) [
               | inl a ↦ p_only s a
               | inr b ↦ q_only s b
             ];

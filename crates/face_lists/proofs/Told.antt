@@ -52,16 +52,19 @@ chosen_is false e y = not-true e.start y
 -- which numbers are chosen
 into_chosen : (start : Bool) (entries : List Entry) (v : ℕ) → Contains entries (entry v start) → Contains (chosen start entries) v
 into_chosen start entries v c =
-    map_contains (λ (e : Entry). e.vertex) (filter (is_chosen start) entries) (entry v start) (filter_contains (is_chosen start) entries (entry v start) (chosen_itself v start) c)
+    map_contains (λ (e : Entry). e.vertex) (filter (is_chosen start) entries) (entry v start)
+    (filter_contains (is_chosen start) entries (entry v start) (chosen_itself v start) c)
 
 from_chosen : (start : Bool) (entries : List Entry) (v : ℕ) → Contains (chosen start entries) v → Contains entries (entry v start)
 from_chosen start entries v c =
     let r = comes_from (λ (e : Entry). e.vertex) (filter (is_chosen start) entries) v c in
     let k = kept (is_chosen start) entries r.from r.inside in
-    let same : r.from ≡ entry v start = ap (λ w. entry w r.from.start) r.value ∙ ap (entry v) (chosen_is start r.from k.passes) in subst (Contains entries) same k.inside
+    let same : r.from ≡ entry v start =
+    ap (λ w. entry w r.from.start) r.value ∙ ap (entry v) (chosen_is start r.from k.passes) in subst (Contains entries) same k.inside
 
 -- those that entries tell, in order
-pub told : (n : ℕ) (number : ℕ → ℤ) (entries : List Entry) (start : Bool) → Tell n number entries → chosen start entries ≡ filter (λ v. stands start (number v)) (upto n)
+pub told : (n : ℕ) (number : ℕ → ℤ) (entries : List Entry) (start : Bool) → Tell n number entries →
+    chosen start entries ≡ filter (λ v. stands start (number v)) (upto n)
 told n number entries start tell =
     ascending_is_filter (λ v. stands start (number v)) n (chosen start entries)
     (rises_ascends 0 tell.end (chosen start entries) (rises-filter (λ (e : Entry). e.vertex) (is_chosen start) 0 tell.end entries tell.rise))

@@ -52,7 +52,8 @@ module _ (xs ys : List Included) (origin : ℕ → Origin) (number : ℤ → ℤ
   alone v l k below same =
       let here : (get_or is k no_included).origin ≡ origin v = same ∙ ap (λ i. i.origin) (item_at v l) in
       elim (cases_lt k (length xs)) as (λ _. k ≡ length xs + v) [
-        | inl first ↦ absurd (no_earlier k no_included first v (sym (ap (λ i. i.origin) (get_or_append_left xs (vs ++ ys) no_included k first)) ∙ here))
+        | inl first ↦
+            absurd (no_earlier k no_included first v (sym (ap (λ i. i.origin) (get_or_append_left xs (vs ++ ys) no_included k first)) ∙ here))
         | inr past ↦
             let w = k - length xs in
             let at : length xs + w ≡ k = omega (arith, past) in
@@ -74,4 +75,5 @@ module _ (xs ys : List Included) (origin : ℕ → Origin) (number : ℤ → ℤ
       ∙ ap (run_of (k + before vs v)) (at_middle xs vs ys v inside)
       ∙ sym (run_at vs k v inside)
       ∙ ap (λ ns. get_or (runs_from k ns) v no_run) (vertex_numbers origin number ws points n long) in
-      subst (IsRunOf (all_copies is) (origin v) (get_or points v [])) run (subst (λ i. IsRunOf (all_copies is) i.origin i.point (block_run is j)) (item_at v l) known)
+      subst (IsRunOf (all_copies is) (origin v) (get_or points v [])) run
+      (subst (λ i. IsRunOf (all_copies is) i.origin i.point (block_run is j)) (item_at v l) known)

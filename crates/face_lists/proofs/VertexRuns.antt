@@ -1,5 +1,6 @@
 -- The runs that numbers give are the blocks of what is included so often, and follow one another.
-use Rattle.std.proofs.Common.{◌≡◌, ℕ, zero, suc, ◌+◌, ◌<◌, ◌≤◌, ℤ, pos, List, [], ◌∷◌, map, length, get_or, nat_abs, int_lt, refl, sym, ap, ◌∙◌, arith}
+use Rattle.std.proofs.Common.{◌≡◌, ℕ, zero, suc, ◌+◌, ◌<◌, ◌≤◌, ℤ, pos, List, [], ◌∷◌, map, length, get_or, nat_abs}
+use Rattle.std.proofs.Common.{int_lt, refl, sym, ap, ◌∙◌, arith}
 use Rattle.std.specs.List.{All}
 use Rattle.std.proofs.lemmas.List.{get_or-map, length-append, length-map, same_lists}
 use Rattle.std.proofs.lemmas.List.Elements.{All-cons, All-nil, All-weaker}
@@ -23,12 +24,14 @@ abbrev pub run_of : ℕ → Included → CopyRange
 run_of f i = record { first = f; count = nat_abs i.number; negative = int_lt i.number (pos 0) }
 
 -- run j begins behind the copies before it
-pub run_at : (is : List Included) (k j : ℕ) → j < length is → get_or (runs_from k (numbers_of is)) j no_run ≡ run_of (k + before is j) (get_or is j no_included)
+pub run_at : (is : List Included) (k j : ℕ) → j < length is →
+    get_or (runs_from k (numbers_of is)) j no_run ≡ run_of (k + before is j) (get_or is j no_included)
 run_at [] k j l = absurd (omega (arith, l))
 run_at (i ∷ is) k zero l = let here : k ≡ k + 0 = omega arith in ap (λ f. run_of f i) here
 run_at (i ∷ is) k (suc j) l =
     let n = get_or is j no_included in
-    let shift : k + nat_abs i.number + before is j ≡ k + (nat_abs i.number + before is j) = omega arith in run_at is (k + nat_abs i.number) j (omega (arith, l)) ∙ ap (λ f. run_of f n) shift
+    let shift : k + nat_abs i.number + before is j ≡ k + (nat_abs i.number + before is j) =
+    omega arith in run_at is (k + nat_abs i.number) j (omega (arith, l)) ∙ ap (λ f. run_of f n) shift
 
 -- what a vertex is included as
 abbrev pub vertex_as : (ℕ → Origin) → (ℤ → ℤ) → List ℤ → List (List ℤ) → ℕ → Included
@@ -42,7 +45,8 @@ module _ (origin : ℕ → Origin) (number : ℤ → ℤ) (ws : List ℤ) (point
   pub vertex_at : (v : ℕ) → v < n → get_or (included_vertices origin number ws points n) v no_included ≡ vertex_as origin number ws points v
   vertex_at v l =
       let place : get_or (upto n) v 0 ≡ v = omega (arith, get_or-up_from 0 n v 0 l) in
-      get_or-map (vertex_as origin number ws points) (upto n) v 0 no_included (omega (arith, l, length-up_from 0 n)) ∙ ap (vertex_as origin number ws points) place
+      get_or-map (vertex_as origin number ws points) (upto n) v 0 no_included (omega (arith, l, length-up_from 0 n))
+      ∙ ap (vertex_as origin number ws points) place
 
   -- vertices are included by their winding numbers, in order
   pub vertex_numbers : length ws ≡ n → numbers_of (included_vertices origin number ws points n) ≡ map number ws
@@ -51,10 +55,12 @@ module _ (origin : ℕ → Origin) (number : ℤ → ℤ) (ws : List ℤ) (point
       same_lists (numbers_of vs) (map number ws) (omega (arith, length-map vs (λ i. i.number), length-vertices, length-map ws number, long))
       (λ k d l.
       let below : k < n = omega (arith, l, length-map vs (λ i. i.number), length-vertices) in
-      get_or-map (λ i. i.number) vs k no_included d (omega (arith, below, length-vertices)) ∙ ap (λ i. i.number) (vertex_at k below) ∙ sym (get_or-map number ws k (pos 0) d (omega (arith, below, long))))
+      get_or-map (λ i. i.number) vs k no_included d (omega (arith, below, length-vertices)) ∙ ap (λ i. i.number) (vertex_at k below)
+      ∙ sym (get_or-map number ws k (pos 0) d (omega (arith, below, long))))
 
 -- copies are as many as the sizes of the numbers
-pub length-all_copies : (is : List Included) (number : ℤ → ℤ) (ws : List ℤ) → numbers_of is ≡ map number ws → length (all_copies is) ≡ vertex_count number ws
+pub length-all_copies : (is : List Included) (number : ℤ → ℤ) (ws : List ℤ) → numbers_of is ≡ map number ws →
+    length (all_copies is) ≡ vertex_count number ws
 length-all_copies [] number [] e = refl
 length-all_copies [] number (w ∷ ws) e = absurd (omega (arith, ap length e))
 length-all_copies (i ∷ is) number [] e = absurd (omega (arith, ap length e))
@@ -62,7 +68,14 @@ length-all_copies (i ∷ is) number (w ∷ ws) e =
     let one : i.number ≡ number w = ap (λ l. get_or l 0 (pos 0)) e in
     let size : nat_abs i.number ≡ nat_abs (number w) = ap nat_abs one in
     let more : numbers_of is ≡ map number ws = ap (λ l. tail l) e in
-    omega (arith, length-append (copies_of i) (all_copies is), length-copies_of i, size, length-all_copies is number ws more, sum_by-cons (λ v. nat_abs (number v)) w ws)
+    omega (
+      arith,
+      length-append (copies_of i) (all_copies is),
+      length-copies_of i,
+      size,
+      length-all_copies is number ws more,
+      sum_by-cons (λ v. nat_abs (number v)) w ws,
+    )
   where
     tail : List ℤ → List ℤ
     tail [] = []
@@ -94,14 +107,17 @@ runs_end number k (w ∷ ws) =
     let more = sum_by-cons (λ v. nat_abs (number v)) w ws in
     let Ends : CopyRange → Type 0 = EndsBy (k + vertex_count number (w ∷ ws)) in
     let rest = runs_from (k + size) (map number ws) in
-    let later : All Ends rest = All-weaker (EndsBy (k + size + vertex_count number ws)) Ends (λ r l. omega (arith, l, more)) rest (runs_end number (k + size) ws) in
+    let later : All Ends rest =
+    All-weaker (EndsBy (k + size + vertex_count number ws)) Ends (λ r l. omega (arith, l, more)) rest (runs_end number (k + size) ws) in
     All-cons Ends (record { first = k; count = size; negative = int_lt (number w) (pos 0) }) rest (omega (arith, more)) later
 
 -- so they are in order
 pub runs_in_order : (number : ℤ → ℤ) (k last : ℕ) (ws : List ℤ) → k + vertex_count number ws ≤ last → AreInOrder last (runs_from k (map number ws))
 runs_in_order number k last ws below = record {
   each = runs_follow k (map number ws);
-  last = All-weaker (EndsBy (k + vertex_count number ws)) (EndsBy last) (λ r l. omega (arith, l, below)) (runs_from k (map number ws)) (runs_end number k ws);
+  last =
+      All-weaker (EndsBy (k + vertex_count number ws)) (EndsBy last) (λ r l. omega (arith, l, below)) (runs_from k (map number ws))
+      (runs_end number k ws);
 }
 
 -- one for each number

@@ -1,5 +1,6 @@
 -- What runs and records say of copies: which copies each vertex has, and in which lists the copies of hits stand.
-use Rattle.std.specs.Prelude.{◌≡◌, ◌↔◌, ℕ, ◌+◌, ◌-◌, ◌*◌, ◌<◌, ◌≤◌, ℤ, pos, ◌<ℤ◌, List, true, false, Bool, filter, ◌==◌, if◌then◌else◌, nat_lt, length, get_or}
+use Rattle.std.specs.Prelude.{◌≡◌, ◌↔◌, ℕ, ◌+◌, ◌-◌, ◌*◌, ◌<◌, ◌≤◌, ℤ, pos, ◌<ℤ◌, List, true, false, Bool, filter}
+use Rattle.std.specs.Prelude.{◌==◌, if◌then◌else◌, nat_lt, length, get_or}
 use Rattle.std.specs.List.{All, Contains}
 use Rattle.chain_terms.specs.Chains.{all_edges}
 use Rattle.mb_base.specs.declared.results.Origin.{Origin}
@@ -32,7 +33,8 @@ pub record AreInOrder (k : ℕ) (runs : List CopyRange) : Type 0 where
 -- list l of source face x, where the first side has so many faces
 abbrev pub list_name : ℕ → ℕ → ℕ → ListName
 list_name p_faces x l =
-    if nat_lt x p_faces then (if nat_lt l 3 then HalfP (3 * x + l) else PairP x (l - 3)) else (if nat_lt l 3 then HalfQ (3 * (x - p_faces) + l) else PairQ (x - p_faces) (l - 3))
+    if nat_lt x p_faces then (if nat_lt l 3 then HalfP (3 * x + l) else PairP x (l - 3)) else
+    (if nat_lt l 3 then HalfQ (3 * (x - p_faces) + l) else PairQ (x - p_faces) (l - 3))
 
 -- a copy of a hit, not of a vertex
 abbrev pub IsHitCopy : Origin → Type 0
@@ -48,10 +50,12 @@ StandsAs false n = n <ℤ pos 0
 
 -- the records say how each copy of a hit stands in each list of each source face, and nothing else
 pub record AreStandsOf (es ds : List (ℕ × ℕ)) (p_faces : ℕ) (cs : List Copy) (stands : List Stand) : Type 0 where
-  pub each : (x l v : ℕ) (start : Bool) → v < length cs → IsHitCopy (get_or cs v no_copy).origin → StandsAs start (standing es ds (list_name p_faces x l) (get_or cs v no_copy)) →
+  pub each : (x l v : ℕ) (start : Bool) → v < length cs → IsHitCopy (get_or cs v no_copy).origin →
+      StandsAs start (standing es ds (list_name p_faces x l) (get_or cs v no_copy)) →
       Contains stands (record { face = x; list = l; copy = v; start = start })
   pub only : (s : Stand) → Contains stands s →
-      (s.copy < length cs) × IsHitCopy (get_or cs s.copy no_copy).origin × StandsAs s.start (standing es ds (list_name p_faces s.face s.list) (get_or cs s.copy no_copy))
+      (s.copy < length cs) × IsHitCopy (get_or cs s.copy no_copy).origin
+      × StandsAs s.start (standing es ds (list_name p_faces s.face s.list) (get_or cs s.copy no_copy))
 
 abbrev pub no_stand : Stand
 no_stand = record { face = 0; list = 0; copy = 0; start = false }

@@ -1,5 +1,6 @@
 -- The segments of a face from the copies at its vertices and from the records of its hits.
-use Rattle.std.specs.Prelude.{◌≡◌, ℕ, ◌+◌, ◌*◌, ◌<◌, ◌≤◌, ℤ, List, [], ◌∷◌, ◌++◌, true, false, cond, ◌==◌, nat_lt, map, length, get_or, take, drop}
+use Rattle.std.specs.Prelude.{◌≡◌, ℕ, ◌+◌, ◌*◌, ◌<◌, ◌≤◌, ℤ, List, [], ◌∷◌, ◌++◌, true, false, cond, ◌==◌, nat_lt, map}
+use Rattle.std.specs.Prelude.{length, get_or, take, drop}
 use Rattle.std.specs.List.{All, flat_map}
 use Rattle.chain_terms.specs.Chains.{all_edges}
 use Rattle.chain_terms.specs.Ranks.{start, finish}
@@ -19,7 +20,8 @@ no_run = record { first = 0; count = 0; negative = false }
 -- the copies of two vertices as entries of the half-edge from the one to the other, by their numbers
 abbrev pub end_entries : List CopyRange → ℕ → ℕ → List Entry
 end_entries runs a b =
-    cond (nat_lt a b) (run_entries (get_or runs a no_run) true ++ run_entries (get_or runs b no_run) false) (run_entries (get_or runs b no_run) false ++ run_entries (get_or runs a no_run) true)
+    cond (nat_lt a b) (run_entries (get_or runs a no_run) true ++ run_entries (get_or runs b no_run) false)
+    (run_entries (get_or runs b no_run) false ++ run_entries (get_or runs a no_run) true)
 
 -- the entries of a half-edge: the copies of its ends, then those of its hits
 abbrev pub half_entries : Side → List CopyRange → ℕ → List Stand → List Entry

@@ -47,7 +47,8 @@ hit_stands op es own other k (h ∷ hs) = one_hit_stands op es own other k h ++ 
 -- those of the edges of both sides, copies numbered from k
 abbrev pub all_stands : Op → Side → Side → List Hit → List Hit → ℕ → List Stand
 all_stands op p q x12 x21 k =
-    hit_stands op (all_edges p.triples) 0 (length p.triples) k x12 ++ hit_stands op (all_edges q.triples) (length p.triples) 0 (k + hit_count op x12) x21
+    hit_stands op (all_edges p.triples) 0 (length p.triples) k x12
+    ++ hit_stands op (all_edges q.triples) (length p.triples) 0 (k + hit_count op x12) x21
 
 -- by the face, then the list, then the copy
 abbrev pub stands_before : Stand → Stand → Bool

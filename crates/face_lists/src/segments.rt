@@ -5,7 +5,8 @@ ghost use Rattle.chain_terms.specs.Chains.{all_edges};
 ghost use Rattle.mesh_terms.specs.Limits.{most_halfedges};
 ghost use Rattle.edge_pairing.specs.Entries.{edge_of};
 ghost use Rattle.face_lists.specs.Entries.{entry_of};
-ghost use Rattle.face_lists.specs.Parts.{AreRuns, CanBePaired, CanBeSegments, front, groups, half_entries, half_segments, pair_segments, pairs_segments, rest, segments_by};
+ghost use Rattle.face_lists.specs.Parts.{AreRuns, CanBePaired, CanBeSegments, front, groups, rest};
+ghost use Rattle.face_lists.specs.Parts.{half_entries, half_segments, pair_segments, pairs_segments, segments_by};
 
 use crate::entries::{list_end, push_run, push_stands};
 use crate::places::edge_ends;
@@ -72,7 +73,8 @@ fn push_half(
     requires half { half < 3 * length side.now.triples }
     requires runs { AreRuns side.now (length points.now) runs.now }
     requires paired { CanBePaired points.now (half_entries side.now runs.now half stands.now) }
-    ensures { OnOk result (map edge_of segments.new.items ≡ map edge_of segments.old.items ++ half_segments side.now runs.now points.now half stands.now) }
+    ensures { OnOk result (map edge_of segments.new.items ≡ map edge_of segments.old.items ++
+        half_segments side.now runs.now points.now half stands.now) }
 {
     let entries = half_entries(alloc, side, runs, half, stands)?;
     let (a, b) = edge_ends(side, half);

@@ -101,7 +101,8 @@ fn push_hits(
     requires triples { length twins.now.triples ≤ most_triangles }
     requires hits { AreHits (all_edges twins.now.triples) most_triangles hits.now }
     requires fits { first + hit_count op hits.now < 2 ^ 32 }
-    ensures stands { OnOk result (stands.new.items ≡ stands.old.items ++ hit_stands op (all_edges twins.now.triples) bases.edges bases.faces first hits.now) }
+    ensures stands { OnOk result (stands.new.items ≡ stands.old.items ++
+        hit_stands op (all_edges twins.now.triples) bases.edges bases.faces first hits.now) }
     ensures next { IfOk result (λ next. next ≡ first + hit_count op hits.now) }
 {
     let mut next = first;

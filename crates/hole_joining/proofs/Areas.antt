@@ -17,7 +17,8 @@ use Rattle.hole_joining.specs.Holes.{is_ring, is_hole}
 use Rattle.hole_joining.proofs.Loops.{area-exchanged}
 
 -- the area of the loop at an index
-pub read_area : (f : FlatPoints) (loops : List (List ℕ)) (areas : List ℤ) (i : ℕ) → areas ≡ map (area (straight_at f)) loops → i < length loops → get_or areas i (pos 0) ≡ area (straight_at f) (get_or loops i [])
+pub read_area : (f : FlatPoints) (loops : List (List ℕ)) (areas : List ℤ) (i : ℕ) → areas ≡ map (area (straight_at f)) loops →
+    i < length loops → get_or areas i (pos 0) ≡ area (straight_at f) (get_or loops i [])
 read_area f loops areas i is within = ap (λ l. get_or l i (pos 0)) is ∙ get_or-map (area (straight_at f)) loops i [] (pos 0) within
 
 -- where u and v are exchanged it is negated
@@ -45,7 +46,8 @@ no_ring at l = other (area at l)
     other z = grind (arith, ints)
 
 -- rings with the chain of loops have areas with the same sum
-pub areas_kept : (at : Plane) (loops rings : List (List ℕ)) → SameChain (flat_map round_edges rings) (flat_map round_edges loops) → KeepsAreas at loops rings
+pub areas_kept : (at : Plane) (loops rings : List (List ℕ)) → SameChain (flat_map round_edges rings) (flat_map round_edges loops) →
+    KeepsAreas at loops rings
 areas_kept at loops rings same =
     let u : ℕ → ℤ = λ v. (at v).0 in
     let w : ℕ → ℤ = λ v. (at v).1 in

@@ -1,10 +1,12 @@
 -- The bridge that is taken: the first clear one in the order of length, ring and place.
-use Rattle.std.specs.Prelude.{◌≡◌, ℕ, zero, suc, ◌+◌, ◌<◌, ◌≤◌, ◌⊎◌, pos, List, [], ◌∷◌, ◌++◌, true, false, Bool, cond, ◌&&◌, ◌||◌, ◌==◌, nat_lt, length, get_or, drop, filter, unsigned_abs, Option, Some, None}
+use Rattle.std.specs.Prelude.{◌≡◌, ℕ, zero, suc, ◌+◌, ◌<◌, ◌≤◌, ◌⊎◌, pos, List, [], ◌∷◌, ◌++◌, true, false, Bool, cond}
+use Rattle.std.specs.Prelude.{◌&&◌, ◌||◌, ◌==◌, nat_lt, length, get_or, drop, filter, unsigned_abs, Option, Some, None}
 use Rattle.std.specs.Bool.{Decides}
 use Rattle.std.specs.List.{All}
 use Rattle.std.specs.Option.{option_or}
 use Rattle.std.proofs.Common.{arith, refl, sym, ap, subst, ◌∙◌, inl, inr}
-use Rattle.std.proofs.lemmas.Bool.{cases_Bool, ltb-true, ltb-false, lt-ltb, le-ltb, and_parts, and_from, and_right, both_ways, false_from_ne_true, cond-true, cond-false}
+use Rattle.std.proofs.lemmas.Bool.{cases_Bool, ltb-true, ltb-false, lt-ltb, le-ltb, and_parts, and_from, and_right}
+use Rattle.std.proofs.lemmas.Bool.{both_ways, false_from_ne_true, cond-true, cond-false}
 use Rattle.std.proofs.lemmas.List.{at_drop_more}
 use Rattle.std.proofs.lemmas.List.Elements.{All-head}
 use Rattle.std.proofs.lemmas.Option.{same_Some, none-some}
@@ -146,13 +148,18 @@ head_first x xs up (Some d) none some b e = elim (cases_Bool (nat_lt d.squared_l
     longer d c (inl h) = omega (arith, ap (λ (z : Bridge). z.squared_length) h)
     longer d c (inr h) = omega (arith, h)
 
-    keep_rest : nat_lt d.squared_length x.squared_length ≡ true → (c : Bridge) → Member c (x ∷ xs) → (d ≡ c) ⊎ IsLater d.squared_length d.ring d.place c.squared_length c.ring c.place
-    keep_rest y c (inl h) = inr (inl (subst (λ (z : Bridge). d.squared_length < z.squared_length) (sym h) (ltb-true d.squared_length x.squared_length y)))
+    keep_rest : nat_lt d.squared_length x.squared_length ≡ true → (c : Bridge) → Member c (x ∷ xs) →
+        (d ≡ c) ⊎ IsLater d.squared_length d.ring d.place c.squared_length c.ring c.place
+    keep_rest y c (inl h) =
+        inr (inl (subst (λ (z : Bridge). d.squared_length < z.squared_length) (sym h) (ltb-true d.squared_length x.squared_length y)))
     keep_rest y c (inr m) = (some d refl).1 c m
 
-    keep_head : nat_lt d.squared_length x.squared_length ≡ false → (c : Bridge) → Member c (x ∷ xs) → (x ≡ c) ⊎ IsLater x.squared_length x.ring x.place c.squared_length c.ring c.place
+    keep_head : nat_lt d.squared_length x.squared_length ≡ false → (c : Bridge) → Member c (x ∷ xs) →
+        (x ≡ c) ⊎ IsLater x.squared_length x.ring x.place c.squared_length c.ring c.place
     keep_head n c (inl h) = inl (sym h)
-    keep_head n c (inr m) = inr (far x.squared_length x.ring x.place d.squared_length c.ring c.place c.squared_length (ltb-false d.squared_length x.squared_length n) (longer d c ((some d refl).1 c m)) (up c m))
+    keep_head n c (inr m) =
+        inr (far x.squared_length x.ring x.place d.squared_length c.ring c.place c.squared_length
+        (ltb-false d.squared_length x.squared_length n) (longer d c ((some d refl).1 c m)) (up c m))
 
 -- the shortest is the first in the order of length, ring and place
 shortest_first : (i j : ℕ) (bs : List Bridge) → Ascending i j bs → (b : Bridge) → shortest bs ≡ Some b → IsFirst b bs
@@ -161,7 +168,8 @@ shortest_first i j (x ∷ xs) up b e =
     head_first x xs (ascending_all x.ring (suc x.place) xs up.1) (shortest xs) (shortest_none xs) (shortest_first x.ring (suc x.place) xs up.1) b e
 
 -- two that are first are the same
-one_first : (b c : Bridge) → (b ≡ c) ⊎ IsLater b.squared_length b.ring b.place c.squared_length c.ring c.place → (c ≡ b) ⊎ IsLater c.squared_length c.ring c.place b.squared_length b.ring b.place → b ≡ c
+one_first : (b c : Bridge) → (b ≡ c) ⊎ IsLater b.squared_length b.ring b.place c.squared_length c.ring c.place →
+    (c ≡ b) ⊎ IsLater c.squared_length c.ring c.place b.squared_length b.ring b.place → b ≡ c
 one_first b c (inl e) h = e
 one_first b c (inr l) (inl e) = sym e
 one_first b c (inr l) (inr m) = absurd (both b.squared_length b.ring b.place c.squared_length c.ring c.place l m)
@@ -181,16 +189,21 @@ is_shortest i j bs up b first = decide (shortest bs) refl
     decide (Some d) e = let g = shortest_first i j bs up d e in ap Some (one_first d b (g.1 b first.0) (first.1 d g.0))
 
 -- where the first of those that pass p passes q, it is the first of those that pass both
-pub still_shortest : (p q : Bridge → Bool) (i j : ℕ) (bs : List Bridge) → Ascending i j bs → (b : Bridge) → shortest (filter p bs) ≡ Some b → q b ≡ true → shortest (filter (λ c. q c && p c) bs) ≡ Some b
+pub still_shortest : (p q : Bridge → Bool) (i j : ℕ) (bs : List Bridge) → Ascending i j bs → (b : Bridge) →
+    shortest (filter p bs) ≡ Some b → q b ≡ true → shortest (filter (λ c. q c && p c) bs) ≡ Some b
 still_shortest p q i j bs up b e y =
     let both : Bridge → Bool = λ c. q c && p c in
     let first = shortest_first i j (filter p bs) (ascending_kept p i j bs up) b e in
     let here = kept p bs b first.0 in
-    is_shortest i j (filter both bs) (ascending_kept both i j bs up) b
-    (keeps both bs b here.0 (and_from (q b) (p b) y here.1), λ c m. let r = kept both bs c m in first.1 c (keeps p bs c r.0 (and_parts (q c) (p c) r.1).1))
+    is_shortest i j (filter both bs) (ascending_kept both i j bs up) b (
+      keeps both bs b here.0 (and_from (q b) (p b) y here.1),
+      λ c m. let r = kept both bs c m in
+          first.1 c (keeps p bs c r.0 (and_parts (q c) (p c) r.1).1),
+    )
 
 -- after the first bridge after the last one, where that one is not clear, come the same clear bridges
-after_refused : (clear : Bridge → Bool) (last : Option Bridge) (i j : ℕ) (bs : List Bridge) → Ascending i j bs → (b : Bridge) → shortest (filter (is_after last) bs) ≡ Some b → clear b ≡ false →
+after_refused : (clear : Bridge → Bool) (last : Option Bridge) (i j : ℕ) (bs : List Bridge) → Ascending i j bs → (b : Bridge) →
+    shortest (filter (is_after last) bs) ≡ Some b → clear b ≡ false →
     (c : Bridge) → Member c bs → (clear c && is_after last c) ≡ (clear c && is_after (Some b) c)
 after_refused clear last i j bs up b e n c m = elim (cases_Bool (clear c)) as (λ _. (clear c && is_after last c) ≡ (clear c && is_after (Some b) c)) [
   | inr f ↦ rw f refl
@@ -215,8 +228,10 @@ after_refused clear last i j bs up b e n c m = elim (cases_Bool (clear c)) as (�
     from_last : (o : Option Bridge) (b c : Bridge) → is_after o b ≡ true → is_after (Some b) c ≡ true → is_after o c ≡ true
     from_last None b c t u = refl
     from_last (Some a) b c t u =
-        (later_decides a.squared_length a.ring a.place c.squared_length c.ring c.place).1 (later_chain a.squared_length a.ring a.place b.squared_length b.ring b.place c.squared_length c.ring c.place
-        ((later_decides a.squared_length a.ring a.place b.squared_length b.ring b.place).0 t) ((later_decides b.squared_length b.ring b.place c.squared_length c.ring c.place).0 u))
+        (later_decides a.squared_length a.ring a.place c.squared_length c.ring c.place).1
+        (later_chain a.squared_length a.ring a.place b.squared_length b.ring b.place c.squared_length c.ring c.place
+        ((later_decides a.squared_length a.ring a.place b.squared_length b.ring b.place).0 t)
+        ((later_decides b.squared_length b.ring b.place c.squared_length c.ring c.place).0 u))
 
 -- no bridge up to the last refused one is clear, as far as the choice goes
 abbrev pub Refused : (Bridge → Bool) → List Bridge → Option Bridge → Type 0
@@ -231,21 +246,28 @@ refused_none clear bs = ap shortest (filter_same clear (passes clear true None) 
     and_true false = refl
 
 -- one more was refused
-pub refused_more : (clear : Bridge → Bool) (last : Option Bridge) (i j : ℕ) (bs : List Bridge) → Ascending i j bs → (b : Bridge) → shortest (filter (is_after last) bs) ≡ Some b → clear b ≡ false →
+pub refused_more : (clear : Bridge → Bool) (last : Option Bridge) (i j : ℕ) (bs : List Bridge) → Ascending i j bs → (b : Bridge) →
+    shortest (filter (is_after last) bs) ≡ Some b → clear b ≡ false →
     Refused clear bs last → Refused clear bs (Some b)
-refused_more clear last i j bs up b e n h = h ∙ ap shortest (filter_same (passes clear true last) (passes clear true (Some b)) bs (after_refused clear last i j bs up b e n))
+refused_more clear last i j bs up b e n h =
+    h ∙ ap shortest (filter_same (passes clear true last) (passes clear true (Some b)) bs (after_refused clear last i j bs up b e n))
 
 -- the next one is clear: it is taken
-pub next_clear : (clear : Bridge → Bool) (last : Option Bridge) (i j : ℕ) (bs : List Bridge) → Ascending i j bs → (b : Bridge) → shortest (filter (is_after last) bs) ≡ Some b → clear b ≡ true →
+pub next_clear : (clear : Bridge → Bool) (last : Option Bridge) (i j : ℕ) (bs : List Bridge) → Ascending i j bs → (b : Bridge) →
+    shortest (filter (is_after last) bs) ≡ Some b → clear b ≡ true →
     Refused clear bs last → chosen clear bs ≡ Some b
 next_clear clear last i j bs up b e y h = ap (λ o. option_or o (shortest bs)) (h ∙ still_shortest (is_after last) clear i j bs up b e y)
 
 -- there is no next one: the shortest of all is taken
-pub next_none : (clear : Bridge → Bool) (last : Option Bridge) (bs : List Bridge) → shortest (filter (is_after last) bs) ≡ None → Refused clear bs last → chosen clear bs ≡ shortest bs
+pub next_none : (clear : Bridge → Bool) (last : Option Bridge) (bs : List Bridge) → shortest (filter (is_after last) bs) ≡ None →
+    Refused clear bs last → chosen clear bs ≡ shortest bs
 next_none clear last bs e h = ap (λ o. option_or o (shortest bs)) (h ∙ ap shortest (less bs (shortest_none (filter (is_after last) bs) e)))
   where
     less : (xs : List Bridge) → filter (is_after last) xs ≡ [] → filter (passes clear true last) xs ≡ []
-    less xs f = empty (filter (passes clear true last) xs) (λ c m. let r = kept (passes clear true last) xs c m in none c (subst (Member c) f (keeps (is_after last) xs c r.0 (and_parts (clear c) (is_after last c) r.1).1)))
+    less xs f =
+        empty (filter (passes clear true last) xs)
+        (λ c m. let r = kept (passes clear true last) xs c m in
+        none c (subst (Member c) f (keeps (is_after last) xs c r.0 (and_parts (clear c) (is_after last c) r.1).1)))
       where
         none : (c : Bridge) → Member c [] → ⊥
         none c m = m
@@ -255,7 +277,8 @@ next_none clear last bs e h = ap (λ o. option_or o (shortest bs)) (h ∙ ap sho
         empty (y ∷ ys) h = absurd (h y (inl refl))
 
 -- the choice among those that come after the last refused one
-pub rest_chosen : (clear : Bridge → Bool) (last : Option Bridge) (bs : List Bridge) → Refused clear bs last → chosen clear bs ≡ option_or (shortest (filter (passes clear true last) bs)) (shortest bs)
+pub rest_chosen : (clear : Bridge → Bool) (last : Option Bridge) (bs : List Bridge) → Refused clear bs last →
+    chosen clear bs ≡ option_or (shortest (filter (passes clear true last) bs)) (shortest bs)
 rest_chosen clear last bs h = ap (λ o. option_or o (shortest bs)) h
 
 -- the best so far and the shortest of the rest
@@ -264,37 +287,55 @@ with_best None o = o
 with_best (Some c) o = shorter c o
 
 -- one bridge more
-better_first : (p : Bridge → Bool) (best : Option Bridge) (b : Bridge) (o : Option Bridge) → p b ≡ true → with_best (better p best b) o ≡ with_best best (shorter b o)
+better_first : (p : Bridge → Bool) (best : Option Bridge) (b : Bridge) (o : Option Bridge) → p b ≡ true →
+    with_best (better p best b) o ≡ with_best best (shorter b o)
 better_first p None b o y = rw y refl
-better_first p (Some c) b None y = elim (cases_Bool (nat_lt b.squared_length c.squared_length)) as (λ _. with_best (better p (Some c) b) None ≡ shorter c (Some b)) [
-  | inl t ↦ rw (t, y) refl
-  | inr f ↦ rw f refl
-]
-better_first p (Some c) b (Some d) y = elim (cases_Bool (nat_lt b.squared_length c.squared_length)) as (λ _. with_best (better p (Some c) b) (Some d) ≡ shorter c (shorter b (Some d))) [
-  | inl t ↦ elim (cases_Bool (nat_lt d.squared_length b.squared_length)) as (λ _. with_best (better p (Some c) b) (Some d) ≡ shorter c (shorter b (Some d))) [
-    | inl u ↦ let v : nat_lt d.squared_length c.squared_length ≡ true = lt-ltb d.squared_length c.squared_length (omega (arith, ltb-true d.squared_length b.squared_length u, ltb-true b.squared_length c.squared_length t)) in rw (t, y, u, v) refl
-    | inr f ↦ rw (t, y, f, t) refl
-  ]
-  | inr f ↦ elim (cases_Bool (nat_lt d.squared_length b.squared_length)) as (λ _. with_best (better p (Some c) b) (Some d) ≡ shorter c (shorter b (Some d))) [
-    | inl u ↦ rw (f, u) refl
-    | inr g ↦ let v : nat_lt d.squared_length c.squared_length ≡ false = le-ltb d.squared_length c.squared_length (omega (arith, ltb-false d.squared_length b.squared_length g, ltb-false b.squared_length c.squared_length f)) in rw (f, g, v, f) refl
-  ]
-]
+better_first p (Some c) b None y =
+    elim (cases_Bool (nat_lt b.squared_length c.squared_length)) as (λ _. with_best (better p (Some c) b) None ≡ shorter c (Some b)) [
+      | inl t ↦ rw (t, y) refl
+      | inr f ↦ rw f refl
+    ]
+better_first p (Some c) b (Some d) y =
+    elim (cases_Bool (nat_lt b.squared_length c.squared_length)) as (λ _. with_best (better p (Some c) b) (Some d) ≡ shorter c (shorter b (Some d))) [
+      | inl t ↦
+          elim (cases_Bool (nat_lt d.squared_length b.squared_length))
+          as (λ _. with_best (better p (Some c) b) (Some d) ≡ shorter c (shorter b (Some d))) [
+            | inl u ↦
+                let v : nat_lt d.squared_length c.squared_length ≡ true =
+                lt-ltb d.squared_length c.squared_length
+                (omega (arith, ltb-true d.squared_length b.squared_length u, ltb-true b.squared_length c.squared_length t)) in rw (t, y, u, v) refl
+            | inr f ↦ rw (t, y, f, t) refl
+          ]
+      | inr f ↦
+          elim (cases_Bool (nat_lt d.squared_length b.squared_length))
+          as (λ _. with_best (better p (Some c) b) (Some d) ≡ shorter c (shorter b (Some d))) [
+            | inl u ↦ rw (f, u) refl
+            | inr g ↦
+                let v : nat_lt d.squared_length c.squared_length ≡ false =
+                le-ltb d.squared_length c.squared_length
+                (omega (arith, ltb-false d.squared_length b.squared_length g, ltb-false b.squared_length c.squared_length f)) in rw (f, g, v, f) refl
+          ]
+    ]
 
 -- a pass finds the shortest of those that pass
 pub best_of_is : (p : Bridge → Bool) (best : Option Bridge) (bs : List Bridge) → best_of p best bs ≡ with_best best (shortest (filter p bs))
 best_of_is p None [] = refl
 best_of_is p (Some c) [] = refl
 best_of_is p best (b ∷ bs) = elim (cases_Bool (p b)) as (λ _. best_of p best (b ∷ bs) ≡ with_best best (shortest (filter p (b ∷ bs)))) [
-  | inl y ↦ best_of_is p (better p best b) bs ∙ better_first p best b (shortest (filter p bs)) y ∙ ap (λ l. with_best best (shortest l)) (sym (cond-true (p b) (b ∷ filter p bs) (filter p bs) y))
-  | inr n ↦ ap (λ o. best_of p o bs) (worse best n) ∙ best_of_is p best bs ∙ ap (λ l. with_best best (shortest l)) (sym (cond-false (p b) (b ∷ filter p bs) (filter p bs) n))
+  | inl y ↦
+      best_of_is p (better p best b) bs ∙ better_first p best b (shortest (filter p bs)) y
+      ∙ ap (λ l. with_best best (shortest l)) (sym (cond-true (p b) (b ∷ filter p bs) (filter p bs) y))
+  | inr n ↦
+      ap (λ o. best_of p o bs) (worse best n) ∙ best_of_is p best bs
+      ∙ ap (λ l. with_best best (shortest l)) (sym (cond-false (p b) (b ∷ filter p bs) (filter p bs) n))
 ]
   where
     worse : (o : Option Bridge) → p b ≡ false → better p o b ≡ o
     worse o n = cond-false (is_nearer o b && p b) (Some b) o (and_right (is_nearer o b) (p b) n)
 
 -- the bridges to one ring come in order, and those to later rings after them
-bridges_ascending : (at : Plane) (h k n : ℕ) (rs : List ℕ) (tail : List Bridge) → Ascending (suc k) 0 tail → (i j : ℕ) → Before i j k (suc n) → Ascending i j (bridges_to at h k n rs ++ tail)
+bridges_ascending : (at : Plane) (h k n : ℕ) (rs : List ℕ) (tail : List Bridge) → Ascending (suc k) 0 tail → (i j : ℕ) →
+    Before i j k (suc n) → Ascending i j (bridges_to at h k n rs ++ tail)
 bridges_ascending at h k n [] tail up i j b = ascending_from i j (suc k) 0 tail (next i j k n b) up
   where
     next : (i j k n : ℕ) → Before i j k (suc n) → Before i j (suc k) 1
@@ -304,10 +345,12 @@ bridges_ascending at h k n (r ∷ rs) tail up i j b = (b, bridges_ascending at h
 -- all bridges come in order
 pub all_ascending : (at : Plane) (h k : ℕ) (rings : List (List ℕ)) → Ascending k 0 (all_bridges at h k rings)
 all_ascending at h k [] = tt
-all_ascending at h k (ring ∷ rings) = bridges_ascending at h k 0 ring (all_bridges at h (suc k) rings) (all_ascending at h (suc k) rings) k 0 (inr (refl, omega arith))
+all_ascending at h k (ring ∷ rings) =
+    bridges_ascending at h k 0 ring (all_bridges at h (suc k) rings) (all_ascending at h (suc k) rings) k 0 (inr (refl, omega arith))
 
 -- a pass over all that come after the last refused one
-pub pass_after : (clear : Bridge → Bool) (last : Option Bridge) (bs : List Bridge) → best_of (passes clear false last) None bs ≡ shortest (filter (is_after last) bs)
+pub pass_after : (clear : Bridge → Bool) (last : Option Bridge) (bs : List Bridge) →
+    best_of (passes clear false last) None bs ≡ shortest (filter (is_after last) bs)
 pass_after clear last bs = best_of_is (passes clear false last) None bs
 
 -- a pass over all
@@ -315,7 +358,8 @@ pub pass_all : (clear : Bridge → Bool) (bs : List Bridge) → best_of (passes 
 pass_all clear bs = pass_after clear None bs ∙ ap shortest (filter_all bs)
 
 -- a pass over the clear ones among these
-pub pass_clear : (clear : Bridge → Bool) (last : Option Bridge) (bs : List Bridge) → best_of (passes clear true last) None bs ≡ shortest (filter (passes clear true last) bs)
+pub pass_clear : (clear : Bridge → Bool) (last : Option Bridge) (bs : List Bridge) →
+    best_of (passes clear true last) None bs ≡ shortest (filter (passes clear true last) bs)
 pass_clear clear last bs = best_of_is (passes clear true last) None bs
 
 -- a pass over two lists
@@ -324,21 +368,27 @@ best_of-append p best [] ys = refl
 best_of-append p best (x ∷ xs) ys = best_of-append p (better p best x) xs ys
 
 -- a pass over one place more
-pub best_of_place : (at : Plane) (h i j l : ℕ) (p : Bridge → Bool) (best now : Option Bridge) (rs : List ℕ) → j < length rs → pos l ≡ squared_distance (at h) (at (get_or rs j 0)) → now ≡ better p best (record { ring = i; place = j; squared_length = l }) →
+pub best_of_place : (at : Plane) (h i j l : ℕ) (p : Bridge → Bool) (best now : Option Bridge) (rs : List ℕ) → j < length rs →
+    pos l ≡ squared_distance (at h) (at (get_or rs j 0)) → now ≡ better p best (record { ring = i; place = j; squared_length = l }) →
     best_of p now (bridges_to at h i (j + 1) (drop (j + 1) rs)) ≡ best_of p best (bridges_to at h i j (drop j rs))
 best_of_place at h i j l p best now rs within far e =
     let next : Bridge = record { ring = i; place = j; squared_length = unsigned_abs (squared_distance (at h) (at (get_or rs j 0))) } in
     let same : now ≡ better p best next = e ∙ ap (λ m. better p best (record { ring = i; place = j; squared_length = m })) (ap unsigned_abs far) in
     let one : j + 1 ≡ suc j = omega arith in
-    ap (λ o. best_of p o (bridges_to at h i (j + 1) (drop (j + 1) rs))) same ∙ ap (λ k. best_of p (better p best next) (bridges_to at h i k (drop (j + 1) rs))) one ∙ sym (at_drop_more (λ r. best_of p best (bridges_to at h i j r)) rs j 0 within)
+    ap (λ o. best_of p o (bridges_to at h i (j + 1) (drop (j + 1) rs))) same
+    ∙ ap (λ k. best_of p (better p best next) (bridges_to at h i k (drop (j + 1) rs))) one
+    ∙ sym (at_drop_more (λ r. best_of p best (bridges_to at h i j r)) rs j 0 within)
 
 -- a pass over one ring more
-pub best_of_ring : (at : Plane) (h i : ℕ) (p : Bridge → Bool) (best now : Option Bridge) (rings : List (List ℕ)) → i < length rings → now ≡ best_of p best (bridges_to at h i 0 (get_or rings i [])) →
+pub best_of_ring : (at : Plane) (h i : ℕ) (p : Bridge → Bool) (best now : Option Bridge) (rings : List (List ℕ)) → i < length rings →
+    now ≡ best_of p best (bridges_to at h i 0 (get_or rings i [])) →
     best_of p now (all_bridges at h (i + 1) (drop (i + 1) rings)) ≡ best_of p best (all_bridges at h i (drop i rings))
 best_of_ring at h i p best now rings within e =
     let one : i + 1 ≡ suc i = omega arith in
-    ap (λ o. best_of p o (all_bridges at h (i + 1) (drop (i + 1) rings))) e ∙ ap (λ k. best_of p (best_of p best (bridges_to at h i 0 (get_or rings i []))) (all_bridges at h k (drop (i + 1) rings))) one
-    ∙ sym (best_of-append p best (bridges_to at h i 0 (get_or rings i [])) (all_bridges at h (suc i) (drop (i + 1) rings))) ∙ sym (at_drop_more (λ r. best_of p best (all_bridges at h i r)) rings i [] within)
+    ap (λ o. best_of p o (all_bridges at h (i + 1) (drop (i + 1) rings))) e
+    ∙ ap (λ k. best_of p (best_of p best (bridges_to at h i 0 (get_or rings i []))) (all_bridges at h k (drop (i + 1) rings))) one
+    ∙ sym (best_of-append p best (bridges_to at h i 0 (get_or rings i [])) (all_bridges at h (suc i) (drop (i + 1) rings)))
+    ∙ sym (at_drop_more (λ r. best_of p best (all_bridges at h i r)) rings i [] within)
 
 -- a member of two lists is in one of them
 member_cases : (b : Bridge) (xs ys : List Bridge) → Member b (xs ++ ys) → Member b xs ⊎ Member b ys
@@ -353,12 +403,15 @@ bridges_within at h i j (r ∷ rs) b (inl e) = (ap (λ (z : Bridge). z.ring) e, 
 bridges_within at h i j (r ∷ rs) b (inr m) = let p = bridges_within at h i (suc j) rs b m in (p.0, omega (arith, p.1))
 
 -- all bridges lead to places of rings
-all_within : (at : Plane) (h i : ℕ) (rings : List (List ℕ)) (b : Bridge) → Member b (all_bridges at h i rings) → (k : ℕ) × (b.ring ≡ i + k) × (k < length rings) × (b.place < length (get_or rings k []))
+all_within : (at : Plane) (h i : ℕ) (rings : List (List ℕ)) (b : Bridge) → Member b (all_bridges at h i rings) →
+    (k : ℕ) × (b.ring ≡ i + k) × (k < length rings) × (b.place < length (get_or rings k []))
 all_within at h i [] b m = elim m [ ]
-all_within at h i (ring ∷ rings) b m = elim (member_cases b (bridges_to at h i 0 ring) (all_bridges at h (suc i) rings) m) as (λ _. (k : ℕ) × (b.ring ≡ i + k) × (k < suc (length rings)) × (b.place < length (get_or (ring ∷ rings) k []))) [
-  | inl l ↦ let p = bridges_within at h i 0 ring b l in (zero, omega (arith, p.0), omega arith, omega (arith, p.1))
-  | inr r ↦ let p = all_within at h (suc i) rings b r in (suc p.0, omega (arith, p.1), omega (arith, p.2), p.3)
-]
+all_within at h i (ring ∷ rings) b m =
+    elim (member_cases b (bridges_to at h i 0 ring) (all_bridges at h (suc i) rings) m)
+    as (λ _. (k : ℕ) × (b.ring ≡ i + k) × (k < suc (length rings)) × (b.place < length (get_or (ring ∷ rings) k []))) [
+      | inl l ↦ let p = bridges_within at h i 0 ring b l in (zero, omega (arith, p.0), omega arith, omega (arith, p.1))
+      | inr r ↦ let p = all_within at h (suc i) rings b r in (suc p.0, omega (arith, p.1), omega (arith, p.2), p.3)
+    ]
 
 -- a bridge to a place of one of the rings
 pub record LeadsTo (rings : List (List ℕ)) (b : Bridge) : Type 0 where
@@ -372,13 +425,15 @@ leads_to at h rings b m =
     record { ring = omega (arith, same, p.2); place = omega (arith, p.3, ap (λ k. length (get_or rings k [])) same) }
 
 -- the shortest that passes leads to a place
-pub shortest_leads : (at : Plane) (h : ℕ) (rings : List (List ℕ)) (p : Bridge → Bool) (b : Bridge) → shortest (filter p (all_bridges at h 0 rings)) ≡ Some b → LeadsTo rings b
+pub shortest_leads : (at : Plane) (h : ℕ) (rings : List (List ℕ)) (p : Bridge → Bool) (b : Bridge) →
+    shortest (filter p (all_bridges at h 0 rings)) ≡ Some b → LeadsTo rings b
 shortest_leads at h rings p b e =
     let bs = all_bridges at h 0 rings in
     leads_to at h rings b (kept p bs b (shortest_first 0 0 (filter p bs) (ascending_kept p 0 0 bs (all_ascending at h 0 rings)) b e).0).0
 
 -- so does the one that is chosen
-pub chosen_leads : (at : Plane) (h : ℕ) (rings : List (List ℕ)) (clear : Bridge → Bool) (b : Bridge) → chosen clear (all_bridges at h 0 rings) ≡ Some b → LeadsTo rings b
+pub chosen_leads : (at : Plane) (h : ℕ) (rings : List (List ℕ)) (clear : Bridge → Bool) (b : Bridge) →
+    chosen clear (all_bridges at h 0 rings) ≡ Some b → LeadsTo rings b
 chosen_leads at h rings clear b e = by_first (shortest (filter clear bs)) refl e
   where
     bs : List Bridge
@@ -400,7 +455,8 @@ chosen_some clear b bs e = by_first (shortest (filter clear (b ∷ bs))) e
     by_first (Some c) e = absurd (none-some c (sym e))
 
 -- so where there is a ring and no ring is empty
-pub no_bridge : (at : Plane) (h : ℕ) (clear : Bridge → Bool) (rings : List (List ℕ)) → 0 < length rings → All (λ r. 0 < length r) rings → chosen clear (all_bridges at h 0 rings) ≡ None → ⊥
+pub no_bridge : (at : Plane) (h : ℕ) (clear : Bridge → Bool) (rings : List (List ℕ)) → 0 < length rings → All (λ r. 0 < length r) rings →
+    chosen clear (all_bridges at h 0 rings) ≡ None → ⊥
 no_bridge at h clear [] one long e = omega (arith, one)
 no_bridge at h clear ([] ∷ rest) one long e = omega (arith, All-head (λ (r : List ℕ). 0 < length r) [] rest long)
 no_bridge at h clear ((r ∷ rs) ∷ rest) one long e = chosen_some clear _ _ e

@@ -42,7 +42,8 @@ split_at : (r : List ℕ) (i : ℕ) → i < length r → r ≡ take i r ++ get_o
 split_at r i h = sym (take-append-drop i r) ∙ ap (λ l. take i r ++ l) (drop_more r i 0 h)
 
 -- the joined ring, split at the place
-join_split : (r : List ℕ) (i : ℕ) (h : ℕ) (k : List ℕ) → i < length r → join r i (h ∷ k) ≡ take i r ++ (get_or r i 0 ∷ h ∷ (k ++ h ∷ get_or r i 0 ∷ drop (i + 1) r))
+join_split : (r : List ℕ) (i : ℕ) (h : ℕ) (k : List ℕ) → i < length r →
+    join r i (h ∷ k) ≡ take i r ++ (get_or r i 0 ∷ h ∷ (k ++ h ∷ get_or r i 0 ∷ drop (i + 1) r))
 join_split r i h k within =
     let t = take i r in
     let d = drop (i + 1) r in
@@ -63,7 +64,8 @@ join_total g r i h k within =
     let d = drop (i + 1) r in
     let r0 = get_or r i 0 in
     let ring = round_later g (r0 ∷ d) t ∙ ap (once_round g) (sym (split_at r i within)) in
-    ap (once_round g) (join_split r i h k within) ∙ round_later g t (r0 ∷ h ∷ (k ++ h ∷ r0 ∷ d)) ∙ ap (λ l. once_round g (r0 ∷ h ∷ l)) (append_assoc k (h ∷ r0 ∷ d) t) ∙ bridge_total g r0 (d ++ t) h k
+    ap (once_round g) (join_split r i h k within) ∙ round_later g t (r0 ∷ h ∷ (k ++ h ∷ r0 ∷ d))
+    ∙ ap (λ l. once_round g (r0 ∷ h ∷ l)) (append_assoc k (h ∷ r0 ∷ d) t) ∙ bridge_total g r0 (d ++ t) h k
     ∙ ap (λ z. (once_round g (h ∷ k) +ℤ z) +ℤ (g (r0, h) +ℤ g (h, r0))) ring
 
 -- its places
@@ -72,15 +74,30 @@ length-join r i hole =
     let t = take (i + 1) r in
     let d = drop (i + 1) r in
     let e = vertex_at hole 0 ∷ vertex_at r i ∷ [] in
-    omega (arith, length-append (t ++ hole ++ e) d, length-append (t ++ hole) e, length-append t hole, length-append t d, ap length (take-append-drop (i + 1) r))
+    omega (
+      arith,
+      length-append (t ++ hole ++ e) d,
+      length-append (t ++ hole) e,
+      length-append t hole,
+      length-append t d,
+      ap length (take-append-drop (i + 1) r),
+    )
 
 -- how often a vertex stands in it
-pub often-join : (v : ℕ) (r : List ℕ) (i : ℕ) (hole : List ℕ) → often v (join r i hole) ≡ often v r + often v hole + often v (vertex_at hole 0 ∷ vertex_at r i ∷ [])
+pub often-join : (v : ℕ) (r : List ℕ) (i : ℕ) (hole : List ℕ) →
+    often v (join r i hole) ≡ often v r + often v hole + often v (vertex_at hole 0 ∷ vertex_at r i ∷ [])
 often-join v r i hole =
     let t = take (i + 1) r in
     let d = drop (i + 1) r in
     let e = vertex_at hole 0 ∷ vertex_at r i ∷ [] in
-    omega (arith, often-append v (t ++ hole ++ e) d, often-append v (t ++ hole) e, often-append v t hole, often-append v t d, ap (often v) (take-append-drop (i + 1) r))
+    omega (
+      arith,
+      often-append v (t ++ hole ++ e) d,
+      often-append v (t ++ hole) e,
+      often-append v t hole,
+      often-append v t d,
+      ap (often v) (take-append-drop (i + 1) r),
+    )
 
 -- one where an edge runs from a vertex to itself
 abbrev pub stutter : (ℕ × ℕ) → ℤ
@@ -112,7 +129,8 @@ apart_from_none (e ∷ es) h =
 
 -- three different vertices stay where no vertex goes
 pub three_within : (r s : List ℕ) → ((v : ℕ) → In v r → In v s) → Three r → Three s
-three_within r s f t = record { a = t.a; b = t.b; c = t.c; a_in = f t.a t.a_in; b_in = f t.b t.b_in; c_in = f t.c t.c_in; ab = t.ab; bc = t.bc; ca = t.ca }
+three_within r s f t =
+    record { a = t.a; b = t.b; c = t.c; a_in = f t.a t.a_in; b_in = f t.b t.b_in; c_in = f t.c t.c_in; ab = t.ab; bc = t.bc; ca = t.ca }
 
 -- a ring stays one where it begins at another place
 pub ringy_turned : (i : ℕ) (r : List ℕ) → IsRing r → IsRing (turned_to i r)
@@ -123,7 +141,8 @@ ringy_turned i r h = record {
 }
 
 -- a ring with a hole joined is one, where the hole's start is not the vertex of the place
-pub ringy_join : (r : List ℕ) (i : ℕ) (hole : List ℕ) → IsRing r → IsRing hole → i < length r → vertex_at r i ≢ vertex_at hole 0 → IsRing (join r i hole)
+pub ringy_join : (r : List ℕ) (i : ℕ) (hole : List ℕ) → IsRing r → IsRing hole → i < length r → vertex_at r i ≢ vertex_at hole 0 →
+    IsRing (join r i hole)
 ringy_join r i [] ring h within apart = absurd (omega (arith, h.long))
 ringy_join r i (x ∷ k) ring h within apart =
     let differ : get_or r i 0 ≢ x = λ e. apart (vertex_within r i within ∙ e ∙ sym (vertex_within (x ∷ k) 0 (omega arith))) in
@@ -132,6 +151,14 @@ ringy_join r i (x ∷ k) ring h within apart =
     record {
       long = omega (arith, length-join r i (x ∷ k), ring.long);
       apart = apart_from_none (round_edges (join r i (x ∷ k)))
-          (omega (arith, ints, join_total stutter r i x k within, none_stutters (round_edges r) ring.apart, none_stutters (round_edges (x ∷ k)) h.apart, there, back));
+          (omega (
+            arith,
+            ints,
+            join_total stutter r i x k within,
+            none_stutters (round_edges r) ring.apart,
+            none_stutters (round_edges (x ∷ k)) h.apart,
+            there,
+            back,
+          ));
       three = three_within r (join r i (x ∷ k)) (in_more r (join r i (x ∷ k)) (λ v. omega (arith, often-join v r i (x ∷ k)))) ring.three;
     }

@@ -1,11 +1,13 @@
 -- What rings keep while holes are joined to them, one after the other.
-use Rattle.std.specs.Prelude.{◌≡◌, ◌≢◌, ℕ, zero, suc, ◌+◌, ◌*◌, ◌<◌, ◌⊎◌, ℤ, pos, ◌+ℤ◌, ◌≤ℤ◌, List, [], ◌∷◌, ◌++◌, ◌==◌, length, get_or, set, take, drop, Option, Some, None}
+use Rattle.std.specs.Prelude.{◌≡◌, ◌≢◌, ℕ, zero, suc, ◌+◌, ◌*◌, ◌<◌, ◌⊎◌, ℤ, pos, ◌+ℤ◌, ◌≤ℤ◌, List, [], ◌∷◌}
+use Rattle.std.specs.Prelude.{◌++◌, ◌==◌, length, get_or, set, take, drop, Option, Some, None}
 use Rattle.std.specs.List.{All, concat}
 use Rattle.std.proofs.Common.{arith, refl, sym, ap, subst, ◌∙◌, inl, inr}
 use Rattle.std.proofs.lemmas.Int.{ints}
 use Rattle.std.proofs.lemmas.Bool.{cases_eq, cases_lt, ne_eqb}
 use Rattle.std.proofs.lemmas.List.{length-set, take_at, drop_at}
-use Rattle.std.proofs.lemmas.List.Elements.{All-cons, All-head, All-tail, All-nil, All-set, All-get_or, All-same, All-append, All-take, All-drop, All-weaker}
+use Rattle.std.proofs.lemmas.List.Elements.{All-cons, All-head, All-tail, All-nil, All-set, All-get_or, All-same}
+use Rattle.std.proofs.lemmas.List.Elements.{All-append, All-take, All-drop, All-weaker}
 use Rattle.chain_terms.specs.Chains.{one_if}
 use Rattle.chain_terms.specs.Odd.{IsOdd, along}
 use Rattle.chain_terms.specs.Sums.{total}
@@ -21,7 +23,8 @@ use Rattle.hole_joining.specs.Laws.{AreFillable, IsJoining}
 use Rattle.hole_joining.proofs.Choice.{LeadsTo, chosen_leads, no_bridge}
 use Rattle.hole_joining.proofs.Turning.{once_round, round_turned, length-turned, often, often-cons, often-turned, in_often}
 use Rattle.hole_joining.proofs.Joins.{vertex_within, join_total, length-join, often-join, ringy_join, ringy_turned}
-use Rattle.hole_joining.proofs.Loops.{often_once, total-often, total-length, each_once, ringy_loops, told_total, length-hole_list, All-kept, All-hole_list, some_ring, settled_up}
+use Rattle.hole_joining.proofs.Loops.{often_once, total-often, total-length, each_once, ringy_loops, told_total}
+use Rattle.hole_joining.proofs.Loops.{length-hole_list, All-kept, All-hole_list, some_ring, settled_up}
 
 -- how often a vertex stands in the lists
 abbrev pub tally : ℕ → List (List ℕ) → ℤ
@@ -38,7 +41,8 @@ tally_one v (l ∷ ls) zero h = omega (arith, ints, tally_low v ls)
 tally_one v (l ∷ ls) (suc i) h = omega (arith, ints, tally_one v ls i (omega (arith, h)))
 
 -- one list put in the place of another
-pub total-set : (g : List ℕ → ℤ) (ls : List (List ℕ)) (i : ℕ) (x : List ℕ) → i < length ls → total g (set ls i x) +ℤ g (get_or ls i []) ≡ total g ls +ℤ g x
+pub total-set : (g : List ℕ → ℤ) (ls : List (List ℕ)) (i : ℕ) (x : List ℕ) → i < length ls →
+    total g (set ls i x) +ℤ g (get_or ls i []) ≡ total g ls +ℤ g x
 total-set g [] i x h = absurd (omega (arith, h))
 total-set g (l ∷ ls) zero x h = omega (arith, ints)
 total-set g (l ∷ ls) (suc i) x h = omega (arith, ints, total-set g ls i x (omega (arith, h)))
@@ -70,12 +74,14 @@ pub record CanJoin (rings holes : List (List ℕ)) : Type 0 where
   pub apart : (v : ℕ) → (tally v holes ≡ pos 0) ⊎ ((tally v holes ≡ pos 1) × (tally v rings ≡ pos 0))
 
 -- a bridge's end is not the hole's start
-ends_differ : (rings later : List (List ℕ)) (hole : List ℕ) (b : Bridge) → CanJoin rings (hole ∷ later) → LeadsTo rings b → vertex_at (get_or rings b.ring []) b.place ≢ vertex_at hole 0
+ends_differ : (rings later : List (List ℕ)) (hole : List ℕ) (b : Bridge) → CanJoin rings (hole ∷ later) → LeadsTo rings b →
+    vertex_at (get_or rings b.ring []) b.place ≢ vertex_at hole 0
 ends_differ rings later hole b can leads e =
     let h = vertex_at hole 0 in
     let long = (All-head IsRing hole later can.ringy_holes).long in
     let here = in_often h hole (vertex_in hole 0 (omega (arith, long))) in
-    let there = in_often (vertex_at (get_or rings b.ring []) b.place) (get_or rings b.ring []) (vertex_in (get_or rings b.ring []) b.place leads.place) in
+    let there =
+    in_often (vertex_at (get_or rings b.ring []) b.place) (get_or rings b.ring []) (vertex_in (get_or rings b.ring []) b.place leads.place) in
     let same = ap (λ v. often v (get_or rings b.ring [])) e in
     elim (can.apart h) as (λ _. ⊥) [
       | inl none ↦ omega (arith, ints, none, here, tally_low h later)
@@ -87,29 +93,35 @@ abbrev pub after_join : List (List ℕ) → List ℕ → Bridge → List (List �
 after_join rings hole b = set rings b.ring (join (get_or rings b.ring []) b.place hole)
 
 -- the next hole can be joined to them
-can_join_next : (rings later : List (List ℕ)) (hole : List ℕ) (b : Bridge) → CanJoin rings (hole ∷ later) → LeadsTo rings b → CanJoin (after_join rings hole b) later
+can_join_next : (rings later : List (List ℕ)) (hole : List ℕ) (b : Bridge) → CanJoin rings (hole ∷ later) → LeadsTo rings b →
+    CanJoin (after_join rings hole b) later
 can_join_next rings later hole b can leads =
     let ring = get_or rings b.ring [] in
     let is_ring = All-get_or IsRing rings b.ring [] leads.ring can.ringy in
     let is_hole = All-head IsRing hole later can.ringy_holes in
     record {
-      ringy = All-set IsRing rings b.ring (join ring b.place hole) (ringy_join ring b.place hole is_ring is_hole leads.place (ends_differ rings later hole b can leads)) can.ringy;
+      ringy = All-set IsRing rings b.ring (join ring b.place hole)
+          (ringy_join ring b.place hole is_ring is_hole leads.place (ends_differ rings later hole b can leads)) can.ringy;
       ringy_holes = All-tail IsRing hole later can.ringy_holes;
       some = λ h. omega (arith, length-set rings b.ring (join ring b.place hole), leads.ring);
       apart = λ v.
           (let put = total-set (λ r. pos (often v r)) rings b.ring (join ring b.place hole) leads.ring in
           let in_join = often-join v ring b.place hole in
           let one = tally_one v rings b.ring leads.ring in
-          let none = ends_none v (vertex_at hole 0) (vertex_at ring b.place) hole ring (vertex_in hole 0 (omega (arith, is_hole.long))) (vertex_in ring b.place leads.place) in
+          let none =
+          ends_none v (vertex_at hole 0) (vertex_at ring b.place) hole ring (vertex_in hole 0 (omega (arith, is_hole.long)))
+          (vertex_in ring b.place leads.place) in
           elim (can.apart v) as (λ _. (tally v later ≡ pos 0) ⊎ ((tally v later ≡ pos 1) × (tally v (after_join rings hole b) ≡ pos 0))) [
             | inl empty ↦ inl (omega (arith, ints, empty, tally_low v later))
-            | inr full ↦ elim (cases_lt 0 (often v hole)) as (λ _. (tally v later ≡ pos 0) ⊎ ((tally v later ≡ pos 1) × (tally v (after_join rings hole b) ≡ pos 0))) [
-              | inl here ↦ inl (omega (arith, ints, full.0, here, tally_low v later))
-              | inr gone ↦
-                  let no_hole : often v hole ≡ 0 = omega (arith, gone) in
-                  let no_ring : often v ring ≡ 0 = omega (arith, ints, one, full.1) in
-                  inr (omega (arith, ints, full.0, no_hole), omega (arith, ints, put, in_join, none no_hole no_ring, no_hole, no_ring, full.1))
-            ]
+            | inr full ↦
+                elim (cases_lt 0 (often v hole))
+                as (λ _. (tally v later ≡ pos 0) ⊎ ((tally v later ≡ pos 1) × (tally v (after_join rings hole b) ≡ pos 0))) [
+                  | inl here ↦ inl (omega (arith, ints, full.0, here, tally_low v later))
+                  | inr gone ↦
+                      let no_hole : often v hole ≡ 0 = omega (arith, gone) in
+                      let no_ring : often v ring ≡ 0 = omega (arith, ints, one, full.1) in
+                      inr (omega (arith, ints, full.0, no_hole), omega (arith, ints, put, in_join, none no_hole no_ring, no_hole, no_ring, full.1))
+                ]
           ]);
     }
 
@@ -122,7 +134,8 @@ pub record Keeps (rings holes out : List (List ℕ)) : Type 0 where
   pub sums : (f : ℕ → ℕ → ℤ) → IsOdd f → total (once_round (along f)) out ≡ total (once_round (along f)) rings +ℤ total (once_round (along f)) holes
 
 -- a sum once round a ring with a hole joined
-join_sum : (f : ℕ → ℕ → ℤ) → IsOdd f → (r : List ℕ) (i : ℕ) (hole : List ℕ) → i < length r → 0 < length hole → once_round (along f) (join r i hole) ≡ once_round (along f) hole +ℤ once_round (along f) r
+join_sum : (f : ℕ → ℕ → ℤ) → IsOdd f → (r : List ℕ) (i : ℕ) (hole : List ℕ) → i < length r → 0 < length hole →
+    once_round (along f) (join r i hole) ≡ once_round (along f) hole +ℤ once_round (along f) r
 join_sum f odd r i [] within some = absurd (omega (arith, some))
 join_sum f odd r i (h ∷ k) within some = omega (arith, ints, join_total (along f) r i h k within, odd.turns (get_or r i 0) h)
 
@@ -132,12 +145,14 @@ All-join P r i hole within some ring all =
     let start = subst P (sym (vertex_within hole 0 some)) (All-get_or P hole 0 0 some all) in
     let end = subst P (sym (vertex_within r i within)) (All-get_or P r i 0 within ring) in
     All-append P (take (i + 1) r ++ hole ++ (vertex_at hole 0 ∷ vertex_at r i ∷ [])) (drop (i + 1) r)
-    (All-append P (take (i + 1) r ++ hole) (vertex_at hole 0 ∷ vertex_at r i ∷ []) (All-append P (take (i + 1) r) hole (All-take P (i + 1) r ring) all)
+    (All-append P (take (i + 1) r ++ hole) (vertex_at hole 0 ∷ vertex_at r i ∷ [])
+    (All-append P (take (i + 1) r) hole (All-take P (i + 1) r ring) all)
     (All-cons P (vertex_at hole 0) (vertex_at r i ∷ []) start (All-cons P (vertex_at r i) [] end (All-nil P))))
     (All-drop P (i + 1) r ring)
 
 -- one hole more
-keeps_one : (rings later out : List (List ℕ)) (hole : List ℕ) (b : Bridge) → CanJoin rings (hole ∷ later) → LeadsTo rings b → Keeps (after_join rings hole b) later out → Keeps rings (hole ∷ later) out
+keeps_one : (rings later out : List (List ℕ)) (hole : List ℕ) (b : Bridge) → CanJoin rings (hole ∷ later) → LeadsTo rings b →
+    Keeps (after_join rings hole b) later out → Keeps rings (hole ∷ later) out
 keeps_one rings later out hole b can leads k =
     let ring = get_or rings b.ring [] in
     let next = join ring b.place hole in
@@ -148,21 +163,36 @@ keeps_one rings later out hole b can leads k =
       below = λ n all more.
           (let P : ℕ → Type 0 = λ v. v < n in
           let Q : List ℕ → Type 0 = λ r. All (λ v. v < n) r in
-          k.below n (All-set Q rings b.ring next (All-join P ring b.place hole leads.place some (All-get_or Q rings b.ring [] leads.ring all) (All-head Q hole later more)) all) (All-tail Q hole later more));
+          k.below n (All-set Q rings b.ring next
+          (All-join P ring b.place hole leads.place some (All-get_or Q rings b.ring [] leads.ring all) (All-head Q hole later more)) all)
+          (All-tail Q hole later more));
       places = omega (arith, ints, k.places, total-set (λ r. pos (length r)) rings b.ring next leads.ring, length-join ring b.place hole);
-      sums = λ f odd. omega (arith, ints, k.sums f odd, total-set (once_round (along f)) rings b.ring next leads.ring, join_sum f odd ring b.place hole leads.place some);
+      sums = λ f odd.
+          omega (
+            arith,
+            ints,
+            k.sums f odd,
+            total-set (once_round (along f)) rings b.ring next leads.ring,
+            join_sum f odd ring b.place hole leads.place some,
+          );
     }
 
 -- every hole joined
 pub joined_keeps : (at : Plane) (rings holes : List (List ℕ)) → CanJoin rings holes → Keeps rings holes (joined at rings holes)
-joined_keeps at rings [] can = record { count = refl; ringy = can.ringy; below = λ n all more. all; places = omega (arith, ints); sums = λ f odd. omega (arith, ints) }
+joined_keeps at rings [] can =
+    record { count = refl; ringy = can.ringy; below = λ n all more. all; places = omega (arith, ints); sums = λ f odd. omega (arith, ints) }
 joined_keeps at rings (hole ∷ later) can = by_bridge (chosen_bridge at rings hole later) refl (λ r c. joined_keeps at r later c)
   where
-    by_bridge : (o : Option Bridge) → chosen_bridge at rings hole later ≡ o → ((r : List (List ℕ)) → CanJoin r later → Keeps r later (joined at r later)) → Keeps rings (hole ∷ later) (joined at (bridged hole rings o) later)
-    by_bridge None e rest = absurd (no_bridge at (vertex_at hole 0) (is_clear_bridge at rings hole later) rings (can.some (omega arith)) (All-weaker IsRing (λ r. 0 < length r) (λ r h. omega (arith, h.long)) rings can.ringy) e)
+    by_bridge : (o : Option Bridge) → chosen_bridge at rings hole later ≡ o →
+        ((r : List (List ℕ)) → CanJoin r later → Keeps r later (joined at r later)) →
+        Keeps rings (hole ∷ later) (joined at (bridged hole rings o) later)
+    by_bridge None e rest =
+        absurd (no_bridge at (vertex_at hole 0) (is_clear_bridge at rings hole later) rings (can.some (omega arith))
+        (All-weaker IsRing (λ r. 0 < length r) (λ r h. omega (arith, h.long)) rings can.ringy) e)
     by_bridge (Some b) e rest =
         let leads = chosen_leads at (vertex_at hole 0) rings (is_clear_bridge at rings hole later) b e in
-        keeps_one rings later (joined at (after_join rings hole b) later) hole b can leads (rest (after_join rings hole b) (can_join_next rings later hole b can leads))
+        keeps_one rings later (joined at (after_join rings hole b) later) hole b can leads
+        (rest (after_join rings hole b) (can_join_next rings later hole b can leads))
 
 -- the lists of which one list is made have what it has
 All-parts : (P : ℕ → Type 0) (ls : List (List ℕ)) → All P (concat ls) → All (λ l. All P l) ls
@@ -174,7 +204,8 @@ All-parts P (l ∷ ls) all =
     All-cons (λ (l : List ℕ). All P l) l ls front (All-parts P ls back)
 
 -- rings and holes of loops that can be filled can be joined
-pub can_join : (at : Plane) (loops : List (List ℕ)) (points : ℕ) → AreFillable loops points → CanJoin (ring_list (settled_plane at loops) loops) (hole_list (settled_plane at loops) loops)
+pub can_join : (at : Plane) (loops : List (List ℕ)) (points : ℕ) → AreFillable loops points →
+    CanJoin (ring_list (settled_plane at loops) loops) (hole_list (settled_plane at loops) loops)
 can_join at loops points f =
     let p = settled_plane at loops in
     let ringy = ringy_loops loops f.long (each_once loops (often_once (concat loops) f.different)) in
@@ -188,14 +219,16 @@ can_join at loops points f =
           let all = total-often v loops in
           let rings = total-often v (ring_list p loops) in
           let holes = total-often v (hole_list p loops) in
-          elim (cases_lt 0 (often v (concat (hole_list p loops)))) as (λ _. (tally v (hole_list p loops) ≡ pos 0) ⊎ ((tally v (hole_list p loops) ≡ pos 1) × (tally v (ring_list p loops) ≡ pos 0))) [
+          elim (cases_lt 0 (often v (concat (hole_list p loops))))
+          as (λ _. (tally v (hole_list p loops) ≡ pos 0) ⊎ ((tally v (hole_list p loops) ≡ pos 1) × (tally v (ring_list p loops) ≡ pos 0))) [
             | inl some ↦ inr (omega (arith, ints, told, once, all, rings, holes, some), omega (arith, ints, told, once, all, rings, holes, some))
             | inr none ↦ inl (omega (arith, ints, holes, none))
           ]);
     }
 
 -- what joining makes of loops that can be filled
-pub is_joining : (at : Plane) (loops : List (List ℕ)) (points : ℕ) → AreFillable loops points → IsJoining (settled_plane at loops) loops (join_holes (settled_plane at loops) loops) points
+pub is_joining : (at : Plane) (loops : List (List ℕ)) (points : ℕ) → AreFillable loops points →
+    IsJoining (settled_plane at loops) loops (join_holes (settled_plane at loops) loops) points
 is_joining at loops points f =
     let p = settled_plane at loops in
     let out = join_holes p loops in
@@ -205,7 +238,18 @@ is_joining at loops points f =
     record {
       count = k.count;
       ringy = k.ringy;
-      below = k.below points (All-kept Q (is_ring p) loops below) (All-hole_list p Q (λ l h. All-append (λ v. v < points) (drop _ l) (take _ l) (All-drop (λ v. v < points) _ l h) (All-take (λ v. v < points) _ l h)) loops below);
-      places = omega (arith, ints, k.places, total-length out, total-length loops, told_total p (λ r. pos (length r)) (λ l. ap pos (length-turned _ l)) loops, length-hole_list p loops);
-      chain = λ g odd. total-flat_map (along g) round_edges out ∙ k.sums g odd ∙ told_total p (once_round (along g)) (λ l. round_turned (along g) _ l) loops ∙ sym (total-flat_map (along g) round_edges loops);
+      below = k.below points (All-kept Q (is_ring p) loops below)
+          (All-hole_list p Q
+          (λ l h. All-append (λ v. v < points) (drop _ l) (take _ l) (All-drop (λ v. v < points) _ l h) (All-take (λ v. v < points) _ l h)) loops below);
+      places = omega (
+        arith,
+        ints,
+        k.places,
+        total-length out,
+        total-length loops,
+        told_total p (λ r. pos (length r)) (λ l. ap pos (length-turned _ l)) loops,
+        length-hole_list p loops,
+      );
+      chain = λ g odd. total-flat_map (along g) round_edges out ∙ k.sums g odd
+          ∙ told_total p (once_round (along g)) (λ l. round_turned (along g) _ l) loops ∙ sym (total-flat_map (along g) round_edges loops);
     }

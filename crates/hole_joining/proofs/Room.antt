@@ -25,12 +25,15 @@ added_on : (holes : List (List ℕ)) (k : ℕ) → k < length holes → added (d
 added_on holes k within = at_drop_more added holes k [] within
 
 -- room for all holes from one on is room for that one
-pub room_here : (m : ℕ) (rings holes : List (List ℕ)) (k : ℕ) → k < length holes → All (λ r. length r + added (drop k holes) < m) rings → All (λ r. length r + length (get_or holes k []) + 2 < m) rings
+pub room_here : (m : ℕ) (rings holes : List (List ℕ)) (k : ℕ) → k < length holes → All (λ r. length r + added (drop k holes) < m) rings →
+    All (λ r. length r + length (get_or holes k []) + 2 < m) rings
 room_here m rings holes k within few =
-    All-weaker (λ r. length r + added (drop k holes) < m) (λ r. length r + length (get_or holes k []) + 2 < m) (λ r h. omega (arith, h, added_on holes k within)) rings few
+    All-weaker (λ r. length r + added (drop k holes) < m) (λ r. length r + length (get_or holes k []) + 2 < m)
+    (λ r h. omega (arith, h, added_on holes k within)) rings few
 
 -- and once that one is joined there is room for the others
-pub room_next : (m : ℕ) (at : Plane) (rings holes now : List (List ℕ)) (k : ℕ) → k < length holes → All (λ r. length r + added (drop k holes) < m) rings → now ≡ joined_one at rings (get_or holes k []) (drop (k + 1) holes) →
+pub room_next : (m : ℕ) (at : Plane) (rings holes now : List (List ℕ)) (k : ℕ) → k < length holes →
+    All (λ r. length r + added (drop k holes) < m) rings → now ≡ joined_one at rings (get_or holes k []) (drop (k + 1) holes) →
     All (λ r. length r + added (drop (k + 1) holes) < m) now
 room_next m at rings holes now k within few e = subst (All Later) (sym e) (by_bridge (chosen_bridge at rings hole later) refl)
   where
@@ -56,14 +59,18 @@ room_next m at rings holes now k within few e = subst (All Later) (sym e) (by_br
         All-set Later rings b.ring (join ring b.place hole) there others
 
 -- and there is still a ring, and none is empty
-pub some_next : (at : Plane) (rings later now : List (List ℕ)) (hole : List ℕ) → now ≡ joined_one at rings hole later → 0 < length rings → All (λ r. 0 < length r) rings → (0 < length now) × All (λ r. 0 < length r) now
-some_next at rings later now hole e one long = subst (λ (l : List (List ℕ)). (0 < length l) × All (λ r. 0 < length r) l) (sym e) (by_bridge (chosen_bridge at rings hole later))
+pub some_next : (at : Plane) (rings later now : List (List ℕ)) (hole : List ℕ) → now ≡ joined_one at rings hole later → 0 < length rings →
+    All (λ r. 0 < length r) rings → (0 < length now) × All (λ r. 0 < length r) now
+some_next at rings later now hole e one long =
+    subst (λ (l : List (List ℕ)). (0 < length l) × All (λ r. 0 < length r) l) (sym e) (by_bridge (chosen_bridge at rings hole later))
   where
     by_bridge : (o : Option Bridge) → (0 < length (bridged hole rings o)) × All (λ r. 0 < length r) (bridged hole rings o)
     by_bridge None = (one, long)
     by_bridge (Some b) =
-        let next = join (get_or rings b.ring []) b.place hole in
-        (omega (arith, one, length-set rings b.ring next), All-set (λ r. 0 < length r) rings b.ring next (omega (arith, length-join (get_or rings b.ring []) b.place hole)) long)
+        let next = join (get_or rings b.ring []) b.place hole in (
+          omega (arith, one, length-set rings b.ring next),
+          All-set (λ r. 0 < length r) rings b.ring next (omega (arith, length-join (get_or rings b.ring []) b.place hole)) long,
+        )
 
 -- all that holes add
 added_is : (holes : List (List ℕ)) → added holes ≡ length (concat holes) + 2 * length holes
@@ -79,33 +86,41 @@ three_each (l ∷ ls) long =
 all_within : (ls : List (List ℕ)) (n : ℕ) → length (concat ls) ≤ n → All (λ r. length r ≤ n) ls
 all_within [] n h = All-nil (λ (r : List ℕ). length r ≤ n)
 all_within (l ∷ ls) n h =
-    let all = length-append l (concat ls) in All-cons (λ (r : List ℕ). length r ≤ n) l ls (omega (arith, all, h)) (all_within ls n (omega (arith, all, h)))
+    let all =
+    length-append l (concat ls) in All-cons (λ (r : List ℕ). length r ≤ n) l ls (omega (arith, all, h)) (all_within ls n (omega (arith, all, h)))
 
 long_holes : (p : Plane) (loops : List (List ℕ)) → All (λ l. 3 ≤ length l) loops → All (λ l. 3 ≤ length l) (hole_list p loops)
 long_holes p loops long = All-hole_list p (λ l. 3 ≤ length l) (λ l h. subst (λ n. 3 ≤ n) (sym (length-turned _ l)) h) loops long
 
 -- loops that can be filled leave room
-pub room : (p : Plane) (loops : List (List ℕ)) (points : ℕ) → AreFillable loops points → All (λ r. length r + added (hole_list p loops) ≤ 100000000) (ring_list p loops)
+pub room : (p : Plane) (loops : List (List ℕ)) (points : ℕ) → AreFillable loops points →
+    All (λ r. length r + added (hole_list p loops) ≤ 100000000) (ring_list p loops)
 room p loops points f =
     let rings = ring_list p loops in let holes = hole_list p loops in
     let told = told_total p (λ r. pos (length r)) (λ l. ap pos (length-turned _ l)) loops in
     let three = three_each holes (long_holes p loops f.long) in
-    let sum : length (concat rings) + length (concat holes) ≡ length (concat loops) = omega (arith, ints, told, total-length rings, total-length holes, total-length loops) in
+    let sum : length (concat rings) + length (concat holes) ≡ length (concat loops) =
+    omega (arith, ints, told, total-length rings, total-length holes, total-length loops) in
     let few : length (concat rings) + added holes ≤ 100000000 = omega (arith, added_is holes, three, sum, f.few) in
-    All-weaker (λ r. length r ≤ length (concat rings)) (λ r. length r + added holes ≤ 100000000) (λ r h. omega (arith, h, few)) rings (all_within rings (length (concat rings)) (omega arith))
+    All-weaker (λ r. length r ≤ length (concat rings)) (λ r. length r + added holes ≤ 100000000) (λ r h. omega (arith, h, few)) rings
+    (all_within rings (length (concat rings)) (omega arith))
 
-pub has_room : (p : Plane) (loops rings holes : List (List ℕ)) (points : ℕ) → AreFillable loops points → rings ≡ ring_list p loops → holes ≡ hole_list p loops → All (λ r. length r + added holes < 2 ^ 32) rings
+pub has_room : (p : Plane) (loops rings holes : List (List ℕ)) (points : ℕ) → AreFillable loops points → rings ≡ ring_list p loops →
+    holes ≡ hole_list p loops → All (λ r. length r + added holes < 2 ^ 32) rings
 has_room p loops rings holes points f e g =
     subst (λ (rs : List (List ℕ)). All (λ r. length r + added holes < 2 ^ 32) rs) (sym e)
-    (All-weaker (λ r. length r + added (hole_list p loops) ≤ 100000000) (λ r. length r + added holes < 2 ^ 32) (λ r h. omega (arith, h, ap added g)) (ring_list p loops) (room p loops points f))
+    (All-weaker (λ r. length r + added (hole_list p loops) ≤ 100000000) (λ r. length r + added holes < 2 ^ 32)
+    (λ r h. omega (arith, h, ap added g)) (ring_list p loops) (room p loops points f))
 
 -- and no ring or hole is empty
 pub some_rings : (p : Plane) (loops : List (List ℕ)) (points : ℕ) → AreFillable loops points → All (λ r. 0 < length r) (ring_list p loops)
 some_rings p loops points f =
-    All-weaker (λ r. 3 ≤ length r) (λ r. 0 < length r) (λ r h. omega (arith, h)) (ring_list p loops) (All-kept (λ (l : List ℕ). 3 ≤ length l) (is_ring p) loops f.long)
+    All-weaker (λ r. 3 ≤ length r) (λ r. 0 < length r) (λ r h. omega (arith, h)) (ring_list p loops)
+    (All-kept (λ (l : List ℕ). 3 ≤ length l) (is_ring p) loops f.long)
 
 pub some_holes : (p : Plane) (loops : List (List ℕ)) (points : ℕ) → AreFillable loops points → All (λ h. 0 < length h) (hole_list p loops)
-some_holes p loops points f = All-weaker (λ r. 3 ≤ length r) (λ r. 0 < length r) (λ r h. omega (arith, h)) (hole_list p loops) (long_holes p loops f.long)
+some_holes p loops points f =
+    All-weaker (λ r. 3 ≤ length r) (λ r. 0 < length r) (λ r h. omega (arith, h)) (hole_list p loops) (long_holes p loops f.long)
 
 -- there is an edge for each place
 length-edges : (ls : List (List ℕ)) → length (edges_of ls) ≡ length (concat ls)
@@ -113,7 +128,8 @@ length-edges [] = refl
 length-edges (l ∷ ls) = omega (arith, length-append (round_edges l) (edges_of ls), length-append l (concat ls), length-round_edges l, length-edges ls)
 
 -- loops that can be filled have few edges
-pub few_edges : (p : Plane) (loops rings holes : List (List ℕ)) (points : ℕ) → AreFillable loops points → rings ≡ ring_list p loops → holes ≡ hole_list p loops → length (edges_of rings ++ edges_of holes) ≤ most_halfedges
+pub few_edges : (p : Plane) (loops rings holes : List (List ℕ)) (points : ℕ) → AreFillable loops points → rings ≡ ring_list p loops →
+    holes ≡ hole_list p loops → length (edges_of rings ++ edges_of holes) ≤ most_halfedges
 few_edges p loops rings holes points f e g =
     let told = told_total p (λ r. pos (length r)) (λ l. ap pos (length-turned _ l)) loops in
     omega (

@@ -1,5 +1,6 @@
 -- Lists turned: what does not change when a list begins at another place.
-use Rattle.std.specs.Prelude.{◌≡◌, ℕ, zero, suc, ◌+◌, ◌-◌, ◌<◌, ◌≤◌, ◌⊎◌, ℤ, List, [], ◌∷◌, ◌++◌, ◌==◌, cond, length, take, drop, count_by}
+use Rattle.std.specs.Prelude.{◌≡◌, ℕ, zero, suc, ◌+◌, ◌-◌, ◌<◌, ◌≤◌, ◌⊎◌, ℤ, List, [], ◌∷◌, ◌++◌, ◌==◌, cond, length}
+use Rattle.std.specs.Prelude.{take, drop, count_by}
 use Rattle.std.proofs.Common.{arith, sym, ap, ◌∙◌, inl, inr, append_assoc}
 use Rattle.std.proofs.lemmas.Bool.{cases_eq, eq-eqb, ne_eqb}
 use Rattle.std.proofs.lemmas.List.{append-nil, length-append, take-append-drop}
@@ -77,7 +78,8 @@ turned_within (suc b) a xs h =
     let ys = turned_to a xs in
     let more : suc b ≡ b + 1 = omega arith in
     let last : a + b + 1 ≡ a + suc b = omega arith in
-    ap (λ k. turned_to k ys) more ∙ sym (turned_more b ys (omega (arith, h, length-turned a xs))) ∙ ap (turned_to 1) (turned_within b a xs (omega (arith, h))) ∙ turned_more (a + b) xs (omega (arith, h))
+    ap (λ k. turned_to k ys) more ∙ sym (turned_more b ys (omega (arith, h, length-turned a xs)))
+    ∙ ap (turned_to 1) (turned_within b a xs (omega (arith, h))) ∙ turned_more (a + b) xs (omega (arith, h))
     ∙ ap (λ k. turned_to k xs) last
 
 -- and by more
@@ -91,6 +93,7 @@ turned_past b a c xs first second past =
     ∙ ap (turned_to c) (turned_within (n - a) a xs (omega (arith, first)) ∙ ap (λ k. turned_to k xs) whole ∙ turned_all xs)
 
 -- the two ways to count the steps of both turns
-pub turned_together : (first second count : ℕ) (xs : List ℕ) → first ≤ length xs → second ≤ length xs → count ≤ length xs → (count ≡ first + second) ⊎ (count + length xs ≡ first + second) → turned_to count xs ≡ turned_to second (turned_to first xs)
+pub turned_together : (first second count : ℕ) (xs : List ℕ) → first ≤ length xs → second ≤ length xs → count ≤ length xs →
+    (count ≡ first + second) ⊎ (count + length xs ≡ first + second) → turned_to count xs ≡ turned_to second (turned_to first xs)
 turned_together first second count xs a b within (inl e) = ap (λ k. turned_to k xs) e ∙ sym (turned_within second first xs (omega (arith, e, within)))
 turned_together first second count xs a b within (inr e) = sym (turned_past second first count xs a b e)

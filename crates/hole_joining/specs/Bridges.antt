@@ -12,7 +12,8 @@ use Rattle.hole_joining.specs.Holes.{ring_list, hole_list}
 -- the bridges from h to the places of ring i, from place j on
 abbrev pub bridges_to : Plane → ℕ → ℕ → ℕ → List ℕ → List Bridge
 bridges_to at h i j [] = []
-bridges_to at h i j (r ∷ rs) = record { ring = i; place = j; squared_length = unsigned_abs (squared_distance (at h) (at r)) } ∷ bridges_to at h i (suc j) rs
+bridges_to at h i j (r ∷ rs) =
+    record { ring = i; place = j; squared_length = unsigned_abs (squared_distance (at h) (at r)) } ∷ bridges_to at h i (suc j) rs
 
 -- the bridges from h to all places of the rings, of which the first is ring i
 abbrev pub all_bridges : Plane → ℕ → ℕ → List (List ℕ) → List Bridge

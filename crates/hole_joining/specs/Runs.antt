@@ -1,5 +1,6 @@
 -- Runs of a ring's places with a box round each.
-use Rattle.std.specs.Prelude.{◌≡◌, ℕ, ◌+◌, ◌-◌, ◌≤◌, ℤ, pos, ◌≤ℤ◌, List, [], ◌∷◌, ◌++◌, cond, nat_lt, length, get_or, take, drop, Option, Some, None}
+use Rattle.std.specs.Prelude.{◌≡◌, ℕ, ◌+◌, ◌-◌, ◌≤◌, ℤ, pos, ◌≤ℤ◌, List, [], ◌∷◌, ◌++◌, cond, nat_lt, length, get_or}
+use Rattle.std.specs.Prelude.{take, drop, Option, Some, None}
 use Rattle.std.specs.Int.{int_min, int_max}
 use Rattle.std.specs.List.{All}
 use Rattle.face_plane.specs.Planes.{Plane}
@@ -30,7 +31,13 @@ IsFar (Some b) d = pos b.squared_length ≤ℤ d
 
 -- as many places as both have, and a box round both boxes
 abbrev pub both : Run → Run → Run
-both r s = record { count = r.count + s.count; low = (int_min r.low.0 s.low.0, int_min r.low.1 s.low.1); high = (int_max r.high.0 s.high.0, int_max r.high.1 s.high.1) }
+both r s =
+    record {
+      count = r.count + s.count;
+      low = (int_min r.low.0 s.low.0, int_min r.low.1 s.low.1);
+      high =
+          (int_max r.high.0 s.high.0, int_max r.high.1 s.high.1);
+    }
 
 -- one place
 abbrev pub run_at : ℤ × ℤ → Run

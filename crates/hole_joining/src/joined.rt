@@ -64,7 +64,8 @@ pub fn join_holes(
     ensures below { IfOk result (λ j. All (λ ring. All (λ v. v < length points.now) ring) j.rings.items) }
 
     // The rings have the boundary of the loops, and doubled areas with the same sum; and so has every odd function.
-    ensures boundary { IfOk result (λ j. (a b : ℕ) → boundary (flat_map round_edges j.rings.items) a b ≡ boundary (flat_map round_edges loops.now) a b) }
+    ensures boundary { IfOk result (λ j. (a b : ℕ) → boundary (flat_map round_edges j.rings.items) a b ≡
+        boundary (flat_map round_edges loops.now) a b) }
     ensures areas { IfOk result (λ j. KeepsAreas (settled_in plane.drop points.now loops.now) loops.now j.rings.items) }
     ensures chain { IfOk result (λ j. SameChain (flat_map round_edges j.rings.items) (flat_map round_edges loops.now)) }
 {

@@ -85,7 +85,8 @@ impl Joining<'_> {
         requires ring { ring < length self.now.rings.now }
         requires order { from ≤ to }
         requires within { to ≤ length (get_or self.now.rings.now ring []) }
-        ensures { best_of (passes (clear_of self.now) asks refused) result (bridges_from self.now ring to) ≡ best_of (passes (clear_of self.now) asks refused) best (bridges_from self.now ring from) }
+        ensures { best_of (passes (clear_of self.now) asks refused) result (bridges_from self.now ring to) ≡
+            best_of (passes (clear_of self.now) asks refused) best (bridges_from self.now ring from) }
     {
         let start = self.flat.at(vertex_at(self.hole, 0));
         let rings = self.rings;

@@ -74,8 +74,10 @@ fn follow_join(
     requires same { bridge.ring < length runs.old.items }
     requires within { bridge.place + 1 + count ≤ length (get_or rings.now bridge.ring []) }
     requires small { length (get_or rings.now bridge.ring []) < 2 ^ 32 }
-    requires runs { AreRuns (plane_at flat.now) (get_or runs.old.items bridge.ring []) (without (bridge.place + 1) count (get_or rings.now bridge.ring [])) }
-    ensures { OnOk result ((rs : List Run) × (runs.new.items ≡ set runs.old.items bridge.ring rs) × AreRuns (plane_at flat.now) rs (get_or rings.now bridge.ring [])) }
+    requires runs { AreRuns (plane_at flat.now) (get_or runs.old.items bridge.ring [])
+        (without (bridge.place + 1) count (get_or rings.now bridge.ring [])) }
+    ensures { OnOk result ((rs : List Run) × (runs.new.items ≡ set runs.old.items bridge.ring rs) ×
+        AreRuns (plane_at flat.now) rs (get_or rings.now bridge.ring [])) }
 {
     let ring = &rings[bridge.ring];
     runs[bridge.ring].follow(alloc, flat, &ring.places, bridge.place, count)

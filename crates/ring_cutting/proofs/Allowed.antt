@@ -17,10 +17,14 @@ pub record MayCut (p n : ℕ) (others : List ℕ) : Type 0 where
   pub three : Three others
 
 -- what the test says of a place in the middle
-pub allowed_from : (a : List ℕ) (x : ℕ) (b : List ℕ) → MayCut (last_of x (b ++ a)) (head_or x (b ++ a)) (a ++ b) → is_allowed (a ++ x ∷ b) (length a) ≡ true
-allowed_from a x b may = rw (before_is a x b, after_is a x b, without_is a x b) (and_from _ _ (ap not (ne_eqb _ _ may.bent)) (lt-ltb 2 (different (a ++ b)) (three_are (a ++ b) may.three)))
+pub allowed_from : (a : List ℕ) (x : ℕ) (b : List ℕ) → MayCut (last_of x (b ++ a)) (head_or x (b ++ a)) (a ++ b) →
+    is_allowed (a ++ x ∷ b) (length a) ≡ true
+allowed_from a x b may =
+    rw (before_is a x b, after_is a x b, without_is a x b)
+    (and_from _ _ (ap not (ne_eqb _ _ may.bent)) (lt-ltb 2 (different (a ++ b)) (three_are (a ++ b) may.three)))
 
-pub from_allowed : (a : List ℕ) (x : ℕ) (b : List ℕ) → is_allowed (a ++ x ∷ b) (length a) ≡ true → MayCut (last_of x (b ++ a)) (head_or x (b ++ a)) (a ++ b)
+pub from_allowed : (a : List ℕ) (x : ℕ) (b : List ℕ) → is_allowed (a ++ x ∷ b) (length a) ≡ true →
+    MayCut (last_of x (b ++ a)) (head_or x (b ++ a)) (a ++ b)
 from_allowed a x b h =
     let g = rw (before_is a x b, after_is a x b, without_is a x b) at h in
     let both = and_parts (not (last_of x (b ++ a) == head_or x (b ++ a))) (nat_lt 2 (different (a ++ b))) g in
@@ -61,8 +65,26 @@ three_steps p x n q s pn nq t = elim (in_or_not x (q ∷ s)) as (λ _. Cuts p x 
   | inr no_x ↦ elim (in_or_not n s) as (λ _. Cuts p x n q s) [
     | inl i ↦ inr (inl (record { bent = λ e. no_x (inl e); three = three_within (p ∷ x ∷ n ∷ q ∷ s) (p ∷ x ∷ q ∷ s) (drop_n p x n q s i) t }))
     | inr no_n ↦ elim (in_or_not q (p ∷ s)) as (λ _. Cuts p x n q s) [
-      | inl i ↦ inr (inr (record { bent = head_apart n p s (λ e. pn (sym e)) no_n; three = three_within (p ∷ x ∷ n ∷ q ∷ s) (p ∷ x ∷ n ∷ s) (drop_q p x n q s i) t }))
-      | inr no_q ↦ inl (record { bent = pn; three = record { a = p; b = n; c = q; a_in = inl refl; b_in = inr (inl refl); c_in = inr (inr (inl refl)); ab = pn; bc = nq; ca = λ e. no_q (inl e) } })
+      | inl i ↦
+          inr (inr (record
+          { bent = head_apart n p s (λ e. pn (sym e)) no_n; three = three_within (p ∷ x ∷ n ∷ q ∷ s) (p ∷ x ∷ n ∷ s) (drop_q p x n q s i) t }))
+      | inr no_q ↦
+          inl (record {
+            bent = pn;
+            three =
+                record {
+                  a = p;
+                  b = n;
+                  c = q;
+                  a_in = inl refl;
+                  b_in = inr (inl refl);
+                  c_in = inr (inr (inl refl));
+                  ab = pn;
+                  bc = nq;
+                  ca =
+                      λ e. no_q (inl e);
+                };
+          })
     ]
   ]
 ]

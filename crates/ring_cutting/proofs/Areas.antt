@@ -18,8 +18,10 @@ turn_is : (at : Plane) (t : Triple) → orient at t.0 t.1 t.2 ≡ orientation (�
 turn_is at t = omega (arith, ints, *ℤ_comm ((at t.1).1 -ℤ (at t.0).1) ((at t.2).0 -ℤ (at t.0).0))
 
 -- triangles with the chain of a ring
-pub areas : (at : Plane) (ring : List ℕ) (ts : List Triple) → SameChain (all_edges ts) (round_edges ring) → total (λ t. orient at t.0 t.1 t.2) ts ≡ area at ring
+pub areas : (at : Plane) (ring : List ℕ) (ts : List Triple) → SameChain (all_edges ts) (round_edges ring) →
+    total (λ t. orient at t.0 t.1 t.2) ts ≡ area at ring
 areas at ring ts same =
     let u : ℕ → ℤ = λ v. (at v).0 in
     let w : ℕ → ℤ = λ v. (at v).1 in
-    total-same (λ (t : Triple). orient at t.0 t.1 t.2) (orientation u w) (turn_is at) ts ∙ sym (areas_of_triangles u w ts) ∙ same (area_at u w) (area_odd u w)
+    total-same (λ (t : Triple). orient at t.0 t.1 t.2) (orientation u w) (turn_is at) ts ∙ sym (areas_of_triangles u w ts)
+    ∙ same (area_at u w) (area_odd u w)

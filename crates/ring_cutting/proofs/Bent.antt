@@ -37,7 +37,17 @@ two_alone p x (n ∷ r) st v (inr h) = elim (two_alone x n r st.1 v h) as (λ _.
 ]
 
 later_bent : (p : ℕ) (r : List ℕ) → Bent r → Bent (p ∷ r)
-later_bent p r b = record { front = p ∷ b.front; before = b.before; vertex = b.vertex; after = b.after; back = b.back; joined = ap (λ l. p ∷ l) b.joined; bent = b.bent }
+later_bent p r b =
+    record {
+      front = p ∷ b.front;
+      before = b.before;
+      vertex = b.vertex;
+      after = b.after;
+      back = b.back;
+      joined =
+          ap (λ l. p ∷ l) b.joined;
+      bent = b.bent;
+    }
 
 pub bent_or_straight : (p x : ℕ) (r : List ℕ) → Bent (p ∷ x ∷ r) ⊎ Straight (p ∷ x ∷ r)
 bent_or_straight p x [] = inr tt
@@ -64,7 +74,8 @@ some_bent [] h t = absurd (omega (arith, h))
 some_bent (p ∷ []) h t = absurd (omega (arith, h))
 some_bent (p ∷ x ∷ r) h t = elim (bent_or_straight p x r) as (λ _. Bent (p ∷ x ∷ r)) [
   | inl b ↦ b
-  | inr s ↦ absurd (no_three p x t.a t.b t.c (two_alone p x r s t.a t.a_in) (two_alone p x r s t.b t.b_in) (two_alone p x r s t.c t.c_in) t.ab t.bc t.ca)
+  | inr s ↦
+      absurd (no_three p x t.a t.b t.c (two_alone p x r s t.a t.a_in) (two_alone p x r s t.b t.b_in) (two_alone p x r s t.c t.c_in) t.ab t.bc t.ca)
 ]
 
 -- the place after a bent one stands beside another vertex
@@ -76,7 +87,8 @@ next_apart a p x n b q s round all =
     let parts = parts_at (a ++ p ∷ x ∷ []) n b some (subst (λ l. Apart (round_edges l)) e all) in
     λ f. parts.after (f ∙ sym (ap (λ l. head_or n l) back))
 
-stands_round : (a : List ℕ) (p x n : ℕ) (b : List ℕ) (q : ℕ) (s : List ℕ) → b ++ a ≡ q ∷ s → (v : ℕ) → In v (a ++ p ∷ x ∷ n ∷ b) → In v (p ∷ x ∷ n ∷ q ∷ s)
+stands_round : (a : List ℕ) (p x n : ℕ) (b : List ℕ) (q : ℕ) (s : List ℕ) → b ++ a ≡ q ∷ s → (v : ℕ) → In v (a ++ p ∷ x ∷ n ∷ b) →
+    In v (p ∷ x ∷ n ∷ q ∷ s)
 stands_round a p x n b q s round v h = elim (in_either v a (p ∷ x ∷ n ∷ b) h) as (λ _. In v (p ∷ x ∷ n ∷ q ∷ s)) [
   | inl i ↦ in_back v (p ∷ x ∷ n ∷ []) (q ∷ s) (subst (In v) round (in_back v b a i))
   | inr k ↦ elim (in_either v (p ∷ x ∷ n ∷ []) b k) as (λ _. In v (p ∷ x ∷ n ∷ q ∷ s)) [
@@ -87,7 +99,8 @@ stands_round a p x n b q s round v h = elim (in_either v a (p ∷ x ∷ n ∷ b)
 
 steps_at : (a : List ℕ) (p x n : ℕ) (b : List ℕ) (q : ℕ) (s : List ℕ) → b ++ a ≡ q ∷ s → p ≢ n → IsRing (a ++ p ∷ x ∷ n ∷ b) → Cuts p x n q s
 steps_at a p x n b q s round pn ringy =
-    three_steps p x n q s pn (next_apart a p x n b q s round ringy.apart) (three_within (a ++ p ∷ x ∷ n ∷ b) (p ∷ x ∷ n ∷ q ∷ s) (stands_round a p x n b q s round) ringy.three)
+    three_steps p x n q s pn (next_apart a p x n b q s round ringy.apart)
+    (three_within (a ++ p ∷ x ∷ n ∷ b) (p ∷ x ∷ n ∷ q ∷ s) (stands_round a p x n b q s round) ringy.three)
 
 -- the three places, where the ring goes on behind them, and where it goes on in front
 allowed_behind : (a : List ℕ) (p x n q : ℕ) (b : List ℕ) → p ≢ n → IsRing (a ++ p ∷ x ∷ n ∷ q ∷ b) → Allowed (a ++ p ∷ x ∷ n ∷ q ∷ b)
@@ -104,7 +117,8 @@ allowed_front p x n q a pn ringy = elim (steps_at (q ∷ a) p x n [] q a refl pn
   | inr (inr may) ↦ front_cut p x n q a may
 ]
 
-allowed_of : (a : List ℕ) (p x n : ℕ) (b : List ℕ) → p ≢ n → IsRing (a ++ p ∷ x ∷ n ∷ b) → 4 ≤ length (a ++ p ∷ x ∷ n ∷ b) → Allowed (a ++ p ∷ x ∷ n ∷ b)
+allowed_of : (a : List ℕ) (p x n : ℕ) (b : List ℕ) → p ≢ n → IsRing (a ++ p ∷ x ∷ n ∷ b) → 4 ≤ length (a ++ p ∷ x ∷ n ∷ b) →
+    Allowed (a ++ p ∷ x ∷ n ∷ b)
 allowed_of a p x n (q ∷ b) pn ringy four = allowed_behind a p x n q b pn ringy
 allowed_of (q ∷ a) p x n [] pn ringy four = allowed_front p x n q a pn ringy
 allowed_of [] p x n [] pn ringy four = absurd (omega (arith, four))

@@ -21,7 +21,8 @@ pub up_with : (a y z : ℤ) → pos 0 ≤ℤ a → y ≤ℤ z → (a *ℤ y) ≤
 up_with a y z h k = omega (arith, ints, no_less a (z -ℤ y) h (omega (arith, ints, k)), mul-sub a z y)
 
 pub down_with : (a y z : ℤ) → a ≤ℤ pos 0 → z ≤ℤ y → (a *ℤ y) ≤ℤ (a *ℤ z)
-down_with a y z h k = omega (arith, ints, no_less (neg_ℤ a) (y -ℤ z) (omega (arith, ints, h)) (omega (arith, ints, k)), neg-mul a (y -ℤ z), mul-sub a y z)
+down_with a y z h k =
+    omega (arith, ints, no_less (neg_ℤ a) (y -ℤ z) (omega (arith, ints, h)) (omega (arith, ints, k)), neg-mul a (y -ℤ z), mul-sub a y z)
 
 -- the corner of a rectangle that is furthest to the left of the way from a to b
 pub record IsFurthest (s : Span) (a b k : ℤ × ℤ) : Type 0 where
@@ -53,7 +54,16 @@ furthest s a b k x f h =
       | inl l ↦ up_with (b.0 -ℤ a.0) x.1 k.1 (omega (arith, ints, l)) (omega (arith, ints, f.on l, h.north))
       | inr l ↦ down_with (b.0 -ℤ a.0) x.1 k.1 (omega (arith, ints, l)) (omega (arith, ints, f.back l, h.south))
     ] in
-    omega (arith, ints, across, along, mul-sub (b.0 -ℤ a.0) x.1 a.1, mul-sub (b.0 -ℤ a.0) k.1 a.1, mul-sub (b.1 -ℤ a.1) x.0 a.0, mul-sub (b.1 -ℤ a.1) k.0 a.0)
+    omega (
+      arith,
+      ints,
+      across,
+      along,
+      mul-sub (b.0 -ℤ a.0) x.1 a.1,
+      mul-sub (b.0 -ℤ a.0) k.1 a.1,
+      mul-sub (b.1 -ℤ a.1) x.0 a.0,
+      mul-sub (b.1 -ℤ a.1) k.0 a.0,
+    )
 
 -- a point of a triangle that turns left is nowhere to the right of a side
 pub record IsCovered (a b c x : ℤ × ℤ) : Type 0 where
@@ -76,16 +86,13 @@ uncovered a b c x none = elim (cases_Bool (covers a b c x)) as (λ _. covers a b
   | inr n ↦ n
 ]
 
--- the first and the third of three factors exchanged
-ends_changed : (a b c : ℤ) → a *ℤ (b *ℤ c) ≡ c *ℤ (b *ℤ a)
-ends_changed a b c = rw (*ℤ_comm b c, ← mul-assoc a c b, *ℤ_comm a c, mul-assoc c a b, *ℤ_comm a b) refl
-
 -- the first two of three factors exchanged
 first_changed : (a b c : ℤ) → a *ℤ (b *ℤ c) ≡ b *ℤ (a *ℤ c)
 first_changed a b c = rw (← mul-assoc a b c, *ℤ_comm a b, mul-assoc b a c) refl
 
--- what the turns at a point say of the corners seen from there: a determinant with two equal rows is 0
-no_volume : (a b c : ℤ × ℤ) → (a.0 *ℤ (b.0 *ℤ c.1 -ℤ c.0 *ℤ b.1) +ℤ b.0 *ℤ (c.0 *ℤ a.1 -ℤ a.0 *ℤ c.1)) +ℤ c.0 *ℤ (a.0 *ℤ b.1 -ℤ b.0 *ℤ a.1) ≡ pos 0
+-- a determinant with two equal rows is 0
+no_volume : (a b c : ℤ × ℤ) →
+    (a.0 *ℤ (b.0 *ℤ c.1 -ℤ c.0 *ℤ b.1) +ℤ b.0 *ℤ (c.0 *ℤ a.1 -ℤ a.0 *ℤ c.1)) +ℤ c.0 *ℤ (a.0 *ℤ b.1 -ℤ b.0 *ℤ a.1) ≡ pos 0
 no_volume a b c =
     omega (
       arith,
@@ -98,19 +105,6 @@ no_volume a b c =
       first_changed c.0 a.0 b.1,
     )
 
-no_volume_v : (a b c : ℤ × ℤ) → (a.1 *ℤ (b.0 *ℤ c.1 -ℤ c.0 *ℤ b.1) +ℤ b.1 *ℤ (c.0 *ℤ a.1 -ℤ a.0 *ℤ c.1)) +ℤ c.1 *ℤ (a.0 *ℤ b.1 -ℤ b.0 *ℤ a.1) ≡ pos 0
-no_volume_v a b c =
-    omega (
-      arith,
-      ints,
-      mul-sub a.1 (b.0 *ℤ c.1) (c.0 *ℤ b.1),
-      mul-sub b.1 (c.0 *ℤ a.1) (a.0 *ℤ c.1),
-      mul-sub c.1 (a.0 *ℤ b.1) (b.0 *ℤ a.1),
-      ends_changed a.1 b.0 c.1,
-      ends_changed b.1 c.0 a.1,
-      ends_changed c.1 a.0 b.1,
-    )
-
 -- the way from one point to another
 abbrev step : ℤ × ℤ → ℤ × ℤ → ℤ × ℤ
 step x a = (a.0 -ℤ x.0, a.1 -ℤ x.1)
@@ -118,15 +112,41 @@ step x a = (a.0 -ℤ x.0, a.1 -ℤ x.1)
 -- a turn, as seen from its end
 turn_seen : (a b x : ℤ × ℤ) → turn a b x ≡ (a.0 -ℤ x.0) *ℤ (b.1 -ℤ x.1) -ℤ (b.0 -ℤ x.0) *ℤ (a.1 -ℤ x.1)
 turn_seen a b x =
-    simp spread (omega (arith, ints, *ℤ_comm b.1 x.0, *ℤ_comm b.1 a.0, *ℤ_comm a.1 x.0, *ℤ_comm a.1 a.0, *ℤ_comm x.1 x.0, *ℤ_comm a.1 b.0, *ℤ_comm x.1 a.0, *ℤ_comm x.1 b.0))
+    simp spread (omega (
+      arith,
+      ints,
+      *ℤ_comm b.1 x.0,
+      *ℤ_comm b.1 a.0,
+      *ℤ_comm a.1 x.0,
+      *ℤ_comm a.1 a.0,
+      *ℤ_comm x.1 x.0,
+      *ℤ_comm a.1 b.0,
+      *ℤ_comm x.1 a.0,
+      *ℤ_comm x.1 b.0,
+    ))
 
+-- what the turns at a point say of the corners seen from there, by either coordinate
 seen_u : (a b c x : ℤ × ℤ) → ((a.0 -ℤ x.0) *ℤ turn b c x +ℤ (b.0 -ℤ x.0) *ℤ turn c a x) +ℤ (c.0 -ℤ x.0) *ℤ turn a b x ≡ pos 0
 seen_u a b c x =
-    (λ j. ((a.0 -ℤ x.0) *ℤ turn_seen b c x j +ℤ (b.0 -ℤ x.0) *ℤ turn_seen c a x j) +ℤ (c.0 -ℤ x.0) *ℤ turn_seen a b x j) ∙ no_volume (step x a) (step x b) (step x c)
+    (λ j. ((a.0 -ℤ x.0) *ℤ turn_seen b c x j +ℤ (b.0 -ℤ x.0) *ℤ turn_seen c a x j) +ℤ (c.0 -ℤ x.0) *ℤ turn_seen a b x j)
+    ∙ no_volume (step x a) (step x b) (step x c)
+
+-- a point with its coordinates exchanged
+abbrev swapped : ℤ × ℤ → ℤ × ℤ
+swapped a = (a.1, a.0)
+
+-- a turn of such points is that of the points the other way
+turn_swapped : (a b x : ℤ × ℤ) → turn (swapped a) (swapped b) (swapped x) ≡ turn b a x
+turn_swapped a b x =
+    turn_seen (swapped a) (swapped b) (swapped x)
+    ∙ (λ j. *ℤ_comm (a.1 -ℤ x.1) (b.0 -ℤ x.0) j -ℤ *ℤ_comm (b.1 -ℤ x.1) (a.0 -ℤ x.0) j) ∙ sym (turn_seen b a x)
 
 seen_v : (a b c x : ℤ × ℤ) → ((a.1 -ℤ x.1) *ℤ turn b c x +ℤ (b.1 -ℤ x.1) *ℤ turn c a x) +ℤ (c.1 -ℤ x.1) *ℤ turn a b x ≡ pos 0
 seen_v a b c x =
-    (λ j. ((a.1 -ℤ x.1) *ℤ turn_seen b c x j +ℤ (b.1 -ℤ x.1) *ℤ turn_seen c a x j) +ℤ (c.1 -ℤ x.1) *ℤ turn_seen a b x j) ∙ no_volume_v (step x a) (step x b) (step x c)
+    let back : ((c.1 -ℤ x.1) *ℤ turn a b x +ℤ (b.1 -ℤ x.1) *ℤ turn c a x) +ℤ (a.1 -ℤ x.1) *ℤ turn b c x ≡ pos 0 =
+    (λ j. ((c.1 -ℤ x.1) *ℤ sym (turn_swapped b a x) j +ℤ (b.1 -ℤ x.1) *ℤ sym (turn_swapped a c x) j) +ℤ (a.1 -ℤ x.1) *ℤ sym (turn_swapped c b x) j)
+    ∙ seen_u (swapped c) (swapped b) (swapped a) (swapped x) in
+    omega (arith, ints, back)
 
 -- a turn by the three areas of the origin and two corners
 minors : (a b c : ℤ × ℤ) → turn a b c ≡ ((a.0 *ℤ b.1 -ℤ b.0 *ℤ a.1) +ℤ (b.0 *ℤ c.1 -ℤ c.0 *ℤ b.1)) +ℤ (c.0 *ℤ a.1 -ℤ a.0 *ℤ c.1)
@@ -156,7 +176,8 @@ whole a b c x =
     (λ j. (turn_seen a b x j +ℤ turn_seen b c x j) +ℤ turn_seen c a x j) ∙ sym (minors (step x a) (step x b) (step x c)) ∙ turn_moved a b c x
 
 -- three numbers that are not negative, each times a number that is greater than 0, have the sum 0 only where all are 0
-no_sum : (p q r s t u : ℤ) → pos 0 <ℤ p → pos 0 <ℤ q → pos 0 <ℤ r → pos 0 ≤ℤ s → pos 0 ≤ℤ t → pos 0 ≤ℤ u → (p *ℤ s +ℤ q *ℤ t) +ℤ r *ℤ u ≡ pos 0 → pos 0 <ℤ ((u +ℤ s) +ℤ t) → ⊥
+no_sum : (p q r s t u : ℤ) → pos 0 <ℤ p → pos 0 <ℤ q → pos 0 <ℤ r → pos 0 ≤ℤ s → pos 0 ≤ℤ t → pos 0 ≤ℤ u →
+    (p *ℤ s +ℤ q *ℤ t) +ℤ r *ℤ u ≡ pos 0 → pos 0 <ℤ ((u +ℤ s) +ℤ t) → ⊥
 no_sum p q r s t u hp hq hr hs ht hu e some =
     let ps = no_less p s (omega (arith, ints, hp)) hs in
     let qt = no_less q t (omega (arith, ints, hq)) ht in
@@ -170,29 +191,34 @@ no_sum p q r s t u hp hq hr hs ht hu e some =
     ]
 
 -- the same with all three the other way
-opposite : (a b c x s t u : ℤ) → ((a -ℤ x) *ℤ s +ℤ (b -ℤ x) *ℤ t) +ℤ (c -ℤ x) *ℤ u ≡ pos 0 → ((x -ℤ a) *ℤ s +ℤ (x -ℤ b) *ℤ t) +ℤ (x -ℤ c) *ℤ u ≡ pos 0
+opposite : (a b c x s t u : ℤ) → ((a -ℤ x) *ℤ s +ℤ (b -ℤ x) *ℤ t) +ℤ (c -ℤ x) *ℤ u ≡ pos 0 →
+    ((x -ℤ a) *ℤ s +ℤ (x -ℤ b) *ℤ t) +ℤ (x -ℤ c) *ℤ u ≡ pos 0
 opposite a b c x s t u e =
     omega (arith, ints, e, sub-mul a x s, sub-mul b x t, sub-mul c x u, sub-mul x a s, sub-mul x b t, sub-mul x c u)
 
 -- a point that lies beside, below or above all three corners is not in the triangle
 pub none_west : (a b c x : ℤ × ℤ) → pos 0 <ℤ turn a b c → x.0 <ℤ a.0 → x.0 <ℤ b.0 → x.0 <ℤ c.0 → IsCovered a b c x → ⊥
 none_west a b c x left ha hb hc h =
-    no_sum (a.0 -ℤ x.0) (b.0 -ℤ x.0) (c.0 -ℤ x.0) (turn b c x) (turn c a x) (turn a b x) (omega (arith, ints, ha)) (omega (arith, ints, hb)) (omega (arith, ints, hc)) h.bc h.ca h.ab
+    no_sum (a.0 -ℤ x.0) (b.0 -ℤ x.0) (c.0 -ℤ x.0) (turn b c x) (turn c a x) (turn a b x) (omega (arith, ints, ha)) (omega (arith, ints, hb))
+    (omega (arith, ints, hc)) h.bc h.ca h.ab
     (seen_u a b c x) (subst (λ z. pos 0 <ℤ z) (sym (whole a b c x)) left)
 
 pub none_east : (a b c x : ℤ × ℤ) → pos 0 <ℤ turn a b c → a.0 <ℤ x.0 → b.0 <ℤ x.0 → c.0 <ℤ x.0 → IsCovered a b c x → ⊥
 none_east a b c x left ha hb hc h =
-    no_sum (x.0 -ℤ a.0) (x.0 -ℤ b.0) (x.0 -ℤ c.0) (turn b c x) (turn c a x) (turn a b x) (omega (arith, ints, ha)) (omega (arith, ints, hb)) (omega (arith, ints, hc)) h.bc h.ca h.ab
+    no_sum (x.0 -ℤ a.0) (x.0 -ℤ b.0) (x.0 -ℤ c.0) (turn b c x) (turn c a x) (turn a b x) (omega (arith, ints, ha)) (omega (arith, ints, hb))
+    (omega (arith, ints, hc)) h.bc h.ca h.ab
     (opposite (a.0) (b.0) (c.0) (x.0) (turn b c x) (turn c a x) (turn a b x) (seen_u a b c x)) (subst (λ z. pos 0 <ℤ z) (sym (whole a b c x)) left)
 
 pub none_south : (a b c x : ℤ × ℤ) → pos 0 <ℤ turn a b c → x.1 <ℤ a.1 → x.1 <ℤ b.1 → x.1 <ℤ c.1 → IsCovered a b c x → ⊥
 none_south a b c x left ha hb hc h =
-    no_sum (a.1 -ℤ x.1) (b.1 -ℤ x.1) (c.1 -ℤ x.1) (turn b c x) (turn c a x) (turn a b x) (omega (arith, ints, ha)) (omega (arith, ints, hb)) (omega (arith, ints, hc)) h.bc h.ca h.ab
+    no_sum (a.1 -ℤ x.1) (b.1 -ℤ x.1) (c.1 -ℤ x.1) (turn b c x) (turn c a x) (turn a b x) (omega (arith, ints, ha)) (omega (arith, ints, hb))
+    (omega (arith, ints, hc)) h.bc h.ca h.ab
     (seen_v a b c x) (subst (λ z. pos 0 <ℤ z) (sym (whole a b c x)) left)
 
 pub none_north : (a b c x : ℤ × ℤ) → pos 0 <ℤ turn a b c → a.1 <ℤ x.1 → b.1 <ℤ x.1 → c.1 <ℤ x.1 → IsCovered a b c x → ⊥
 none_north a b c x left ha hb hc h =
-    no_sum (x.1 -ℤ a.1) (x.1 -ℤ b.1) (x.1 -ℤ c.1) (turn b c x) (turn c a x) (turn a b x) (omega (arith, ints, ha)) (omega (arith, ints, hb)) (omega (arith, ints, hc)) h.bc h.ca h.ab
+    no_sum (x.1 -ℤ a.1) (x.1 -ℤ b.1) (x.1 -ℤ c.1) (turn b c x) (turn c a x) (turn a b x) (omega (arith, ints, ha)) (omega (arith, ints, hb))
+    (omega (arith, ints, hc)) h.bc h.ca h.ab
     (opposite (a.1) (b.1) (c.1) (x.1) (turn b c x) (turn c a x) (turn a b x) (seen_v a b c x)) (subst (λ z. pos 0 <ℤ z) (sym (whole a b c x)) left)
 
 pub below_of : (x y : ℤ) → int_lt x y ≡ true → x <ℤ y

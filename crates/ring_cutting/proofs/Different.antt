@@ -87,7 +87,9 @@ pub are_two : (r : List ℕ) → 1 < different r → Two r
 are_two [] h = absurd (omega (arith, h))
 are_two (x ∷ r) h = elim (in_or_not x r) as (λ _. Two (x ∷ r)) [
   | inl i ↦ let t = are_two r (omega (arith, h, new_in-old x r i)) in record { a = t.a; b = t.b; a_in = inr t.a_in; b_in = inr t.b_in; ab = t.ab }
-  | inr n ↦ let t = are_one r (omega (arith, h, new_in-new x r n)) in record { a = x; b = t.0; a_in = inl refl; b_in = inr t.1; ab = λ e. n (in_as x t.0 r e t.1) }
+  | inr n ↦
+      let t = are_one r (omega (arith, h, new_in-new x r n)) in
+      record { a = x; b = t.0; a_in = inl refl; b_in = inr t.1; ab = λ e. n (in_as x t.0 r e t.1) }
 ]
 
 pub are_three : (r : List ℕ) → 2 < different r → Three r
@@ -98,5 +100,16 @@ are_three (x ∷ r) h = elim (in_or_not x r) as (λ _. Three (x ∷ r)) [
       record { a = t.a; b = t.b; c = t.c; a_in = inr t.a_in; b_in = inr t.b_in; c_in = inr t.c_in; ab = t.ab; bc = t.bc; ca = t.ca }
   | inr n ↦
       let t = are_two r (omega (arith, h, new_in-new x r n)) in
-      record { a = x; b = t.a; c = t.b; a_in = inl refl; b_in = inr t.a_in; c_in = inr t.b_in; ab = λ e. n (in_as x t.a r e t.a_in); bc = t.ab; ca = λ e. n (in_as x t.b r (sym e) t.b_in) }
+      record {
+        a = x;
+        b = t.a;
+        c = t.b;
+        a_in = inl refl;
+        b_in = inr t.a_in;
+        c_in = inr t.b_in;
+        ab = λ e. n (in_as x t.a r e t.a_in);
+        bc =
+            t.ab;
+        ca = λ e. n (in_as x t.b r (sym e) t.b_in);
+      }
 ]

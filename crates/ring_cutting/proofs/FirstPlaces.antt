@@ -28,7 +28,8 @@ not_before p n k h y = elim (cases_lt k (position_or_len p (upto n))) as (λ _. 
 -- one that passes, with none before it
 pub first_place : (p : ℕ → Bool) (n i : ℕ) → i < n → ((k : ℕ) → k < i → p k ≡ false) → p i ≡ true → position_or_len p (upto n) ≡ i
 first_place p n i h before here =
-    position_or_len_is p (upto n) i 0 (omega (arith, h, many n)) (λ k l. ap p (at_upto n k (omega (arith, l, h))) ∙ before k l) (λ l. ap p (at_upto n i h) ∙ here)
+    position_or_len_is p (upto n) i 0 (omega (arith, h, many n)) (λ k l. ap p (at_upto n k (omega (arith, l, h))) ∙ before k l)
+    (λ l. ap p (at_upto n i h) ∙ here)
 
 -- where none passes it is n
 pub no_place : (p : ℕ → Bool) (n : ℕ) → ((k : ℕ) → k < n → p k ≡ false) → position_or_len p (upto n) ≡ n
@@ -39,7 +40,8 @@ no_place p n none =
 pub first_is : (p : ℕ → Bool) (n i : ℕ) → i < n → ((k : ℕ) → k < i → p k ≡ false) → p i ≡ true → position p (upto n) ≡ Some i
 first_is p n i h before here =
     let e = first_place p n i h before here in
-    ap (λ j. cond (nat_lt j (length (upto n))) (Some j) None) e ∙ ap (λ b. cond b (Some i) None) (lt-ltb i (length (upto n)) (omega (arith, h, many n)))
+    ap (λ j. cond (nat_lt j (length (upto n))) (Some j) None) e
+    ∙ ap (λ b. cond b (Some i) None) (lt-ltb i (length (upto n)) (omega (arith, h, many n)))
 
 pub first_none : (p : ℕ → Bool) (n : ℕ) → ((k : ℕ) → k < n → p k ≡ false) → position p (upto n) ≡ None
 first_none p n none =
@@ -48,19 +50,23 @@ first_none p n none =
 
 -- what such an option says
 pub some_first : (p : ℕ → Bool) (n i : ℕ) → Some i ≡ position p (upto n) → (position_or_len p (upto n) < n) × (i ≡ position_or_len p (upto n))
-some_first p n i h = elim (cases_lt (position_or_len p (upto n)) (length (upto n))) as (λ _. (position_or_len p (upto n) < n) × (i ≡ position_or_len p (upto n))) [
-  | inl l ↦
-      let e : Some i ≡ Some (position_or_len p (upto n)) = h ∙ ap (λ b. cond b (Some (position_or_len p (upto n))) None) (lt-ltb (position_or_len p (upto n)) (length (upto n)) l) in
-      (omega (arith, l, many n), cc)
-  | inr l ↦
-      let e : ◌≡◌ {A = Option ℕ} (Some i) None = h ∙ ap (λ b. cond b (Some (position_or_len p (upto n))) None) (le-ltb (position_or_len p (upto n)) (length (upto n)) l) in
-      cc
-]
+some_first p n i h =
+    elim (cases_lt (position_or_len p (upto n)) (length (upto n))) as (λ _. (position_or_len p (upto n) < n) × (i ≡ position_or_len p (upto n))) [
+      | inl l ↦
+          let e : Some i ≡ Some (position_or_len p (upto n)) =
+          h ∙ ap (λ b. cond b (Some (position_or_len p (upto n))) None) (lt-ltb (position_or_len p (upto n)) (length (upto n)) l) in
+          (omega (arith, l, many n), cc)
+      | inr l ↦
+          let e : ◌≡◌ {A = Option ℕ} (Some i) None =
+          h ∙ ap (λ b. cond b (Some (position_or_len p (upto n))) None) (le-ltb (position_or_len p (upto n)) (length (upto n)) l) in
+          cc
+    ]
 
 pub none_first : (p : ℕ → Bool) (n : ℕ) → ◌≡◌ {A = Option ℕ} None (position p (upto n)) → n ≤ position_or_len p (upto n)
 none_first p n h = elim (cases_lt (position_or_len p (upto n)) (length (upto n))) as (λ _. n ≤ position_or_len p (upto n)) [
   | inl l ↦
-      let e : ◌≡◌ {A = Option ℕ} None (Some (position_or_len p (upto n))) = h ∙ ap (λ b. cond b (Some (position_or_len p (upto n))) None) (lt-ltb (position_or_len p (upto n)) (length (upto n)) l) in
+      let e : ◌≡◌ {A = Option ℕ} None (Some (position_or_len p (upto n))) =
+      h ∙ ap (λ b. cond b (Some (position_or_len p (upto n))) None) (lt-ltb (position_or_len p (upto n)) (length (upto n)) l) in
       cc
   | inr l ↦ omega (arith, l, many n)
 ]

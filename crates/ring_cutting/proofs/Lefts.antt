@@ -33,7 +33,8 @@ pub lives_kept : (bs : List Bool) (c m : ℕ) → m ≢ c → lives bs m ≡ tru
 lives_kept bs c m apart h = get_or-set_other bs c m false false apart ∙ h
 
 -- where it stands among them
-pub rank_read : (bs : List Bool) (ps : List Place) (i : ℕ) (d : Place) → length bs ≡ length ps → lives bs i ≡ true → get_or (left_of bs ps) (rank bs i) d ≡ get_or ps i d
+pub rank_read : (bs : List Bool) (ps : List Place) (i : ℕ) (d : Place) → length bs ≡ length ps → lives bs i ≡ true →
+    get_or (left_of bs ps) (rank bs i) d ≡ get_or ps i d
 rank_read [] ps i d many h = cc
 rank_read (b ∷ bs) [] i d many h = absurd (omega (arith, many))
 rank_read (true ∷ bs) (p ∷ ps) zero d many h = refl
@@ -50,7 +51,8 @@ rank_within (true ∷ bs) (p ∷ ps) (suc i) many h = omega (arith, rank_within 
 rank_within (false ∷ bs) (p ∷ ps) (suc i) many h = rank_within bs ps i (omega (arith, many)) h
 
 -- what is left without it
-pub left_without : (bs : List Bool) (ps : List Place) (i : ℕ) → length bs ≡ length ps → lives bs i ≡ true → left_of (set bs i false) ps ≡ remove (left_of bs ps) (rank bs i)
+pub left_without : (bs : List Bool) (ps : List Place) (i : ℕ) → length bs ≡ length ps → lives bs i ≡ true →
+    left_of (set bs i false) ps ≡ remove (left_of bs ps) (rank bs i)
 left_without [] ps i many h = cc
 left_without (b ∷ bs) [] i many h = absurd (omega (arith, many))
 left_without (true ∷ bs) (p ∷ ps) zero many h = refl
@@ -81,7 +83,8 @@ rank_first (true ∷ bs) (suc j) h = absurd (omega (arith, h 0 refl))
 rank_first (false ∷ bs) (suc j) h = rank_first bs j (λ m l. omega (arith, h (suc m) l))
 
 -- the last stands last
-pub rank_last : (bs : List Bool) (ps : List Place) (i : ℕ) → length bs ≡ length ps → lives bs i ≡ true → ((m : ℕ) → lives bs m ≡ true → m ≤ i) → suc (rank bs i) ≡ length (left_of bs ps)
+pub rank_last : (bs : List Bool) (ps : List Place) (i : ℕ) → length bs ≡ length ps → lives bs i ≡ true →
+    ((m : ℕ) → lives bs m ≡ true → m ≤ i) → suc (rank bs i) ≡ length (left_of bs ps)
 rank_last [] ps i many h last = cc
 rank_last (b ∷ bs) [] i many h last = absurd (omega (arith, many))
 rank_last (true ∷ bs) (p ∷ ps) zero many h last = omega (arith, ap length (none_left bs ps (λ m l. omega (arith, last (suc m) l))))
@@ -95,8 +98,10 @@ rank_next [] i j h less none = cc
 rank_next (b ∷ bs) i zero h less none = absurd (omega (arith, less))
 rank_next (true ∷ bs) zero (suc j) h less none = ap suc (rank_first bs j (λ m l. omega (arith, none (suc m) l (omega arith))))
 rank_next (false ∷ bs) zero (suc j) h less none = cc
-rank_next (true ∷ bs) (suc i) (suc j) h less none = ap suc (rank_next bs i j h (omega (arith, less)) (λ m l k. omega (arith, none (suc m) l (omega (arith, k)))))
-rank_next (false ∷ bs) (suc i) (suc j) h less none = rank_next bs i j h (omega (arith, less)) (λ m l k. omega (arith, none (suc m) l (omega (arith, k))))
+rank_next (true ∷ bs) (suc i) (suc j) h less none =
+    ap suc (rank_next bs i j h (omega (arith, less)) (λ m l k. omega (arith, none (suc m) l (omega (arith, k)))))
+rank_next (false ∷ bs) (suc i) (suc j) h less none =
+    rank_next bs i j h (omega (arith, less)) (λ m l k. omega (arith, none (suc m) l (omega (arith, k))))
 
 -- ranks ascend
 rank_above : (bs : List Bool) (i j : ℕ) → lives bs i ≡ true → i < j → rank bs i < rank bs j
@@ -126,11 +131,13 @@ pub ranked : (bs : List Bool) (ps : List Place) (k : ℕ) → k < length (left_o
 ranked [] ps k h = absurd (omega (arith, h))
 ranked (b ∷ bs) [] k h = absurd (omega (arith, h))
 ranked (true ∷ bs) (p ∷ ps) zero h = record { number = 0; living = refl; is = refl }
-ranked (true ∷ bs) (p ∷ ps) (suc k) h = let r = ranked bs ps k (omega (arith, h)) in record { number = suc r.number; living = r.living; is = ap suc r.is }
+ranked (true ∷ bs) (p ∷ ps) (suc k) h =
+    let r = ranked bs ps k (omega (arith, h)) in record { number = suc r.number; living = r.living; is = ap suc r.is }
 ranked (false ∷ bs) (p ∷ ps) k h = let r = ranked bs ps k h in record { number = suc r.number; living = r.living; is = r.is }
 
 -- one that is left and passes a test is found among them
-pub any_left : (f : Place → Bool) (bs : List Bool) (ps : List Place) (w : ℕ) → length bs ≡ length ps → lives bs w ≡ true → f (place_of ps w) ≡ true → list_any f (left_of bs ps) ≡ true
+pub any_left : (f : Place → Bool) (bs : List Bool) (ps : List Place) (w : ℕ) → length bs ≡ length ps → lives bs w ≡ true →
+    f (place_of ps w) ≡ true → list_any f (left_of bs ps) ≡ true
 any_left f [] ps w many h y = cc
 any_left f (b ∷ bs) [] w many h y = absurd (omega (arith, many))
 any_left f (true ∷ bs) (p ∷ ps) zero many h y = ap (λ (t : Bool). t || list_any f (left_of bs ps)) y
@@ -139,14 +146,16 @@ any_left f (true ∷ bs) (p ∷ ps) (suc w) many h y = or_right (f p) (list_any 
 any_left f (false ∷ bs) (p ∷ ps) (suc w) many h y = any_left f bs ps w (omega (arith, many)) h y
 
 -- where none does, none is
-pub none_any : (f : Place → Bool) (bs : List Bool) (ps : List Place) → ((w : ℕ) → lives bs w ≡ true → f (place_of ps w) ≡ false) → list_any f (left_of bs ps) ≡ false
+pub none_any : (f : Place → Bool) (bs : List Bool) (ps : List Place) → ((w : ℕ) → lives bs w ≡ true → f (place_of ps w) ≡ false) →
+    list_any f (left_of bs ps) ≡ false
 none_any f [] ps h = refl
 none_any f (b ∷ bs) [] h = refl
 none_any f (true ∷ bs) (p ∷ ps) h = rw (h 0 refl) (none_any f bs ps (λ w l. h (suc w) l))
 none_any f (false ∷ bs) (p ∷ ps) h = none_any f bs ps (λ w l. h (suc w) l)
 
 -- where none is found, none is once one more is gone
-pub any_fewer : (f : Place → Bool) (bs : List Bool) (ps : List Place) (c : ℕ) → list_any f (left_of bs ps) ≡ false → list_any f (left_of (set bs c false) ps) ≡ false
+pub any_fewer : (f : Place → Bool) (bs : List Bool) (ps : List Place) (c : ℕ) → list_any f (left_of bs ps) ≡ false →
+    list_any f (left_of (set bs c false) ps) ≡ false
 any_fewer f [] ps c h = h
 any_fewer f (b ∷ bs) [] zero h = refl
 any_fewer f (b ∷ bs) [] (suc c) h = refl
@@ -156,7 +165,8 @@ any_fewer f (true ∷ bs) (p ∷ ps) zero h = (or_none (f p) (list_any f (left_o
     or_none true b h = cc
     or_none false b h = (refl, h)
 any_fewer f (false ∷ bs) (p ∷ ps) zero h = h
-any_fewer f (true ∷ bs) (p ∷ ps) (suc c) h = both (f p) (list_any f (left_of bs ps)) (list_any f (left_of (set bs c false) ps)) h (any_fewer f bs ps c)
+any_fewer f (true ∷ bs) (p ∷ ps) (suc c) h =
+    both (f p) (list_any f (left_of bs ps)) (list_any f (left_of (set bs c false) ps)) h (any_fewer f bs ps c)
   where
     both : (a b d : Bool) → (a || b) ≡ false → (b ≡ false → d ≡ false) → (a || d) ≡ false
     both true b d h k = cc

@@ -56,7 +56,8 @@ read_set : (xs : List ℕ) (i j v : ℕ) → j ≡ i → i < length xs → get_o
 read_set xs i j v e h = ap (λ (k : ℕ). get_or (set xs i v) k 0) e ∙ get_or-set_same xs i v 0 h
 
 -- the links without a place
-pub links_without : (len : ℕ) (nx bf : List ℕ) (bs : List Bool) (c p n : ℕ) → IsLinked len nx bf bs → lives bs c ≡ true → p ≡ before_of bf c → n ≡ after_of nx c → n ≢ c → IsLinked len (set nx p n) (set bf n p) (set bs c false)
+pub links_without : (len : ℕ) (nx bf : List ℕ) (bs : List Bool) (c p n : ℕ) → IsLinked len nx bf bs → lives bs c ≡ true →
+    p ≡ before_of bf c → n ≡ after_of nx c → n ≢ c → IsLinked len (set nx p n) (set bf n p) (set bs c false)
 links_without len nx bf bs c p n h here pe ne apart = record {
   after_long = length-set nx p n ∙ h.after_long;
   before_long = length-set bf n p ∙ h.before_long;
@@ -93,7 +94,9 @@ links_without len nx bf bs c p n h here pe ne apart = record {
 
     goes : (i : ℕ) → lives bs i ≡ true → i ≢ c → IsNext (set bs c false) i (after_of (set nx p n) i)
     goes i k other = elim (cases_eq i p) as (λ _. IsNext (set bs c false) i (after_of (set nx p n) i)) [
-      | inl e ↦ subst (λ (j : ℕ). IsNext (set bs c false) i j) (sym (read_set nx p i n e p_within)) (subst (λ (j : ℕ). IsNext (set bs c false) j n) (sym e) joined)
+      | inl e ↦
+          subst (λ (j : ℕ). IsNext (set bs c false) i j) (sym (read_set nx p i n e p_within))
+          (subst (λ (j : ℕ). IsNext (set bs c false) j n) (sym e) joined)
       | inr d ↦
           subst (λ (j : ℕ). IsNext (set bs c false) i j) (sym (get_or-set_other nx p i n 0 d))
           (next_kept bs c i (after_of nx i) (λ e. d (sym (h.back i k) ∙ ap (before_of bf) e ∙ sym pe)) (h.goes i k))
@@ -191,7 +194,8 @@ begun_linked len nx bf bs some h = record {
     ]
 
 -- a place that does not follow itself does not stand before itself
-pub before_apart : (len : ℕ) (nx bf : List ℕ) (bs : List Bool) (c : ℕ) → IsLinked len nx bf bs → lives bs c ≡ true → after_of nx c ≢ c → before_of bf c ≢ c
+pub before_apart : (len : ℕ) (nx bf : List ℕ) (bs : List Bool) (c : ℕ) → IsLinked len nx bf bs → lives bs c ≡ true → after_of nx c ≢ c →
+    before_of bf c ≢ c
 before_apart len nx bf bs c h here apart e = apart (ap (after_of nx) (sym e) ∙ h.forth c here)
 
 -- a place that is left has links

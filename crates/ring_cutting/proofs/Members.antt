@@ -93,7 +93,8 @@ in_list-false v xs n = false_from_ne_true (in_list v xs) (λ y. n (true-in_list 
 
 -- three different vertices stand in every list that has all of them
 pub three_within : (r s : List ℕ) → ((v : ℕ) → In v r → In v s) → Three r → Three s
-three_within r s f t = record { a = t.a; b = t.b; c = t.c; a_in = f t.a t.a_in; b_in = f t.b t.b_in; c_in = f t.c t.c_in; ab = t.ab; bc = t.bc; ca = t.ca }
+three_within r s f t =
+    record { a = t.a; b = t.b; c = t.c; a_in = f t.a t.a_in; b_in = f t.b t.b_in; c_in = f t.c t.c_in; ab = t.ab; bc = t.bc; ca = t.ca }
 
 -- what holds of each member of a list holds of a vertex that stands there
 pub all_in : (P : ℕ → Type 0) (v : ℕ) (xs : List ℕ) → All P xs → In v xs → P v

@@ -13,7 +13,8 @@ use Rattle.ring_cutting.proofs.Steps.{step}
 use Rattle.ring_cutting.proofs.UnderWay.{IsUnderWay, cut_more, one_unless}
 
 -- the places left are a ring
-pub still_ringy : (ps new : List Place) (i : ℕ) → IsRing (vertices_of ps) → 4 ≤ length ps → i < length ps → is_allowed (vertices_of ps) i ≡ true → new ≡ remove ps i → IsRing (vertices_of new)
+pub still_ringy : (ps new : List Place) (i : ℕ) → IsRing (vertices_of ps) → 4 ≤ length ps → i < length ps →
+    is_allowed (vertices_of ps) i ≡ true → new ≡ remove ps i → IsRing (vertices_of new)
 still_ringy ps new i ringy four within allowed is =
     let n = length-vertices ps in
     let left = (step (vertices_of ps) i ringy (omega (arith, four, n)) (omega (arith, within, n)) allowed).ringy in
@@ -52,7 +53,8 @@ pub record Chosen (at : Plane) (ps : List Place) (i : ℕ) (b : Bool) : Type 0 w
   pub place : i ≡ cut_place at (vertices_of ps)
   pub forced : one_where b ≡ forced_here at (vertices_of ps)
 
-pub moved : (at : Plane) (whole : List ℕ) (ps new : List Place) (i : ℕ) (b : Bool) (ts us : List (List ℕ)) (t : List ℕ) (n m : ℕ) → IsUnderWay at whole ps (triples_of ts) n → 4 ≤ length ps → i < length ps → Chosen at ps i b →
+pub moved : (at : Plane) (whole : List ℕ) (ps new : List Place) (i : ℕ) (b : Bool) (ts us : List (List ℕ)) (t : List ℕ) (n m : ℕ) →
+    IsUnderWay at whole ps (triples_of ts) n → 4 ≤ length ps → i < length ps → Chosen at ps i b →
     triple_of t ≡ triple_at (vertices_of ps) i → new ≡ remove ps i → us ≡ ts ++ t ∷ [] → IsCounted n m b → IsUnderWay at whole new (triples_of us) m
 moved at whole ps new i b ts us t n m h four within chosen triple is more counted =
     subst (λ (l : List Triple). IsUnderWay at whole new l m) (sym (triples_more ts us t more))

@@ -21,14 +21,16 @@ empty_has_none s h q = none s.keys h
     none (k ∷ ks) e = absurd (omega (arith, e))
 
 -- what a set had it has with one more
-pub put_keeps : (old new : BTreeSet ℕ) (i : ℕ) → contains nat_cmp new i ≡ true → ((q : ℕ) → q ≢ i → contains nat_cmp new q ≡ contains nat_cmp old q) → (q : ℕ) → contains nat_cmp old q ≡ true → contains nat_cmp new q ≡ true
+pub put_keeps : (old new : BTreeSet ℕ) (i : ℕ) → contains nat_cmp new i ≡ true →
+    ((q : ℕ) → q ≢ i → contains nat_cmp new q ≡ contains nat_cmp old q) → (q : ℕ) → contains nat_cmp old q ≡ true → contains nat_cmp new q ≡ true
 put_keeps old new i has others q y = elim (cases_eq q i) as (λ _. contains nat_cmp new q ≡ true) [
   | inl e ↦ ap (contains nat_cmp new) e ∙ has
   | inr d ↦ others q d ∙ y
 ]
 
 -- what holds of all that a set had holds of all with one more
-pub put_known : (P : ℕ → Type 0) (old new : BTreeSet ℕ) (i : ℕ) → ((q : ℕ) → q ≢ i → contains nat_cmp new q ≡ contains nat_cmp old q) → P i → ((q : ℕ) → contains nat_cmp old q ≡ true → P q) →
+pub put_known : (P : ℕ → Type 0) (old new : BTreeSet ℕ) (i : ℕ) → ((q : ℕ) → q ≢ i → contains nat_cmp new q ≡ contains nat_cmp old q) →
+    P i → ((q : ℕ) → contains nat_cmp old q ≡ true → P q) →
     (q : ℕ) → contains nat_cmp new q ≡ true → P q
 put_known P old new i others here h q y = elim (cases_eq q i) as (λ _. P q) [
   | inl e ↦ subst P (sym e) here
@@ -36,7 +38,8 @@ put_known P old new i others here h q y = elim (cases_eq q i) as (λ _. P q) [
 ]
 
 -- and of all but one where that is gone
-pub drop_known : (P : ℕ → Type 0) (old new : BTreeSet ℕ) (i : ℕ) → contains nat_cmp new i ≡ false → ((q : ℕ) → q ≢ i → contains nat_cmp new q ≡ contains nat_cmp old q) →
+pub drop_known : (P : ℕ → Type 0) (old new : BTreeSet ℕ) (i : ℕ) → contains nat_cmp new i ≡ false →
+    ((q : ℕ) → q ≢ i → contains nat_cmp new q ≡ contains nat_cmp old q) →
     ((q : ℕ) → q ≢ i → contains nat_cmp old q ≡ true → P q) → (q : ℕ) → contains nat_cmp new q ≡ true → P q
 drop_known P old new i gone others h q y = elim (cases_eq q i) as (λ _. P q) [
   | inl e ↦ absurd (both_ways (contains nat_cmp new q) (ap (contains nat_cmp new) e ∙ gone) y)

@@ -1,5 +1,6 @@
 -- A place and its neighbours do not block their own triangle, so at the first place it is enough to ask the others.
-use Rattle.std.specs.Prelude.{◌≡◌, ℕ, ◌+◌, ◌-◌, ◌<◌, ◌≤◌, List, [], ◌∷◌, true, false, Bool, not, ◌&&◌, ◌||◌, ◌==◌, length, get_or, take, drop}
+use Rattle.std.specs.Prelude.{◌≡◌, ℕ, ◌+◌, ◌-◌, ◌<◌, ◌≤◌, List, [], ◌∷◌, true, false, Bool, not, ◌&&◌, ◌||◌, ◌==◌}
+use Rattle.std.specs.Prelude.{length, get_or, take, drop}
 use Rattle.std.specs.List.{list_any}
 use Rattle.std.proofs.Common.{arith, refl, sym, ap, ◌∙◌}
 use Rattle.std.proofs.lemmas.Bool.{eq-eqb, and_left, and_right}
@@ -25,30 +26,36 @@ any_of p x n qs = list_any (place_blocks p x n) qs
 
 -- a place with the vertex of one of the three does not
 by_first : (p x n w : Place) → w.vertex ≡ p.vertex → place_blocks p x n w ≡ false
-by_first p x n w e = ap (λ (t : Bool). not t && not (w.vertex == x.vertex) && not (w.vertex == n.vertex) && covers p.at x.at n.at w.at) (eq-eqb w.vertex p.vertex e)
+by_first p x n w e =
+    ap (λ (t : Bool). not t && not (w.vertex == x.vertex) && not (w.vertex == n.vertex) && covers p.at x.at n.at w.at) (eq-eqb w.vertex p.vertex e)
 
 by_second : (p x n w : Place) → w.vertex ≡ x.vertex → place_blocks p x n w ≡ false
 by_second p x n w e =
     let q = not (w.vertex == p.vertex) in
     ap (λ (t : Bool). q && not t && not (w.vertex == n.vertex) && covers p.at x.at n.at w.at) (eq-eqb w.vertex x.vertex e)
-    ∙ and_left ((q && false) && not (w.vertex == n.vertex)) (covers p.at x.at n.at w.at) (and_left (q && false) (not (w.vertex == n.vertex)) (and_right q false refl))
+    ∙ and_left ((q && false) && not (w.vertex == n.vertex)) (covers p.at x.at n.at w.at)
+    (and_left (q && false) (not (w.vertex == n.vertex)) (and_right q false refl))
 
 by_third : (p x n w : Place) → w.vertex ≡ n.vertex → place_blocks p x n w ≡ false
 by_third p x n w e =
     let q = not (w.vertex == p.vertex) && not (w.vertex == x.vertex) in
-    ap (λ (t : Bool). q && not t && covers p.at x.at n.at w.at) (eq-eqb w.vertex n.vertex e) ∙ and_left (q && false) (covers p.at x.at n.at w.at) (and_right q false refl)
+    ap (λ (t : Bool). q && not t && covers p.at x.at n.at w.at) (eq-eqb w.vertex n.vertex e)
+    ∙ and_left (q && false) (covers p.at x.at n.at w.at) (and_right q false refl)
 
 -- a place that does not pass is left out at the end of a part of a list
-last_out : {X : Type 0} (f : X → Bool) (xs : List X) (k : ℕ) (d : X) → k < length xs → f (get_or xs k d) ≡ false → list_any f (take (k + 1) xs) ≡ list_any f (take k xs)
+last_out : {X : Type 0} (f : X → Bool) (xs : List X) (k : ℕ) (d : X) → k < length xs → f (get_or xs k d) ≡ false →
+    list_any f (take (k + 1) xs) ≡ list_any f (take k xs)
 last_out f xs k d h fails =
-    ap (list_any f) (take_more xs k d h) ∙ list_any-append f (take k xs) (get_or xs k d ∷ []) ∙ ap (λ (b : Bool). list_any f (take k xs) || (b || false)) fails ∙ alone (list_any f (take k xs))
+    ap (list_any f) (take_more xs k d h) ∙ list_any-append f (take k xs) (get_or xs k d ∷ [])
+    ∙ ap (λ (b : Bool). list_any f (take k xs) || (b || false)) fails ∙ alone (list_any f (take k xs))
   where
     alone : (b : Bool) → (b || (false || false)) ≡ b
     alone true = refl
     alone false = refl
 
 -- or at its beginning
-first_out : {X : Type 0} (f : X → Bool) (xs : List X) (k : ℕ) (d : X) → k < length xs → f (get_or xs k d) ≡ false → list_any f (drop k xs) ≡ list_any f (drop (k + 1) xs)
+first_out : {X : Type 0} (f : X → Bool) (xs : List X) (k : ℕ) (d : X) → k < length xs → f (get_or xs k d) ≡ false →
+    list_any f (drop k xs) ≡ list_any f (drop (k + 1) xs)
 first_out f xs k d h fails = at_drop_more (list_any f) xs k d h ∙ ap (λ (b : Bool). b || list_any f (drop (k + 1) xs)) fails
 
 -- the vertex of the k-th place
@@ -64,11 +71,14 @@ after_out : (ps : List Place) (i : ℕ) (p x n : Place) → Stands ps i p x n �
 after_out ps i p x n s more = by_third p x n (get_or ps (i + 1) x) (vertex_read ps (i + 1) x more ∙ after_other ps i more ∙ sym s.after)
 
 -- at the first place
-pub at_first : (ps : List Place) (p x n : Place) (last : ℕ) → Stands ps 0 p x n → last ≡ length ps - 1 → any_of p x n (take (last - 2) (drop 2 ps)) ≡ any_of p x n ps
+pub at_first : (ps : List Place) (p x n : Place) (last : ℕ) → Stands ps 0 p x n → last ≡ length ps - 1 →
+    any_of p x n (take (last - 2) (drop 2 ps)) ≡ any_of p x n ps
 at_first ps p x n last s is =
     let f = place_blocks p x n in let long = s.long in let rest = drop 2 ps in let count = length-drop 2 ps in let k = last - 2 in
-    let end : get_or rest k x ≡ get_or ps (length ps - 1) x = let e : 2 + k ≡ length ps - 1 = omega arith in get_or-drop 2 ps k x ∙ ap (λ j. get_or ps j x) e in
+    let end : get_or rest k x ≡ get_or ps (length ps - 1) x =
+    let e : 2 + k ≡ length ps - 1 = omega arith in get_or-drop 2 ps k x ∙ ap (λ j. get_or ps j x) e in
     let fails : f (get_or rest k x) ≡ false =
-    by_first p x n (get_or rest k x) (ap (λ (q : Place). q.vertex) end ∙ vertex_read ps (length ps - 1) x (omega arith) ∙ before_first ps (omega arith) ∙ sym s.before) in
+    by_first p x n (get_or rest k x)
+    (ap (λ (q : Place). q.vertex) end ∙ vertex_read ps (length ps - 1) x (omega arith) ∙ before_first ps (omega arith) ∙ sym s.before) in
     sym (last_out f rest k x (omega arith) fails) ∙ ap (list_any f) (take_all (k + 1) rest (omega arith))
     ∙ sym (first_out f ps 0 x s.within (here_out ps 0 p x n s) ∙ first_out f ps 1 x (omega arith) (after_out ps 0 p x n s (omega arith)))

@@ -65,7 +65,8 @@ pub record AreRead (ps : List Place) (i : ℕ) (p x n : Place) : Type 0 where
 
 -- a place blocks where its vertex does
 pub blocks_of : (at : Plane) (ps : List Place) (i : ℕ) (p x n : Place) → IsPlaced at ps → AreRead ps i p x n →
-    list_any (place_blocks p x n) ps ≡ list_any (blocks at (vertex_before (vertices_of ps) i) (vertex_at (vertices_of ps) i) (vertex_after (vertices_of ps) i)) (vertices_of ps)
+    list_any (place_blocks p x n) ps ≡
+    list_any (blocks at (vertex_before (vertices_of ps) i) (vertex_at (vertices_of ps) i) (vertex_after (vertices_of ps) i)) (vertices_of ps)
 blocks_of at ps i p x n placed read = along ps placed
   where
     a : ℕ
@@ -78,7 +79,16 @@ blocks_of at ps i p x n placed read = along ps placed
     c = vertex_after (vertices_of ps) i
 
     one : (w : Place) → w.at ≡ at w.vertex → place_blocks p x n w ≡ blocks at a b c w.vertex
-    one w e = rw (read.before.vertex, read.here.vertex, read.after.vertex, read.before.at at placed, read.here.at at placed, read.after.at at placed, e) refl
+    one w e =
+        rw (
+          read.before.vertex,
+          read.here.vertex,
+          read.after.vertex,
+          read.before.at at placed,
+          read.here.at at placed,
+          read.after.at at placed,
+          e,
+        ) refl
 
     along : (qs : List Place) → IsPlaced at qs → list_any (place_blocks p x n) qs ≡ list_any (blocks at a b c) (vertices_of qs)
     along [] h = refl
@@ -89,7 +99,8 @@ pub without_vertices : (ps : List Place) (i : ℕ) → vertices_of (remove ps i)
 without_vertices ps i =
     let f : Place → ℕ = λ p. p.vertex in
     let next : suc i ≡ i + 1 = omega arith in
-    map-append f (take i ps) (drop (suc i) ps) ∙ ap (λ l. l ++ map f (drop (suc i) ps)) (sym (take-map f i ps)) ∙ ap (λ l. take i (map f ps) ++ l) (sym (drop-map f (suc i) ps)) ∙ ap (λ k. take i (map f ps) ++ drop k (map f ps)) next
+    map-append f (take i ps) (drop (suc i) ps) ∙ ap (λ l. l ++ map f (drop (suc i) ps)) (sym (take-map f i ps))
+    ∙ ap (λ l. take i (map f ps) ++ l) (sym (drop-map f (suc i) ps)) ∙ ap (λ k. take i (map f ps) ++ drop k (map f ps)) next
 
 pub placed_without : (at : Plane) (ps : List Place) (i : ℕ) → IsPlaced at ps → IsPlaced at (remove ps i)
 placed_without at ps i h =

@@ -23,7 +23,8 @@ use Rattle.ring_cutting.proofs.FirstPlaces.{passes, not_before}
 pub record IsStep (r : List ℕ) (i : ℕ) : Type 0 where
   pub ringy : IsRing (without_place i r)
   pub shorter : length r ≡ suc (length (without_place i r))
-  pub sums : (f : ℕ → ℕ → ℤ) → IsOdd f → total (along f) (round_edges r) ≡ total (along f) (edges (triple_at r i)) +ℤ total (along f) (round_edges (without_place i r))
+  pub sums : (f : ℕ → ℕ → ℤ) → IsOdd f →
+      total (along f) (round_edges r) ≡ total (along f) (edges (triple_at r i)) +ℤ total (along f) (round_edges (without_place i r))
   pub three : HasThree (triple_at r i)
   pub of : IsOf r (triple_at r i)
   pub within : (v : ℕ) → In v (without_place i r) → In v r
@@ -32,7 +33,8 @@ pub record IsStep (r : List ℕ) (i : ℕ) : Type 0 where
 in_ring : (a : List ℕ) (x : ℕ) (b : List ℕ) (v : ℕ) → In v (x ∷ (b ++ a)) → In v (a ++ x ∷ b)
 in_ring a x b v h = in_moved v (x ∷ b) a h
 
-step_middle : (a : List ℕ) (x : ℕ) (b : List ℕ) → IsRing (a ++ x ∷ b) → 4 ≤ length (a ++ x ∷ b) → is_allowed (a ++ x ∷ b) (length a) ≡ true → IsStep (a ++ x ∷ b) (length a)
+step_middle : (a : List ℕ) (x : ℕ) (b : List ℕ) → IsRing (a ++ x ∷ b) → 4 ≤ length (a ++ x ∷ b) →
+    is_allowed (a ++ x ∷ b) (length a) ≡ true → IsStep (a ++ x ∷ b) (length a)
 step_middle a x b ringy four allowed =
     let may = from_allowed a x b allowed in
     let long : length (a ++ x ∷ b) ≡ suc (length (a ++ b)) = omega (arith, split_length a x b, length-append a b) in
@@ -40,11 +42,13 @@ step_middle a x b ringy four allowed =
     let parts = parts_at a x b some ringy.apart in
     let bent = may.bent in
     record {
-      ringy = rw (without_is a x b) (record { long = omega (arith, four, long); apart = apart_without a x b some ringy.apart may.bent; three = may.three });
+      ringy = rw (without_is a x b)
+          (record { long = omega (arith, four, long); apart = apart_without a x b some ringy.apart may.bent; three = may.three });
       shorter = rw (without_is a x b) long;
       sums = λ f odd. rw (before_is a x b, here_is a x b, after_is a x b, without_is a x b) (cut_sum f odd a x b some);
       three = rw (before_is a x b, here_is a x b, after_is a x b) (record { ab = parts.before; bc = parts.after; ca = λ e. bent (sym e) });
-      of = rw (before_is a x b, here_is a x b, after_is a x b) (in_ring a x b (last_of x (b ++ a)) (last_in x (b ++ a)), in_middle a x b, in_ring a x b (head_or x (b ++ a)) (head_in x (b ++ a)));
+      of = rw (before_is a x b, here_is a x b, after_is a x b)
+          (in_ring a x b (last_of x (b ++ a)) (last_in x (b ++ a)), in_middle a x b, in_ring a x b (head_or x (b ++ a)) (head_in x (b ++ a)));
       within = λ v h. in_wider v a x b (rw (without_is a x b) at h);
     }
 
@@ -62,7 +66,8 @@ step r i ringy four within allowed =
 pub record IsChosen (at : Plane) (r : List ℕ) : Type 0 where
   pub within : cut_place at r < length r
   pub allowed : is_allowed r (cut_place at r) ≡ true
-  pub left : forced_here at r ≡ 0 → int_lt (pos 0) (orient at (vertex_before r (cut_place at r)) (vertex_at r (cut_place at r)) (vertex_after r (cut_place at r))) ≡ true
+  pub left : forced_here at r ≡ 0 →
+      int_lt (pos 0) (orient at (vertex_before r (cut_place at r)) (vertex_at r (cut_place at r)) (vertex_after r (cut_place at r))) ≡ true
   pub once : forced_here at r ≤ 1
 
 chosen_ear : (at : Plane) (r : List ℕ) → first_ear at r < length r → IsChosen at r
@@ -79,7 +84,13 @@ chosen_allowed at r ringy four l =
     let some = some_allowed r ringy four in
     let low : first_allowed r < length r = omega (arith, some.within, not_before (is_allowed r) (length r) some.place some.within some.allowed) in
     let test : nat_lt (first_ear at r) (length r) ≡ false = le-ltb (first_ear at r) (length r) l in
-    record { within = rw test low; allowed = rw test (passes (is_allowed r) (length r) low); left = λ none. absurd (omega (arith, rw test at none)); once = rw test (omega arith) }
+    record {
+      within = rw test low;
+      allowed = rw test (passes (is_allowed r) (length r) low);
+      left =
+          λ none. absurd (omega (arith, rw test at none));
+      once = rw test (omega arith);
+    }
 
 pub chosen : (at : Plane) (r : List ℕ) → IsRing r → 4 ≤ length r → IsChosen at r
 chosen at r ringy four = elim (cases_lt (first_ear at r) (length r)) as (λ _. IsChosen at r) [

@@ -1,8 +1,10 @@
 -- A third vertex than two different ones that stand in a list.
-use Rattle.std.specs.Prelude.{◌≡◌, ◌≢◌, ℕ, ◌+◌, ◌<◌, List, [], ◌∷◌, ◌++◌, true, false, Bool, not, ◌==◌, ◌||◌, ◌&&◌, nat_lt, length, take, drop, ◌⊎◌}
+use Rattle.std.specs.Prelude.{◌≡◌, ◌≢◌, ℕ, ◌+◌, ◌<◌, List, [], ◌∷◌, ◌++◌, true, false, Bool, not, ◌==◌, ◌||◌, ◌&&◌}
+use Rattle.std.specs.Prelude.{nat_lt, length, take, drop, ◌⊎◌}
 use Rattle.std.specs.List.{list_any}
 use Rattle.std.proofs.Common.{refl, sym, subst, ap, ◌∙◌, inl, inr}
-use Rattle.std.proofs.lemmas.Bool.{cases_eq, cases_lt, cases_Bool, eqb-false, ne_eqb, and_parts, and_from, not-true, lt-ltb, le-ltb, or_cases, or_left, or_right, both_ways}
+use Rattle.std.proofs.lemmas.Bool.{cases_eq, cases_lt, cases_Bool, eqb-false, ne_eqb, and_parts, and_from, not-true}
+use Rattle.std.proofs.lemmas.Bool.{lt-ltb, le-ltb, or_cases, or_left, or_right, both_ways}
 use Rattle.std.proofs.lemmas.List.{take-map, drop-map}
 use Rattle.std.proofs.lemmas.List.Folds.{list_any-append}
 use Rattle.chain_terms.specs.Paths.{last_of}
@@ -28,7 +30,13 @@ third_in p n [] h = cc
 third_in p n (x ∷ r) h = elim (or_cases (is_third p n x) (list_any (is_third p n) r) h) as (λ _. Third p n (x ∷ r)) [
   | inl y ↦
       let both = and_parts (not (x == p)) (not (x == n)) y in
-      record { vertex = x; stands = inl refl; not_first = eqb-false x p (not-true (x == p) both.0); not_second = eqb-false x n (not-true (x == n) both.1) }
+      record {
+        vertex = x;
+        stands = inl refl;
+        not_first = eqb-false x p (not-true (x == p) both.0);
+        not_second =
+            eqb-false x n (not-true (x == n) both.1);
+      }
   | inr y ↦ let t = third_in p n r y in record { vertex = t.vertex; stands = inr t.stands; not_first = t.not_first; not_second = t.not_second }
 ]
 
@@ -36,7 +44,8 @@ third_in p n (x ∷ r) h = elim (or_cases (is_third p n x) (list_any (is_third p
 third_there : (p n v : ℕ) (r : List ℕ) → In v r → v ≢ p → v ≢ n → list_any (is_third p n) r ≡ true
 third_there p n v [] h d e = elim h [ ]
 third_there p n v (x ∷ r) (inl same) d e =
-    or_left (is_third p n x) (list_any (is_third p n) r) (ap (is_third p n) (sym same) ∙ and_from (not (v == p)) (not (v == n)) (ap not (ne_eqb v p d)) (ap not (ne_eqb v n e)))
+    or_left (is_third p n x) (list_any (is_third p n) r)
+    (ap (is_third p n) (sym same) ∙ and_from (not (v == p)) (not (v == n)) (ap not (ne_eqb v p d)) (ap not (ne_eqb v n e)))
 third_there p n v (x ∷ r) (inr h) d e = or_right (is_third p n x) (list_any (is_third p n) r) (third_there p n v r h d e)
 
 -- else each vertex is one of the two
@@ -69,7 +78,8 @@ beside x [] apart = absurd (apart refl)
 beside x (y ∷ c) apart = (last_in y c, inl refl)
 
 -- a place whose neighbours differ is allowed where a third vertex stands in another place
-pub allowed_by_third : (r : List ℕ) (i : ℕ) → i < length r → vertex_before r i ≢ vertex_after r i → list_any (is_third (vertex_before r i) (vertex_after r i)) (without_place i r) ≡ is_allowed r i
+pub allowed_by_third : (r : List ℕ) (i : ℕ) → i < length r → vertex_before r i ≢ vertex_after r i →
+    list_any (is_third (vertex_before r i) (vertex_after r i)) (without_place i r) ≡ is_allowed r i
 allowed_by_third r i h =
     let s = splits_at r i h in
     subst (λ l. Holds l i) (sym s.joined) (subst (Holds (s.front ++ s.vertex ∷ s.back)) (sym s.place) (middle s.front s.vertex s.back))
@@ -80,10 +90,13 @@ allowed_by_third r i h =
     middle : (a : List ℕ) (x : ℕ) (b : List ℕ) → Holds (a ++ x ∷ b) (length a)
     middle a x b = rw (before_is a x b, after_is a x b, without_is a x b) (λ apart.
         let two = beside x (b ++ a) apart in let p = last_of x (b ++ a) in let n = head_or x (b ++ a) in
-        sym (ap (λ (t : Bool). not t && nat_lt 2 (different (a ++ b))) (ne_eqb p n apart) ∙ three_by_third p n (a ++ b) (in_moved p b a two.0) (in_moved n b a two.1) apart))
+        sym (ap (λ (t : Bool). not t && nat_lt 2 (different (a ++ b))) (ne_eqb p n apart)
+        ∙ three_by_third p n (a ++ b) (in_moved p b a two.0) (in_moved n b a two.1) apart))
 
 -- the places before and behind one are the others
-pub third_beside : (p n : ℕ) (ps : List Place) (i : ℕ) → list_any (is_third p n) (without_place i (vertices_of ps)) ≡ (list_any (is_third p n) (vertices_of (take i ps)) || list_any (is_third p n) (vertices_of (drop (i + 1) ps)))
+pub third_beside : (p n : ℕ) (ps : List Place) (i : ℕ) →
+    list_any (is_third p n) (without_place i (vertices_of ps)) ≡
+    (list_any (is_third p n) (vertices_of (take i ps)) || list_any (is_third p n) (vertices_of (drop (i + 1) ps)))
 third_beside p n ps i =
     let f : Place → ℕ = λ q. q.vertex in
     list_any-append (is_third p n) (take i (vertices_of ps)) (drop (i + 1) (vertices_of ps))

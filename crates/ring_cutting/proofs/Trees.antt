@@ -1,5 +1,6 @@
 -- The tree of rectangles.
-use Rattle.std.specs.Prelude.{◌≡◌, ◌≢◌, ℕ, zero, suc, ◌+◌, ◌-◌, ◌*◌, ◌<◌, ◌≤◌, ℤ, List, [], ◌∷◌, ◌++◌, Bool, true, false, not, ◌&&◌, ◌==◌, length, get_or, set}
+use Rattle.std.specs.Prelude.{◌≡◌, ◌≢◌, ℕ, zero, suc, ◌+◌, ◌-◌, ◌*◌, ◌<◌, ◌≤◌, ℤ, List, [], ◌∷◌, ◌++◌, Bool, true}
+use Rattle.std.specs.Prelude.{false, not, ◌&&◌, ◌==◌, length, get_or, set}
 use Rattle.std.specs.Option.{IfNone}
 use Rattle.std.proofs.Common.{Option, Some, None, arith, refl, sym, subst, ap, ◌∙◌, inl, inr}
 use Rattle.std.proofs.lemmas.Bool.{cases_eq}
@@ -25,12 +26,14 @@ down_below true way k = omega (arith, down_above way (below true k))
 down_below false way k = omega (arith, down_above way (below false k))
 
 -- what is in a node's rectangle is in those above it
-pub in_above : (ss : List Span) (x : ℤ × ℤ) → AreNested ss → (way : List Bool) (k : ℕ) → 0 < k → down way k < length ss → IsIn (span_of ss (down way k)) x → IsIn (span_of ss k) x
+pub in_above : (ss : List Span) (x : ℤ × ℤ) → AreNested ss → (way : List Bool) (k : ℕ) → 0 < k → down way k < length ss →
+    IsIn (span_of ss (down way k)) x → IsIn (span_of ss k) x
 in_above ss x nested [] k some within h = h
 in_above ss x nested (true ∷ way) k some within h =
     nested k true some (omega (arith, down_above way (below true k), within)) x (in_above ss x nested way (below true k) (omega arith) within h)
 in_above ss x nested (false ∷ way) k some within h =
-    nested k false some (omega (arith, down_above way (below false k), within)) x (in_above ss x nested way (below false k) (omega (arith, some)) within h)
+    nested k false some (omega (arith, down_above way (below false k), within)) x
+    (in_above ss x nested way (below false k) (omega (arith, some)) within h)
 
 -- a number by the one above it
 record Halved (n : ℕ) : Type 0 where
@@ -78,7 +81,8 @@ abbrev pub AreNestedBut : ℕ → List Span → Type 0
 AreNestedBut k ss = (j : ℕ) (b : Bool) → 0 < j → below b j < length ss → below b j ≢ k → IsWithin (span_of ss (below b j)) (span_of ss j)
 
 -- a rectangle is written that goes round what is below it
-pub nested_on : (ss : List Span) (k h : ℕ) (s : Span) → 0 < h → h < length ss → ((j : ℕ) (b : Bool) → below b j ≡ k → j ≡ h) → ((b : Bool) → IsWithin (span_of ss (below b h)) s) → AreNestedBut k ss → AreNestedBut h (set ss h s)
+pub nested_on : (ss : List Span) (k h : ℕ) (s : Span) → 0 < h → h < length ss → ((j : ℕ) (b : Bool) → below b j ≡ k → j ≡ h) →
+    ((b : Bool) → IsWithin (span_of ss (below b h)) s) → AreNestedBut k ss → AreNestedBut h (set ss h s)
 nested_on ss k h s some within above round nested j b positive low apart =
     let long = length-set ss h s in
     elim (cases_eq j h) as (λ _. IsWithin (span_of (set ss h s) (below b j)) (span_of (set ss h s) j)) [
@@ -117,13 +121,16 @@ nested_done ss k top nested j b positive low = nested j b positive low (high b j
     high false j some e = omega (arith, e, top, some)
 
 -- places have different nodes
-pub nodes_apart : (n : ℕ) (order nodes : List ℕ) (i j : ℕ) → HasNode n order nodes i → HasNode n order nodes j → j ≢ i → node_of nodes j ≢ node_of nodes i
+pub nodes_apart : (n : ℕ) (order nodes : List ℕ) (i j : ℕ) → HasNode n order nodes i → HasNode n order nodes j → j ≢ i →
+    node_of nodes j ≢ node_of nodes i
 nodes_apart n order nodes i j h k apart e = apart (sym k.here ∙ ap (λ (m : ℕ). get_or order (m - n) n) e ∙ h.here)
 
 -- the tree without one place
-pub hulls_without : (ps : List Place) (bs : List Bool) (old new : Hulls) (i : ℕ) → i < length ps → HasHulls ps bs old → new.order.items ≡ old.order.items → new.nodes.items ≡ old.nodes.items →
+pub hulls_without : (ps : List Place) (bs : List Bool) (old new : Hulls) (i : ℕ) → i < length ps → HasHulls ps bs old →
+    new.order.items ≡ old.order.items → new.nodes.items ≡ old.nodes.items →
     length new.spans.items ≡ length old.spans.items → AreNested new.spans.items →
-    ((k : ℕ) → length old.spans.items ≤ 2 * k → k ≢ node_of old.nodes.items i → span_of new.spans.items k ≡ span_of old.spans.items k) → HasHulls ps (set bs i false) new
+    ((k : ℕ) → length old.spans.items ≤ 2 * k → k ≢ node_of old.nodes.items i → span_of new.spans.items k ≡ span_of old.spans.items k) →
+    HasHulls ps (set bs i false) new
 hulls_without ps bs old new i within h order nodes long nested others = record {
   living_long = length-set bs i false ∙ h.living_long;
   tree = record {
@@ -147,7 +154,8 @@ hulls_without ps bs old new i within h order nodes long nested others = record {
         let node = h.tree.nodes j (low j here) in
         let apart = nodes_apart (length ps) old.order.items old.nodes.items i j (h.tree.nodes i within) node (lives_other bs i j l) in
         let same : span_of new.spans.items (node_of new.nodes.items j) ≡ span_of old.spans.items (node_of old.nodes.items j) =
-        ap (λ (l : List ℕ). span_of new.spans.items (node_of l j)) nodes ∙ others (node_of old.nodes.items j) (omega (arith, node.least, h.tree.many)) apart in
+        ap (λ (l : List ℕ). span_of new.spans.items (node_of l j)) nodes
+        ∙ others (node_of old.nodes.items j) (omega (arith, node.least, h.tree.many)) apart in
         subst (λ (t : Span). IsIn t (place_of ps j).at) (sym same) (h.places j here)
 
 -- at a place's own node the way ends
@@ -156,14 +164,16 @@ at_leaf n node m [] low high e = sym e
 at_leaf n node m (b ∷ way) low high e = absurd (omega (arith, down_below b way node, low, high, e))
 
 -- a place below a node is in its rectangle
-pub in_node : (ps : List Place) (bs : List Bool) (h : Hulls) (node i : ℕ) (way : List Bool) → HasHulls ps bs h → 0 < node → lives bs i ≡ true → down way node ≡ node_of h.nodes.items i → IsIn (span_of h.spans.items node) (place_of ps i).at
+pub in_node : (ps : List Place) (bs : List Bool) (h : Hulls) (node i : ℕ) (way : List Bool) → HasHulls ps bs h → 0 < node →
+    lives bs i ≡ true → down way node ≡ node_of h.nodes.items i → IsIn (span_of h.spans.items node) (place_of ps i).at
 in_node ps bs h node i way hulls some l e =
     let own = hulls.tree.nodes i (omega (arith, lives_within bs i l, hulls.living_long)) in
     in_above h.spans.items (place_of ps i).at hulls.tree.nested way node some (omega (arith, e, own.most, hulls.tree.many))
     (subst (λ (k : ℕ). IsIn (span_of h.spans.items k) (place_of ps i).at) (sym e) (hulls.places i l))
 
 -- the place of the node at which a way ends
-pub leaf_is : (ps : List Place) (bs : List Bool) (h : Hulls) (node i w : ℕ) (way : List Bool) → HasHulls ps bs h → length ps ≤ node → lives bs i ≡ true → down way node ≡ node_of h.nodes.items i →
+pub leaf_is : (ps : List Place) (bs : List Bool) (h : Hulls) (node i w : ℕ) (way : List Bool) → HasHulls ps bs h → length ps ≤ node →
+    lives bs i ≡ true → down way node ≡ node_of h.nodes.items i →
     w ≡ get_or h.order.items (node - length ps) 0 → i ≡ w
 leaf_is ps bs h node i w way hulls low l e is =
     let n = length ps in
@@ -193,7 +203,8 @@ where_none None f h = f h
 where_none (Some x) f h = h
 
 -- a place below a node that is not its own is below one of the two below that
-pub below_both : (n node m : ℕ) (P : Type 0) → n ≤ m → node < n → ((way : List Bool) → down way (2 * node + 1) ≡ m → P) → ((way : List Bool) → down way (2 * node) ≡ m → P) → (way : List Bool) → down way node ≡ m → P
+pub below_both : (n node m : ℕ) (P : Type 0) → n ≤ m → node < n → ((way : List Bool) → down way (2 * node + 1) ≡ m → P) →
+    ((way : List Bool) → down way (2 * node) ≡ m → P) → (way : List Bool) → down way node ≡ m → P
 below_both n node m P low less right left [] e = absurd (omega (arith, e, low, less))
 below_both n node m P low less right left (true ∷ way) e = let at : 2 * node + 1 ≡ below true node = omega arith in right way (ap (down way) at ∙ e)
 below_both n node m P low less right left (false ∷ way) e = let at : 2 * node ≡ below false node = omega arith in left way (ap (down way) at ∙ e)

@@ -1,7 +1,8 @@
 -- The neighbours of a place, by the ring that begins there.
 use Rattle.std.specs.Prelude.{◌≡◌, ℕ, suc, ◌+◌, ◌-◌, ◌*◌, ◌%◌, ◌<◌, List, [], ◌∷◌, ◌++◌, length, get_or, take, drop}
 use Rattle.std.proofs.Common.{arith, refl, sym, ap, ◌∙◌}
-use Rattle.std.proofs.lemmas.List.{append-nil, length-append, length-take-le, get_or_at, get_or_append_left, get_or-append-add, take_at, take-append-drop, drop_more}
+use Rattle.std.proofs.lemmas.List.{append-nil, length-append, length-take-le, get_or_at, get_or_append_left}
+use Rattle.std.proofs.lemmas.List.{get_or-append-add, take_at, take-append-drop, drop_more}
 use Rattle.std.proofs.Math.Nat.{mod-eq_of_lt, add-mul-mod_self_right}
 use Rattle.chain_terms.specs.Paths.{last_of}
 use Rattle.chain_laws.proofs.Paths.{last_of-append}
@@ -52,7 +53,8 @@ before_is (y ∷ a) x b =
     let r : List ℕ = (y ∷ a) ++ x ∷ b in
     let many : length r ≡ length (y ∷ a) + suc (length b) = split_length (y ∷ a) x b in
     let round : length (y ∷ a) + (length r - 1) ≡ length a + length r = omega (arith, many) in
-    ap (λ k. vertex_at r k) round ∙ at_round r (length a) (omega (arith, many)) ∙ get_or_append_left (y ∷ a) (x ∷ b) 0 (length a) (omega arith) ∙ get_or-last y a ∙ sym (last_of-append x b y a)
+    ap (λ k. vertex_at r k) round ∙ at_round r (length a) (omega (arith, many))
+    ∙ get_or_append_left (y ∷ a) (x ∷ b) 0 (length a) (omega arith) ∙ get_or-last y a ∙ sym (last_of-append x b y a)
 
 -- the ring without it
 pub without_is : (a : List ℕ) (x : ℕ) (b : List ℕ) → without_place (length a) (a ++ x ∷ b) ≡ a ++ b

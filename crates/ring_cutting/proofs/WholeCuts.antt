@@ -1,5 +1,6 @@
 -- The cutting of a ring.
-use Rattle.std.specs.Prelude.{◌≡◌, ◌≢◌, ℕ, zero, suc, ◌+◌, ◌-◌, ◌<◌, ◌≤◌, ℤ, pos, ◌<ℤ◌, List, [], ◌∷◌, true, false, Bool, cond, length, int_lt}
+use Rattle.std.specs.Prelude.{◌≡◌, ◌≢◌, ℕ, zero, suc, ◌+◌, ◌-◌, ◌<◌, ◌≤◌, ℤ, pos, ◌<ℤ◌, List, [], ◌∷◌, true, false}
+use Rattle.std.specs.Prelude.{Bool, cond, length, int_lt}
 use Rattle.std.specs.List.{All}
 use Rattle.std.proofs.Common.{arith, refl, inl, inr}
 use Rattle.std.proofs.lemmas.Int.{ints}
@@ -46,18 +47,21 @@ last_cutting at a b c ringy =
       three = All-cons HasThree t [] (record { ab = ab; bc = bc; ca = ca }) (All-nil HasThree);
       of = All-cons (IsOf (a ∷ b ∷ c ∷ [])) t [] (inl refl, inr (inl refl), inr (inr (inl refl))) (All-nil (IsOf (a ∷ b ∷ c ∷ [])));
       few = one_forced (int_lt (pos 0) (orient at a b c));
-      left = λ none. All-cons (TurnsLeft at) t [] (left_of (orient at a b c) (none_forced (int_lt (pos 0) (orient at a b c)) none)) (All-nil (TurnsLeft at));
+      left = λ none. All-cons (TurnsLeft at) t [] (left_of (orient at a b c) (none_forced (int_lt (pos 0) (orient at a b c)) none))
+          (All-nil (TurnsLeft at));
     }
 
 -- a cut in front of the cutting of the rest
-more_cutting : (at : Plane) (r : List ℕ) (i n : ℕ) (c : Cut) → IsStep r i → n ≤ 1 → (n ≡ 0 → TurnsLeft at (triple_at r i)) → IsCutting at (without_place i r) c → IsCutting at r (with_triple (triple_at r i) n c)
+more_cutting : (at : Plane) (r : List ℕ) (i n : ℕ) (c : Cut) → IsStep r i → n ≤ 1 → (n ≡ 0 → TurnsLeft at (triple_at r i)) →
+    IsCutting at (without_place i r) c → IsCutting at r (with_triple (triple_at r i) n c)
 more_cutting at r i n c s once left rest =
     let t = triple_at r i in
     record {
       count = omega (arith, rest.count, s.shorter);
       chain = λ f odd. omega (arith, ints, total-append (along f) (edges t) (all_edges c.triples), rest.chain f odd, s.sums f odd);
       three = All-cons HasThree t c.triples s.three rest.three;
-      of = All-cons (IsOf r) t c.triples s.of (All-weaker (IsOf (without_place i r)) (IsOf r) (λ u h. (s.within u.0 h.0, s.within u.1 h.1, s.within u.2 h.2)) c.triples rest.of);
+      of = All-cons (IsOf r) t c.triples s.of
+          (All-weaker (IsOf (without_place i r)) (IsOf r) (λ u h. (s.within u.0 h.0, s.within u.1 h.1, s.within u.2 h.2)) c.triples rest.of);
       few = omega (arith, once, rest.few);
       left = λ none. All-cons (TurnsLeft at) t c.triples (left (omega (arith, none))) (rest.left (omega (arith, none)));
     }
@@ -73,7 +77,8 @@ cutting_of at (suc n) r ringy long =
     let ch = chosen at r ringy four in
     let i = cut_place at r in
     let s = step r i ringy four ch.within ch.allowed in
-    more_cutting at r i (forced_here at r) (cut_of at n (without_place i r)) s ch.once (λ none. left_of _ (ch.left none)) (cutting_of at n (without_place i r) s.ringy (omega (arith, long, s.shorter)))
+    more_cutting at r i (forced_here at r) (cut_of at n (without_place i r)) s ch.once (λ none. left_of _ (ch.left none))
+    (cutting_of at n (without_place i r) s.ringy (omega (arith, long, s.shorter)))
 
 -- the cutting of every ring keeps what it promises
 pub cutting : (at : Plane) (r : List ℕ) → IsRing r → IsCutting at r (cut_ring at r)

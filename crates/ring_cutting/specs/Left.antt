@@ -1,5 +1,6 @@
 -- The places of a ring that are left, by their numbers in the ring at the start.
-use Rattle.std.specs.Prelude.{◌≡◌, ℕ, zero, suc, ◌+◌, ◌-◌, ◌<◌, ◌≤◌, ◌⊎◌, pos, List, [], ◌∷◌, Bool, true, false, cond, not, ◌&&◌, ◌==◌, length, get_or, set, int_lt}
+use Rattle.std.specs.Prelude.{◌≡◌, ◌≢◌, ℕ, zero, suc, ◌+◌, ◌-◌, ◌<◌, ◌≤◌, ◌==◌, ◌⊎◌, pos, int_lt}
+use Rattle.std.specs.Prelude.{List, [], ◌∷◌, length, get_or, set, Bool, true, false, cond, not, ◌&&◌}
 use Rattle.std.specs.List.{list_any}
 use Rattle.std.specs.Ordering.{nat_cmp}
 use Rattle.std.specs.BTreeSet.{BTreeSet, contains}
@@ -88,7 +89,8 @@ blocks_at ps p i n w = place_blocks (place_of ps p) (place_of ps i) (place_of ps
 
 -- whether the place is an ear
 abbrev pub is_ear_of : List Place → List Bool → ℕ → ℕ → ℕ → Bool
-is_ear_of ps bs p i n = is_open ps bs p i n && not (list_any (place_blocks (place_of ps p) (place_of ps i) (place_of ps n)) (left_of bs ps))
+is_ear_of ps bs p i n =
+    is_open ps bs p i n && not (list_any (place_blocks (place_of ps p) (place_of ps i) (place_of ps n)) (left_of bs ps))
 
 -- the same by the links
 abbrev pub may_go_at : List Place → List ℕ → List ℕ → List Bool → ℕ → Bool
@@ -108,8 +110,17 @@ pub record IsBlocked (ps : List Place) (bs : List Bool) (p i n : ℕ) (waiting :
 abbrev pub HasReason : List Place → List Bool → ℕ → ℕ → ℕ → List (List ℕ) → Type 0
 HasReason ps bs p i n waiting = (is_open ps bs p i n ≡ false) ⊎ IsBlocked ps bs p i n waiting
 
+-- each of some places is left
+abbrev pub AreLeft : BTreeSet ℕ → List Bool → Type 0
+AreLeft ns bs = (q : ℕ) → contains nat_cmp ns q ≡ true → lives bs q ≡ true
+
+-- each but one is
+abbrev pub AreLeftBut : ℕ → BTreeSet ℕ → List Bool → Type 0
+AreLeftBut i ns bs = (q : ℕ) → q ≢ i → contains nat_cmp ns q ≡ true → lives bs q ≡ true
+
 -- what is in doubt is left, and what else is left has a reason
 pub record AreSettled (ps : List Place) (nx bf : List ℕ) (bs : List Bool) (doubtful : BTreeSet ℕ) (waiting : List (List ℕ)) : Type 0 where
   pub many : length waiting ≡ length ps
-  pub known : (i : ℕ) → contains nat_cmp doubtful i ≡ true → lives bs i ≡ true
-  pub reasons : (i : ℕ) → lives bs i ≡ true → contains nat_cmp doubtful i ≡ false → HasReason ps bs (before_of bf i) i (after_of nx i) waiting
+  pub known : AreLeft doubtful bs
+  pub reasons : (i : ℕ) → lives bs i ≡ true → contains nat_cmp doubtful i ≡ false →
+      HasReason ps bs (before_of bf i) i (after_of nx i) waiting

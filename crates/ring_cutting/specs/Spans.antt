@@ -1,9 +1,11 @@
 -- Rectangles in the plane, and the tree of those round places.
-use Rattle.std.specs.Prelude.{◌≡◌, ℕ, ◌+◌, ◌-◌, ◌<◌, ◌≤◌, ℤ, pos, neg_ℤ, ◌≤ℤ◌, List, [], ◌∷◌, Bool, true, cond, length, get_or}
+use Rattle.std.specs.Prelude.{◌≡◌, ℕ, ◌+◌, ◌-◌, ◌<◌, ◌≤◌, ℤ, pos, neg_ℤ, ◌≤ℤ◌, List, [], ◌∷◌, Bool, true, false, cond, length, get_or}
 use Rattle.ring_cutting.specs.declared.place.Place.{Place}
 use Rattle.ring_cutting.specs.declared.span.Span.{Span}
 use Rattle.ring_cutting.specs.declared.hulls.Hulls.{Hulls}
+use Rattle.ring_cutting.specs.declared.asked.Around.{Around}
 use Rattle.ring_cutting.specs.Left.{lives, place_of}
+use Rattle.ring_cutting.specs.Placed.{place_blocks}
 
 -- a point in a rectangle, its rim included
 pub record IsIn (s : Span) (x : ℤ × ℤ) : Type 0 where
@@ -61,3 +63,8 @@ pub record HasHulls (ps : List Place) (bs : List Bool) (h : Hulls) : Type 0 wher
   pub living_long : length bs ≡ length ps
   pub tree : IsTree (length ps) h
   pub places : (i : ℕ) → lives bs i ≡ true → IsIn (span_of h.spans.items (node_of h.nodes.items i)) (place_of ps i).at
+
+-- no place that is left below a node lies in the triangle of three
+abbrev pub NoneBelow : List Place → List Bool → Hulls → Around → ℕ → Type 0
+NoneBelow ps bs h c node =
+    (i : ℕ) (way : List Bool) → lives bs i ≡ true → down way node ≡ node_of h.nodes.items i → place_blocks c.p c.x c.n (place_of ps i) ≡ false

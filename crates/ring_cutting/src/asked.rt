@@ -1,7 +1,8 @@
 // What is asked of a place while many are left.
-ghost use Rattle.std.specs.Prelude.{◌≡◌, ◌≢◌, ◌<◌, ◌&&◌, ◌==◌, ℕ, not, length, set, true, false};
+ghost use Rattle.std.specs.Prelude.{◌≡◌, ◌<◌, ◌&&◌, ◌==◌, not, length, set, true, false};
 ghost use Rattle.std.specs.List.{list_any};
-ghost use Rattle.ring_cutting.specs.Left.{lives, after_of, before_of, left_of, place_of, third_place, may_go_at, goes_left, is_open, IsLinked};
+ghost use Rattle.ring_cutting.specs.Left.{lives, after_of, before_of, left_of, place_of, third_place};
+ghost use Rattle.ring_cutting.specs.Linked.{is_left, may_go_in, goes_left_in, is_open_in, AreLinks};
 ghost use Rattle.ring_cutting.specs.Placed.{place_blocks};
 
 use crate::links::{Links, after, before};
@@ -29,8 +30,8 @@ pub(crate) fn place(places: &[Place], i: usize) -> Place
 
 // A place that is left, and its neighbours.
 pub(crate) fn corners(places: &[Place], links: &Links, i: usize) -> Around
-    requires linked { IsLinked (length places.now) links.now.after.items links.now.before.items links.now.living.items }
-    requires living { lives links.now.living.items i ≡ true }
+    requires linked { AreLinks (length places.now) links.now }
+    requires living { is_left links.now i ≡ true }
     ensures before { result.before ≡ before_of links.now.before.items i }
     ensures after { result.after ≡ after_of links.now.after.items i }
     ensures p { result.p ≡ place_of places.now (before_of links.now.before.items i) }
@@ -90,9 +91,9 @@ fn near_third(
 // Whether a place that is left, another than i, has a vertex that is neither of two. Those next to i's neighbours mostly
 // have one.
 fn has_third(places: &[Place], links: &Links, i: usize, c: Around) -> bool
-    requires linked { IsLinked (length places.now) links.now.after.items links.now.before.items links.now.living.items }
-    requires before { lives links.now.living.items c.before ≡ true }
-    requires after { lives links.now.living.items c.after ≡ true }
+    requires linked { AreLinks (length places.now) links.now }
+    requires before { is_left links.now c.before ≡ true }
+    requires after { is_left links.now c.after ≡ true }
     ensures { result ≡ list_any (third_place c.p.vertex c.n.vertex) (left_of (set links.now.living.items i false) places.now) }
 {
     let (p, n) = (c.p.vertex, c.n.vertex);
@@ -102,9 +103,9 @@ fn has_third(places: &[Place], links: &Links, i: usize, c: Around) -> bool
 
 // Whether a place may be cut.
 pub(crate) fn may_go(places: &[Place], links: &Links, i: usize) -> bool
-    requires linked { IsLinked (length places.now) links.now.after.items links.now.before.items links.now.living.items }
-    requires living { lives links.now.living.items i ≡ true }
-    ensures { result ≡ may_go_at places.now links.now.after.items links.now.before.items links.now.living.items i }
+    requires linked { AreLinks (length places.now) links.now }
+    requires living { is_left links.now i ≡ true }
+    ensures { result ≡ may_go_in places.now links.now i }
 {
     let c = corners(places, links, i);
     c.p.vertex != c.n.vertex && has_third(places, links, i, c)
@@ -112,9 +113,9 @@ pub(crate) fn may_go(places: &[Place], links: &Links, i: usize) -> bool
 
 // Whether a place and its neighbours turn left.
 pub(crate) fn goes_left(places: &[Place], links: &Links, i: usize) -> bool
-    requires linked { IsLinked (length places.now) links.now.after.items links.now.before.items links.now.living.items }
-    requires living { lives links.now.living.items i ≡ true }
-    ensures { result ≡ goes_left places.now (before_of links.now.before.items i) i (after_of links.now.after.items i) }
+    requires linked { AreLinks (length places.now) links.now }
+    requires living { is_left links.now i ≡ true }
+    ensures { result ≡ goes_left_in places.now links.now i }
 {
     let c = corners(places, links, i);
     FlatPoint::turns_left(c.p.at, c.x.at, c.n.at)
@@ -122,9 +123,9 @@ pub(crate) fn goes_left(places: &[Place], links: &Links, i: usize) -> bool
 
 // Whether a place may be cut and turns left.
 pub(crate) fn is_open(places: &[Place], links: &Links, i: usize) -> bool
-    requires linked { IsLinked (length places.now) links.now.after.items links.now.before.items links.now.living.items }
-    requires living { lives links.now.living.items i ≡ true }
-    ensures { result ≡ is_open places.now links.now.living.items (before_of links.now.before.items i) i (after_of links.now.after.items i) }
+    requires linked { AreLinks (length places.now) links.now }
+    requires living { is_left links.now i ≡ true }
+    ensures { result ≡ is_open_in places.now links.now i }
 {
     goes_left(places, links, i) && may_go(places, links, i)
 }

@@ -51,7 +51,8 @@ pub fn cut_ring(
 
     // The triangles have the boundary of the ring, and doubled areas whose sum is the ring's; and so has every odd function.
     ensures boundary { IfOk result (λ f. (a b : ℕ) → boundary (all_edges f.triples) a b ≡ boundary (round_edges ring) a b) }
-    ensures areas { IfOk result (λ f. total (λ t. orient (face_plane plane.drop turned points.now) t.0 t.1 t.2) f.triples ≡ area (face_plane plane.drop turned points.now) ring) }
+    ensures areas { IfOk result (λ f. total (λ t. orient (face_plane plane.drop turned points.now) t.0 t.1 t.2) f.triples ≡
+        area (face_plane plane.drop turned points.now) ring) }
     ensures chain { IfOk result (λ f. SameChain (all_edges f.triples) (round_edges ring)) }
     ensures three { IfOk result (λ f. All HasThree f.triples) }
     ensures below { IfOk result (λ f. All (IsBelow (length points.now)) f.triples) }

@@ -1,10 +1,11 @@
 // Which places may be ears.
-ghost use Rattle.std.specs.Prelude.{◌≡◌, ◌≢◌, ◌+◌, ◌<◌, ◌≤◌, [], ℕ, List, length, get_or, set, IfOk, OnOk, IfSome, IfNone, IsTrue, true, false};
+ghost use Rattle.std.specs.Prelude.{◌≡◌, ◌≢◌, ◌+◌, ◌<◌, ◌≤◌, [], ℕ, List, length, get_or, set, IfOk, OnOk, IfSome, IfNone, true, false};
 ghost use Rattle.std.specs.Ordering.{nat_cmp};
 ghost use Rattle.std.specs.BTreeSet.{contains, btree_set_len};
 ghost use Rattle.face_plane.specs.Rings.{In};
 ghost use Rattle.ring_cutting.specs.declared.place.Place.{Place};
-ghost use Rattle.ring_cutting.specs.Left.{lives, after_of, before_of, IsLinked, is_ear_at, HasReason, AreSettled};
+ghost use Rattle.ring_cutting.specs.Left.{lives, after_of, AreLeft, AreLeftBut};
+ghost use Rattle.ring_cutting.specs.Linked.{is_left, is_ear_in, AreLinks, NoEarIn, NoEarBefore, HasReasonIn, AreSettledIn};
 ghost use Rattle.ring_cutting.specs.Spans.{HasHulls};
 
 use crate::asked::is_open;
@@ -79,13 +80,13 @@ pub(crate) fn least_ear(
 ) -> Result<Option<usize>, NoMemory>
     requires few { length places.now ≤ 100000000 }
     requires hulls { HasHulls places.now links.now.living.items hulls.now }
-    requires linked { IsLinked (length places.now) links.now.after.items links.now.before.items links.now.living.items }
-    requires settled { AreSettled places.now links.now.after.items links.now.before.items links.now.living.items doubts.old.doubtful doubts.old.waiting.items }
-    ensures settled { OnOk result (AreSettled places.now links.now.after.items links.now.before.items links.now.living.items doubts.new.doubtful doubts.new.waiting.items) }
-    ensures living { IfOk result (λ o. IfSome o (λ i. lives links.now.living.items i ≡ true)) }
-    ensures ear { IfOk result (λ o. IfSome o (λ i. is_ear_at places.now links.now.after.items links.now.before.items links.now.living.items i ≡ true)) }
-    ensures least { IfOk result (λ o. IfSome o (λ i. (j : ℕ) → lives links.now.living.items j ≡ true → j < i → is_ear_at places.now links.now.after.items links.now.before.items links.now.living.items j ≡ false)) }
-    ensures none { IfOk result (λ o. IfNone o ((j : ℕ) → lives links.now.living.items j ≡ true → is_ear_at places.now links.now.after.items links.now.before.items links.now.living.items j ≡ false)) }
+    requires linked { AreLinks (length places.now) links.now }
+    requires settled { AreSettledIn places.now links.now doubts.old }
+    ensures settled { OnOk result (AreSettledIn places.now links.now doubts.new) }
+    ensures living { IfOk result (λ o. IfSome o (λ i. is_left links.now i ≡ true)) }
+    ensures ear { IfOk result (λ o. IfSome o (λ i. is_ear_in places.now links.now i ≡ true)) }
+    ensures least { IfOk result (λ o. IfSome o (λ i. NoEarBefore places.now links.now i)) }
+    ensures none { IfOk result (λ o. IfNone o (NoEarIn places.now links.now)) }
 {
     while let Some(i) = least(&doubts.doubtful) {
         if settle(&mut doubts.waiting, places, links, hulls, i)? {
@@ -106,13 +107,13 @@ fn settle(
 ) -> Result<bool, NoMemory>
     requires few { length places.now ≤ 100000000 }
     requires hulls { HasHulls places.now links.now.living.items hulls.now }
-    requires linked { IsLinked (length places.now) links.now.after.items links.now.before.items links.now.living.items }
-    requires living { lives links.now.living.items i ≡ true }
+    requires linked { AreLinks (length places.now) links.now }
+    requires living { is_left links.now i ≡ true }
     requires many { length waiting.old.items ≡ length places.now }
     ensures many { length waiting.new.items ≡ length places.now }
     ensures kept { OnOk result ((w j : ℕ) → In j (get_or waiting.old.items w []) → In j (get_or waiting.new.items w [])) }
-    ensures ear { IfOk result (λ b. b ≡ is_ear_at places.now links.now.after.items links.now.before.items links.now.living.items i) }
-    ensures reason { IfOk result (λ b. b ≡ false → HasReason places.now links.now.living.items (before_of links.now.before.items i) i (after_of links.now.after.items i) waiting.new.items) }
+    ensures ear { IfOk result (λ b. b ≡ is_ear_in places.now links.now i) }
+    ensures reason { IfOk result (λ b. b ≡ false → HasReasonIn places.now links.now waiting.new.items i) }
 {
     if !is_open(places, links, i) {
         return Ok(false);
@@ -128,13 +129,13 @@ fn settle(
 
 // Takes a place out. What waited for it is in doubt, and so are its neighbours.
 pub(crate) fn cut_out(doubts: &mut Doubts, links: &mut Links, i: usize) -> Result<(), NoMemory>
-    requires linked { IsLinked (length doubts.old.waiting.items) links.old.after.items links.old.before.items links.old.living.items }
-    requires living { lives links.old.living.items i ≡ true }
+    requires linked { AreLinks (length doubts.old.waiting.items) links.old }
+    requires living { is_left links.old i ≡ true }
     requires apart { after_of links.old.after.items i ≢ i }
-    ensures linked { OnOk result (IsLinked (length doubts.old.waiting.items) links.new.after.items links.new.before.items links.new.living.items) }
+    ensures linked { OnOk result (AreLinks (length doubts.old.waiting.items) links.new) }
     ensures living { OnOk result (links.new.living.items ≡ set links.old.living.items i false) }
-    ensures settled { OnOk result ((ps : List Place) → AreSettled ps links.old.after.items links.old.before.items links.old.living.items doubts.old.doubtful doubts.old.waiting.items →
-        AreSettled ps links.new.after.items links.new.before.items links.new.living.items doubts.new.doubtful doubts.new.waiting.items) }
+    ensures settled { OnOk result ((ps : List Place) → AreSettledIn ps links.old doubts.old →
+        AreSettledIn ps links.new doubts.new) }
 {
     let (p, n) = (before(links, i), after(links, i));
     take_out(links, i);
@@ -156,8 +157,8 @@ fn doubt_round(
     ensures woken { OnOk result ((q : ℕ) → In q waiting.now → lives living.now q ≡ true → contains nat_cmp doubtful.new q ≡ true) }
     ensures before { OnOk result (contains nat_cmp doubtful.new p ≡ true) }
     ensures after { OnOk result (contains nat_cmp doubtful.new n ≡ true) }
-    ensures known { OnOk result (lives living.now p ≡ true → lives living.now n ≡ true → ((q : ℕ) → q ≢ i → contains nat_cmp doubtful.old q ≡ true → lives living.now q ≡ true)
-        → (q : ℕ) → contains nat_cmp doubtful.new q ≡ true → lives living.now q ≡ true) }
+    ensures known { OnOk result (lives living.now p ≡ true → lives living.now n ≡ true → AreLeftBut i doubtful.old living.now →
+        AreLeft doubtful.new living.now) }
 {
     drop_doubt(doubtful, i);
     wake(doubtful, living, waiting)?;
@@ -170,7 +171,7 @@ fn doubt_round(
 fn wake(doubtful: &mut BTreeSet<usize>, living: &[bool], places: &[usize]) -> Result<(), NoMemory>
     ensures woken { OnOk result ((q : ℕ) → In q places.now → lives living.now q ≡ true → contains nat_cmp doubtful.new q ≡ true) }
     ensures kept { OnOk result ((q : ℕ) → contains nat_cmp doubtful.old q ≡ true → contains nat_cmp doubtful.new q ≡ true) }
-    ensures known { OnOk result (((q : ℕ) → contains nat_cmp doubtful.old q ≡ true → lives living.now q ≡ true) → (q : ℕ) → contains nat_cmp doubtful.new q ≡ true → lives living.now q ≡ true) }
+    ensures known { OnOk result (AreLeft doubtful.old living.now → AreLeft doubtful.new living.now) }
 {
     for k in 0..places.len() {
         wake_one(doubtful, living, places[k])?;
@@ -182,7 +183,7 @@ fn wake(doubtful: &mut BTreeSet<usize>, living: &[bool], places: &[usize]) -> Re
 fn wake_one(doubtful: &mut BTreeSet<usize>, living: &[bool], i: usize) -> Result<(), NoMemory>
     ensures woken { OnOk result (lives living.now i ≡ true → contains nat_cmp doubtful.new i ≡ true) }
     ensures kept { OnOk result ((q : ℕ) → contains nat_cmp doubtful.old q ≡ true → contains nat_cmp doubtful.new q ≡ true) }
-    ensures known { OnOk result (((q : ℕ) → contains nat_cmp doubtful.old q ≡ true → lives living.now q ≡ true) → (q : ℕ) → contains nat_cmp doubtful.new q ≡ true → lives living.now q ≡ true) }
+    ensures known { OnOk result (AreLeft doubtful.old living.now → AreLeft doubtful.new living.now) }
 {
     if !is_living(living, i) {
         return Ok(());

@@ -1,11 +1,13 @@
 // Rectangles round the places that are left, in a tree: no place is asked whose rectangle misses the triangle.
-ghost use Rattle.std.specs.Prelude.{◌≡◌, ◌≢◌, ◌*◌, ◌%◌, ◌<◌, ◌≤◌, ℕ, List, Bool, map, IfOk, IfSome, IfNone, pos, int_lt, length, get_or, set, true, false};
+ghost use Rattle.std.specs.Prelude.{◌≡◌, ◌≢◌, ◌*◌, ◌%◌, ◌<◌, ◌≤◌, ℕ, pos, int_lt, IfOk, IfSome, IfNone};
+ghost use Rattle.std.specs.Prelude.{List, Bool, map, length, get_or, set, true, false};
 ghost use Rattle.std.specs.List.Sorted.{IsPermutation};
 ghost use Rattle.chain_terms.specs.Sums.{upto};
 ghost use Rattle.face_plane.specs.Planes.{turn};
-ghost use Rattle.ring_cutting.specs.Left.{lives, after_of, before_of, place_of, goes_left, blocks_at, IsLinked};
+ghost use Rattle.ring_cutting.specs.Left.{lives, place_of};
+ghost use Rattle.ring_cutting.specs.Linked.{is_left, goes_left_in, blocks_in, AreLinks};
 ghost use Rattle.ring_cutting.specs.Placed.{place_blocks};
-ghost use Rattle.ring_cutting.specs.Spans.{span_of, node_of, down, AreNested, HasNode, IsTree, HasHulls};
+ghost use Rattle.ring_cutting.specs.Spans.{span_of, AreNested, HasNode, IsTree, HasHulls, NoneBelow};
 
 use crate::asked::{Around, corners, is_blocker, place};
 use crate::links::Links;
@@ -161,7 +163,7 @@ pub(crate) fn seek(
     requires within { node < 2 * length places.now }
     ensures living { IfSome result (λ w. lives living.now w ≡ true) }
     ensures blocks { IfSome result (λ w. place_blocks c.now.p c.now.x c.now.n (place_of places.now w) ≡ true) }
-    ensures none { IfNone result ((i : ℕ) (way : List Bool) → lives living.now i ≡ true → down way node ≡ node_of hulls.now.nodes.items i → place_blocks c.now.p c.now.x c.now.n (place_of places.now i) ≡ false) }
+    ensures none { IfNone result (NoneBelow places.now living.now hulls.now c.now node) }
 {
     let span = span_at(&hulls.spans, node);
     if misses(&span, c.p.at, c.x.at, c.n.at) {
@@ -185,12 +187,12 @@ pub(crate) fn seek(
 pub(crate) fn blocker_of(hulls: &Hulls, places: &[Place], links: &Links, i: usize) -> Option<usize>
     requires few { length places.now ≤ 100000000 }
     requires hulls { HasHulls places.now links.now.living.items hulls.now }
-    requires linked { IsLinked (length places.now) links.now.after.items links.now.before.items links.now.living.items }
-    requires living { lives links.now.living.items i ≡ true }
-    requires left { goes_left places.now (before_of links.now.before.items i) i (after_of links.now.after.items i) ≡ true }
-    ensures some { IfSome result (λ w. lives links.now.living.items w ≡ true) }
-    ensures blocks { IfSome result (λ w. blocks_at places.now (before_of links.now.before.items i) i (after_of links.now.after.items i) w ≡ true) }
-    ensures none { IfNone result ((w : ℕ) → lives links.now.living.items w ≡ true → blocks_at places.now (before_of links.now.before.items i) i (after_of links.now.after.items i) w ≡ false) }
+    requires linked { AreLinks (length places.now) links.now }
+    requires living { is_left links.now i ≡ true }
+    requires left { goes_left_in places.now links.now i ≡ true }
+    ensures some { IfSome result (λ w. is_left links.now w ≡ true) }
+    ensures blocks { IfSome result (λ w. blocks_in places.now links.now i w ≡ true) }
+    ensures none { IfNone result ((w : ℕ) → is_left links.now w ≡ true → blocks_in places.now links.now i w ≡ false) }
 {
     seek(hulls, places, &links.living, &corners(places, links, i), 1)
 }

@@ -4,7 +4,8 @@ ghost use Rattle.mesh_terms.specs.Meshes.{triple_of};
 ghost use Rattle.face_plane.specs.Planes.{Plane};
 ghost use Rattle.face_plane.specs.Rings.{IsRing};
 ghost use Rattle.ring_cutting.specs.Cuts.{cut_ring, triple_at, is_allowed, cut_place, forced_here, first_allowed};
-ghost use Rattle.ring_cutting.specs.Left.{lives, after_of, left_of, rank, IsLinked, AreSettled};
+ghost use Rattle.ring_cutting.specs.Left.{after_of};
+ghost use Rattle.ring_cutting.specs.Linked.{is_left, rest_of, rest_ring, number_in, AreLinks, AreSettledIn};
 ghost use Rattle.ring_cutting.specs.Spans.{HasHulls};
 ghost use Rattle.ring_cutting.specs.Placed.{vertices_of, IsPlaced};
 
@@ -73,17 +74,19 @@ fn choose(
 ) -> Result<Choice, NoMemory>
     requires few { length places.now ≤ 100000000 }
     requires hulls { HasHulls places.now links.now.living.items hulls.now }
-    requires linked { IsLinked (length places.now) links.now.after.items links.now.before.items links.now.living.items }
-    requires settled { AreSettled places.now links.now.after.items links.now.before.items links.now.living.items doubts.old.doubtful doubts.old.waiting.items }
-    requires ringy { IsRing (vertices_of (left_of links.now.living.items places.now)) }
-    requires more { 4 ≤ length (left_of links.now.living.items places.now) }
-    requires first { lives links.now.living.items first ≡ true }
-    requires least { (m : ℕ) → lives links.now.living.items m ≡ true → first ≤ m }
-    ensures settled { OnOk result (AreSettled places.now links.now.after.items links.now.before.items links.now.living.items doubts.new.doubtful doubts.new.waiting.items) }
-    ensures living { IfOk result (λ c. lives links.now.living.items c.place ≡ true) }
-    ensures allowed { IfOk result (λ c. is_allowed (vertices_of (left_of links.now.living.items places.now)) (rank links.now.living.items c.place) ≡ true) }
-    ensures place { (at : Plane) → IsPlaced at (left_of links.now.living.items places.now) → IfOk result (λ c. rank links.now.living.items c.place ≡ cut_place at (vertices_of (left_of links.now.living.items places.now))) }
-    ensures forced { (at : Plane) → IsPlaced at (left_of links.now.living.items places.now) → IfOk result (λ c. cond c.forced 1 0 ≡ forced_here at (vertices_of (left_of links.now.living.items places.now))) }
+    requires linked { AreLinks (length places.now) links.now }
+    requires settled { AreSettledIn places.now links.now doubts.old }
+    requires ringy { IsRing (rest_ring places.now links.now) }
+    requires more { 4 ≤ length (rest_of places.now links.now) }
+    requires first { is_left links.now first ≡ true }
+    requires least { (m : ℕ) → is_left links.now m ≡ true → first ≤ m }
+    ensures settled { OnOk result (AreSettledIn places.now links.now doubts.new) }
+    ensures living { IfOk result (λ c. is_left links.now c.place ≡ true) }
+    ensures allowed { IfOk result (λ c. is_allowed (rest_ring places.now links.now) (number_in links.now c.place) ≡ true) }
+    ensures place { (at : Plane) → IsPlaced at (rest_of places.now links.now) →
+        IfOk result (λ c. number_in links.now c.place ≡ cut_place at (rest_ring places.now links.now)) }
+    ensures forced { (at : Plane) → IsPlaced at (rest_of places.now links.now) →
+        IfOk result (λ c. cond c.forced 1 0 ≡ forced_here at (rest_ring places.now links.now)) }
 {
     match least_ear(doubts, places, links, hulls)? {
         Some(place) => Ok(Choice {
@@ -99,14 +102,14 @@ fn choose(
 
 // The least place that is allowed.
 fn first_allowed(places: &[Place], links: &Links, first: usize) -> usize
-    requires linked { IsLinked (length places.now) links.now.after.items links.now.before.items links.now.living.items }
-    requires ringy { IsRing (vertices_of (left_of links.now.living.items places.now)) }
-    requires more { 4 ≤ length (left_of links.now.living.items places.now) }
-    requires first { lives links.now.living.items first ≡ true }
-    requires least { (m : ℕ) → lives links.now.living.items m ≡ true → first ≤ m }
-    ensures living { lives links.now.living.items result ≡ true }
-    ensures allowed { is_allowed (vertices_of (left_of links.now.living.items places.now)) (rank links.now.living.items result) ≡ true }
-    ensures value { rank links.now.living.items result ≡ first_allowed (vertices_of (left_of links.now.living.items places.now)) }
+    requires linked { AreLinks (length places.now) links.now }
+    requires ringy { IsRing (rest_ring places.now links.now) }
+    requires more { 4 ≤ length (rest_of places.now links.now) }
+    requires first { is_left links.now first ≡ true }
+    requires least { (m : ℕ) → is_left links.now m ≡ true → first ≤ m }
+    ensures living { is_left links.now result ≡ true }
+    ensures allowed { is_allowed (rest_ring places.now links.now) (number_in links.now result) ≡ true }
+    ensures value { number_in links.now result ≡ first_allowed (rest_ring places.now links.now) }
 {
     let mut i = first;
     while !may_go(places, links, i) {
@@ -117,9 +120,9 @@ fn first_allowed(places: &[Place], links: &Links, first: usize) -> usize
 
 // The triangle of a place and its neighbours.
 fn triple_at(places: &[Place], links: &Links, i: usize) -> [u32; 3]
-    requires linked { IsLinked (length places.now) links.now.after.items links.now.before.items links.now.living.items }
-    requires living { lives links.now.living.items i ≡ true }
-    ensures { triple_of result ≡ triple_at (vertices_of (left_of links.now.living.items places.now)) (rank links.now.living.items i) }
+    requires linked { AreLinks (length places.now) links.now }
+    requires living { is_left links.now i ≡ true }
+    ensures { triple_of result ≡ triple_at (rest_ring places.now links.now) (number_in links.now i) }
 {
     let c = corners(places, links, i);
     [c.p.vertex, c.x.vertex, c.n.vertex]

@@ -15,7 +15,8 @@ abbrev pub none_of : ℕ → Cut
 none_of n = record { triples = []; forced = n }
 
 -- no triangle was added
-pub none_added : (x n : ℕ) (old new : SourceTriangles) → new.triples.items ≡ old.triples.items → new.source.items ≡ old.source.items → new.forced ≡ old.forced + n → IsAdded x (none_of n) old new
+pub none_added : (x n : ℕ) (old new : SourceTriangles) → new.triples.items ≡ old.triples.items → new.source.items ≡ old.source.items →
+    new.forced ≡ old.forced + n → IsAdded x (none_of n) old new
 none_added x n old new triples source forced = record {
   triples = ap triples_of triples ∙ sym (append-nil (triples_of old.triples.items));
   source = source ∙ sym (append-nil old.source.items);
@@ -27,7 +28,8 @@ replicate_more : (n x : ℕ) → replicate (n + 1) x ≡ replicate n x ++ x ∷ 
 replicate_more n x = sym (replicate-append-replicate n 1 x)
 
 -- one triangle more was added
-pub one_added : (x : ℕ) (c : Cut) (t : Triple) (old mid new : SourceTriangles) → IsAdded x c old mid → triples_of new.triples.items ≡ triples_of mid.triples.items ++ t ∷ [] → new.source.items ≡ mid.source.items ++ x ∷ [] → new.forced ≡ mid.forced →
+pub one_added : (x : ℕ) (c : Cut) (t : Triple) (old mid new : SourceTriangles) → IsAdded x c old mid →
+    triples_of new.triples.items ≡ triples_of mid.triples.items ++ t ∷ [] → new.source.items ≡ mid.source.items ++ x ∷ [] → new.forced ≡ mid.forced →
     IsAdded x (cut_then c t) old new
 one_added x c t old mid new h triples source forced =
     let long : length (c.triples ++ t ∷ []) ≡ length c.triples + 1 = length-append c.triples (t ∷ []) in

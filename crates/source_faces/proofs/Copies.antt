@@ -60,7 +60,8 @@ end_from-block a b (suc n) v es h = rw (outside-first a n v h) (end_from-block (
 -- and none is taken out
 pub without_from-block : (a b n v : ℕ) (es : List (ℕ × ℕ)) → IsOutside a n v → without_from v (block a b n ++ es) ≡ block a b n ++ without_from v es
 without_from-block a b zero v es h = refl
-without_from-block a b (suc n) v es h = rw (outside-first a n v h) (ap (λ l. (a, b) ∷ l) (without_from-block (suc a) (suc b) n v es (outside-rest a n v h)))
+without_from-block a b (suc n) v es h =
+    rw (outside-first a n v h) (ap (λ l. (a, b) ∷ l) (without_from-block (suc a) (suc b) n v es (outside-rest a n v h)))
 
 -- an edge in front goes on from its start
 end_from-head : (v w : ℕ) (es : List (ℕ × ℕ)) → end_from v ((v, w) ∷ es) ≡ Some w
@@ -86,15 +87,21 @@ first_followed a b c n ab bc ca =
     let goes : end_from b (one ++ (b, c) ∷ (two ++ (c, a) ∷ three)) ≡ Some c =
     end_from-block (suc a) (suc b) n b ((b, c) ∷ (two ++ (c, a) ∷ three)) b_out ∙ end_from-head b c (two ++ (c, a) ∷ three) in
     let left : without_from b (one ++ (b, c) ∷ (two ++ (c, a) ∷ three)) ≡ after =
-    without_from-block (suc a) (suc b) n b ((b, c) ∷ (two ++ (c, a) ∷ three)) b_out ∙ ap (λ l. one ++ l) (without_from-head b c (two ++ (c, a) ∷ three)) in
+    without_from-block (suc a) (suc b) n b ((b, c) ∷ (two ++ (c, a) ∷ three)) b_out
+    ∙ ap (λ l. one ++ l) (without_from-head b c (two ++ (c, a) ∷ three)) in
     let goes_back : end_from c after ≡ Some a =
-    end_from-block (suc a) (suc b) n c (two ++ (c, a) ∷ three) c_out ∙ end_from-block (suc b) (suc c) n c ((c, a) ∷ three) c_off ∙ end_from-head c a three in
+    end_from-block (suc a) (suc b) n c (two ++ (c, a) ∷ three) c_out ∙ end_from-block (suc b) (suc c) n c ((c, a) ∷ three) c_off
+    ∙ end_from-head c a three in
     let left_last : without_from c after ≡ one ++ (two ++ three) =
-    without_from-block (suc a) (suc b) n c (two ++ (c, a) ∷ three) c_out ∙ ap (λ l. one ++ l) (without_from-block (suc b) (suc c) n c ((c, a) ∷ three) c_off ∙ ap (λ l. two ++ l) (without_from-head c a three)) in
+    without_from-block (suc a) (suc b) n c (two ++ (c, a) ∷ three) c_out
+    ∙ ap (λ l. one ++ l) (without_from-block (suc b) (suc c) n c ((c, a) ∷ three) c_off ∙ ap (λ l. two ++ l) (without_from-head c a three)) in
     let ends : end_from a (one ++ (two ++ three)) ≡ None =
-    end_from-block (suc a) (suc b) n a (two ++ three) (own-outside a n) ∙ end_from-block (suc b) (suc c) n a three a_off ∙ end_from-block (suc c) (suc a) n a [] a_out in
-    followed-on b c (one ++ (b, c) ∷ (two ++ (c, a) ∷ three)) goes ∙ ap (λ l. put_first b (followed c l)) left ∙ ap (put_first b) (followed-on c a after goes_back)
-    ∙ ap (λ l. put_first b (put_first c (followed a l))) left_last ∙ ap (λ r. put_first b (put_first c r)) (followed-end a (one ++ (two ++ three)) ends)
+    end_from-block (suc a) (suc b) n a (two ++ three) (own-outside a n) ∙ end_from-block (suc b) (suc c) n a three a_off
+    ∙ end_from-block (suc c) (suc a) n a [] a_out in
+    followed-on b c (one ++ (b, c) ∷ (two ++ (c, a) ∷ three)) goes ∙ ap (λ l. put_first b (followed c l)) left
+    ∙ ap (put_first b) (followed-on c a after goes_back)
+    ∙ ap (λ l. put_first b (put_first c (followed a l))) left_last
+    ∙ ap (λ r. put_first b (put_first c r)) (followed-end a (one ++ (two ++ three)) ends)
 
 -- three blocks that are apart form the loops of their first vertices, of their second ones, and so on
 pub cycles-blocks : (a b c n : ℕ) → AreApart a b n → AreApart b c n → AreApart c a n → cycles (three_blocks a b c n) ≡ loops_of a b c n
@@ -110,7 +117,8 @@ exchanged_blocks a b c n = block a b n ++ (block c a n ++ (block b c n ++ []))
 
 -- their edges lead back the same way
 first_followed_exchanged : (a b c n : ℕ) → AreApart a b (suc n) → AreApart b c (suc n) → AreApart c a (suc n) →
-    followed b (block (suc a) (suc b) n ++ (block c a (suc n) ++ (block b c (suc n) ++ []))) ≡ (b ∷ c ∷ [], exchanged_blocks (suc a) (suc b) (suc c) n)
+    followed b (block (suc a) (suc b) n ++ (block c a (suc n) ++ (block b c (suc n) ++ []))) ≡
+    (b ∷ c ∷ [], exchanged_blocks (suc a) (suc b) (suc c) n)
 first_followed_exchanged a b c n ab bc ca =
     let one = block (suc a) (suc b) n in
     let two = block (suc c) (suc a) n in
@@ -123,17 +131,21 @@ first_followed_exchanged a b c n ab bc ca =
     let a_off = first-outside c a n ca in
     let a_out = first-outside b a n (apart-sym a b (suc n) ab) in
     let goes : end_from b all ≡ Some c =
-    end_from-block (suc a) (suc b) n b (block c a (suc n) ++ (b, c) ∷ three) b_out ∙ end_from-block c a (suc n) b ((b, c) ∷ three) b_off ∙ end_from-head b c three in
+    end_from-block (suc a) (suc b) n b (block c a (suc n) ++ (b, c) ∷ three) b_out ∙ end_from-block c a (suc n) b ((b, c) ∷ three) b_off
+    ∙ end_from-head b c three in
     let left : without_from b all ≡ after =
     without_from-block (suc a) (suc b) n b (block c a (suc n) ++ (b, c) ∷ three) b_out
     ∙ ap (λ l. one ++ l) (without_from-block c a (suc n) b ((b, c) ∷ three) b_off ∙ ap (λ l. block c a (suc n) ++ l) (without_from-head b c three)) in
-    let goes_back : end_from c after ≡ Some a = end_from-block (suc a) (suc b) n c ((c, a) ∷ (two ++ three)) c_out ∙ end_from-head c a (two ++ three) in
+    let goes_back : end_from c after ≡ Some a =
+    end_from-block (suc a) (suc b) n c ((c, a) ∷ (two ++ three)) c_out ∙ end_from-head c a (two ++ three) in
     let left_last : without_from c after ≡ one ++ (two ++ three) =
     without_from-block (suc a) (suc b) n c ((c, a) ∷ (two ++ three)) c_out ∙ ap (λ l. one ++ l) (without_from-head c a (two ++ three)) in
     let ends : end_from a (one ++ (two ++ three)) ≡ None =
-    end_from-block (suc a) (suc b) n a (two ++ three) (own-outside a n) ∙ end_from-block (suc c) (suc a) n a three a_off ∙ end_from-block (suc b) (suc c) n a [] a_out in
+    end_from-block (suc a) (suc b) n a (two ++ three) (own-outside a n) ∙ end_from-block (suc c) (suc a) n a three a_off
+    ∙ end_from-block (suc b) (suc c) n a [] a_out in
     followed-on b c all goes ∙ ap (λ l. put_first b (followed c l)) left ∙ ap (put_first b) (followed-on c a after goes_back)
-    ∙ ap (λ l. put_first b (put_first c (followed a l))) left_last ∙ ap (λ r. put_first b (put_first c r)) (followed-end a (one ++ (two ++ three)) ends)
+    ∙ ap (λ l. put_first b (put_first c (followed a l))) left_last
+    ∙ ap (λ r. put_first b (put_first c r)) (followed-end a (one ++ (two ++ three)) ends)
 
 -- and form the same loops
 pub cycles-exchanged_blocks : (a b c n : ℕ) → AreApart a b n → AreApart b c n → AreApart c a n → cycles (exchanged_blocks a b c n) ≡ loops_of a b c n
@@ -141,4 +153,5 @@ cycles-exchanged_blocks a b c zero ab bc ca = refl
 cycles-exchanged_blocks a b c (suc n) ab bc ca =
     let rest = block (suc a) (suc b) n ++ (block c a (suc n) ++ (block b c (suc n) ++ [])) in
     cycles-cons (a, b) rest ∙ ap (λ (r : List ℕ × List (ℕ × ℕ)). (a ∷ r.0) ∷ cycles r.1) (first_followed_exchanged a b c n ab bc ca)
-    ∙ ap (λ l. (a ∷ b ∷ c ∷ []) ∷ l) (cycles-exchanged_blocks (suc a) (suc b) (suc c) n (apart-rest a b n ab) (apart-rest b c n bc) (apart-rest c a n ca))
+    ∙ ap (λ l. (a ∷ b ∷ c ∷ []) ∷ l)
+    (cycles-exchanged_blocks (suc a) (suc b) (suc c) n (apart-rest a b n ab) (apart-rest b c n bc) (apart-rest c a n ca))

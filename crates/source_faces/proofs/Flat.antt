@@ -1,5 +1,6 @@
 -- Three points lie on a line exactly where they do in the plane that drops the axis of the greatest part of their cross product.
-use Rattle.std.specs.Prelude.{◌≡◌, ℕ, zero, suc, ◌≤◌, ◌<◌, ℤ, pos, neg_ℤ, negsuc, List, [], ◌∷◌, true, false, Bool, if◌then◌else◌, not, ◌&&◌, nat_lt, unsigned_abs}
+use Rattle.std.specs.Prelude.{◌≡◌, ℕ, zero, suc, ◌≤◌, ◌<◌, ℤ, pos, neg_ℤ, negsuc, List, [], ◌∷◌, true, false, Bool}
+use Rattle.std.specs.Prelude.{if◌then◌else◌, not, ◌&&◌, nat_lt, unsigned_abs}
 use Rattle.std.proofs.Common.{arith, refl, sym, ap, ◌∙◌}
 use Rattle.std.specs.Cmp.{both_ways as same_test}
 use Rattle.std.specs.Ordering.{int_eq}
@@ -51,9 +52,12 @@ all_none x y z true t h k e =
 all_none x y z false true h k e =
     let size : unsigned_abs y ≡ 0 = ap unsigned_abs e in
     let other : unsigned_abs x ≡ 0 = omega (arith, size, not_less (unsigned_abs y) (unsigned_abs x) k) in
-    let x_low : not (nat_lt (unsigned_abs z) (unsigned_abs x)) ≡ true = not_from_false (nat_lt (unsigned_abs z) (unsigned_abs x)) (le-ltb (unsigned_abs z) (unsigned_abs x) (omega (arith, other))) in
-    let y_low : not (nat_lt (unsigned_abs z) (unsigned_abs y)) ≡ true = not_from_false (nat_lt (unsigned_abs z) (unsigned_abs y)) (le-ltb (unsigned_abs z) (unsigned_abs y) (omega (arith, size))) in
-    absurd (both_ways (is_last x y z) h (and_from (not (nat_lt (unsigned_abs z) (unsigned_abs x))) (not (nat_lt (unsigned_abs z) (unsigned_abs y))) x_low y_low))
+    let x_low : not (nat_lt (unsigned_abs z) (unsigned_abs x)) ≡ true =
+    not_from_false (nat_lt (unsigned_abs z) (unsigned_abs x)) (le-ltb (unsigned_abs z) (unsigned_abs x) (omega (arith, other))) in
+    let y_low : not (nat_lt (unsigned_abs z) (unsigned_abs y)) ≡ true =
+    not_from_false (nat_lt (unsigned_abs z) (unsigned_abs y)) (le-ltb (unsigned_abs z) (unsigned_abs y) (omega (arith, size))) in
+    absurd (both_ways (is_last x y z) h
+    (and_from (not (nat_lt (unsigned_abs z) (unsigned_abs x))) (not (nat_lt (unsigned_abs z) (unsigned_abs y))) x_low y_low))
 all_none x y z false false h k e =
     let size : unsigned_abs x ≡ 0 = ap unsigned_abs e in
     absurd (omega (arith, size, less (unsigned_abs y) (unsigned_abs x) k))
@@ -77,14 +81,16 @@ greatest_tells x y z =
     let zero_is : (w : ℤ) → w ≡ pos 0 → int_eq w (pos 0) ≡ true = λ w. (Decides-int_eq w (pos 0)).1 in
     same_test (int_eq (of_three s t x y z) (pos 0)) (are_none x y z)
     (λ h. let all = all_none x y z s t refl refl (zero_test (of_three s t x y z) h) in
-    and_from (int_eq x (pos 0) && int_eq y (pos 0)) (int_eq z (pos 0)) (and_from (int_eq x (pos 0)) (int_eq y (pos 0)) (zero_is x all.0) (zero_is y all.1)) (zero_is z all.2))
+    and_from (int_eq x (pos 0) && int_eq y (pos 0)) (int_eq z (pos 0))
+    (and_from (int_eq x (pos 0)) (int_eq y (pos 0)) (zero_is x all.0) (zero_is y all.1)) (zero_is z all.2))
     (λ h. let last = and_parts (int_eq x (pos 0) && int_eq y (pos 0)) (int_eq z (pos 0)) h in
     let first = and_parts (int_eq x (pos 0)) (int_eq y (pos 0)) last.0 in
     zero_is (of_three s t x y z) (each_none x y z s t (zero_test x first.0) (zero_test y first.1) (zero_test z last.1)))
 
 -- the turn in a plane that drops an axis is the part of the cross product on that axis
 turn_on_axis : (s t : Bool) (a b c : List ℤ) →
-    turn (flat_point (if s then 2 else if t then 1 else 0) a) (flat_point (if s then 2 else if t then 1 else 0) b) (flat_point (if s then 2 else if t then 1 else 0) c) ≡ of_three s t (cross_x a b c) (cross_y a b c) (cross_z a b c)
+    turn (flat_point (if s then 2 else if t then 1 else 0) a) (flat_point (if s then 2 else if t then 1 else 0) b)
+    (flat_point (if s then 2 else if t then 1 else 0) c) ≡ of_three s t (cross_x a b c) (cross_y a b c) (cross_z a b c)
 turn_on_axis true t a b c = refl
 turn_on_axis false true a b c = refl
 turn_on_axis false false a b c = refl
@@ -94,7 +100,9 @@ abbrev pub plane_turn : List ℤ → List ℤ → List ℤ → ℤ
 plane_turn a b c = turn (flat_point (plane_drop a b c) a) (flat_point (plane_drop a b c) b) (flat_point (plane_drop a b c) c)
 
 -- it is 0 exactly where the three lie on a line
-pub turn_tells : (a b c : List ℤ) → int_eq (plane_turn a b c) (pos 0) ≡ are_none (coordinate_of (cross_product a b c) 0) (coordinate_of (cross_product a b c) 1) (coordinate_of (cross_product a b c) 2)
+pub turn_tells : (a b c : List ℤ) →
+    int_eq (plane_turn a b c) (pos 0) ≡
+    are_none (coordinate_of (cross_product a b c) 0) (coordinate_of (cross_product a b c) 1) (coordinate_of (cross_product a b c) 2)
 turn_tells a b c =
     let x = cross_x a b c in
     let y = cross_y a b c in
@@ -104,7 +112,8 @@ turn_tells a b c =
 -- a number and its negative are 0 together
 negative_tells : (z : ℤ) → int_eq (neg_ℤ z) (pos 0) ≡ int_eq z (pos 0)
 negative_tells z =
-    same_test (int_eq (neg_ℤ z) (pos 0)) (int_eq z (pos 0)) (λ h. let e = (Decides-int_eq (neg_ℤ z) (pos 0)).0 h in (Decides-int_eq z (pos 0)).1 (omega (arith, ints, e)))
+    same_test (int_eq (neg_ℤ z) (pos 0)) (int_eq z (pos 0))
+    (λ h. let e = (Decides-int_eq (neg_ℤ z) (pos 0)).0 h in (Decides-int_eq z (pos 0)).1 (omega (arith, ints, e)))
     (λ h. let e = (Decides-int_eq z (pos 0)).0 h in (Decides-int_eq (neg_ℤ z) (pos 0)).1 (omega (arith, ints, e)))
 
 -- points in another order turn the other way

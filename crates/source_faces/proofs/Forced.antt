@@ -17,9 +17,11 @@ use Rattle.source_faces.specs.Adding.{IsAdded, copy_triple, face_copies, is_flat
 use Rattle.source_faces.specs.declared.triangles.SourceTriangles.{SourceTriangles}
 
 -- a filling of which this holds keeps it of all
-pub forced_with : (x : ℕ) (c : Cut) (old new : SourceTriangles) → c.forced ≤ length c.triples → old.forced ≤ length old.triples.items → IsAdded x c old new → new.forced ≤ length new.triples.items
+pub forced_with : (x : ℕ) (c : Cut) (old new : SourceTriangles) → c.forced ≤ length c.triples → old.forced ≤ length old.triples.items →
+    IsAdded x c old new → new.forced ≤ length new.triples.items
 forced_with x c old new part before h =
-    let long : length (triples_of new.triples.items) ≡ length (triples_of old.triples.items) + length c.triples = ap length h.triples ∙ length-append (triples_of old.triples.items) c.triples in
+    let long : length (triples_of new.triples.items) ≡ length (triples_of old.triples.items) + length c.triples =
+    ap length h.triples ∙ length-append (triples_of old.triples.items) c.triples in
     omega (arith, part, before, long, h.forced, length-map new.triples.items triple_of, length-map old.triples.items triple_of)
 
 -- it holds of the copies of a face
@@ -36,5 +38,6 @@ forced_copies side runs f =
     some false n = omega arith
 
 -- loops that can be filled give at most 100,000,000 triangles
-pub few_triples : (at : Plane) (loops : List (List ℕ)) (points : ℕ) (ts : List Triple) → AreFillable loops points → HasCount at loops ts → length ts ≤ 100000000
+pub few_triples : (at : Plane) (loops : List (List ℕ)) (points : ℕ) (ts : List Triple) → AreFillable loops points → HasCount at loops ts →
+    length ts ≤ 100000000
 few_triples at loops points ts fillable count = omega (arith, count, three_each (is_hole at) loops fillable.long, fillable.few)

@@ -24,7 +24,8 @@ many_points : (cs : List Copy) → length (points_of_copies cs) ≡ length cs
 many_points cs = length-map cs (λ c. c.point)
 
 -- runs of copies have their numbers
-in_numbers : (side : Side) (runs : List CopyRange) (cs : List Copy) (origin : ℕ → Origin) → AreRunsOf cs origin side runs → length cs ≤ 60000000 → AreRuns side (length (points_of_copies cs)) runs
+in_numbers : (side : Side) (runs : List CopyRange) (cs : List Copy) (origin : ℕ → Origin) → AreRunsOf cs origin side runs →
+    length cs ≤ 60000000 → AreRuns side (length (points_of_copies cs)) runs
 in_numbers side runs cs origin h few = record {
   each = h.long;
   below = λ v d below.
@@ -35,7 +36,8 @@ in_numbers side runs cs origin h few = record {
 }
 
 -- and lie at their vertices
-at_vertices : (side : Side) (runs : List CopyRange) (cs : List Copy) (origin : ℕ → Origin) → AreRunsOf cs origin side runs → LieAtVertices side runs (points_of_copies cs)
+at_vertices : (side : Side) (runs : List CopyRange) (cs : List Copy) (origin : ℕ → Origin) → AreRunsOf cs origin side runs →
+    LieAtVertices side runs (points_of_copies cs)
 at_vertices side runs cs origin h = record {
   lies = λ v i there below.
       let r = get_or runs v no_run in
@@ -46,22 +48,30 @@ at_vertices side runs cs origin h = record {
 }
 
 -- so a side has its copies
-pub have_copies : (side : Side) (runs : List CopyRange) (cs : List Copy) (origin : ℕ → Origin) (k : ℕ) → AreRunsOf cs origin side runs → AreInOrder k runs → length cs ≤ 60000000 → HaveCopies side runs (points_of_copies cs)
-have_copies side runs cs origin k h order few = record { are = in_numbers side runs cs origin h few; last = k; order = order; lie = at_vertices side runs cs origin h }
+pub have_copies : (side : Side) (runs : List CopyRange) (cs : List Copy) (origin : ℕ → Origin) (k : ℕ) → AreRunsOf cs origin side runs →
+    AreInOrder k runs → length cs ≤ 60000000 → HaveCopies side runs (points_of_copies cs)
+have_copies side runs cs origin k h order few =
+    record { are = in_numbers side runs cs origin h few; last = k; order = order; lie = at_vertices side runs cs origin h }
 
 -- records that give a source face its segments let it be filled
-pub part_there : (p q : Side) (cs : List Copy) (x : ℕ) (side : Side) (runs : List CopyRange) (f : ℕ) (ss : List Stand) → CanBeSegments side runs (points_of_copies cs) f ss → segments_by side runs (points_of_copies cs) f ss ≡ face_segments p q cs x → FormLoops p q cs x →
+pub part_there : (p q : Side) (cs : List Copy) (x : ℕ) (side : Side) (runs : List CopyRange) (f : ℕ) (ss : List Stand) →
+    CanBeSegments side runs (points_of_copies cs) f ss → segments_by side runs (points_of_copies cs) f ss ≡ face_segments p q cs x →
+    FormLoops p q cs x →
     CanBePart side runs (points_of_copies cs) f ss
 part_there p q cs x side runs f ss paired same loops = record {
   paired = paired;
   filled = record {
     loops = subst IsOneToOne (sym same) loops.once;
-    fillable = subst (λ (n : ℕ). AreFillable (cycles (segments_by side runs (points_of_copies cs) f ss)) n) (sym (many_points cs)) (subst (λ (es : List (ℕ × ℕ)). AreFillable (cycles es) (length cs)) (sym same) loops.fillable);
+    fillable =
+        subst (λ (n : ℕ). AreFillable (cycles (segments_by side runs (points_of_copies cs) f ss)) n) (sym (many_points cs))
+        (subst (λ (es : List (ℕ × ℕ)). AreFillable (cycles es) (length cs)) (sym same) loops.fillable);
   };
 }
 
 -- and that is the filling of the source face
-pub part_same : (p q : Side) (cs : List Copy) (x : ℕ) (side : Side) (runs : List CopyRange) (f : ℕ) (ss : List Stand) → segments_by side runs (points_of_copies cs) f ss ≡ face_segments p q cs x → plane_drop_of side f ≡ source_drop p q x →
+pub part_same : (p q : Side) (cs : List Copy) (x : ℕ) (side : Side) (runs : List CopyRange) (f : ℕ) (ss : List Stand) →
+    segments_by side runs (points_of_copies cs) f ss ≡ face_segments p q cs x → plane_drop_of side f ≡ source_drop p q x →
     filled_by side runs (points_of_copies cs) f ss ≡ filled_face p q cs x
 part_same p q cs x side runs f ss same drop =
-    ap (λ n. fill_of n (points_of_copies cs) (cycles (segments_by side runs (points_of_copies cs) f ss))) drop ∙ ap (λ es. fill_of (source_drop p q x) (points_of_copies cs) (cycles es)) same
+    ap (λ n. fill_of n (points_of_copies cs) (cycles (segments_by side runs (points_of_copies cs) f ss))) drop
+    ∙ ap (λ es. fill_of (source_drop p q x) (points_of_copies cs) (cycles es)) same

@@ -53,10 +53,13 @@ shifted f m k (suc n) =
     ap (λ j. f (m + k) ∷ map f (up_from j n)) e ∙ ap (λ l. f (m + k) ∷ l) (shifted f m (suc k) n)
 
 -- a list in two parts
-in_two : {X : Type 0} (f g h : ℕ → X) (m n : ℕ) → ((i : ℕ) → i < m → f i ≡ h i) → ((i : ℕ) → i < n → g i ≡ h (m + i)) → map f (upto m) ++ map g (upto n) ≡ map h (upto (m + n))
+in_two : {X : Type 0} (f g h : ℕ → X) (m n : ℕ) → ((i : ℕ) → i < m → f i ≡ h i) → ((i : ℕ) → i < n → g i ≡ h (m + i)) →
+    map f (upto m) ++ map g (upto n) ≡ map h (upto (m + n))
 in_two f g h m n first second =
     let one = same_on f h 0 m (λ i a b. first i (omega (arith, b))) in
-    let two : map g (upto n) ≡ map h (up_from (0 + m) n) = same_on g (λ i. h (m + i)) 0 n (λ i a b. second i (omega (arith, b))) ∙ sym (shifted h m 0 n) ∙ ap (λ k. map h (up_from k n)) (let e : m + 0 ≡ 0 + m = omega arith in e) in
+    let two : map g (upto n) ≡ map h (up_from (0 + m) n) =
+    same_on g (λ i. h (m + i)) 0 n (λ i a b. second i (omega (arith, b))) ∙ sym (shifted h m 0 n)
+    ∙ ap (λ k. map h (up_from k n)) (let e : m + 0 ≡ 0 + m = omega arith in e) in
     let all = ap (map h) (up_from-append 0 m n) ∙ map-append h (upto m) (up_from (0 + m) n) in cc
 
 -- the axis that a face of P drops, and one of Q
@@ -67,10 +70,12 @@ drop_of_q : (p q : Side) (g : ℕ) → plane_drop_of q g ≡ source_drop p q (le
 drop_of_q p q g =
     let x = length p.triples + g in
     let back : g ≡ x - length p.triples = omega arith in
-    ap (plane_drop_of q) back ∙ sym (ap (λ b. if b then plane_drop_of p x else plane_drop_of q (x - length p.triples)) (le-ltb x (length p.triples) (omega arith)))
+    ap (plane_drop_of q) back
+    ∙ sym (ap (λ b. if b then plane_drop_of p x else plane_drop_of q (x - length p.triples)) (le-ltb x (length p.triples) (omega arith)))
 
 -- runs and records that tell all copies, which can be assembled
-pub all_parts : (laws : HaveLaws) (p q : Side) (cs : List Copy) (k : ℕ) (p_runs q_runs : List CopyRange) (stands : List Stand) → HaveLists p q cs k p_runs q_runs stands → CanBeAssembled p q cs → length cs ≤ 60000000 → HaveAllParts p q cs p_runs q_runs stands
+pub all_parts : (laws : HaveLaws) (p q : Side) (cs : List Copy) (k : ℕ) (p_runs q_runs : List CopyRange) (stands : List Stand) →
+    HaveLists p q cs k p_runs q_runs stands → CanBeAssembled p q cs → length cs ≤ 60000000 → HaveAllParts p q cs p_runs q_runs stands
 all_parts laws p q cs k p_runs q_runs stands lists can few =
     let points = points_of_copies cs in
     let m = length p.triples in
@@ -79,7 +84,8 @@ all_parts laws p q cs k p_runs q_runs stands lists can few =
     let of_p : (f : ℕ) → f < m → CanBePart p p_runs points f (records_of stands f) =
     λ f h. part_there p q cs f p p_runs f (records_of stands f) (paired.0 f h) (segments.0 f h) (laws.loops p q cs can f (omega (arith, h))) in
     let of_q : (g : ℕ) → g < length q.triples → CanBePart q q_runs points g (records_of stands (m + g)) =
-    λ g h. part_there p q cs (m + g) q q_runs g (records_of stands (m + g)) (paired.1 g h) (segments.1 g h) (laws.loops p q cs can (m + g) (omega (arith, h))) in
+    λ g h. part_there p q cs (m + g) q q_runs g (records_of stands (m + g)) (paired.1 g h) (segments.1 g h)
+    (laws.loops p q cs can (m + g) (omega (arith, h))) in
     let from_0 : (f : ℕ) → f ≡ 0 + f = λ f. omega arith in
     record {
       p_parts = record {
@@ -89,18 +95,24 @@ all_parts laws p q cs k p_runs q_runs stands lists can few =
       };
       q_parts = record { copies = have_copies q q_runs cs QVertex k lists.q_copies lists.q_order few; ascend = lists.ascend; each = of_q };
       all =
-          in_two (λ f. filled_by p p_runs points f (records_of stands (0 + f))) (λ g. filled_by q q_runs points g (records_of stands (m + g))) (filled_face p q cs) m (length q.triples)
-          (λ f h. ap (λ x. filled_by p p_runs points f (records_of stands x)) (sym (from_0 f)) ∙ part_same p q cs f p p_runs f (records_of stands f) (segments.0 f h) (drop_of_p p q f h))
+          in_two (λ f. filled_by p p_runs points f (records_of stands (0 + f)))
+          (λ g. filled_by q q_runs points g (records_of stands (m + g))) (filled_face p q cs) m (length q.triples)
+          (λ f h. ap (λ x. filled_by p p_runs points f (records_of stands x)) (sym (from_0 f))
+          ∙ part_same p q cs f p p_runs f (records_of stands f) (segments.0 f h) (drop_of_p p q f h))
           (λ g h. part_same p q cs (m + g) q q_runs g (records_of stands (m + g)) (segments.1 g h) (drop_of_q p q g));
     }
 
 -- there are few copies
-pub few_given : (op : Op) (p q : Side) (windings : Windings) (hits : Hits) (r : Prescribed) → IsSide p → IsSide q → AreGiven op p q windings hits r → AreFewGiven op windings hits
+pub few_given : (op : Op) (p q : Side) (windings : Windings) (hits : Hits) (r : Prescribed) → IsSide p → IsSide q →
+    AreGiven op p q windings hits r → AreFewGiven op windings hits
 few_given op p q windings hits r p_side q_side h =
-    let n = numbers windings hits in omega (arith, few_copies op p q n p_side q_side h.w03 h.w30, all_starts op p q n p_side q_side h.w03 h.w30 h.x12 h.x21, h.few)
+    let n =
+    numbers windings hits in
+    omega (arith, few_copies op p q n p_side q_side h.w03 h.w30, all_starts op p q n p_side q_side h.w03 h.w30 h.x12 h.x21, h.few)
 
 -- what is given is such
-pub given_parts : (laws : HaveLaws) (op : Op) (p q : Side) (windings : Windings) (hits : Hits) (r : Prescribed) → IsSide p → IsSide q → AreGiven op p q windings hits r → GivenHaveParts op p q windings hits
+pub given_parts : (laws : HaveLaws) (op : Op) (p q : Side) (windings : Windings) (hits : Hits) (r : Prescribed) → IsSide p → IsSide q →
+    AreGiven op p q windings hits r → GivenHaveParts op p q windings hits
 given_parts laws op p q windings hits r p_side q_side h =
     let n = numbers windings hits in
     let cs = copies op p q windings hits in

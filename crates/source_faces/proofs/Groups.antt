@@ -11,10 +11,12 @@ pub none_first : (ss : List Stand) → earlier ss 0 ≡ 0
 none_first ss = earlier_none ss 0 (λ i d below. omega arith)
 
 -- where those of earlier faces end, those of face x begin
-pub group_there : (ss : List Stand) (x begin end : ℕ) → Ascend ss → begin ≡ earlier ss x → end ≡ group_end ss begin x → take (end - begin) (drop begin ss) ≡ records_of ss x
+pub group_there : (ss : List Stand) (x begin end : ℕ) → Ascend ss → begin ≡ earlier ss x → end ≡ group_end ss begin x →
+    take (end - begin) (drop begin ss) ≡ records_of ss x
 group_there ss x begin end up at to =
     let last : end ≡ group_end ss (earlier ss x) x = to ∙ ap (λ n. group_end ss n x) at in
-    ap (λ n. take (n - begin) (drop begin ss)) last ∙ ap (λ n. take (group_end ss (earlier ss x) x - n) (drop n ss)) at ∙ group_slice ss x (ascend_faces ss up)
+    ap (λ n. take (n - begin) (drop begin ss)) last ∙ ap (λ n. take (group_end ss (earlier ss x) x - n) (drop n ss)) at
+    ∙ group_slice ss x (ascend_faces ss up)
 
 -- those of the next face follow
 pub next_there : (ss : List Stand) (x begin end : ℕ) → Ascend ss → begin ≡ earlier ss x → end ≡ group_end ss begin x → end ≡ earlier ss (x + 1)

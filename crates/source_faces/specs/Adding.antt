@@ -52,7 +52,11 @@ abbrev pub face_copies : Side → List CopyRange → ℕ → Cut
 face_copies side runs f =
     let t = get_or side.triples f (0, 0, 0) in
     let r = get_or runs t.0 no_run in
-    record { triples = map (copy_triple r (get_or runs t.1 no_run) (get_or runs t.2 no_run)) (upto r.count); forced = cond (is_flat side f) r.count 0 }
+    record {
+      triples = map (copy_triple r (get_or runs t.1 no_run) (get_or runs t.2 no_run)) (upto r.count);
+      forced =
+          cond (is_flat side f) r.count 0;
+    }
 
 -- the filling of a face with these runs and records
 abbrev pub filled_by : Side → List CopyRange → List (List ℤ) → ℕ → List Stand → Cut

@@ -43,7 +43,8 @@ pub record AreAdded (x : ℕ) (cs : List Cut) (old new : SourceTriangles) : Type
 
 -- the fillings of the faces of both sides, P's first
 abbrev pub both_parts : Side → Side → List CopyRange → List CopyRange → List (List ℤ) → List Stand → List Cut
-both_parts p q p_runs q_runs points stands = parts_of p p_runs points 0 stands (length p.triples) ++ parts_of q q_runs points (length p.triples) stands (length q.triples)
+both_parts p q p_runs q_runs points stands =
+    parts_of p p_runs points 0 stands (length p.triples) ++ parts_of q q_runs points (length p.triples) stands (length q.triples)
 
 -- these are all triangles, with their source faces
 pub record AreAll (cs : List Cut) (all : SourceTriangles) : Type 0 where

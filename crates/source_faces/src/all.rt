@@ -29,7 +29,8 @@ pub fn triangles_of(
     prescribed: &Prescribed,
 ) -> Result<SourceTriangles, NoMemory>
     requires { AreGiven op p.now q.now windings.now hits.now prescribed.now }
-    ensures triples { IfOk result (λ r. triples_of r.triples.items ≡ all_triples (all_filled p.now q.now (copies op p.now q.now windings.now hits.now))) }
+    ensures triples { IfOk result (λ r. triples_of r.triples.items ≡
+        all_triples (all_filled p.now q.now (copies op p.now q.now windings.now hits.now))) }
     ensures source { IfOk result (λ r. r.source.items ≡ sources_of 0 (all_filled p.now q.now (copies op p.now q.now windings.now hits.now))) }
     ensures forced { IfOk result (λ r. r.forced ≡ forced_of (all_filled p.now q.now (copies op p.now q.now windings.now hits.now))) }
 {

@@ -8,11 +8,17 @@ use Rattle.face_lists.proofs.segments.push_pairs.Goals as goal
 
 pub push_pair-requires : goal.push_pair-requires
 push_pair-requires c =
-    (group_by_group (λ g. CanBePaired c.args.points.now (map entry_of g)) c.args.stands.now c.loop-begin.begin c.list_end-end.result no_stand c.loop-begin-test.true c.list_end-end.ensures.value c.loop-begin.invariant.paired).0
+    (group_by_group (λ g. CanBePaired c.args.points.now (map entry_of g)) c.args.stands.now c.loop-begin.begin c.list_end-end.result
+    no_stand c.loop-begin-test.true c.list_end-end.ensures.value c.loop-begin.invariant.paired).0
 
 pub loop-begin-smaller : goal.loop-begin-smaller
 loop-begin-smaller c =
-    omega (arith, c.list_end-end.ensures.value, c.list_end-end.ensures.within, group_long c.args.stands.now c.loop-begin.begin no_stand c.loop-begin-test.true)
+    omega (
+      arith,
+      c.list_end-end.ensures.value,
+      c.list_end-end.ensures.within,
+      group_long c.args.stands.now c.loop-begin.begin no_stand c.loop-begin-test.true,
+    )
 
 pub loop-begin-preserved : goal.loop-begin-preserved
 loop-begin-preserved c =
@@ -23,7 +29,10 @@ loop-begin-preserved c =
     let slice = pair_segments points (take (end - begin) (drop begin ss)) in
     record {
       below = c.list_end-end.ensures.within;
-      value = ap (λ l. l ++ pairs_segments points (drop end ss)) c.in_ok-push_pair.ensures ∙ append_assoc (map edge_of c.loop-begin.segments.items) slice (pairs_segments points (drop end ss))
-          ∙ ap (λ l. map edge_of c.loop-begin.segments.items ++ l) (sym (pair_by_pair points ss begin end no_stand c.loop-begin-test.true c.list_end-end.ensures.value)) ∙ c.loop-begin.invariant.value;
-      paired = (group_by_group (λ g. CanBePaired points (map entry_of g)) ss begin end no_stand c.loop-begin-test.true c.list_end-end.ensures.value c.loop-begin.invariant.paired).1;
+      value = ap (λ l. l ++ pairs_segments points (drop end ss)) c.in_ok-push_pair.ensures
+          ∙ append_assoc (map edge_of c.loop-begin.segments.items) slice (pairs_segments points (drop end ss))
+          ∙ ap (λ l. map edge_of c.loop-begin.segments.items ++ l)
+          (sym (pair_by_pair points ss begin end no_stand c.loop-begin-test.true c.list_end-end.ensures.value)) ∙ c.loop-begin.invariant.value;
+      paired = (group_by_group (λ g. CanBePaired points (map entry_of g)) ss begin end no_stand c.loop-begin-test.true
+          c.list_end-end.ensures.value c.loop-begin.invariant.paired).1;
     }

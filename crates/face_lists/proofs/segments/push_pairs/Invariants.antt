@@ -8,7 +8,8 @@ use Rattle.face_lists.proofs.segments.push_pairs.Given as goal
 abbrev pub invariant-loop-begin : goal.invariant-loop-begin
 invariant-loop-begin l = record {
   below : l.begin ≤ length l.stands;
-  value : map edge_of l.segments.items ++ pairs_segments l.points (drop l.begin l.stands) ≡ map edge_of l.fn.segments.items ++ pairs_segments l.points l.stands;
+  value : map edge_of l.segments.items ++ pairs_segments l.points (drop l.begin l.stands) ≡
+      map edge_of l.fn.segments.items ++ pairs_segments l.points l.stands;
   paired : All (λ g. CanBePaired l.points (map entry_of g)) (groups (drop l.begin l.stands));
 }
 

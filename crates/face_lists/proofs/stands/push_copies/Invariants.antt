@@ -4,4 +4,5 @@ use Rattle.face_lists.proofs.stands.push_copies.Given as goal
 
 abbrev pub invariant-loop-i : goal.invariant-loop-i
 invariant-loop-i l =
-    l.stands.items ≡ l.fn.stands.items ++ copy_stands l.bases.edges l.bases.faces l.crossing.lower l.crossing.upper l.crossing.face l.crossing.positive l.first l.i
+    l.stands.items ≡
+    l.fn.stands.items ++ copy_stands l.bases.edges l.bases.faces l.crossing.lower l.crossing.upper l.crossing.face l.crossing.positive l.first l.i

@@ -6,6 +6,7 @@ use Rattle.face_lists.proofs.stands.push_hits.Given as goal
 
 abbrev pub invariant-loop-hit : goal.invariant-loop-hit
 invariant-loop-hit l = record {
-  stands : l.stands.items ≡ l.fn.stands.items ++ hit_stands l.op (all_edges l.twins.triples) l.bases.edges l.bases.faces l.first (take l.hit-index l.hits);
+  stands : l.stands.items ≡
+      l.fn.stands.items ++ hit_stands l.op (all_edges l.twins.triples) l.bases.edges l.bases.faces l.first (take l.hit-index l.hits);
   next : l.next ≡ l.first + hit_count l.op (take l.hit-index l.hits);
 }

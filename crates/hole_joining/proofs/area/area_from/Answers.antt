@@ -43,12 +43,30 @@ returns-clause-value c =
     let small = c.loop-vertex.invariant.small in
     let edge = c.edge_area.ensures.small in
     let seen = c.loop-vertex.invariant.seen in
-    let none = ap (λ r. total (across at) (round_from c.args.first last.vertex r)) (drop_all c.loop-vertex.vertex-index c.args.rest.now c.loop-vertex-test.false) in
+    let none =
+    ap (λ r. total (across at) (round_from c.args.first last.vertex r))
+    (drop_all c.loop-vertex.vertex-index c.args.rest.now c.loop-vertex-test.false) in
     let here = c.edge_area.ensures.value ∙ (λ j. wedge (seen j).at (c.vertex-start.ensures j).at) in
     omega (arith, ints, c.loop-vertex.invariant.value, small.low, small.high, none, here, edge.low, edge.high)
 
 pub returns-clause-small : goal.returns-clause-small
 returns-clause-small c = record {
-  low = omega (arith, ints, c.loop-vertex.invariant.small.low, c.loop-vertex.invariant.small.high, c.edge_area.ensures.small.low, c.edge_area.ensures.small.high);
-  high = omega (arith, ints, c.loop-vertex.invariant.small.low, c.loop-vertex.invariant.small.high, c.edge_area.ensures.small.low, c.edge_area.ensures.small.high);
+  low =
+      omega (
+        arith,
+        ints,
+        c.loop-vertex.invariant.small.low,
+        c.loop-vertex.invariant.small.high,
+        c.edge_area.ensures.small.low,
+        c.edge_area.ensures.small.high,
+      );
+  high =
+      omega (
+        arith,
+        ints,
+        c.loop-vertex.invariant.small.low,
+        c.loop-vertex.invariant.small.high,
+        c.edge_area.ensures.small.low,
+        c.edge_area.ensures.small.high,
+      );
 }

@@ -13,7 +13,18 @@ overflow_add-sum c =
     let loops = c.args.loops.now in
     let i = c.loop-one.one-index in
     let item = c.vertices.ensures ∙ c.one-item.is ∙ get_or_default loops i c.one-item.result [] c.loop-one-test.true in
-    omega (arith, ints, c.loop-one.invariant.small.low, c.loop-one.invariant.small.high, c.loop_area-area.ensures.small.low, c.loop_area-area.ensures.small.high, length_more loops i c.loop-one-test.true, concat_take_le loops (i + 1), ap length item, c.requires)
+    omega (
+      arith,
+      ints,
+      c.loop-one.invariant.small.low,
+      c.loop-one.invariant.small.high,
+      c.loop_area-area.ensures.small.low,
+      c.loop_area-area.ensures.small.high,
+      length_more loops i c.loop-one-test.true,
+      concat_take_le loops (i + 1),
+      ap length item,
+      c.requires,
+    )
 
 pub loop-one-preserved : goal.loop-one-preserved
 loop-one-preserved c =
@@ -30,8 +41,23 @@ loop-one-preserved c =
     let kept : ℤ = to_z w128 (of_z w128 c.loop_area-area.result) in
     let same : kept ≡ area at (get_or loops i []) = omega (arith, ints, here, added.low, added.high, longer, few, ap length item, c.requires) in
     record {
-      each = each_more (area at) loops c.loop-one.each.items c.push.new.self.items kept i c.loop-one-test.true same c.in_ok-push.ensures.items ∙ c.loop-one.invariant.each;
-      value = omega (arith, ints, c.loop-one.invariant.value, more, here, small.low, small.high, added.low, added.high, longer, few, ap length item, c.requires);
+      each = each_more (area at) loops c.loop-one.each.items c.push.new.self.items kept i c.loop-one-test.true same
+          c.in_ok-push.ensures.items ∙ c.loop-one.invariant.each;
+      value = omega (
+        arith,
+        ints,
+        c.loop-one.invariant.value,
+        more,
+        here,
+        small.low,
+        small.high,
+        added.low,
+        added.high,
+        longer,
+        few,
+        ap length item,
+        c.requires,
+      );
       small = record {
         low = omega (arith, ints, small.low, small.high, added.low, added.high, longer, few, ap length item, c.requires);
         high = omega (arith, ints, small.low, small.high, added.low, added.high, longer, few, ap length item, c.requires);

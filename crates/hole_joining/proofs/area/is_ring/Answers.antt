@@ -12,4 +12,5 @@ returns-then-flat c =
     let i = c.args.i in
     let z : ℤ = get_or areas i (pos 0) in
     let kept : to_z w128 (of_z w128 z) ≡ z = search (rules, tests) in
-    ap (λ (z : ℤ). int_le z (pos 0)) kept ∙ ring_turned flat (get_or loops i []) z c.if-flat.true (read_area flat loops areas i c.requires.areas c.requires.within)
+    ap (λ (z : ℤ). int_le z (pos 0)) kept
+    ∙ ring_turned flat (get_or loops i []) z c.if-flat.true (read_area flat loops areas i c.requires.areas c.requires.within)

@@ -5,4 +5,6 @@ use Rattle.hole_joining.specs.Cones.{bars}
 use Rattle.hole_joining.proofs.barred.any_bars.Given as goal
 
 abbrev pub invariant-loop-edge : goal.invariant-loop-edge
-invariant-loop-edge l = list_any (bars (plane_at l.flat) l.segment.from.vertex l.segment.to.vertex) (drop l.edge-index l.edges) ≡ list_any (bars (plane_at l.flat) l.segment.from.vertex l.segment.to.vertex) l.edges
+invariant-loop-edge l =
+    list_any (bars (plane_at l.flat) l.segment.from.vertex l.segment.to.vertex) (drop l.edge-index l.edges) ≡
+    list_any (bars (plane_at l.flat) l.segment.from.vertex l.segment.to.vertex) l.edges

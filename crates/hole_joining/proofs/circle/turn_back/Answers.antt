@@ -11,7 +11,10 @@ loop-init c =
 
 pub loop-preserved : goal.loop-preserved
 loop-preserved c =
-    let ring : List ℕ = c.args.circle.now in let n : ℕ = length ring in let k : ℕ = n - (c.loop.counter + 1) in let less = c.loop-test.true in let count = c.len.ensures.count in
+    let ring : List ℕ =
+    c.args.circle.now in let n : ℕ = length ring in let k : ℕ = n - (c.loop.counter + 1) in let less = c.loop-test.true in
+    let count = c.len.ensures.count in
     let place : n - c.loop.counter ≡ k + 1 = omega arith in
     let stood : c.loop.circle ≡ turned_to (k + 1) ring = c.loop.invariant ∙ ap (λ i. turned_to i ring) place in
-    c.back.ensures ∙ ap (λ l. turned_to (length l - 1) l) stood ∙ ap (λ j. turned_to (j - 1) (turned_to (k + 1) ring)) (length-turned (k + 1) ring) ∙ turned_less n k ring refl (omega arith)
+    c.back.ensures ∙ ap (λ l. turned_to (length l - 1) l) stood
+    ∙ ap (λ j. turned_to (j - 1) (turned_to (k + 1) ring)) (length-turned (k + 1) ring) ∙ turned_less n k ring refl (omega arith)

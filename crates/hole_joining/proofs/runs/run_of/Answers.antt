@@ -22,10 +22,16 @@ loop-vertex-preserved c =
     let old = All-weaker (Round run) (Round wide) (λ v h. both_first run (run_at p) (at v) h) (take i vs) c.loop-vertex.invariant.round in
     let here : Round wide v = both_second run (run_at p) (at v) (one_place p (at v) c.at.ensures) in
     let all : All (Round wide) (take (i + 1) vs) =
-    subst (All (Round wide)) (sym (take_more vs i 0 c.loop-vertex-test.true)) (All-append (Round wide) (take i vs) (v ∷ []) old (All-cons (Round wide) v [] here (All-nil (Round wide)))) in
-    record { count = omega (arith, ap (λ (r : Run). r.count) now, c.loop-vertex.invariant.count); round = subst (λ r. All (Round r) (take (i + 1) vs)) (sym now) all }
+    subst (All (Round wide)) (sym (take_more vs i 0 c.loop-vertex-test.true))
+    (All-append (Round wide) (take i vs) (v ∷ []) old (All-cons (Round wide) v [] here (All-nil (Round wide)))) in
+    record {
+      count = omega (arith, ap (λ (r : Run). r.count) now, c.loop-vertex.invariant.count);
+      round =
+          subst (λ r. All (Round r) (take (i + 1) vs)) (sym now) all;
+    }
 
 pub returns-clause-round : goal.returns-clause-round
 returns-clause-round c =
     let at = plane_at c.args.flat.now in
-    subst (All (λ v. IsRound c.loop-vertex.run (at v))) (take_all c.loop-vertex.vertex-index c.args.places.now c.loop-vertex-test.false) c.loop-vertex.invariant.round
+    subst (All (λ v. IsRound c.loop-vertex.run (at v))) (take_all c.loop-vertex.vertex-index c.args.places.now c.loop-vertex-test.false)
+    c.loop-vertex.invariant.round

@@ -14,7 +14,9 @@ loop-j-preserved c =
     (third_none ps bs c.args.i c.args.p c.args.n c.loop-j.j (sym c.is_third.ensures ∙ c.if-is_third.false))
 
 pub returns-then-is_third : goal.returns-then-is_third
-returns-then-is_third c = sym (third_some c.args.places.now c.args.living.now c.args.i c.args.p c.args.n c.loop-j.j c.requires (sym c.is_third.ensures ∙ c.if-is_third.true))
+returns-then-is_third c =
+    sym (third_some c.args.places.now c.args.living.now c.args.i c.args.p c.args.n c.loop-j.j c.requires
+    (sym c.is_third.ensures ∙ c.if-is_third.true))
 
 pub returns : goal.returns
 returns c =

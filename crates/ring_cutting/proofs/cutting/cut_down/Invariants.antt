@@ -11,7 +11,8 @@ abbrev pub invariant-loop-places : goal.invariant-loop-places
 invariant-loop-places l = record {
   ringy : IsRing (vertices_of l.places.items);
   few : l.forced + length l.places.items ≤ 100000000;
-  goes : (at : Plane) → IsPlaced at l.initial.places.items → IsUnderWay at (vertices_of l.initial.places.items) l.places.items (triples_of l.triples.items) l.forced;
+  goes : (at : Plane) → IsPlaced at l.initial.places.items →
+      IsUnderWay at (vertices_of l.initial.places.items) l.places.items (triples_of l.triples.items) l.forced;
 }
 
 abbrev pub decreases-loop-places : goal.decreases-loop-places

@@ -33,10 +33,13 @@ pub returns-clause-value : goal.returns-clause-value
 returns-clause-value c = made c
 
 pub returns-clause-count : goal.returns-clause-count
-returns-clause-count c = of_made (cut_ring (plane_at c) c.args.ring) (λ f. length f.triples + 2 ≡ length c.args.ring) c.cut_ring_long_from.result (laws c).count (made c)
+returns-clause-count c =
+    of_made (cut_ring (plane_at c) c.args.ring) (λ f. length f.triples + 2 ≡ length c.args.ring) c.cut_ring_long_from.result (laws c).count (made c)
 
 pub returns-clause-chain : goal.returns-clause-chain
-returns-clause-chain c = of_made (cut_ring (plane_at c) c.args.ring) (λ f. SameChain (all_edges f.triples) (round_edges c.args.ring)) c.cut_ring_long_from.result (laws c).chain (made c)
+returns-clause-chain c =
+    of_made (cut_ring (plane_at c) c.args.ring) (λ f. SameChain (all_edges f.triples) (round_edges c.args.ring)) c.cut_ring_long_from.result
+    (laws c).chain (made c)
 
 pub returns-clause-boundary : goal.returns-clause-boundary
 returns-clause-boundary c =
@@ -56,10 +59,14 @@ returns-clause-three c = of_made (cut_ring (plane_at c) c.args.ring) (λ f. All 
 pub returns-clause-below : goal.returns-clause-below
 returns-clause-below c =
     let whole = cut_ring (plane_at c) c.args.ring in
-    of_made whole (λ f. All (IsBelow (length c.args.points.now)) f.triples) c.cut_ring_long_from.result (below_of (length c.args.points.now) c.args.ring whole.triples c.requires.below (laws c).of) (made c)
+    of_made whole (λ f. All (IsBelow (length c.args.points.now)) f.triples) c.cut_ring_long_from.result
+    (below_of (length c.args.points.now) c.args.ring whole.triples c.requires.below (laws c).of) (made c)
 
 pub returns-clause-most : goal.returns-clause-most
-returns-clause-most c = of_made (cut_ring (plane_at c) c.args.ring) (λ f. f.forced ≤ length f.triples) c.cut_ring_long_from.result (laws c).few (made c)
+returns-clause-most c =
+    of_made (cut_ring (plane_at c) c.args.ring) (λ f. f.forced ≤ length f.triples) c.cut_ring_long_from.result (laws c).few (made c)
 
 pub returns-clause-left : goal.returns-clause-left
-returns-clause-left c = of_made (cut_ring (plane_at c) c.args.ring) (λ f. f.forced ≡ 0 → All (TurnsLeft (plane_at c)) f.triples) c.cut_ring_long_from.result (laws c).left (made c)
+returns-clause-left c =
+    of_made (cut_ring (plane_at c) c.args.ring) (λ f. f.forced ≡ 0 → All (TurnsLeft (plane_at c)) f.triples) c.cut_ring_long_from.result
+    (laws c).left (made c)

@@ -10,25 +10,35 @@ use Rattle.ring_cutting.proofs.doubts.settle.Goals as goal
 within : (c : In_ok-push-in-Some) → c.in-Some.w < length c.args.waiting.now.items
 within c =
     let links = c.args.links.now in
-    omega (arith, low (length c.args.places.now) links.after.items links.before.items links.living.items c.in-Some.w c.requires.linked c.in-Some.ensures.some, c.requires.many)
+    omega (
+      arith,
+      low (length c.args.places.now) links.after.items links.before.items links.living.items c.in-Some.w c.requires.linked
+          c.in-Some.ensures.some,
+      c.requires.many,
+    )
 
 written : (c : In_ok-push-in-Some) → c.push.new.self ≡ get_or c.args.waiting.now.items c.in-Some.w [] ++ c.args.i ∷ []
 written c =
     c.in_ok-push-in-Some.ensures
     ∙ ap (λ (l : List ℕ). l ++ c.args.i ∷ []) (c.index_mut.ensures.value ∙ get_or_default c.args.waiting.now.items c.in-Some.w _ [] (within c))
 
-blocked : (c : In_ok-push-in-Some) → IsBlocked c.args.places.now c.args.links.now.living.items (before_of c.args.links.now.before.items c.args.i) c.args.i (after_of c.args.links.now.after.items c.args.i)
+blocked : (c : In_ok-push-in-Some) →
+    IsBlocked c.args.places.now c.args.links.now.living.items (before_of c.args.links.now.before.items c.args.i) c.args.i
+    (after_of c.args.links.now.after.items c.args.i)
     (set c.args.waiting.now.items c.in-Some.w c.push.new.self)
 blocked c = record {
   number = c.in-Some.w;
   living = c.in-Some.ensures.some;
   blocks = c.in-Some.ensures.blocks;
-  waits = waits_now c.args.waiting.now.items (set c.args.waiting.now.items c.in-Some.w c.push.new.self) c.in-Some.w c.args.i (within c) (ap (set c.args.waiting.now.items c.in-Some.w) (written c));
+  waits =
+      waits_now c.args.waiting.now.items (set c.args.waiting.now.items c.in-Some.w c.push.new.self) c.in-Some.w c.args.i (within c)
+      (ap (set c.args.waiting.now.items c.in-Some.w) (written c));
 }
 
 pub returns-in_ok-push-in-Some-clause-kept : goal.returns-in_ok-push-in-Some-clause-kept
 returns-in_ok-push-in-Some-clause-kept c =
-    waits_still c.args.waiting.now.items (set c.args.waiting.now.items c.in-Some.w c.push.new.self) c.in-Some.w c.args.i (within c) (ap (set c.args.waiting.now.items c.in-Some.w) (written c))
+    waits_still c.args.waiting.now.items (set c.args.waiting.now.items c.in-Some.w c.push.new.self) c.in-Some.w c.args.i (within c)
+    (ap (set c.args.waiting.now.items c.in-Some.w) (written c))
 
 pub returns-in_ok-push-in-Some-clause-ear : goal.returns-in_ok-push-in-Some-clause-ear
 returns-in_ok-push-in-Some-clause-ear c =

@@ -10,5 +10,6 @@ abbrev pub invariant-loop-k : goal.invariant-loop-k
 invariant-loop-k l = record {
   woken : (q : ℕ) → In q (take l.k l.places) → lives l.living q ≡ true → contains nat_cmp l.doubtful q ≡ true;
   kept : (q : ℕ) → contains nat_cmp l.initial.doubtful q ≡ true → contains nat_cmp l.doubtful q ≡ true;
-  known : ((q : ℕ) → contains nat_cmp l.initial.doubtful q ≡ true → lives l.living q ≡ true) → (q : ℕ) → contains nat_cmp l.doubtful q ≡ true → lives l.living q ≡ true;
+  known : ((q : ℕ) → contains nat_cmp l.initial.doubtful q ≡ true → lives l.living q ≡ true) → (q : ℕ) →
+      contains nat_cmp l.doubtful q ≡ true → lives l.living q ≡ true;
 }

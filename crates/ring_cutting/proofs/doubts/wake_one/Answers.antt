@@ -10,4 +10,6 @@ pub returns-clause-kept : goal.returns-clause-kept
 returns-clause-kept c = put_keeps c.args.doubtful.now c.put.new.doubtful c.args.i c.in_ok-put.ensures.has c.in_ok-put.ensures.others
 
 pub returns-clause-known : goal.returns-clause-known
-returns-clause-known c = put_known (λ q. lives c.args.living.now q ≡ true) c.args.doubtful.now c.put.new.doubtful c.args.i c.in_ok-put.ensures.others (sym c.is_living.ensures ∙ c.if-not-is_living.false)
+returns-clause-known c =
+    put_known (λ q. lives c.args.living.now q ≡ true) c.args.doubtful.now c.put.new.doubtful c.args.i c.in_ok-put.ensures.others
+    (sym c.is_living.ensures ∙ c.if-not-is_living.false)

@@ -23,7 +23,8 @@ found at ps i h =
     let test : nat_lt (first_ear at r) (length r) ≡ true = lt-ltb (first_ear at r) (length r) first.0 in
     record { place = rw test first.1; forced = rw test refl }
 
-missed : (at : Plane) (ps : List Place) (i : ℕ) → ◌≡◌ {A = Option ℕ} None (position (is_ear at (vertices_of ps)) (upto (length ps))) → i ≡ first_allowed (vertices_of ps) → IsChoice at (vertices_of ps) i 1
+missed : (at : Plane) (ps : List Place) (i : ℕ) → ◌≡◌ {A = Option ℕ} None (position (is_ear at (vertices_of ps)) (upto (length ps))) →
+    i ≡ first_allowed (vertices_of ps) → IsChoice at (vertices_of ps) i 1
 missed at ps i h is =
     let r = vertices_of ps in
     let none = none_first (is_ear at r) (length r) (h ∙ ap (λ m. position (is_ear at r) (upto m)) (sym (length-vertices ps))) in
@@ -37,7 +38,9 @@ pub returns-in-Some-clause-forced : goal.returns-in-Some-clause-forced
 returns-in-Some-clause-forced c = λ at placed. (found at c.args.places.now c.in-Some.place (c.in-Some.ensures.value at placed)).forced
 
 pub returns-in-None-clause-place : goal.returns-in-None-clause-place
-returns-in-None-clause-place c = λ at placed. (missed at c.args.places.now c.first_allowed.result (c.in-None.ensures.value at placed) c.first_allowed.ensures.value).place
+returns-in-None-clause-place c =
+    λ at placed. (missed at c.args.places.now c.first_allowed.result (c.in-None.ensures.value at placed) c.first_allowed.ensures.value).place
 
 pub returns-in-None-clause-forced : goal.returns-in-None-clause-forced
-returns-in-None-clause-forced c = λ at placed. (missed at c.args.places.now c.first_allowed.result (c.in-None.ensures.value at placed) c.first_allowed.ensures.value).forced
+returns-in-None-clause-forced c =
+    λ at placed. (missed at c.args.places.now c.first_allowed.result (c.in-None.ensures.value at placed) c.first_allowed.ensures.value).forced

@@ -11,7 +11,8 @@ use Rattle.ring_cutting.proofs.Reading.{length-vertices}
 use Rattle.ring_cutting.proofs.ears.first_allowed.Goals as goal
 
 -- where no place before i is allowed, i is a place
-still_within : (ps : List Place) (i : ℕ) → IsRing (vertices_of ps) → 4 ≤ length ps → ((k : ℕ) → k < i → is_allowed (vertices_of ps) k ≡ false) → i < length ps
+still_within : (ps : List Place) (i : ℕ) → IsRing (vertices_of ps) → 4 ≤ length ps →
+    ((k : ℕ) → k < i → is_allowed (vertices_of ps) k ≡ false) → i < length ps
 still_within ps i ringy four none =
     let some = some_allowed (vertices_of ps) ringy (omega (arith, four, length-vertices ps)) in
     elim (cases_lt some.place i) as (λ _. i < length ps) [
@@ -28,13 +29,15 @@ loop-i-init c = λ k low. absurd (omega (arith, low))
 
 pub loop-i-preserved : goal.loop-i-preserved
 loop-i-preserved c =
-    below_more (λ k. is_allowed (vertices_of c.args.places.now) k ≡ false) c.loop-i.i c.loop-i.invariant (sym c.is_allowed.ensures ∙ c.if-is_allowed.false)
+    below_more (λ k. is_allowed (vertices_of c.args.places.now) k ≡ false) c.loop-i.i c.loop-i.invariant
+    (sym c.is_allowed.ensures ∙ c.if-is_allowed.false)
 
 pub returns-then-is_allowed-clause-value : goal.returns-then-is_allowed-clause-value
 returns-then-is_allowed-clause-value c =
     let ps = c.args.places.now in
     let n = length-vertices ps in
-    sym (first_place (is_allowed (vertices_of ps)) (length (vertices_of ps)) c.loop-i.i (omega (arith, n, c.loop-i-test.true)) c.loop-i.invariant (sym c.is_allowed.ensures ∙ c.if-is_allowed.true))
+    sym (first_place (is_allowed (vertices_of ps)) (length (vertices_of ps)) c.loop-i.i (omega (arith, n, c.loop-i-test.true))
+    c.loop-i.invariant (sym c.is_allowed.ensures ∙ c.if-is_allowed.true))
 
 pub returns-clause-within : goal.returns-clause-within
 returns-clause-within c = absurd (never c)

@@ -10,12 +10,15 @@ loop-i-init c = λ at placed k low. absurd (omega (arith, low))
 
 pub loop-i-preserved : goal.loop-i-preserved
 loop-i-preserved c = λ at placed.
-    below_more (λ k. is_ear at (vertices_of c.args.places.now) k ≡ false) c.loop-i.i (c.loop-i.invariant at placed) (sym (c.is_ear.ensures.value at placed) ∙ c.if-is_ear.false)
+    below_more (λ k. is_ear at (vertices_of c.args.places.now) k ≡ false) c.loop-i.i (c.loop-i.invariant at placed)
+    (sym (c.is_ear.ensures.value at placed) ∙ c.if-is_ear.false)
 
 pub returns-then-is_ear-clause-value : goal.returns-then-is_ear-clause-value
 returns-then-is_ear-clause-value c = λ at placed.
-    sym (first_is (is_ear at (vertices_of c.args.places.now)) (length c.args.places.now) c.loop-i.i c.loop-i-test.true (c.loop-i.invariant at placed) (sym (c.is_ear.ensures.value at placed) ∙ c.if-is_ear.true))
+    sym (first_is (is_ear at (vertices_of c.args.places.now)) (length c.args.places.now) c.loop-i.i c.loop-i-test.true
+    (c.loop-i.invariant at placed) (sym (c.is_ear.ensures.value at placed) ∙ c.if-is_ear.true))
 
 pub returns-clause-value : goal.returns-clause-value
 returns-clause-value c = λ at placed.
-    sym (first_none (is_ear at (vertices_of c.args.places.now)) (length c.args.places.now) (λ k low. c.loop-i.invariant at placed k (omega (arith, low, c.loop-i-test.false))))
+    sym (first_none (is_ear at (vertices_of c.args.places.now)) (length c.args.places.now)
+    (λ k low. c.loop-i.invariant at placed k (omega (arith, low, c.loop-i-test.false))))

@@ -17,4 +17,5 @@ returns c =
     let ps = c.args.places.now in
     let p = c.args.p in
     let n = c.args.n in
-    any_from_yields_List (λ (q : Place). is_third p n q.vertex) _ _ c.any.result c.any.ensures.ran (YieldsList-from_slice ps (cc)) (λ x b q k. search (rules, tests)) ∙ of_vertices p n ps
+    any_from_yields_List (λ (q : Place). is_third p n q.vertex) _ _ c.any.result c.any.ensures.ran (YieldsList-from_slice ps (cc))
+    (λ x b q k. search (rules, tests)) ∙ of_vertices p n ps

@@ -26,7 +26,8 @@ other_fails true b c e = rw e refl
 other_fails false b c e = refl
 
 -- the turn of the points is that of the vertices
-left_read : (at : Plane) (ps : List Place) (i : ℕ) (p x n : Place) → IsPlaced at ps → AreRead ps i p x n → int_lt (pos 0) (turn p.at x.at n.at) ≡ left_at at (vertices_of ps) i
+left_read : (at : Plane) (ps : List Place) (i : ℕ) (p x n : Place) → IsPlaced at ps → AreRead ps i p x n →
+    int_lt (pos 0) (turn p.at x.at n.at) ≡ left_at at (vertices_of ps) i
 left_read at ps i p x n placed all = rw (all.before.at at placed, all.here.at at placed, all.after.at at placed) refl
 
 -- the place and its neighbours were read
@@ -43,11 +44,15 @@ returns-then-is_allowed-clause-value c = λ at placed.
     let r = vertices_of ps in
     let i = c.args.i in
     let all = round (goal.at.returns-then-is_allowed-clause-value c).After-after-n in
-    let blocked : c.is_blocked.result ≡ list_any (blocks at (vertex_before r i) (vertex_at r i) (vertex_after r i)) r = c.is_blocked.ensures ∙ blocks_of at ps i c.before-p.result c.here-x.result c.after-n.result placed all in
+    let blocked : c.is_blocked.result ≡ list_any (blocks at (vertex_before r i) (vertex_at r i) (vertex_after r i)) r =
+    c.is_blocked.ensures ∙ blocks_of at ps i c.before-p.result c.here-x.result c.after-n.result placed all in
     elim c.if-turns_left.branch as (λ _. not c.is_blocked.result ≡ is_ear at r i) [
       | then-turns_left w ↦
-          last_decides (is_allowed r i) (left_at at r i) c.is_blocked.result (list_any (blocks at (vertex_before r i) (vertex_at r i) (vertex_after r i)) r) (sym w.is_allowed.ensures ∙ sym w.value-is ∙ c.if-is_allowed.true)
-          (sym (left_read at ps i c.before-p.result c.here-x.result c.after-n.result placed all) ∙ sym c.turns_left.ensures ∙ w.if-turns_left.true) blocked
+          last_decides (is_allowed r i) (left_at at r i) c.is_blocked.result
+          (list_any (blocks at (vertex_before r i) (vertex_at r i) (vertex_after r i)) r)
+          (sym w.is_allowed.ensures ∙ sym w.value-is ∙ c.if-is_allowed.true)
+          (sym (left_read at ps i c.before-p.result c.here-x.result c.after-n.result placed all) ∙ sym c.turns_left.ensures
+          ∙ w.if-turns_left.true) blocked
       | else-turns_left w ↦ absurd (cc)
     ]
 
@@ -60,6 +65,10 @@ returns-else-is_allowed-clause-value c = λ at placed.
     let left = left_read at ps i c.before-p.result c.here-x.result c.after-n.result placed all in
     let blocked = list_any (blocks at (vertex_before r i) (vertex_at r i) (vertex_after r i)) r in
     elim c.if-turns_left.branch as (λ _. c.if-turns_left.value ≡ is_ear at r i) [
-      | then-turns_left w ↦ c.if-is_allowed.false ∙ one_fails (is_allowed r i) (left_at at r i) (not blocked) (sym w.is_allowed.ensures ∙ sym w.value-is ∙ c.if-is_allowed.false)
-      | else-turns_left w ↦ c.if-is_allowed.false ∙ other_fails (is_allowed r i) (left_at at r i) (not blocked) (sym left ∙ sym c.turns_left.ensures ∙ w.if-turns_left.false)
+      | then-turns_left w ↦
+          c.if-is_allowed.false
+          ∙ one_fails (is_allowed r i) (left_at at r i) (not blocked) (sym w.is_allowed.ensures ∙ sym w.value-is ∙ c.if-is_allowed.false)
+      | else-turns_left w ↦
+          c.if-is_allowed.false
+          ∙ other_fails (is_allowed r i) (left_at at r i) (not blocked) (sym left ∙ sym c.turns_left.ensures ∙ w.if-turns_left.false)
     ]

@@ -11,7 +11,8 @@ pub returns-then-misses-clause-none : goal.returns-then-misses-clause-none
 returns-then-misses-clause-none t c = λ i way l e.
     let x = place_of c.args.places.now i in
     no_block c.args.c.now.p c.args.c.now.x c.args.c.now.n x
-    (c.misses.ensures c.if-misses.true x.at (subst (λ s. IsIn s x.at) (sym (c.span_at-span.ensures ∙ ap (λ (ss : List Span). span_of ss c.args.node) c.deref.ensures.value))
+    (c.misses.ensures c.if-misses.true x.at
+    (subst (λ s. IsIn s x.at) (sym (c.span_at-span.ensures ∙ ap (λ (ss : List Span). span_of ss c.args.node) c.deref.ensures.value))
     (in_node c.args.places.now c.args.living.now c.args.hulls.now c.args.node i way c.requires.hulls c.requires.some l e)))
 
 pub returns-else-is_blocker-clause-none : goal.returns-else-is_blocker-clause-none
@@ -20,9 +21,12 @@ returns-else-is_blocker-clause-none t c = λ i way l e.
     let bs = c.args.living.now in
     let a = c.args.c.now in
     let w = c.number_at-w.result in
-    let same : i ≡ w = leaf_is ps bs c.args.hulls.now c.args.node i w way c.requires.hulls (omega (arith, c.if-node-places.true)) l e (c.number_at-w.ensures ∙ ap (λ (k : List ℕ). get_or k (c.args.node - length ps) 0) c.deref-then-node-places.ensures.value) in
+    let same : i ≡ w =
+    leaf_is ps bs c.args.hulls.now c.args.node i w way c.requires.hulls (omega (arith, c.if-node-places.true)) l e
+    (c.number_at-w.ensures ∙ ap (λ (k : List ℕ). get_or k (c.args.node - length ps) 0) c.deref-then-node-places.ensures.value) in
     subst (λ (k : ℕ). place_blocks a.p a.x a.n (place_of ps k) ≡ false) (sym same)
-    (second_false (lives bs w) (place_blocks a.p a.x a.n (place_of ps w)) c.is_blocker.result c.is_blocker.ensures c.if-is_blocker.false (subst (λ (k : ℕ). lives bs k ≡ true) same l))
+    (second_false (lives bs w) (place_blocks a.p a.x a.n (place_of ps w)) c.is_blocker.result c.is_blocker.ensures c.if-is_blocker.false
+    (subst (λ (k : ℕ). lives bs k ≡ true) same l))
 
 pub returns-in-None-clause-none : goal.returns-in-None-clause-none
 returns-in-None-clause-none t c =

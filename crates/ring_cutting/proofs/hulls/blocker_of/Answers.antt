@@ -15,4 +15,5 @@ returns-clause-none c =
     where_none c.seek.result (λ f w l.
     let within = low (length ps) links.after.items links.before.items links.living.items w c.requires.linked l in
     let way = way_to (node_of h.nodes.items w) (omega (arith, (c.requires.hulls.tree.nodes w within).least, within)) in
-    (λ j. place_blocks (sym e.p j) (sym e.x j) (sym e.n j) (place_of ps w)) ∙ f w way.way (ap (λ (b : List Bool). lives b w) c.deref.ensures.value ∙ l) way.is) c.seek.ensures.none
+    (λ j. place_blocks (sym e.p j) (sym e.x j) (sym e.n j) (place_of ps w))
+    ∙ f w way.way (ap (λ (b : List Bool). lives b w) c.deref.ensures.value ∙ l) way.is) c.seek.ensures.none

@@ -39,7 +39,8 @@ put_span-requires-clause-within c =
     let n = length ps in
     let order = c.in_ok-order.order.items in
     let nodes = c.in_ok-nodes.nodes.items in
-    let each = has_nodes n order c.deref.result.now nodes c.deref.ensures.value (order_long n order c.in_ok-order.ensures) c.in_ok-nodes.ensures.nodes in
+    let each =
+    has_nodes n order c.deref.result.now nodes c.deref.ensures.value (order_long n order c.in_ok-order.ensures) c.in_ok-nodes.ensures.nodes in
     let i = c.loop-i.i in
     let number : c.number_at.result ≡ node_of nodes i = c.number_at.ensures ∙ ap (λ (l : List ℕ). get_or l i 0) c.deref-in-loop-i.ensures.value in
     omega (arith, number, (each i c.loop-i-test.true).most, c.loop-i.invariant.many, ap length c.deref_mut.ensures.value)
@@ -50,7 +51,8 @@ put_span-requires-clause-last c =
     let n = length ps in
     let order = c.in_ok-order.order.items in
     let nodes = c.in_ok-nodes.nodes.items in
-    let each = has_nodes n order c.deref.result.now nodes c.deref.ensures.value (order_long n order c.in_ok-order.ensures) c.in_ok-nodes.ensures.nodes in
+    let each =
+    has_nodes n order c.deref.result.now nodes c.deref.ensures.value (order_long n order c.in_ok-order.ensures) c.in_ok-nodes.ensures.nodes in
     let i = c.loop-i.i in
     let number : c.number_at.result ≡ node_of nodes i = c.number_at.ensures ∙ ap (λ (l : List ℕ). get_or l i 0) c.deref-in-loop-i.ensures.value in
     omega (arith, number, (each i c.loop-i-test.true).least, c.loop-i.invariant.many, ap length c.deref_mut.ensures.value)
@@ -61,7 +63,8 @@ loop-i-preserved c =
     let n = length ps in
     let order = c.in_ok-order.order.items in
     let nodes = c.in_ok-nodes.nodes.items in
-    let each = has_nodes n order c.deref.result.now nodes c.deref.ensures.value (order_long n order c.in_ok-order.ensures) c.in_ok-nodes.ensures.nodes in
+    let each =
+    has_nodes n order c.deref.result.now nodes c.deref.ensures.value (order_long n order c.in_ok-order.ensures) c.in_ok-nodes.ensures.nodes in
     let i = c.loop-i.i in
     let number : c.number_at.result ≡ node_of nodes i = c.number_at.ensures ∙ ap (λ (l : List ℕ). get_or l i 0) c.deref-in-loop-i.ensures.value in
     let old = c.loop-i.spans.items in
@@ -72,14 +75,16 @@ loop-i-preserved c =
     let items : (with_items c.loop-i.spans new).items ≡ new = with_items_is c.loop-i.spans new full in
     let here : IsIn (span_of new (node_of nodes i)) (place_of ps i).at =
     subst (λ (k : ℕ). IsIn (span_of new k) (place_of ps i).at) number
-    (subst (λ (s : Span). IsIn s (place_of ps i).at) (sym is.here) (subst (λ (p : Place). IsIn c.around.result p.at) c.place.ensures c.around.ensures)) in
+    (subst (λ (s : Span). IsIn s (place_of ps i).at) (sym is.here)
+    (subst (λ (p : Place). IsIn c.around.result p.at) c.place.ensures c.around.ensures)) in
     record {
       many = ap length items ∙ is.many ∙ ap length e ∙ c.loop-i.invariant.many;
       nested = subst AreNested (sym items) is.nested;
       places =
           subst (λ (s : List Span). (j : ℕ) → j < i + 1 → IsIn (span_of s (node_of nodes j)) (place_of ps j).at) (sym items)
           (placed_on n ps order nodes old new i refl c.loop-i-test.true c.loop-i.invariant.many each here
-          (λ k l apart. is.others k (subst (λ (s : List Span). length s ≤ 2 * k) (sym e) l) (λ same. apart (same ∙ number)) ∙ ap (λ (s : List Span). span_of s k) e)
+          (λ k l apart. is.others k (subst (λ (s : List Span). length s ≤ 2 * k) (sym e) l) (λ same. apart (same ∙ number))
+          ∙ ap (λ (s : List Span). span_of s k) e)
           c.loop-i.invariant.places);
     }
 
@@ -89,7 +94,8 @@ returns c = λ bs long.
     let n = length ps in
     let order = c.in_ok-order.order.items in
     let nodes = c.in_ok-nodes.nodes.items in
-    let each = has_nodes n order c.deref.result.now nodes c.deref.ensures.value (order_long n order c.in_ok-order.ensures) c.in_ok-nodes.ensures.nodes in
+    let each =
+    has_nodes n order c.deref.result.now nodes c.deref.ensures.value (order_long n order c.in_ok-order.ensures) c.in_ok-nodes.ensures.nodes in
     let moved = c.in_ok-order.ensures in
     record {
       living_long = long;

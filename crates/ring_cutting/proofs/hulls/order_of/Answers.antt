@@ -24,4 +24,5 @@ returns c =
     let ms = map f xs in
     let all : c.loop-k.order.items ≡ ms = c.loop-k.invariant ∙ take_all c.loop-k.k ms (omega (arith, length-map xs f, c.loop-k-test.false)) in
     subst (IsPermutation (upto (length c.args.places.now))) (sym all)
-    (subst (λ (l : List ℕ). IsPermutation l ms) c.in_ok-keys.ensures (IsPermutation-map f c.in_ok-keys.keys.items xs c.sort_unstable.ensures.permutation))
+    (subst (λ (l : List ℕ). IsPermutation l ms) c.in_ok-keys.ensures
+    (IsPermutation-map f c.in_ok-keys.keys.items xs c.sort_unstable.ensures.permutation))

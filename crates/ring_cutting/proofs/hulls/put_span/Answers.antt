@@ -11,7 +11,8 @@ above true j k e = omega (arith, e)
 above false j k e = omega (arith, e)
 
 -- what holds of both nodes below one
-both : (ss : List Span) (h : ℕ) (s : Span) → IsWithin (span_of ss (below false h)) s → IsWithin (span_of ss (below true h)) s → (b : Bool) → IsWithin (span_of ss (below b h)) s
+both : (ss : List Span) (h : ℕ) (s : Span) → IsWithin (span_of ss (below false h)) s → IsWithin (span_of ss (below true h)) s → (b : Bool) →
+    IsWithin (span_of ss (below b h)) s
 both ss h s f t true = t
 both ss h s f t false = f
 
@@ -31,11 +32,13 @@ loop-k-preserved c =
     let second : c.index-spans-k-in-loop-k.result ≡ span_of ss (below true h) =
     c.index-spans-k-in-loop-k.is ∙ get_or_default ss (2 * h + 1) c.index-spans-k-in-loop-k.result no_span even ∙ ap (span_of ss) (omega arith) in
     let round : (b : Bool) → IsWithin (span_of ss (below b h)) s =
-    both ss h s (subst (λ (t : Span). IsWithin t s) first c.joined.ensures.first) (subst (λ (t : Span). IsWithin t s) second c.joined.ensures.second) in
+    both ss h s (subst (λ (t : Span). IsWithin t s) first c.joined.ensures.first)
+    (subst (λ (t : Span). IsWithin t s) second c.joined.ensures.second) in
     record {
       many = long ∙ inv.many;
       up = omega (arith, inv.up);
       nested = nested_on ss k h s (omega (arith, c.loop-k-test.true)) within (λ j b e. above b j k e) round inv.nested;
       here = get_or-set_other ss h c.args.node s no_span (λ e. absurd (omega (arith, e, low))) ∙ inv.here;
-      others = λ j last apart. get_or-set_other ss h j s no_span (λ e. absurd (omega (arith, e, last, inv.up, c.requires.within))) ∙ inv.others j last apart;
+      others = λ j last apart. get_or-set_other ss h j s no_span (λ e. absurd (omega (arith, e, last, inv.up, c.requires.within)))
+          ∙ inv.others j last apart;
     }

@@ -1,4 +1,5 @@
-use Rattle.std.proofs.Common.{ℕ, ◌<◌, ◌≡◌, ◌+◌, ◌-◌, ◌==◌, List, [], ◌∷◌, ◌++◌, true, cond, length, get_or, length-append, ap, refl, ◌∙◌, arith}
+use Rattle.std.proofs.Common.{ℕ, ◌<◌, ◌≡◌, ◌+◌, ◌-◌, ◌==◌, List, [], ◌∷◌, ◌++◌, true, cond, length, get_or}
+use Rattle.std.proofs.Common.{length-append, ap, refl, ◌∙◌, arith}
 use Rattle.std.proofs.lemmas.Bool.{eq-eqb, ne_eqb}
 use Rattle.std.proofs.lemmas.List.{get_or_append_left, get_or_at}
 use borrow.Author.Count.{below_more}
@@ -6,7 +7,8 @@ use Rattle.ring_cutting.proofs.links.linked.Goals.{then-i-len, else-i-len, then-
 use Rattle.ring_cutting.proofs.links.linked.Goals as goal
 
 -- one more is written, by the same rule
-written : {X : Type 0} (xs ys : List X) (d v : X) (f : ℕ → X) (n : ℕ) → ys ≡ xs ++ v ∷ [] → length xs ≡ n → v ≡ f n → ((k : ℕ) → k < n → get_or xs k d ≡ f k) → (k : ℕ) → k < n + 1 → get_or ys k d ≡ f k
+written : {X : Type 0} (xs ys : List X) (d v : X) (f : ℕ → X) (n : ℕ) → ys ≡ xs ++ v ∷ [] → length xs ≡ n → v ≡ f n →
+    ((k : ℕ) → k < n → get_or xs k d ≡ f k) → (k : ℕ) → k < n + 1 → get_or ys k d ≡ f k
 written xs ys d v f n e many here before =
     below_more (λ k. get_or ys k d ≡ f k) n
     (λ k l. ap (λ zs. get_or zs k d) e ∙ get_or_append_left xs (v ∷ []) d k (omega (arith, l, many)) ∙ before k l)
@@ -30,7 +32,8 @@ loop-i-preserved c =
       | then-i-len w ↦ w.push-is ∙ cond_true (i + 1) len 0 (i + 1) w.if-i-len.true
       | else-i-len w ↦ w.push-is ∙ cond_false (i + 1) len 0 (i + 1) w.if-i-len.false
     ] in
-    let last : c.if-i-eq0.push ≡ cond (i == 0) (len - 1) (i - 1) = elim c.if-i-eq0.branch as (λ _. c.if-i-eq0.push ≡ cond (i == 0) (len - 1) (i - 1)) [
+    let last : c.if-i-eq0.push ≡ cond (i == 0) (len - 1) (i - 1) =
+    elim c.if-i-eq0.branch as (λ _. c.if-i-eq0.push ≡ cond (i == 0) (len - 1) (i - 1)) [
       | then-i-eq0 w ↦ w.push-is ∙ cond_true i 0 (len - 1) (i - 1) w.if-i-eq0.true
       | else-i-eq0 w ↦ w.push-is ∙ cond_false i 0 (len - 1) (i - 1) (λ e. absurd (omega (arith, e, w.if-i-eq0.false)))
     ] in
@@ -38,7 +41,10 @@ loop-i-preserved c =
       after_long = longer c.loop-i.after.items c.push.new.self.items c.if-i-len.push i c.in_ok-push.ensures.items h.after_long;
       before_long = longer c.loop-i.before.items c.push-in-loop-i.new.self.items c.if-i-eq0.push i c.in_ok-push-2.ensures.items h.before_long;
       living_long = longer c.loop-i.living.items c.push-in-loop-i-2.new.self.items true i c.in_ok-push-3.ensures.items h.living_long;
-      living = written c.loop-i.living.items c.push-in-loop-i-2.new.self.items _ true (λ _. true) i c.in_ok-push-3.ensures.items h.living_long refl h.living;
-      after = written c.loop-i.after.items c.push.new.self.items 0 c.if-i-len.push (λ k. cond (k + 1 == len) 0 (k + 1)) i c.in_ok-push.ensures.items h.after_long next h.after;
-      before = written c.loop-i.before.items c.push-in-loop-i.new.self.items 0 c.if-i-eq0.push (λ k. cond (k == 0) (len - 1) (k - 1)) i c.in_ok-push-2.ensures.items h.before_long last h.before;
+      living = written c.loop-i.living.items c.push-in-loop-i-2.new.self.items _ true (λ _. true) i c.in_ok-push-3.ensures.items
+          h.living_long refl h.living;
+      after = written c.loop-i.after.items c.push.new.self.items 0 c.if-i-len.push (λ k. cond (k + 1 == len) 0 (k + 1)) i
+          c.in_ok-push.ensures.items h.after_long next h.after;
+      before = written c.loop-i.before.items c.push-in-loop-i.new.self.items 0 c.if-i-eq0.push (λ k. cond (k == 0) (len - 1) (k - 1)) i
+          c.in_ok-push-2.ensures.items h.before_long last h.before;
     }

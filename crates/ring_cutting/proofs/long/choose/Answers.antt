@@ -12,14 +12,22 @@ use Rattle.ring_cutting.proofs.long.choose.Goals as goal
 living : (c : In-Some) → lives c.args.links.now.living.items c.in-Some.place ≡ true
 living c = subst (λ (o : Option ℕ). IfSome o (λ i. lives c.args.links.now.living.items i ≡ true)) c.in-Some.is c.in_ok-place.ensures.living
 
-ear : (c : In-Some) → is_ear_at c.args.places.now c.args.links.now.after.items c.args.links.now.before.items c.args.links.now.living.items c.in-Some.place ≡ true
-ear c = subst (λ (o : Option ℕ). IfSome o (λ i. is_ear_at c.args.places.now c.args.links.now.after.items c.args.links.now.before.items c.args.links.now.living.items i ≡ true)) c.in-Some.is c.in_ok-place.ensures.ear
+ear : (c : In-Some) →
+    is_ear_at c.args.places.now c.args.links.now.after.items c.args.links.now.before.items c.args.links.now.living.items c.in-Some.place ≡ true
+ear c =
+    subst (λ (o : Option ℕ). IfSome o
+    (λ i. is_ear_at c.args.places.now c.args.links.now.after.items c.args.links.now.before.items c.args.links.now.living.items i ≡ true))
+    c.in-Some.is c.in_ok-place.ensures.ear
 
 chosen : (c : In-Some) (at : Plane) → IsPlaced at (left_of c.args.links.now.living.items c.args.places.now) →
     IsChoice at (ring_left c.args.links.now.living.items c.args.places.now) (rank c.args.links.now.living.items c.in-Some.place) 0
 chosen c at placed =
-    ear_chosen at c.args.places.now c.args.links.now.after.items c.args.links.now.before.items c.args.links.now.living.items c.in-Some.place placed c.requires.linked (living c) (ear c)
-    (subst (λ (o : Option ℕ). IfSome o (λ i. (j : ℕ) → lives c.args.links.now.living.items j ≡ true → j < i → is_ear_at c.args.places.now c.args.links.now.after.items c.args.links.now.before.items c.args.links.now.living.items j ≡ false)) c.in-Some.is c.in_ok-place.ensures.least)
+    ear_chosen at c.args.places.now c.args.links.now.after.items c.args.links.now.before.items c.args.links.now.living.items c.in-Some.place
+    placed c.requires.linked (living c) (ear c)
+    (subst (λ (o : Option ℕ). IfSome o
+    (λ i. (j : ℕ) → lives c.args.links.now.living.items j ≡ true → j < i →
+    is_ear_at c.args.places.now c.args.links.now.after.items c.args.links.now.before.items c.args.links.now.living.items j ≡ false))
+    c.in-Some.is c.in_ok-place.ensures.least)
 
 pub returns-in-Some-clause-allowed : goal.returns-in-Some-clause-allowed
 returns-in-Some-clause-allowed c =
@@ -29,8 +37,12 @@ returns-in-Some-clause-allowed c =
     let p = before_of links.before.items i in
     let n = after_of links.after.items i in
     let bs = links.living.items in
-    let opens = and_parts (is_open ps bs p i n) (not (list_any (place_blocks (place_of ps p) (place_of ps i) (place_of ps n)) (left_of bs ps))) (ear c) in
-    allowed_left c.args.places.now c.args.links.now.after.items c.args.links.now.before.items c.args.links.now.living.items i c.requires.linked (living c) ∙ (and_parts (may_go_at c.args.places.now c.args.links.now.after.items c.args.links.now.before.items c.args.links.now.living.items i) (goes_left ps p i n) opens.0).0
+    let opens =
+    and_parts (is_open ps bs p i n) (not (list_any (place_blocks (place_of ps p) (place_of ps i) (place_of ps n)) (left_of bs ps))) (ear c) in
+    allowed_left c.args.places.now c.args.links.now.after.items c.args.links.now.before.items c.args.links.now.living.items i
+    c.requires.linked (living c)
+    ∙ (and_parts (may_go_at c.args.places.now c.args.links.now.after.items c.args.links.now.before.items c.args.links.now.living.items i)
+    (goes_left ps p i n) opens.0).0
 
 pub returns-in-Some-clause-place : goal.returns-in-Some-clause-place
 returns-in-Some-clause-place c = λ at placed. (chosen c at placed).place
@@ -41,8 +53,12 @@ returns-in-Some-clause-forced c = λ at placed. (chosen c at placed).forced
 none : (c : After-first_allowed) (at : Plane) → IsPlaced at (left_of c.args.links.now.living.items c.args.places.now) →
     IsChoice at (ring_left c.args.links.now.living.items c.args.places.now) (rank c.args.links.now.living.items c.first_allowed.result) 1
 none c at placed =
-    forced_chosen at c.args.places.now c.args.links.now.after.items c.args.links.now.before.items c.args.links.now.living.items (rank c.args.links.now.living.items c.first_allowed.result) placed c.requires.linked
-    (subst (λ (o : Option ℕ). IfNone o ((j : ℕ) → lives c.args.links.now.living.items j ≡ true → is_ear_at c.args.places.now c.args.links.now.after.items c.args.links.now.before.items c.args.links.now.living.items j ≡ false)) c.in-None.is c.in_ok-place.ensures.none) c.first_allowed.ensures.value
+    forced_chosen at c.args.places.now c.args.links.now.after.items c.args.links.now.before.items c.args.links.now.living.items
+    (rank c.args.links.now.living.items c.first_allowed.result) placed c.requires.linked
+    (subst (λ (o : Option ℕ). IfNone o
+    ((j : ℕ) → lives c.args.links.now.living.items j ≡ true →
+    is_ear_at c.args.places.now c.args.links.now.after.items c.args.links.now.before.items c.args.links.now.living.items j ≡ false))
+    c.in-None.is c.in_ok-place.ensures.none) c.first_allowed.ensures.value
 
 pub returns-in-None-clause-place : goal.returns-in-None-clause-place
 returns-in-None-clause-place c = λ at placed. (none c at placed).place

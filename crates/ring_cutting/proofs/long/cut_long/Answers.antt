@@ -20,7 +20,8 @@ loop-left-init c =
     let long : 3 ≤ length (vertices_of ps) = c.requires.ringy.long in
     let none : c.in_ok-triples.triples.items ≡ [] = c.in_ok-triples.ensures.items in
     record {
-      keeps = long_begun ps links.after.items links.before.items links.living.items doubts.doubtful doubts.waiting.items c.requires.ringy (omega (arith, long, length-vertices ps)) c.requires.few
+      keeps = long_begun ps links.after.items links.before.items links.living.items doubts.doubtful doubts.waiting.items c.requires.ringy
+          (omega (arith, long, length-vertices ps)) c.requires.few
           c.in_ok-links.ensures c.in_ok-doubts.ensures.many c.in_ok-doubts.ensures.all c.in_ok-doubts.ensures.only;
       hulls = c.in_ok-hulls.ensures links.living.items c.in_ok-links.ensures.living_long;
       goes = λ at placed.
@@ -43,17 +44,25 @@ loop-left-preserved c =
       | then-next w ↦ counted_true l.forced c.if-next.forced next.forced w.if-next.true w.forced-is
       | else-next w ↦ counted_false l.forced c.if-next.forced next.forced w.if-next.false w.forced-is
     ] in
-    let front = first_without ps l.links.after.items l.links.before.items bs l.first i c.first_without-first.result c.first_without-first.ensures h.linked (omega (arith, four, h.count)) h.stays h.least in
+    let front =
+    first_without ps l.links.after.items l.links.before.items bs l.first i c.first_without-first.result c.first_without-first.ensures
+    h.linked (omega (arith, four, h.count)) h.stays h.least in
     record {
-      keeps = long_on ps l.links.after.items l.links.before.items new.after.items new.before.items bs new.living.items l.doubts.doubtful c.cut_out.new.doubts.doubtful l.doubts.waiting.items c.cut_out.new.doubts.waiting.items
-          l.first c.first_without-first.result l.left l.forced c.if-next.forced i next.forced h four here c.in_ok-next.ensures.allowed c.in_ok-cut_out.ensures.living
-          (subst (λ (n : ℕ). IsLinked n new.after.items new.before.items new.living.items) c.in_ok-next.ensures.settled.many c.in_ok-cut_out.ensures.linked)
+      keeps = long_on ps l.links.after.items l.links.before.items new.after.items new.before.items bs new.living.items l.doubts.doubtful
+          c.cut_out.new.doubts.doubtful l.doubts.waiting.items c.cut_out.new.doubts.waiting.items
+          l.first c.first_without-first.result l.left l.forced c.if-next.forced i next.forced h four here c.in_ok-next.ensures.allowed
+          c.in_ok-cut_out.ensures.living
+          (subst (λ (n : ℕ). IsLinked n new.after.items new.before.items new.living.items) c.in_ok-next.ensures.settled.many
+          c.in_ok-cut_out.ensures.linked)
           (c.in_ok-cut_out.ensures.settled ps c.in_ok-next.ensures.settled) front counted;
-      hulls = subst (λ (b : List Bool). HasHulls ps b c.forget.new.hulls) (sym c.in_ok-cut_out.ensures.living) (c.forget.ensures ps bs l.invariant.hulls);
+      hulls = subst (λ (b : List Bool). HasHulls ps b c.forget.new.hulls) (sym c.in_ok-cut_out.ensures.living)
+          (c.forget.ensures ps bs l.invariant.hulls);
       goes = λ at placed.
           let way = l.invariant.goes at placed in
-          way_on at ps l.links.after.items l.links.before.items bs new.living.items l.doubts.doubtful l.doubts.waiting.items l.first l.left l.forced c.if-next.forced i next.forced l.triples.items c.push.new.self.items c.triple_at.result
-          h four here c.in_ok-cut_out.ensures.living way (record { place = c.in_ok-next.ensures.place at way.placed; forced = c.in_ok-next.ensures.forced at way.placed })
+          way_on at ps l.links.after.items l.links.before.items bs new.living.items l.doubts.doubtful l.doubts.waiting.items l.first l.left
+          l.forced c.if-next.forced i next.forced l.triples.items c.push.new.self.items c.triple_at.result
+          h four here c.in_ok-cut_out.ensures.living way
+          (record { place = c.in_ok-next.ensures.place at way.placed; forced = c.in_ok-next.ensures.forced at way.placed })
           c.triple_at.ensures c.in_ok-push.ensures.items counted;
     }
 
@@ -67,7 +76,8 @@ returns c = λ at placed.
     let h = l.invariant.keeps in
     let way = l.invariant.goes at placed in
     let next : IsSecond ps bs (after_of links.after.items l.first) =
-    second_is ps links.after.items links.before.items bs l.doubts.doubtful l.doubts.waiting.items l.first l.left l.forced h (omega (arith, c.loop-left-test.false))
+    second_is ps links.after.items links.before.items bs l.doubts.doubtful l.doubts.waiting.items l.first l.left l.forced h
+    (omega (arith, c.loop-left-test.false))
     (omega (arith, h.ringy.long, length-vertices rest)) in
     let second : IsSecond ps bs c.after-middle.result = subst (IsSecond ps bs) (sym c.after-middle.ensures) next in
     let t : Triple = triple_of c.triple_at-2.result in
@@ -78,7 +88,8 @@ returns c = λ at placed.
       | then-not-goes_left w ↦ turned_true l.forced c.if-not-goes_left.forced c.goes_left.result w.if-not-goes_left.true w.forced-is
       | else-not-goes_left w ↦ turned_false l.forced c.if-not-goes_left.forced c.goes_left.result w.if-not-goes_left.false w.forced-is
     ] in
-    cut_last at (vertices_of ps) rest (triples_of l.triples.items) (triples_of c.push-2.new.self.items) l.forced c.if-not-goes_left.forced t c.goes_left.result
+    cut_last at (vertices_of ps) rest (triples_of l.triples.items) (triples_of c.push-2.new.self.items) l.forced c.if-not-goes_left.forced t
+    c.goes_left.result
     way second.three triple turns (triples_more l.triples.items c.push-2.new.self.items c.triple_at-2.result c.in_ok-push-2.ensures.items) count
 
 pub cut_out-requires-clause-apart : goal.cut_out-requires-clause-apart
@@ -87,7 +98,8 @@ cut_out-requires-clause-apart c =
     let links = c.loop-left.links in
     let i = c.in_ok-next.next.place in
     let here = c.in_ok-next.ensures.living in
-    after_apart c.args.places.now links.living.items i (after_of links.after.items i) h.linked.living_long here (h.linked.goes i here) (omega (arith, c.loop-left-test.true, h.count))
+    after_apart c.args.places.now links.living.items i (after_of links.after.items i) h.linked.living_long here (h.linked.goes i here)
+    (omega (arith, c.loop-left-test.true, h.count))
 
 pub goes_left-requires-clause-living : goal.goes_left-requires-clause-living
 goes_left-requires-clause-living c =

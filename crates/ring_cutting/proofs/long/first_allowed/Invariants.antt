@@ -6,7 +6,8 @@ use Rattle.ring_cutting.proofs.long.first_allowed.Given as goal
 abbrev pub invariant-loop-i : goal.invariant-loop-i
 invariant-loop-i l = record {
   living : lives l.links.living.items l.i ≡ true;
-  none : (m : ℕ) → lives l.links.living.items m ≡ true → m < l.i → may_go_at l.places l.links.after.items l.links.before.items l.links.living.items m ≡ false;
+  none : (m : ℕ) → lives l.links.living.items m ≡ true → m < l.i →
+      may_go_at l.places l.links.after.items l.links.before.items l.links.living.items m ≡ false;
 }
 
 abbrev pub decreases-loop-i : goal.decreases-loop-i

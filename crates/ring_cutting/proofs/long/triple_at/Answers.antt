@@ -7,4 +7,5 @@ pub returns : goal.returns
 returns c =
     let e = c.corners-c.ensures in
     (λ j. triple_of ((e.p j).vertex ∷ (e.x j).vertex ∷ (e.n j).vertex ∷ []))
-    ∙ triple_left c.args.places.now c.args.links.now.after.items c.args.links.now.before.items c.args.links.now.living.items c.args.i c.requires.linked c.requires.living
+    ∙ triple_left c.args.places.now c.args.links.now.after.items c.args.links.now.before.items c.args.links.now.living.items c.args.i
+    c.requires.linked c.requires.living

@@ -15,7 +15,8 @@ found c =
     elim c.if-i-eq0.branch as (λ _. IsRead ps (vertex_before (vertices_of ps) i) x) [
       | then-i-eq0 w ↦
           read_as ps k (vertex_before (vertices_of ps) i) x c.index-places-at.is (omega (arith, all, w.at-is, w.if-i-eq0.true))
-          (ap (λ (j : ℕ). get_or (vertices_of ps) j 0) w.at-is ∙ before_first ps (omega (arith, all)) ∙ ap (vertex_before (vertices_of ps)) (sym w.if-i-eq0.true))
+          (ap (λ (j : ℕ). get_or (vertices_of ps) j 0) w.at-is ∙ before_first ps (omega (arith, all))
+          ∙ ap (vertex_before (vertices_of ps)) (sym w.if-i-eq0.true))
       | else-i-eq0 w ↦
           read_as ps k (vertex_before (vertices_of ps) i) x c.index-places-at.is (omega (arith, all, w.at-is, w.if-i-eq0.false))
           (ap (λ (j : ℕ). get_or (vertices_of ps) j 0) w.at-is ∙ before_other ps i (omega (arith, w.if-i-eq0.false)) all)

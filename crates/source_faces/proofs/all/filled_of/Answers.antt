@@ -15,7 +15,8 @@ push_faces-requires-clause-begin c = sym (none_first c.args.stands.now)
 
 pub push_faces-requires-2-clause-parts : goal.push_faces-requires-2-clause-parts
 push_faces-requires-2-clause-parts c =
-    let all : length c.triples.result.now ≡ length c.args.p.now.triples = sym (length-map c.triples.result.now triple_of) ∙ ap length c.triples.ensures.value in
+    let all : length c.triples.result.now ≡ length c.args.p.now.triples =
+    sym (length-map c.triples.result.now triple_of) ∙ ap length c.triples.ensures.value in
     subst (λ n. HaveParts c.args.q.now c.args.q_runs.now c.args.points.now n c.args.stands.now) (sym all) c.requires.q_parts
 
 pub returns : goal.returns
@@ -32,6 +33,8 @@ returns c =
     let ps = parts_of p c.args.p_runs.now points 0 stands m in
     let qs = parts_of q c.args.q_runs.now points m stands n in
     let second = subst (λ y. AreAdded y (parts_of q c.args.q_runs.now points y stands n) mid last) all c.in_ok-push_faces.ensures.added in
-    let long : m ≡ 0 + length ps = omega (arith, length-map (upto m) (λ f. filled_by p c.args.p_runs.now points f (records_of stands (0 + f))), length-up_from 0 m) in
-    all_joined (both_parts p q c.args.p_runs.now c.args.q_runs.now points stands) c.new-all.result last c.new-all.ensures.triples c.new-all.ensures.source c.new-all.ensures.forced
+    let long : m ≡ 0 + length ps =
+    omega (arith, length-map (upto m) (λ f. filled_by p c.args.p_runs.now points f (records_of stands (0 + f))), length-up_from 0 m) in
+    all_joined (both_parts p q c.args.p_runs.now c.args.q_runs.now points stands) c.new-all.result last c.new-all.ensures.triples
+    c.new-all.ensures.source c.new-all.ensures.forced
     (joined 0 m ps qs c.new-all.result mid last long c.in_ok-begin.ensures.added second)

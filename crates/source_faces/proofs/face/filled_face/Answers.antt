@@ -24,13 +24,17 @@ returns-clause-value c =
     let points = c.args.points.now in
     let made = fill_of c.plane_of.result.drop points c.deref-2.result.now in
     let same : made ≡ filled_by c.args.side.now c.args.runs.now points c.args.face c.args.stands.now =
-    ap (λ n. fill_of n points c.deref-2.result.now) c.plane_of.ensures.axis ∙ ap (fill_of (plane_drop_of c.args.side.now c.args.face) points) (cycled c) in
-    if_ok c.fill.result (λ f. f ≡ made) (λ f. f ≡ filled_by c.args.side.now c.args.runs.now points c.args.face c.args.stands.now) (λ f e. e ∙ same) c.fill.ensures.value
+    ap (λ n. fill_of n points c.deref-2.result.now) c.plane_of.ensures.axis
+    ∙ ap (fill_of (plane_drop_of c.args.side.now c.args.face) points) (cycled c) in
+    if_ok c.fill.result (λ f. f ≡ made) (λ f. f ≡ filled_by c.args.side.now c.args.runs.now points c.args.face c.args.stands.now)
+    (λ f e. e ∙ same) c.fill.ensures.value
 
 pub returns-clause-few : goal.returns-clause-few
 returns-clause-few c =
     let points = c.args.points.now in
     let loops = c.deref-2.result.now in
     let at = settled_in c.plane_of.result.drop points loops in
-    let fillable : AreFillable loops (length points) = subst (λ (ls : List (List ℕ)). AreFillable ls (length points)) (sym (cycled c)) c.requires.part.filled.fillable in
-    if_ok c.fill.result (λ f. HasCount at loops f.triples) (λ f. length f.triples ≤ 100000000) (λ f count. few_triples at loops (length points) f.triples fillable count) c.fill.ensures.count
+    let fillable : AreFillable loops (length points) =
+    subst (λ (ls : List (List ℕ)). AreFillable ls (length points)) (sym (cycled c)) c.requires.part.filled.fillable in
+    if_ok c.fill.result (λ f. HasCount at loops f.triples) (λ f. length f.triples ≤ 100000000)
+    (λ f count. few_triples at loops (length points) f.triples fillable count) c.fill.ensures.count

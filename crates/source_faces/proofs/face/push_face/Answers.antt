@@ -15,7 +15,9 @@ use Rattle.source_faces.proofs.face.push_face.Goals as goal
 pub are_equal-requires : goal.are_equal-requires
 are_equal-requires c =
     let side = c.args.side.now in
-    let below = face_below (length side.corners) side.triples c.triples.result.now c.args.face c.triples.ensures.value c.triples.ensures.side.accepted.mesh.below c.requires.face in
+    let below =
+    face_below (length side.corners) side.triples c.triples.result.now c.args.face c.triples.ensures.value
+    c.triples.ensures.side.accepted.mesh.below c.requires.face in
     subst (λ n. IsBelow n (triple_of (get_or c.triples.result.now c.args.face []))) (sym c.requires.copies.are.each) below
 
 -- a list that has no record
@@ -30,7 +32,9 @@ returns-then-are_equal-clause-added c =
     let points = c.args.points.now in
     let f = c.args.face in
     let none = none_listed c.args.stands.now (sym c.is_empty.ensures ∙ c.if-is_empty.true) in
-    let alike = ap (are_equal_runs runs) (sym (at_face side.triples c.triples.result.now f c.triples.ensures.value c.requires.face)) ∙ sym c.are_equal.ensures ∙ c.if-are_equal.true in
+    let alike =
+    ap (are_equal_runs runs) (sym (at_face side.triples c.triples.result.now f c.triples.ensures.value c.requires.face))
+    ∙ sym c.are_equal.ensures ∙ c.if-are_equal.true in
     let have = c.requires.copies in
     let plain = copied side runs points have.last c.triples.ensures.side have.are have.order have.lie f c.requires.face alike in
     let same : face_copies side runs f ≡ filled_by side runs points f c.args.stands.now = sym plain ∙ ap (filled_by side runs points f) (sym none) in

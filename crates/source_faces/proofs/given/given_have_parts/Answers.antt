@@ -10,7 +10,10 @@ returns-clause-parts c =
       named = c.loops_are_long.ensures.named;
       loops = c.faces_form_loops.ensures.loops;
     } in
-    given_parts laws c.args.op c.args.p.now c.args.q.now c.args.windings.now c.args.hits.now c.args.prescribed.now c.triples-p.ensures.side c.triples-q.ensures.side c.requires
+    given_parts laws c.args.op c.args.p.now c.args.q.now c.args.windings.now c.args.hits.now c.args.prescribed.now c.triples-p.ensures.side
+    c.triples-q.ensures.side c.requires
 
 pub returns-clause-few : goal.returns-clause-few
-returns-clause-few c = few_given c.args.op c.args.p.now c.args.q.now c.args.windings.now c.args.hits.now c.args.prescribed.now c.triples-p.ensures.side c.triples-q.ensures.side c.requires
+returns-clause-few c =
+    few_given c.args.op c.args.p.now c.args.q.now c.args.windings.now c.args.hits.now c.args.prescribed.now c.triples-p.ensures.side
+    c.triples-q.ensures.side c.requires

@@ -7,4 +7,5 @@ use Rattle.hole_joining.proofs.joining.Joining.best.Goals as goal
 pub loop-ring-preserved : goal.loop-ring-preserved
 loop-ring-preserved c =
     let j = c.args.self.now in
-    best_of_ring (plane_at j.flat) (start_of j) c.loop-ring.ring (passes (clear_of j) c.args.asks c.args.refused) c.loop-ring.best c.best_in-best.result j.rings.now c.loop-ring-test.true c.best_in-best.ensures ∙ c.loop-ring.invariant
+    best_of_ring (plane_at j.flat) (start_of j) c.loop-ring.ring (passes (clear_of j) c.args.asks c.args.refused) c.loop-ring.best
+    c.best_in-best.result j.rings.now c.loop-ring-test.true c.best_in-best.ensures ∙ c.loop-ring.invariant

@@ -7,4 +7,6 @@ use Rattle.hole_joining.proofs.joining.Joining.best.Given as goal
 
 abbrev pub invariant-loop-ring : goal.invariant-loop-ring
 invariant-loop-ring l =
-    best_of (passes (clear_of l.self) l.asks l.refused) l.best (all_bridges (plane_at l.self.flat) (start_of l.self) l.ring (drop l.ring l.self.rings.now)) ≡ best_of (passes (clear_of l.self) l.asks l.refused) None (bridges_of l.self)
+    best_of (passes (clear_of l.self) l.asks l.refused) l.best
+    (all_bridges (plane_at l.self.flat) (start_of l.self) l.ring (drop l.ring l.self.rings.now)) ≡
+    best_of (passes (clear_of l.self) l.asks l.refused) None (bridges_of l.self)

@@ -13,9 +13,15 @@ loop-place-preserved c =
     let k = c.loop-place.place in
     let items : List ℕ = get_or j.rings.now c.args.ring [] in
     let within : k < length items = omega (arith, c.loop-place-test.true, c.requires.within) in
-    let read : c.places.inside.places.items ≡ items = c.places.view_is ∙ c.index-rings-ring.is ∙ get_or_default j.rings.now c.args.ring c.index-rings-ring.result [] c.requires.ring in
-    let here : c.index.result.now ≡ get_or items k 0 = c.index.ensures ∙ ap (λ l. get_or l k c.index.result.now) read ∙ get_or_default items k c.index.result.now 0 within in
-    let far = c.squared_distance-squared_length.ensures ∙ ap (λ x. squared_distance x c.at.result) (c.at-start.ensures ∙ ap at c.vertex_at.ensures) ∙ ap (squared_distance (at (start_of j))) (c.at.ensures ∙ ap at here) in
-    best_of_place at (start_of j) c.args.ring k c.squared_distance-squared_length.result (passes (clear_of j) c.args.asks c.args.refused) c.loop-place.best c.better-best.result items
+    let read : c.places.inside.places.items ≡ items =
+    c.places.view_is ∙ c.index-rings-ring.is ∙ get_or_default j.rings.now c.args.ring c.index-rings-ring.result [] c.requires.ring in
+    let here : c.index.result.now ≡ get_or items k 0 =
+    c.index.ensures ∙ ap (λ l. get_or l k c.index.result.now) read ∙ get_or_default items k c.index.result.now 0 within in
+    let far =
+    c.squared_distance-squared_length.ensures
+    ∙ ap (λ x. squared_distance x c.at.result) (c.at-start.ensures ∙ ap at c.vertex_at.ensures)
+    ∙ ap (squared_distance (at (start_of j))) (c.at.ensures ∙ ap at here) in
+    best_of_place at (start_of j) c.args.ring k c.squared_distance-squared_length.result (passes (clear_of j) c.args.asks c.args.refused)
+    c.loop-place.best c.better-best.result items
     within far c.better-best.ensures
     ∙ c.loop-place.invariant

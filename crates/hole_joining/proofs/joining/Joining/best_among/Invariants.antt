@@ -5,4 +5,5 @@ use Rattle.hole_joining.proofs.joining.Joining.best_among.Given as goal
 
 abbrev pub invariant-loop-place : goal.invariant-loop-place
 invariant-loop-place l =
-    best_of (passes (clear_of l.self) l.asks l.refused) l.best (bridges_from l.self l.ring l.place) ≡ best_of (passes (clear_of l.self) l.asks l.refused) l.fn.best (bridges_from l.self l.ring l.from)
+    best_of (passes (clear_of l.self) l.asks l.refused) l.best (bridges_from l.self l.ring l.place) ≡
+    best_of (passes (clear_of l.self) l.asks l.refused) l.fn.best (bridges_from l.self l.ring l.from)

@@ -12,4 +12,5 @@ returns c =
     let j = c.args.self.now in
     let test = bars (plane_at j.flat) c.args.h c.args.r in
     let all = all_edges j.obstacles.now in
-    c.bar.ensures ∙ ap (λ (s : BridgeLine). list_any (bars (plane_at j.flat) s.from.vertex s.to.vertex) all) c.segment.ensures ∙ sym (same_any test test (asked_edges j) all (c.requires.same (marks test)))
+    c.bar.ensures ∙ ap (λ (s : BridgeLine). list_any (bars (plane_at j.flat) s.from.vertex s.to.vertex) all) c.segment.ensures
+    ∙ sym (same_any test test (asked_edges j) all (c.requires.same (marks test)))

@@ -10,4 +10,5 @@ returns c =
     let edges = c.args.self.now in
     let box = edge_box (plane_at edges.flat) in
     let there : c.args.number < length edges.edges.now = omega (arith, c.requires, length-map edges.edges.now box) in
-    c.box_of.ensures ∙ ap box (get_or_default edges.edges.now c.args.number _ (0, 0) there) ∙ sym (get_or-map box edges.edges.now c.args.number (0, 0) no_box there)
+    c.box_of.ensures ∙ ap box (get_or_default edges.edges.now c.args.number _ (0, 0) there)
+    ∙ sym (get_or-map box edges.edges.now c.args.number (0, 0) no_box there)

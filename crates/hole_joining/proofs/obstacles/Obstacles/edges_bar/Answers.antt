@@ -19,16 +19,21 @@ loop-number-init c =
     let s = c.args.segment.now in
     let near = c.into_iter-number-iterator.result in
     let around = box_round (at s.from.vertex) (at s.to.vertex) in
-    let area : c.box_round-area.result ≡ around = c.box_round-area.ensures ∙ (λ j. box_round (c.requires.segment j).from.at (c.requires.segment j).to.at) in
-    let found = subst (λ (boxes : List Box3). IsPermutation (touching_numbers boxes c.box_round-area.result) c.touching-number-items.result) c.requires.boxed c.touching-number-items.ensures in
+    let area : c.box_round-area.result ≡ around =
+    c.box_round-area.ensures ∙ (λ j. box_round (c.requires.segment j).from.at (c.requires.segment j).to.at) in
+    let found =
+    subst (λ (boxes : List Box3). IsPermutation (touching_numbers boxes c.box_round-area.result) c.touching-number-items.result)
+    c.requires.boxed c.touching-number-items.ensures in
     let there = subst (λ (b : Box3). IsPermutation (touching_numbers (map (edge_box at) edges) b) c.touching-number-items.result) area found in
-    let moved : IsPermutation (touching_numbers (map (edge_box at) edges) around) near = rw c.into_iter-number-iterator.ensures.into_iter_gives there in
+    let moved : IsPermutation (touching_numbers (map (edge_box at) edges) around) near =
+    rw c.into_iter-number-iterator.ensures.into_iter_gives there in
     record { below = near_below at edges s.from.vertex s.to.vertex near moved; value = near_any at edges s.from.vertex s.to.vertex near moved }
 
 pub index-requires : goal.index-requires
 index-requires c =
     let inside : ℕ → Type 0 = λ k. k < length c.args.self.now.edges.items in
-    let low : c.in-Some.number < length c.args.self.now.edges.items = All-head inside c.in-Some.number c.next.new.self (subst (All inside) c.in-Some.ensures.steps c.loop-number.invariant.below) in
+    let low : c.in-Some.number < length c.args.self.now.edges.items =
+    All-head inside c.in-Some.number c.next.new.self (subst (All inside) c.in-Some.ensures.steps c.loop-number.invariant.below) in
     omega (arith, low, c.args.self.now.edges.ok)
 
 pub returns-then-edge_bars : goal.returns-then-edge_bars
@@ -39,7 +44,10 @@ returns-then-edge_bars c =
     let inside : ℕ → Type 0 = λ k. k < length edges in
     let left = subst (All inside) c.in-Some.ensures.steps c.loop-number.invariant.below in
     let low : c.in-Some.number < length edges = All-head inside c.in-Some.number c.next.new.self left in
-    let told : test c.in-Some.number ≡ c.edge_bars.result = sym (c.edge_bars.ensures ∙ ap (bars (plane_at c.args.flat.now) s.from.vertex s.to.vertex) (c.index.ensures ∙ get_or_default edges c.in-Some.number c.index.result.now (0, 0) low)) in
+    let told : test c.in-Some.number ≡ c.edge_bars.result =
+    sym (c.edge_bars.ensures
+    ∙ ap (bars (plane_at c.args.flat.now) s.from.vertex s.to.vertex)
+    (c.index.ensures ∙ get_or_default edges c.in-Some.number c.index.result.now (0, 0) low)) in
     let rest = list_any test c.next.new.self in
     sym (ap (λ b. b || rest) (told ∙ c.if-edge_bars.true)) ∙ sym (ap (list_any test) c.in-Some.ensures.steps) ∙ c.loop-number.invariant.value
 
@@ -51,9 +59,13 @@ loop-number-preserved c =
     let inside : ℕ → Type 0 = λ k. k < length edges in
     let left = subst (All inside) c.in-Some.ensures.steps c.loop-number.invariant.below in
     let low : c.in-Some.number < length edges = All-head inside c.in-Some.number c.next.new.self left in
-    let told : test c.in-Some.number ≡ c.edge_bars.result = sym (c.edge_bars.ensures ∙ ap (bars (plane_at c.args.flat.now) s.from.vertex s.to.vertex) (c.index.ensures ∙ get_or_default edges c.in-Some.number c.index.result.now (0, 0) low)) in
+    let told : test c.in-Some.number ≡ c.edge_bars.result =
+    sym (c.edge_bars.ensures
+    ∙ ap (bars (plane_at c.args.flat.now) s.from.vertex s.to.vertex)
+    (c.index.ensures ∙ get_or_default edges c.in-Some.number c.index.result.now (0, 0) low)) in
     let rest = list_any test c.next.new.self in
     record {
       below = All-tail inside c.in-Some.number c.next.new.self left;
-      value = sym (ap (λ b. b || rest) (told ∙ c.if-edge_bars.false)) ∙ sym (ap (list_any test) c.in-Some.ensures.steps) ∙ c.loop-number.invariant.value;
+      value = sym (ap (λ b. b || rest) (told ∙ c.if-edge_bars.false)) ∙ sym (ap (list_any test) c.in-Some.ensures.steps)
+          ∙ c.loop-number.invariant.value;
     }
