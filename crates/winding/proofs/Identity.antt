@@ -30,8 +30,8 @@ finish_below n ts h all below =
     let next = next_starts ts h below in
     omega (arith, next, start_below n ts (next_half h) all (omega (arith, next_below ts h below, length-all_edges ts)))
 
--- the numbers of an edge with all faces, by the shadows of its ends
-crossings_sum : (edges_side faces : Side) (test : CrossTest) (ends : Triple → ℕ → ℤ) (sides : ℕ → ℕ → (ℕ × ℕ) → ℤ) → IsSide faces → Lifts test edges_side faces ends sides →
+-- between any two corners of a side the winding number changes by minus the numbers of the segment with all faces, whether it is an edge or not
+pub crossings_sum : (edges_side faces : Side) (test : CrossTest) (ends : Triple → ℕ → ℤ) (sides : ℕ → ℕ → (ℕ × ℕ) → ℤ) → IsSide faces → Lifts test edges_side faces ends sides →
     ((a b : ℕ) → IsOdd (λ c d. sides a b (c, d))) → (a b : ℕ) →
     (neg_ℤ (total (λ t. ends t b) faces.triples) -ℤ neg_ℤ (total (λ t. ends t a) faces.triples)) ≡ neg_ℤ (total (λ t. edge_number test edges_side faces t a b) faces.triples)
 crossings_sum edges_side faces test ends sides known lifts odd a b =

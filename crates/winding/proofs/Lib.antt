@@ -1,3 +1,4 @@
+pub mod Between
 pub mod EdgeSums
 pub mod Identity
 pub mod Known

@@ -1,3 +1,4 @@
 pub mod Along
 pub mod Lines
+pub mod Segments
 pub mod Windings

@@ -6,6 +6,7 @@ ghost use Rattle.winding.specs.Windings.{components_of, winding, winding_back, E
 
 use crate::shadows::{PVertices, QVertices};
 use crate::walk::corner_windings;
+use crossings::{PEdges, QEdges};
 use edge_face::{Crosses, Kernels};
 use lean::Side;
 use mb_base::{Hits, NoMemory, Windings};
@@ -41,7 +42,23 @@ pub fn windings<K: Kernels, L: Ledger>(
     // Read so that what sides keep is known here.
     let _ = p.twins();
     let _ = q.twins();
-    let w03 = corner_windings(alloc, p, q, &hits.x12, &PVertices(kernels), steps)?;
-    let w30 = corner_windings(alloc, q, p, &hits.x21, &QVertices(kernels), steps)?;
+    let w03 = corner_windings(
+        alloc,
+        p,
+        q,
+        &hits.x12,
+        &PVertices(kernels),
+        &PEdges(kernels),
+        steps,
+    )?;
+    let w30 = corner_windings(
+        alloc,
+        q,
+        p,
+        &hits.x21,
+        &QVertices(kernels),
+        &QEdges(kernels),
+        steps,
+    )?;
     Ok(Windings { w03, w30 })
 }

@@ -1,5 +1,5 @@
 // The winding number of a corner of one side in the other.
-ghost use Rattle.std.specs.Prelude.{◌≡◌, ◌≤◌, ◌+◌, nat_abs, length};
+ghost use Rattle.std.specs.Prelude.{◌≡◌, ◌≤◌, ◌<◌, ◌+◌, nat_abs, length, IfSome, IsNone};
 ghost use Rattle.side_terms.specs.Corners.{IsFineCorner};
 ghost use Rattle.winding.specs.Windings.{minus_shadows, winding, winding_back};
 
@@ -43,8 +43,7 @@ pub fn winding_sum_back<K: Kernels, L: Ledger>(
     minus_shadows(q, p, &QVertices(kernels), steps)
 }
 
-/// Minus the sum of the shadows of a vertex and all faces of a side, counted as one step. The faces are looked at whose
-/// boxes touch the half of the vertical line at the vertex where faces can have shadows; the others have none.
+/// Minus the sum of the shadows of a vertex and all faces of a side, counted as one step.
 pub fn minus_shadows<S: VertexFace, L: Ledger>(
     vertex: &Corner,
     faces: &Side,
@@ -57,9 +56,34 @@ pub fn minus_shadows<S: VertexFace, L: Ledger>(
     ensures cost { steps.new ≡ steps.old + 1 }
 {
     steps.tick();
+    let all = faces.triples().len();
+    match minus_few_shadows(vertex, faces, shadows, all) {
+        None => 0,
+        Some(winding) => winding,
+    }
+}
+
+/// The same, uncounted. The faces are looked at whose boxes touch the half of the vertical line at the vertex where faces
+/// can have shadows; the others have none. Where there are more of them than `most`, there is no answer.
+pub fn minus_few_shadows<S: VertexFace>(
+    vertex: &Corner,
+    faces: &Side,
+    shadows: &S,
+    most: usize,
+) -> Option<i64>
+    requires { IsFineCorner vertex.now }
+    ensures value { IfSome result (λ sum. sum ≡ minus_shadows (S.vertex_shadow shadows.now vertex.now) faces.now) }
+    ensures size { IfSome result (λ sum. nat_abs sum ≤ length faces.now.triples) }
+    ensures none { IsNone result → most < length faces.now.triples }
+{
     let mut winding: i64 = 0;
+    let mut left = most;
     for face in faces.tree().touching(shadows.half_line(vertex)) {
+        if left == 0 {
+            return None;
+        }
+        left -= 1;
         winding -= shadows.shadow(vertex, &faces.face(face));
     }
-    winding
+    Some(winding)
 }

@@ -5,11 +5,13 @@ ghost use Rattle.chain_terms.specs.Chains.{all_edges};
 ghost use Rattle.chain_terms.specs.Ranks.{finish};
 ghost use Rattle.side_terms.specs.Conservation.{half_number, EdgeIdentity};
 ghost use Rattle.side_terms.specs.Hits.{AreHits};
+ghost use Rattle.winding.specs.Segments.{SegmentIdentity, crossings_to};
 ghost use Rattle.winding.specs.Windings.{components_of, minus_shadows, number_at};
 
 use crate::along::{crossed_triangles, crossings_along};
+use crate::jump::{Known, number_from};
 use crate::shadows::VertexFace;
-use crate::sum::minus_shadows;
+use crossings::EdgeFace;
 use lean::Side;
 use mb_base::{Hit, NoMemory};
 use spanning_forest::{Entrance, forest};
@@ -17,15 +19,16 @@ use std::alloc::Global;
 use std::sync::ledger::Ledger;
 use steps::Steps;
 
-/// The winding numbers of the corners of one side in the other: one sum for the first corner of each connected
-/// component. From there, along each half-edge, the number changes by minus the half-edge's numbers with all faces,
-/// which the hits tell.
-pub fn corner_windings<S: VertexFace, L: Ledger>(
+/// The winding numbers of the corners of one side in the other: at most one sum for the first corner of each connected
+/// component, or the crossings of the segment from the first corner of the component before. From there, along
+/// each half-edge, the number changes by minus the half-edge's numbers with all faces, which the hits tell.
+pub fn corner_windings<S: VertexFace, C: EdgeFace, L: Ledger>(
     alloc: Global,
     vertices: &Side,
     faces: &Side,
     hits: &[Hit],
     shadows: &S,
+    pairs: &C,
     steps: &mut Steps<L>,
 ) -> Result<Vec<i64>, NoMemory>
     requires listed { AreHits (all_edges vertices.now.triples) (length faces.now.triples) hits.now }
@@ -34,6 +37,7 @@ pub fn corner_windings<S: VertexFace, L: Ledger>(
         nat_abs (number_at (S.vertex_shadow shadows.now) vertices.now faces.now v) ≤ length faces.now.triples }
     requires identity { EdgeIdentity (all_edges vertices.now.triples) (length faces.now.triples)
         (number_at (S.vertex_shadow shadows.now) vertices.now faces.now) (half_number (all_edges vertices.now.triples) hits.now) }
+    requires segments { SegmentIdentity (λ c. minus_shadows (S.vertex_shadow shadows.now c) faces.now) (crossings_to (C.crossing_of pairs.now) faces.now) }
     ensures value { IfOk result (λ w. w.items ≡ map (λ c. minus_shadows (S.vertex_shadow shadows.now c) faces.now) vertices.now.corners) }
     ensures size { IfOk result (λ w. All (λ n. nat_abs n ≤ length faces.now.triples) w.items) }
     ensures cost { steps.new ≤ steps.old + components_of vertices.now }
@@ -43,11 +47,14 @@ pub fn corner_windings<S: VertexFace, L: Ledger>(
     let corners = vertices.corners();
     let crossed = crossed_triangles(alloc, vertices, hits)?;
     let mut numbers = vec![in alloc; 0; corners.len()]?;
+    let mut known: Option<Known> = None;
     for entrance in &forest(alloc, vertices.triples(), corners.len())? {
         match *entrance {
             Entrance::Root(root) => {
-                let corner = &corners[root as usize];
-                numbers[root as usize] = minus_shadows(corner, faces, shadows, steps);
+                let corner = corners[root as usize];
+                let number = number_from(&known, &corner, faces, shadows, pairs, steps);
+                numbers[root as usize] = number;
+                known = Some(Known { corner, number });
             }
             Entrance::Along(half) => {
                 let before = numbers[vertices.start(half) as usize];

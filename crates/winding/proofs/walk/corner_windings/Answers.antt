@@ -1,16 +1,19 @@
 use Rattle.std.proofs.Common.{◌≡◌, ◌<◌, ◌≤◌, ◌+◌, ◌-ℤ◌, ℕ, ℤ, pos, nat_abs, refl, sym, ap, ◌∙◌, subst, to_z, of_z, w64, arith}
-use Rattle.std.proofs.Common.{List, length, get_or, set, take}
+use Rattle.std.proofs.Common.{IfSome, List, Option, length, get_or, set, take}
 use Rattle.std.proofs.lemmas.Int.{ints}
 use Rattle.std.proofs.lemmas.List.{get_or_default, length-set, take_all}
 use Rattle.chain_terms.specs.Chains.{all_edges}
 use Rattle.chain_terms.specs.Ranks.{start, finish}
 use Rattle.mesh_terms.specs.Limits.{most_triangles}
 use Rattle.mb_base.specs.declared.point.Corner.{Corner}
-use Rattle.side_terms.specs.Corners.{corner_at}
+use Rattle.side_terms.specs.Corners.{IsFineCorner, corner_at}
+use Rattle.lean.proofs.Corners.{corner_fine}
 use Rattle.halfedge.proofs.Edges.{length-all_edges}
 use Rattle.spanning_forest.specs.declared.entrance.Entrance.{Entrance}
 use Rattle.spanning_forest.specs.declared.entrance.Entrance.TheVariants.{Root, Along}
 use Rattle.spanning_forest.specs.Forests.{IsSpanningForest, vertices_of}
+use Rattle.winding.specs.declared.jump.Known.{Known}
+use Rattle.winding.specs.Segments.{IsKnown}
 use Rattle.winding.specs.Windings.{minus_shadows, number_at}
 use Rattle.winding.proofs.Known.{AreKnown, all_known, entered_below, follows_here, known_along, known_next, known_start}
 use Rattle.winding.proofs.Known.{numbers_are, numbers_within, roots_more, roots_same, spans_moved}
@@ -24,6 +27,11 @@ bounds-corners-root g c =
     let entrances = c.deref-entrance-items.result.now in
     let spans : IsSpanningForest n es entrances = spans_moved refl c.triples.ensures.value (sym c.deref-entrance-items.ensures.value) c.in_ok-forest.ensures in
     entered_below es entrances c.loop-entrance.entrance-index (Root c.in-Root.root) c.loop-entrance-test.true c.in-Root.is n spans
+
+pub number_from-number-requires-clause-fine : goal.number_from-number-requires-clause-fine
+number_from-number-requires-clause-fine g c =
+    let seen = c.corners-corners.ensures in
+    subst (λ (l : List Corner). IsFineCorner (corner_at l c.in-Root.root)) (sym seen.value) (corner_fine c.args.vertices.now.corners seen.side.fine c.in-Root.root)
 
 pub index_mut-requires : goal.index_mut-requires
 index_mut-requires g c =
@@ -75,6 +83,7 @@ loop-entrance-preserved g c =
     let faces = c.args.faces.now in
     let vertex_shadow = g.S.VertexFace.vertex_shadow c.args.shadows.now in
     let number : ℕ → ℤ = number_at vertex_shadow side faces in
+    let winding : Corner → ℤ = λ k. minus_shadows (vertex_shadow k) faces in
     let old = c.loop-entrance.numbers.items in
     let i = c.loop-entrance.entrance-index in
     let inside = c.loop-entrance-test.true in
@@ -84,19 +93,23 @@ loop-entrance-preserved g c =
     elim c.match-entrance.branch [
       | in-Root w ↦
           let root = w.in-Root.root in
-          let z = to_z w64 (of_z w64 w.minus_shadows.result) in
+          let z = to_z w64 (of_z w64 w.number_from-number.result) in
           let items : c.match-entrance.numbers.items ≡ set old root z = ap (λ v. v.items) w.numbers-is in
-          let whole : z ≡ w.minus_shadows.result = omega (arith, ints) in
+          let whole : z ≡ w.number_from-number.result = omega (arith, ints) in
           let low : root < n = entered_below es entrances i (Root root) inside w.in-Root.is n spans in
           let moved = ap (λ (l : List Corner). minus_shadows (vertex_shadow (corner_at l root)) faces) listed in
-          let here : z ≡ number root = whole ∙ w.minus_shadows.ensures.value ∙ moved in
+          let here : z ≡ number root = whole ∙ w.number_from-number.ensures.value ∙ moved in
           let known = known_next number old es entrances i (Root root) z inside w.in-Root.is c.loop-entrance.invariant.known (omega (arith, low, full, ap length listed)) here in
-          let counted = w.minus_shadows.ensures.cost in
+          let counted = w.number_from-number.ensures.cost in
+          let within : root < length side.corners = omega (arith, low, ap length listed) in
+          let fine = subst (λ (l : List Corner). IsFineCorner (corner_at l root)) (sym listed) (corner_fine side.corners c.corners-corners.ensures.side.fine root) in
+          let small : nat_abs z ≤ length faces.triples = subst (λ (k : ℤ). nat_abs k ≤ length faces.triples) (sym here) (c.requires.size root within) in
           let one_more = roots_more entrances i root inside w.in-Root.is in
           record {
             full = ap length items ∙ length-set old root z ∙ full;
             known = subst (λ (l : List ℤ). AreKnown number l (vertices_of es (take (i + 1) entrances))) (sym items) known;
             cost = omega (arith, w.steps-is, counted, one_more, c.loop-entrance.invariant.cost);
+            from = subst (λ (o : Option Known). IfSome o (IsKnown winding (length faces.triples))) (sym w.known-is) (record { fine = fine; number = whole ∙ w.number_from-number.ensures.value; size = small });
           }
       | in-Along w ↦
           let half = w.in-Along.half in
@@ -125,7 +138,8 @@ loop-entrance-preserved g c =
           record {
             full = ap length items ∙ length-set old (finish es half) z ∙ full;
             known = subst (λ (l : List ℤ). AreKnown number l (vertices_of es (take (i + 1) entrances))) (sym items) next;
-            cost = w.steps-is ∙ c.loop-entrance.invariant.cost ∙ ap (λ (k : ℕ). c.args.steps.now + k) (sym no_more);
+            cost = omega (arith, w.steps-is, no_more, c.loop-entrance.invariant.cost);
+            from = subst (λ (o : Option Known). IfSome o (IsKnown winding (length faces.triples))) (sym w.known-is) c.loop-entrance.invariant.from;
           }
     ]
 

@@ -1,8 +1,9 @@
-use Rattle.std.proofs.Common.{◌≡◌, ◌+◌, ℕ, ℤ, List, length, take}
+use Rattle.std.proofs.Common.{◌≡◌, ◌≤◌, ◌+◌, ℕ, ℤ, IfSome, List, length, take}
 use Rattle.chain_terms.specs.Chains.{all_edges}
 use Rattle.spanning_forest.specs.declared.entrance.Entrance.{Entrance}
 use Rattle.spanning_forest.specs.Forests.{roots_of, vertices_of}
-use Rattle.winding.specs.Windings.{number_at}
+use Rattle.winding.specs.Segments.{IsKnown}
+use Rattle.winding.specs.Windings.{minus_shadows, number_at}
 use Rattle.winding.proofs.Known.{AreKnown}
 use Rattle.winding.proofs.walk.corner_windings.Given as goal
 
@@ -13,5 +14,6 @@ invariant-loop-entrance g l =
     record {
       full : length l.numbers.items ≡ length l.vertices.corners;
       known : AreKnown number l.numbers.items (vertices_of (all_edges l.vertices.triples) before);
-      cost : l.steps ≡ l.fn.steps + length (roots_of before);
+      cost : l.steps ≤ l.fn.steps + length (roots_of before);
+      from : IfSome l.known (IsKnown (λ c. minus_shadows (g.S.VertexFace.vertex_shadow l.shadows c) l.faces) (length l.faces.triples));
     }

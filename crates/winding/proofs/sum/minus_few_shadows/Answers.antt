@@ -11,7 +11,7 @@ use Rattle.box_tree.specs.Touching.{touching_numbers}
 use Rattle.winding.specs.Windings.{minus_shadows}
 use Rattle.winding.proofs.Nearby.{near_below, near_few, near_total}
 use Rattle.winding.proofs.Steps.{none_before, one_less, none_left}
-use Rattle.winding.proofs.sum.minus_shadows.Goals as goal
+use Rattle.winding.proofs.sum.minus_few_shadows.Goals as goal
 
 pub loop-face-init : goal.loop-face-init
 loop-face-init g c =
@@ -27,11 +27,18 @@ loop-face-init g c =
       below = near_below faces area near moved;
       low = omega (arith, ints, few);
       high = omega (arith, ints, few);
+      left = omega (arith, few);
     }
 
 pub face-requires : goal.face-requires
 face-requires g c =
     let inside : ℕ → Type 0 = λ f. f < length c.args.faces.now.triples in All-head inside c.in-Some.face c.next.new.self (subst (All inside) c.in-Some.ensures.steps c.loop-face.invariant.below)
+
+pub overflow_sub-winding : goal.overflow_sub-winding
+overflow_sub-winding g c =
+    let few : length c.args.faces.now.triples ≤ most_triangles = c.tree.ensures.side.accepted.mesh.few_triples in
+    let long : length c.loop-face.face-iterator ≡ length (c.in-Some.face ∷ c.next.new.self) = ap length c.in-Some.ensures.steps in
+    omega (arith, ints, few, c.shadow-winding.ensures.size.0, c.shadow-winding.ensures.size.1, c.loop-face.invariant.low, c.loop-face.invariant.high, long)
 
 pub loop-face-preserved : goal.loop-face-preserved
 loop-face-preserved g c =
@@ -55,6 +62,7 @@ loop-face-preserved g c =
       below = All-tail inside c.in-Some.face rest (subst (All inside) c.in-Some.ensures.steps c.loop-face.invariant.below);
       low = omega (arith, ints, whole, low, high, before, after, long);
       high = omega (arith, ints, whole, low, high, before, after, long);
+      left = omega (arith, long, c.loop-face.invariant.left);
     }
 
 pub returns-clause-value : goal.returns-clause-value
