@@ -1,15 +1,17 @@
 """Draws OBJ files as one SVG picture, seen from afar: fills from far to near, then the parts of lines that nothing hides, one light.
 
-Usage: draw.py OUT.svg [--turn DEGREES] [--tilt DEGREES] [--width PIXELS] [--unit PIXELS] [--all] [--on FILE.obj[=COLOUR]].. FILE.obj[=COLOUR]..
+Usage: draw.py OUT.svg [--turn DEGREES] [--tilt DEGREES] [--width PIXELS] [--unit PIXELS] [--all] [--groups] [--on FILE.obj[=COLOUR]].. FILE.obj[=COLOUR]..
 
 The picture turns about the upright axis z by --turn and is seen from --tilt above the level. It is --width wide, or has --unit pixels for a unit
-of the file. Lines are drawn where faces meet at an angle; --all draws those of all triangles. COLOUR is six hexadecimal digits. --on gives a colour to the
-faces that lie on those of a file: so a cut shows whose tool made it. Where a mesh is open, its insides are drawn too, in red, and its open edges thick.
+of the file. Lines are drawn where faces meet at an angle; --all draws those of all triangles. COLOUR is six hexadecimal digits. --groups gives each group of
+faces a colour of its own, in the order in which they come; faces without one have the file's. --on gives a colour to the faces that lie on those of a file:
+so a cut shows whose tool made it. Where a mesh is open, its insides are drawn too, in red, and its open edges thick.
 
 Triangles that overlap in the picture are found by a grid over it and put in order pair by pair; one that cuts another is cut along the other's plane."""
 import heapq, math, sys
 
 COLOURS = ["8fb3d9", "e3b565", "9cc38a", "c79fcf", "d98f8f"]
+GROUPS = ["8fb3d9", "9cc38a", "e3b565", "d98f8f", "c79fcf", "7fbfb5", "d9a0bf", "b5b56a"]
 CUT = "e3b565"
 LIGHT = (-0.35, 0.55, 0.76)  # right, up, to the eye
 INSIDE = "c0504d"
@@ -33,18 +35,22 @@ def unit(a):
 
 
 def read(name):
-    """The points and triangles of an OBJ file; a face of n items is n - 2 triangles."""
-    points, triangles = [], []
+    """The points and triangles of an OBJ file, and the group of each triangle; a face of n items is n - 2 triangles."""
+    points, triangles, groups, group = [], [], [], ""
     text = open(name, encoding="utf-8", errors="replace").read().replace("\\\n", " ")
     for line in text.split("\n"):
-        words = line.split("#")[0].split()
+        words = line.split()
+        words = words[:next((k for k, word in enumerate(words) if word.startswith("#")), len(words))]
         if words and words[0] == "v":
             points.append(tuple(float(word) for word in words[1:4]))
         elif words and words[0] == "f":
             items = [int(word.split("/")[0]) for word in words[1:]]
             items = [i - 1 if i > 0 else len(points) + i for i in items]
             triangles += [(items[0], a, b) for a, b in zip(items[1:], items[2:])]
-    return points, triangles
+            groups += [group] * (len(items) - 2)
+        elif words and words[0] == "g":
+            group = " ".join(words[1:])
+    return points, triangles, groups
 
 
 def seen(point, turn, tilt):
@@ -135,20 +141,23 @@ class Piece:
         return (self.level - self.normal[0] * x - self.normal[1] * y) / self.normal[2]
 
 
-def pieces_of(file, colour, on, turn, tilt, every):
-    """What there is to draw of one mesh: pieces, and lines as pairs of points with a kind."""
-    points, triangles = read(file)
+def pieces_of(file, colour, on, turn, tilt, every, colours):
+    """What there is to draw of one mesh: pieces, and lines as pairs of points with a kind. Colours of groups are in the map, to which new ones are added."""
+    points, triangles, groups = read(file)
+    for group in groups if colours is not None else ():
+        if group and group not in colours:
+            colours[group] = GROUPS[len(colours) % len(GROUPS)]
     points = [seen(p, turn, tilt) for p in points]
     least = 2e-5 * max(abs(c) for p in points for c in p) if points else 0
     normals = [normal_of(points[a], points[b], points[c], least) for a, b, c in triangles]
     drawn = lines_of(points, triangles, normals, every)
     is_open = any(n == 2 for n in drawn.values())
     pieces = []
-    for t, n in zip(triangles, normals):
+    for t, n, group in zip(triangles, normals, groups):
         if not n or abs(n[2]) < 1e-6 or (n[2] < 0 and not is_open):
             continue
         corners = [points[v] for v in t]
-        shade = colour if n[2] > 0 else INSIDE
+        shade = (colours or {}).get(group, colour) if n[2] > 0 else INSIDE
         for faces, its in on:
             shade = its if n[2] > 0 and faces.have(corners, n) else shade
         facing, corners = (n, corners) if n[2] > 0 else ((-n[0], -n[1], -n[2]), corners[::-1])
@@ -378,11 +387,13 @@ def picture(pieces, lines, width, factor):
 
 def main(words):
     options = {"--turn": "-30", "--tilt": "28", "--width": "480", "--unit": "0"}
-    every, files, tools = False, [], []
+    every, colours, files, tools = False, None, [], []
     words = iter(words)
     for word in words:
         if word == "--all":
             every = True
+        elif word == "--groups":
+            colours = {}
         elif word == "--on":
             tools.append(next(words, ""))
         elif word in options:
@@ -395,12 +406,12 @@ def main(words):
     on, pieces, lines = [], [], []
     for tool in tools:
         name, _, colour = tool.partition("=")
-        points, triangles = read(name)
+        points, triangles, _ = read(name)
         points = [seen(p, turn, tilt) for p in points]
         on.append((Faces(points, triangles, 1e-4 * max(abs(c) for p in points for c in p)), colour or CUT))
     for k, file in enumerate(files[1:]):
         name, _, colour = file.partition("=")
-        its, edges = pieces_of(name, colour or COLOURS[k % len(COLOURS)], on, turn, tilt, every)
+        its, edges = pieces_of(name, colour or COLOURS[k % len(COLOURS)], on, turn, tilt, every, colours)
         pieces += its
         lines += edges
     if not pieces:

@@ -1,5 +1,5 @@
 -- The marks of a box, computed by the definition.
-use Rattle.std.proofs.Common.{◌≡◌, pos, [], ◌∷◌, true, false, get_or, refl}
+use Rattle.std.proofs.Common.{◌≡◌, pos, [], ◌∷◌, true, false, get_or, replicate, refl}
 use Rattle.mb_base.specs.declared.op.Op.TheVariants.{Union, Intersect, Subtract}
 use Rattle.mesh_terms.specs.Meshes.{Mesh}
 use Rattle.lean.specs.Leans.{leans_of}
@@ -12,6 +12,7 @@ box = record {
       ∷ (pos 0 ∷ pos 0 ∷ pos 10 ∷ []) ∷ (pos 10 ∷ pos 0 ∷ pos 10 ∷ []) ∷ (pos 0 ∷ pos 10 ∷ pos 10 ∷ []) ∷ (pos 10 ∷ pos 10 ∷ pos 10 ∷ []) ∷ [];
   triples =
       (0, 3, 1) ∷ (0, 2, 3) ∷ (4, 5, 7) ∷ (4, 7, 6) ∷ (0, 1, 4) ∷ (1, 5, 4) ∷ (1, 3, 7) ∷ (1, 7, 5) ∷ (3, 2, 6) ∷ (3, 6, 7) ∷ (0, 4, 6) ∷ (0, 6, 2) ∷ [];
+  labels = replicate 12 [];
 }
 
 -- its vertex at (10, 0, 0) moves outward in a union

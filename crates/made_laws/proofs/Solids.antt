@@ -7,6 +7,8 @@ use Rattle.made_terms.specs.Lattice.{lattice_points, lattice_triples}
 use Rattle.made_terms.specs.Refusals.{Exceeds, Flat, MadeFault, Outside, all_on_grid, excess, made_fault}
 use Rattle.made_terms.specs.Solids.{box_points, box_triples, prism_points, prism_triples, tetra_points, tetra_triples}
 use Rattle.mesh_terms.specs.Faults.{Points, Triangles}
+use Rattle.mesh_terms.proofs.Labels.{no_labels-are}
+use Rattle.mesh_terms.specs.Labels.{no_labels}
 use Rattle.mesh_terms.specs.Limits.{IsLawful, Limits}
 use Rattle.mesh_terms.specs.Meshes.{Triple}
 use Rattle.play_terms.specs.Making.{Box, Lattice, Prism, Solid, Tetra, solid_fault, solid_mesh}
@@ -44,7 +46,7 @@ not_refused limits points triangles none = by_test (all_on_grid points) none
 
 -- a solid over rows of three, where these are not refused
 within_limits : (limits : Limits) (points : List (List ℤ)) (ts : List Triple) → IsLawful limits → IsSolid (length points) ts → list_all is_three points ≡ true
-    → made_fault limits points (length ts) ≡ None → IsGivenWithin limits (record { points = points; triples = ts })
+    → made_fault limits points (length ts) ≡ None → IsGivenWithin limits (record { points = points; triples = ts; labels = no_labels ts })
 within_limits limits points ts lawful solid three none =
     let known = not_refused limits points (length ts) none in
     let few_points = known.1 in
@@ -53,6 +55,7 @@ within_limits limits points ts lawful solid three none =
       given = record {
         accepted = solid_accepted (length points) ts solid (omega (arith, few_points, lawful.few_points)) (omega (arith, few_triples, lawful.few_triangles));
         on_grid = points_by_tests points three known.0;
+        labels = no_labels-are ts;
       };
       few_points = few_points;
       few_triples = few_triples;

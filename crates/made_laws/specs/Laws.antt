@@ -1,15 +1,17 @@
 -- The laws of made solids and of motions, as statements.
 use Rattle.std.specs.Prelude.{◌≡◌, ◌≤◌, length, None}
 use Rattle.std.specs.List.{All}
+use Rattle.mesh_terms.specs.Labels.{AreLabels}
 use Rattle.mesh_terms.specs.Limits.{IsLawful, Limits}
 use Rattle.mesh_terms.specs.Meshes.{IsAccepted, Mesh}
 use Rattle.mesh_terms.specs.Points.{IsPoint}
 use Rattle.play_terms.specs.Making.{Motion, Solid, motion_fault, moved_mesh, solid_fault, solid_mesh}
 
--- an accepted mesh at points of the grid
+-- an accepted mesh at points of the grid, with a label for each triangle
 pub record IsGiven (m : Mesh) : Type 0 where
   pub accepted : IsAccepted (length m.points) m.triples
   pub on_grid : All IsPoint m.points
+  pub labels : AreLabels (length m.triples) m.labels
 
 -- such a mesh within limits
 pub record IsGivenWithin (limits : Limits) (m : Mesh) : Type 0 where

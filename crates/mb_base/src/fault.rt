@@ -1,6 +1,7 @@
 // Why a text is refused.
 ghost use Rattle.std.specs.Prelude.{◌≡◌};
 
+use crate::NoMemory;
 use std::alloc::{AllocError, AllocFailed};
 
 /// What a limit counts.
@@ -40,6 +41,16 @@ impl From<AllocError> for TextFault {
     ghost from_gives = { λ _ e. e ≡ NoMemory };
 
     fn from(_: AllocError) -> Self {
+        TextFault::NoMemory
+    }
+}
+
+impl From<NoMemory> for TextFault {
+    ghost use Rattle.mb_base.specs.declared.fault.TextFault.TheVariants.{NoMemory};
+
+    ghost from_gives = { λ _ e. e ≡ NoMemory };
+
+    fn from(_: NoMemory) -> Self {
         TextFault::NoMemory
     }
 }

@@ -1,6 +1,6 @@
 //! The plain types that the crates share: points of the grid, corners, limits, points with triangles
-//! as a file gives them, faults of a text, and lists of words. Nothing here takes memory but
-//! `ArgList::push`.
+//! as a file gives them with their labels, faults of a text, and lists of words. Nothing here takes memory
+//! but `ArgList::push` and, of `Labels`, `push`, `copy` and `of_faces`.
 #![tactic(auto)]
 
 mod arg_list;
@@ -8,6 +8,7 @@ mod boxes;
 mod cross_product;
 mod fault;
 mod kernel_kind;
+mod labels;
 mod limits;
 mod op;
 mod point;
@@ -19,6 +20,7 @@ pub use boxes::box_of;
 pub use cross_product::cross;
 pub use fault::{Counted, TextFault, TextKind};
 pub use kernel_kind::KernelKind;
+pub use labels::Labels;
 pub use limits::{Limits, MOST_POINTS, MOST_TRIANGLES};
 pub use op::Op;
 pub use point::{Box3, Corner, Point};

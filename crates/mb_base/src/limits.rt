@@ -36,7 +36,7 @@ impl Model for Limits {
 impl Limits {
     /// The limits of these numbers; None exactly where they are not lawful: more than `MOST_TRIANGLES`
     /// triangles or `MOST_POINTS` points; fewer triangles than 5/3 of the half-edges, or fewer points
-    /// than 3/2 of the triangles; fewer bytes than 41 for each point and 32 for each triangle, or
+    /// than 3/2 of the triangles; fewer bytes than 41 for each point and 99 for each triangle, or
     /// more than 2^40.
     pub fn of(file_bytes: u64, points: u32, triangles: u32, halfedges: u32) -> Option<Limits>
         ensures lawful { IsSome result ↔ IsLawful (record { file_bytes = file_bytes; points = points; triangles = triangles; halfedges = halfedges }) }
@@ -45,7 +45,7 @@ impl Limits {
         let (n, t, h) = (points as u64, triangles as u64, halfedges as u64);
         let few = triangles <= MOST_TRIANGLES && points <= MOST_POINTS;
         let enough = 3 * t >= 5 * h && 2 * n >= 3 * t;
-        let bytes = 41 * n + 32 * t <= file_bytes && file_bytes <= 1 << 40;
+        let bytes = 41 * n + 99 * t <= file_bytes && file_bytes <= 1 << 40;
         if few && enough && bytes {
             Some(Limits {
                 file_bytes,
@@ -58,13 +58,13 @@ impl Limits {
         }
     }
 
-    /// The limits of the program: 1 GiB a file, 15,000,000 points, 10,000,000 triangles, and
+    /// The limits of the program: 2 GiB a file, 15,000,000 points, 10,000,000 triangles, and
     /// 6,000,000 prescribed half-edges for each operation.
     pub fn program() -> Limits
-        ensures value { result ≡ record { file_bytes = 1073741824; points = 15000000; triangles = 10000000; halfedges = 6000000 } }
+        ensures value { result ≡ record { file_bytes = 2147483648; points = 15000000; triangles = 10000000; halfedges = 6000000 } }
     {
         Limits {
-            file_bytes: 1_073_741_824,
+            file_bytes: 2_147_483_648,
             points: 15_000_000,
             triangles: 10_000_000,
             halfedges: 6_000_000,

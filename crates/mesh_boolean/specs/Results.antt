@@ -1,9 +1,10 @@
 -- What the result of an operation is: the prescribed vertices and numbers, where the vertices and the triangles of the mesh come
--- from, that each source face's triangles are bounded by its segments, that the mesh is clean, and which triangles it has.
+-- from, that each source face's triangles are bounded by its segments, that the mesh is clean, and which triangles and labels it has.
 use Rattle.std.specs.Prelude.{◌≡◌, ◌≢◌, ℕ, ◌<◌, ◌==◌, List, [], ◌∷◌, map, length, filter}
 use Rattle.std.specs.List.{All, zip}
 use Rattle.chain_terms.specs.Chains.{IsClosed, all_edges, boundary}
 use Rattle.chain_terms.specs.Ranks.{finish, start, twin}
+use Rattle.mesh_terms.specs.Labels.{label_at}
 use Rattle.mesh_terms.specs.Meshes.{HasThree, Mesh, Triple}
 use Rattle.mesh_terms.specs.Twins.{twins_of}
 use Rattle.halfedge.specs.Clean.{IsClean}
@@ -17,7 +18,7 @@ use Rattle.filling_terms.specs.Filled.{all_filled, all_triples, face_segments, f
 use Rattle.pinch_split.specs.Back.{ComeFrom, named_by}
 use Rattle.pinch_split.specs.Split.{split_from, split_points, split_triples}
 use Rattle.retained_verts.specs.declared.list.Prescribed.{Prescribed}
-use Rattle.mesh_boolean.specs.Operation.{Tests, first_side, numbers_of, second_side}
+use Rattle.mesh_boolean.specs.Operation.{Tests, face_labels, first_side, numbers_of, second_side}
 use Rattle.mesh_boolean.specs.declared.outcome.Outcome.{Outcome}
 
 -- the prescribed vertices and their counts are those of the numbers
@@ -94,3 +95,7 @@ IsBounded t op p q r = AreBounded (first_side op p) (second_side q) (copies_in t
 
 abbrev pub IsFilled : Tests → Op → Mesh → Mesh → Outcome → Type 0
 IsFilled t op p q r = AreFilled (first_side op p) (second_side q) (copies_in t op p q) r.mesh r.from.items r.source.items r.forced
+
+-- each triangle has the label of its source face
+abbrev pub IsLabelled : Mesh → Mesh → Outcome → Type 0
+IsLabelled p q r = r.mesh.labels ≡ map (label_at (face_labels p q)) r.source.items

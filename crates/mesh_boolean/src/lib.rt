@@ -3,6 +3,7 @@
 #![tactic(auto)]
 
 mod assembly;
+mod labels;
 mod numbers;
 mod operate;
 mod outcome;

@@ -9,15 +9,18 @@ ghost use Rattle.mesh_boolean.specs.Results.{
   IsBounded,
   IsCleanOver,
   IsFilled,
+  IsLabelled,
   IsPrescribed,
   halfedges_in,
 };
+ghost use Rattle.mesh_terms.specs.Labels.{no_labels};
 ghost use Rattle.mesh_terms.specs.Meshes.{IsAccepted, triples_of};
 ghost use Rattle.pinch_split.specs.Back.{ComeFrom, named_by};
 ghost use Rattle.pinch_split.specs.Split.{split_from, split_points, split_triples};
 ghost use Rattle.winding.specs.Windings.{components_of};
 
 use crate::assembly::assemble;
+use crate::labels::{face_labels, labelled};
 use crate::numbers::all_numbers;
 use crate::outcome::Outcome;
 use crate::sides::{first_side, second_side};
@@ -38,8 +41,8 @@ use steps::Steps;
 /// vertices. The segments between them, which lie on the edges and on the lines in which faces cross, form loops in each
 /// source face, which are filled with triangles in the plane of the face. Up to here the vertices are those prescribed, each
 /// as often. Last, each becomes one vertex for each fan of triangles round it. The mesh is closed, each of its vertices has
-/// one fan, and the triangles of each source face are bounded by its segments. It may intersect itself, since points are
-/// rounded.
+/// one fan, and the triangles of each source face are bounded by its segments and have its label. It may intersect itself,
+/// since points are rounded.
 ///
 /// The answer is `TooLarge` only where the prescribed half-edges are more than `limits.halfedges()`, with their number, and
 /// there no mesh is given. `NoMemory` may come for any meshes. The mesh is within the limits on points and triangles:
@@ -64,6 +67,7 @@ pub fn boolean<K: Kernels, L: Ledger>(
     ensures faces { IfOk result (IsBounded (⟦<K as Tested>⟧.tests kernels.now) op p.now q.now) }
     ensures clean { IfOk result (λ r. IsCleanOver r.from.items r.mesh.triples) }
     ensures filled { IfOk result (IsFilled (⟦<K as Tested>⟧.tests kernels.now) op p.now q.now) }
+    ensures labels { IfOk result (IsLabelled p.now q.now) }
 
     // Its limits.
     ensures too_large { IfErr result (IsTooLarge limits.now.halfedges (halfedges_in (⟦<K as Tested>⟧.tests kernels.now) op p.now q.now)) }
@@ -76,8 +80,10 @@ pub fn boolean<K: Kernels, L: Ledger>(
 {
     // Read so that what limits keep is known here.
     let _ = limits.halfedges();
+    let labels = face_labels(alloc, p, q)?;
     let (prescribed, all) = assemble_meshes(alloc, op, p, q, kernels, limits, steps)?;
-    Ok(outcome(alloc, prescribed, all)?)
+    let made = outcome(alloc, prescribed, all)?;
+    Ok(labelled(alloc, made, labels)?)
 }
 
 // The vertices that an operation on two meshes prescribes, and the triangles of all source faces. The sides and their
@@ -103,7 +109,7 @@ fn assemble_meshes<K: Kernels, L: Ledger>(
     assemble(alloc, op, &p, &q, &windings, &hits, limits)
 }
 
-// The mesh of these vertices and triangles, one vertex for each fan.
+// The mesh of these vertices and triangles, one vertex for each fan, with empty labels.
 fn outcome(alloc: Global, prescribed: Prescribed, all: SourceTriangles) -> Result<Outcome, NoMemory>
     requires { IsAccepted (length prescribed.points.items) (triples_of all.triples.items) }
     ensures points { IfOk result (λ r. r.mesh.points ≡ split_points prescribed.points.items (triples_of all.triples.items)) }
@@ -116,6 +122,7 @@ fn outcome(alloc: Global, prescribed: Prescribed, all: SourceTriangles) -> Resul
     ensures prescribed { IfOk result (λ r. r.prescribed ≡ prescribed) }
     ensures source { IfOk result (λ r. r.source ≡ all.source) }
     ensures forced { IfOk result (λ r. r.forced ≡ all.forced) }
+    ensures empty { IfOk result (λ r. r.mesh.labels ≡ no_labels r.mesh.triples) }
 {
     let split = split(alloc, &prescribed.points, &all.triples)?;
     // Read so that what a mesh keeps is known here.

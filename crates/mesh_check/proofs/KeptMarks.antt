@@ -10,9 +10,9 @@ use Rattle.chain_terms.specs.Sums.{upto, up_from}
 use Rattle.chain_terms.specs.Ranks.{rank, start, finish, runs_as}
 use Rattle.chain_laws.proofs.Places.{get_or-up_from, length-up_from}
 use Rattle.mesh_terms.specs.Meshes.{Triple}
-use Rattle.mesh_check.specs.Cancelling.{is_left, left_marks, kept_marks, picked}
+use Rattle.mesh_check.specs.Cancelling.{is_left, left_marks}
 use Rattle.mesh_check.specs.Orientations.{orientation_edge, orientation_edges, IsTriangle}
-use Rattle.mesh_check.specs.Reduced.{same_way, opposite, is_kept, kept_from, kept_triples}
+use Rattle.mesh_check.specs.Reduced.{same_way, opposite, is_kept, kept_from, kept_marks, kept_triples, picked}
 use Rattle.mesh_check.proofs.Orientations.{same_count, opposite_count}
 
 -- a rank of edges is a count of the first ones
@@ -48,6 +48,15 @@ picked_suc (m ∷ ms) (x ∷ xs) (suc i) b d low high =
 pub picked_more : {X : Type 0} (ms : List Bool) (xs : List X) (i : ℕ) (b : Bool) (d : X) → i < length ms → i < length xs → picked (take (i + 1) ms) (take (i + 1) xs) ≡ picked (take i ms) (take i xs) ++ cond (get_or ms i b) (get_or xs i d ∷ []) []
 picked_more ms xs i b d low high = let next : i + 1 ≡ suc i = omega arith in ap (λ n. picked (take n ms) (take n xs)) next ∙ picked_suc ms xs i b d low high
 
+-- marks past the end of a list tell nothing
+pub picked-take : {X : Type 0} (ms : List Bool) (xs : List X) (i : ℕ) → length xs ≤ i → picked (take i ms) xs ≡ picked ms xs
+picked-take [] xs zero few = refl
+picked-take [] xs (suc i) few = refl
+picked-take (m ∷ ms) [] zero few = refl
+picked-take (m ∷ ms) [] (suc i) few = refl
+picked-take (m ∷ ms) (x ∷ xs) zero few = absurd (omega (arith, few))
+picked-take (m ∷ ms) (x ∷ xs) (suc i) few = ap (λ l. cond m (x ∷ []) [] ++ l) (picked-take ms xs i (omega (arith, few)))
+
 -- of each member a function
 pub map-picked : {X Y : Type 0} (f : X → Y) (ms : List Bool) (xs : List X) → map f (picked ms xs) ≡ picked ms (map f xs)
 map-picked f [] xs = refl
@@ -69,6 +78,16 @@ picked_all [] (x ∷ xs) same = absurd (omega (arith, same))
 picked_all (m ∷ ms) [] same = refl
 picked_all (true ∷ ms) (x ∷ xs) same = ap (λ l. x ∷ l) (picked_all ms xs (omega (arith, same)))
 picked_all (false ∷ ms) (x ∷ xs) same = absurd (omega (arith, same, length-picked ms xs))
+
+-- and so are as many others
+pub picked_others : {X Y : Type 0} (ms : List Bool) (xs : List X) (ys : List Y) → length ys ≡ length xs → length (picked ms xs) ≡ length xs → picked ms ys ≡ ys
+picked_others [] [] [] count same = refl
+picked_others [] [] (y ∷ ys) count same = absurd (omega (arith, count))
+picked_others [] (x ∷ xs) ys count same = absurd (omega (arith, same))
+picked_others (m ∷ ms) xs [] count same = refl
+picked_others (m ∷ ms) [] (y ∷ ys) count same = absurd (omega (arith, count))
+picked_others (true ∷ ms) (x ∷ xs) (y ∷ ys) count same = ap (λ l. y ∷ l) (picked_others ms xs ys (omega (arith, count)) (omega (arith, same)))
+picked_others (false ∷ ms) (x ∷ xs) (y ∷ ys) count same = absurd (omega (arith, same, length-picked ms xs))
 
 -- the kept ones of the rest have their marks
 kept_picked : (all front rest : List Triple) → all ≡ front ++ rest → kept_from all (length front) rest ≡ picked (map (λ i. is_kept all i (get_or all i (0, 0, 0))) (up_from (length front) (length rest))) rest

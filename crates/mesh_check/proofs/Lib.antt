@@ -2,6 +2,7 @@ mod Examples
 pub mod Across
 pub mod Cancelling
 pub mod Kept
+pub mod KeptLabels
 pub mod KeptMarks
 pub mod OpenPair
 pub mod Orientations

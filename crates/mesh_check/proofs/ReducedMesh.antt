@@ -13,7 +13,8 @@ use Rattle.unused_points.proofs.AllUsed.{soup_of-all}
 use Rattle.unused_points.proofs.KeptMesh.{numbered}
 use Rattle.unused_points.proofs.Numbers.{number_known, AreUsed, all_used}
 use Rattle.mesh_check.specs.Orientations.{IsTriangle}
-use Rattle.mesh_check.specs.Reduced.{opposite, kept_triples, reduced, NoOpposite}
+use Rattle.mesh_check.specs.Reduced.{opposite, kept_marks, kept_triples, picked, reduced, NoOpposite}
+use Rattle.mesh_check.proofs.KeptMarks.{kept_by_marks, picked_others}
 use Rattle.mesh_check.proofs.Kept.{kept_all, length-kept, kept_no_opposite, kept_closed}
 
 -- the triples of a mesh are triangles below 2^32
@@ -73,13 +74,16 @@ renumbered_no_opposite ts none s t has_s has_t =
     (λ i. opposite (p.is i) (q.is i)) ∙ opposite_numbered ts p.before q.before (used p.before p.inside) (used q.before q.inside) ∙ none p.before q.before p.inside q.inside
 
 -- the reduced mesh has no opposite triples
-pub reduced_no_opposite : (points : List (List ℤ)) (ts : List Triple) → IsMesh (length points) ts → NoOpposite (reduced points ts).triples
-reduced_no_opposite points ts mesh = renumbered_no_opposite (kept_triples ts) (kept_no_opposite ts (mesh_triangles (length points) ts mesh))
+pub reduced_no_opposite : (points : List (List ℤ)) (ts : List Triple) (labels : List (List ℕ)) → IsMesh (length points) ts → NoOpposite (reduced points ts labels).triples
+reduced_no_opposite points ts labels mesh = renumbered_no_opposite (kept_triples ts) (kept_no_opposite ts (mesh_triangles (length points) ts mesh))
 
 -- and is closed where the mesh is
-pub reduced_closed : (points : List (List ℤ)) (ts : List Triple) → IsMesh (length points) ts → IsClosed (all_edges ts) → IsClosed (all_edges (reduced points ts).triples)
-reduced_closed points ts mesh closed = closed-renamed_triples (new_number (kept_triples ts)) (kept_triples ts) (kept_closed ts (mesh_triangles (length points) ts mesh) closed)
+pub reduced_closed : (points : List (List ℤ)) (ts : List Triple) (labels : List (List ℕ)) → IsMesh (length points) ts → IsClosed (all_edges ts) → IsClosed (all_edges (reduced points ts labels).triples)
+reduced_closed points ts labels mesh closed = closed-renamed_triples (new_number (kept_triples ts)) (kept_triples ts) (kept_closed ts (mesh_triangles (length points) ts mesh) closed)
 
 -- a mesh of which each triple is kept is its own reduced mesh
-pub reduced_itself : (points : List (List ℤ)) (ts : List Triple) → IsMesh (length points) ts → kept_triples ts ≡ ts → reduced points ts ≡ record { points = points; triples = ts; unused = 0 }
-reduced_itself points ts mesh same = ap (soup_of points) same ∙ soup_of-all points ts mesh.below mesh.used
+pub reduced_itself : (points : List (List ℤ)) (ts : List Triple) (labels : List (List ℕ)) → IsMesh (length points) ts → length labels ≡ length ts → kept_triples ts ≡ ts →
+    reduced points ts labels ≡ record { points = points; triples = ts; labels = labels; unused = 0 }
+reduced_itself points ts labels mesh count same =
+    let stay : picked (kept_marks ts) labels ≡ labels = picked_others (kept_marks ts) ts labels count (sym (ap length (kept_by_marks ts)) ∙ ap length same) in
+    (λ i. soup_of points (same i) (stay i)) ∙ soup_of-all points ts labels mesh.below mesh.used

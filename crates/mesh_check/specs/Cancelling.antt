@@ -1,5 +1,5 @@
 -- Oriented triangles as half-edges, and which are left when each goes with one of the other orientation.
-use Rattle.std.specs.Prelude.{◌≡◌, ℕ, ◌<◌, ◌≤◌, ◌/◌, ◌%◌, List, [], ◌∷◌, ◌++◌, Bool, true, cond, nat_le, length, get_or, map}
+use Rattle.std.specs.Prelude.{◌≡◌, ℕ, ◌<◌, ◌≤◌, ◌/◌, ◌%◌, List, Bool, true, nat_le, length, get_or, map}
 use Rattle.chain_terms.specs.Chains.{dir}
 use Rattle.chain_terms.specs.Sums.{upto}
 use Rattle.chain_terms.specs.Ranks.{rank, start, finish, runs_as}
@@ -8,7 +8,6 @@ use Rattle.halfedge.specs.Ways.{lesser_end_at}
 use Rattle.mesh_terms.specs.Meshes.{Triple}
 use Rattle.mesh_check.specs.declared.oriented.Oriented.{Oriented}
 use Rattle.mesh_check.specs.Orientations.{edge_of, least_first}
-use Rattle.mesh_check.specs.Reduced.{is_kept}
 
 -- the vertices of an oriented triangle
 abbrev pub vertices_of : Oriented → Triple
@@ -47,13 +46,3 @@ pub record AreMarked (es : List (ℕ × ℕ)) (key : ℕ → ℕ) (k : ℕ) (lef
   pub full : length left ≡ length es
   pub done : (h : ℕ) → h < length es → key (lesser_end_at es h) < k → get_or left h true ≡ is_left es h
   pub rest : (h : ℕ) → h < length es → k ≤ key (lesser_end_at es h) → get_or left h true ≡ true
-
--- for each triple whether it is kept
-abbrev pub kept_marks : List Triple → List Bool
-kept_marks ts = map (λ i. is_kept ts i (get_or ts i (0, 0, 0))) (upto (length ts))
-
--- the members with a mark
-abbrev pub picked : {X : Type 0} → List Bool → List X → List X
-picked [] xs = []
-picked (m ∷ ms) [] = []
-picked (m ∷ ms) (x ∷ xs) = cond m (x ∷ []) [] ++ picked ms xs

@@ -1,6 +1,7 @@
 -- The reduced mesh: of triangles on the same three vertices as many are removed as have the other orientation.
-use Rattle.std.specs.Prelude.{◌≡◌, ℕ, suc, ℤ, List, [], ◌∷◌, ◌++◌, Bool, false, cond, ◌==◌, ◌&&◌, ◌||◌, nat_le, take, count_by}
+use Rattle.std.specs.Prelude.{◌≡◌, ℕ, suc, ℤ, List, [], ◌∷◌, ◌++◌, Bool, false, cond, ◌==◌, ◌&&◌, ◌||◌, nat_le, map, take, get_or, length, count_by}
 use Rattle.std.specs.List.{Contains}
+use Rattle.chain_terms.specs.Sums.{upto}
 use Rattle.mesh_terms.specs.Meshes.{Triple, Soup, soup_of}
 
 -- the same vertices in the same places
@@ -28,9 +29,19 @@ kept_from all i (t ∷ ts) = cond (is_kept all i t) (t ∷ []) [] ++ kept_from a
 abbrev pub kept_triples : List Triple → List Triple
 kept_triples ts = kept_from ts 0 ts
 
--- points and kept triples, without the points that none of these uses
-abbrev pub reduced : List (List ℤ) → List Triple → Soup
-reduced points ts = soup_of points (kept_triples ts)
+-- for each triple whether it is kept
+abbrev pub kept_marks : List Triple → List Bool
+kept_marks ts = map (λ i. is_kept ts i (get_or ts i (0, 0, 0))) (upto (length ts))
+
+-- the members with a mark
+abbrev pub picked : {X : Type 0} → List Bool → List X → List X
+picked [] xs = []
+picked (m ∷ ms) [] = []
+picked (m ∷ ms) (x ∷ xs) = cond m (x ∷ []) [] ++ picked ms xs
+
+-- points and kept triples with their labels, without the points that none of these uses
+abbrev pub reduced : List (List ℤ) → List Triple → List (List ℕ) → Soup
+reduced points ts labels = soup_of points (kept_triples ts) (picked (kept_marks ts) labels)
 
 -- no two triples have the same three vertices with different orientations
 abbrev pub NoOpposite : List Triple → Type 0

@@ -5,8 +5,9 @@ ghost use Rattle.std.specs.List.{All};
 ghost use Rattle.halfedge.specs.Ways.{EndsDiffer, AreWays};
 ghost use Rattle.mesh_terms.specs.Limits.{most_triangles};
 ghost use Rattle.mesh_terms.specs.Meshes.{triples_of};
-ghost use Rattle.mesh_check.specs.Cancelling.{halves_of, kept_marks, AreMarked};
+ghost use Rattle.mesh_check.specs.Cancelling.{halves_of, AreMarked};
 ghost use Rattle.mesh_check.specs.Orientations.{IsTriangle};
+ghost use Rattle.mesh_check.specs.Reduced.{kept_marks};
 
 use crate::oriented::Oriented;
 use crate::oriented_ways::{bucket_numbers, oriented_ways};

@@ -1,62 +1,73 @@
 // Reduced meshes.
 ghost use Rattle.std.specs.Prelude.{◌≡◌, ◌≤◌, IfOk, IsTrue, length};
+ghost use Rattle.mesh_terms.specs.Labels.{no_labels};
+ghost use Rattle.mesh_terms.specs.Limits.{most_triangles};
 ghost use Rattle.mesh_terms.specs.Meshes.{triples_of};
-ghost use Rattle.mesh_check.specs.Cancelling.{picked};
-ghost use Rattle.mesh_check.specs.Reduced.{kept_triples, reduced, NoOpposite};
+ghost use Rattle.mesh_check.specs.Reduced.{kept_marks, kept_triples, reduced, NoOpposite, picked};
 
 use crate::cancel::uncancelled;
 use crate::mesh::{Mesh, MeshFault};
 use crate::opposites::has_no_opposites;
-use mb_base::NoMemory;
+use mb_base::{Labels, NoMemory};
 use std::alloc::Global;
 use unused_points::without_unused;
 
 /// The mesh without the triangles that cancel: for each three vertices, those of the rarer orientation
 /// are removed, and as many of the other, the first in order. Two triangles on the same vertices have
 /// one orientation where one is a rotation of the other. Points that no triangle uses any more are
-/// then dropped. The triangles and points that stay keep their order. `NoMemory` may come for any mesh.
+/// then dropped. The triangles and points that stay keep their order, and the triangles their labels.
+/// `NoMemory` may come for any mesh.
 /// Where no two half-edges run the same way and nothing is removed, it takes one pass over the
 /// triangles and a copy. Otherwise it gathers the triangles by their least vertices and sorts those
 /// gathered together: the time is linear where each vertex has few triangles, and at most that of
 /// sorting them all.
 pub fn reduce(alloc: Global, mesh: &Mesh) -> Result<Mesh, NoMemory>
-    ensures points { IfOk result (λ m. m.points ≡ (reduced mesh.now.points mesh.now.triples).points) }
-    ensures triples { IfOk result (λ m. m.triples ≡ (reduced mesh.now.points mesh.now.triples).triples) }
+    ensures points { IfOk result (λ m. m.points ≡ (reduced mesh.now.points mesh.now.triples mesh.now.labels).points) }
+    ensures triples { IfOk result (λ m. m.triples ≡ (reduced mesh.now.points mesh.now.triples mesh.now.labels).triples) }
+    ensures labels { IfOk result (λ m. m.labels ≡ (reduced mesh.now.points mesh.now.triples mesh.now.labels).labels) }
     ensures apart { IfOk result (λ m. NoOpposite m.triples) }
 {
     if is_plainly_reduced(mesh) {
         return Ok(mesh.clone()?);
     }
-    let triples = kept_triples(alloc, mesh)?;
+    // Read so that what the type of the mesh keeps of them is known here.
+    let _ = mesh.labels();
+    let marks = uncancelled(alloc, mesh.triples())?;
+    let triples = kept_triples(alloc, mesh, &marks)?;
     if triples.len() == mesh.triples().len() {
         return Ok(mesh.clone()?);
     }
-    mesh_of_kept(alloc, mesh, triples)
+    let kept = mesh_of_kept(alloc, mesh, triples)?;
+    with_kept_labels(alloc, mesh, &marks, kept)
 }
 
 /// Whether one pass over the triangles shows that `reduce` removes nothing, so that the mesh can be taken as it is. Where two
 /// half-edges run the same way the answer is false, even if nothing would be removed.
 pub fn is_plainly_reduced(mesh: &Mesh) -> bool
-    ensures points { IsTrue result → mesh.now.points ≡ (reduced mesh.now.points mesh.now.triples).points }
-    ensures triples { IsTrue result → mesh.now.triples ≡ (reduced mesh.now.points mesh.now.triples).triples }
+    ensures points { IsTrue result → mesh.now.points ≡ (reduced mesh.now.points mesh.now.triples mesh.now.labels).points }
+    ensures triples { IsTrue result → mesh.now.triples ≡ (reduced mesh.now.points mesh.now.triples mesh.now.labels).triples }
+    ensures labels { IsTrue result → mesh.now.labels ≡ (reduced mesh.now.points mesh.now.triples mesh.now.labels).labels }
     ensures apart { IsTrue result → NoOpposite mesh.now.triples }
 {
+    // Read so that what the type of the mesh keeps of them is known here.
+    let _ = mesh.labels();
     has_no_opposites(mesh.twins())
 }
 
-// The triples that stay.
-fn kept_triples(alloc: Global, mesh: &Mesh) -> Result<Vec<[u32; 3]>, NoMemory>
+// The triangles that stay.
+fn kept_triples(alloc: Global, mesh: &Mesh, marks: &[bool]) -> Result<Vec<[u32; 3]>, NoMemory>
+    requires { marks.now ≡ kept_marks mesh.now.triples }
     ensures { IfOk result (λ kept. triples_of kept.items ≡ kept_triples mesh.now.triples) }
 {
-    let marks = uncancelled(alloc, mesh.triples())?;
-    marked(alloc, mesh.triples(), &marks)
+    marked(alloc, mesh.triples(), marks)
 }
 
-// The reduced mesh of the triples that stay.
+// The reduced mesh of the triples that stay, with empty labels.
 fn mesh_of_kept(alloc: Global, mesh: &Mesh, triples: Vec<[u32; 3]>) -> Result<Mesh, NoMemory>
     requires { triples_of triples.items ≡ kept_triples mesh.now.triples }
-    ensures points { IfOk result (λ m. m.points ≡ (reduced mesh.now.points mesh.now.triples).points) }
-    ensures triples { IfOk result (λ m. m.triples ≡ (reduced mesh.now.points mesh.now.triples).triples) }
+    ensures points { IfOk result (λ m. m.points ≡ (reduced mesh.now.points mesh.now.triples mesh.now.labels).points) }
+    ensures triples { IfOk result (λ m. m.triples ≡ (reduced mesh.now.points mesh.now.triples mesh.now.labels).triples) }
+    ensures labels { IfOk result (λ m. m.labels ≡ no_labels (kept_triples mesh.now.triples)) }
 {
     let points = mesh.points().to_vec(alloc)?;
     let soup = without_unused(alloc, points, triples)?;
@@ -64,6 +75,27 @@ fn mesh_of_kept(alloc: Global, mesh: &Mesh, triples: Vec<[u32; 3]>) -> Result<Me
         Ok(reduced) => Ok(reduced),
         Err(MeshFault::NoMemory) => Err(NoMemory),
         Err(MeshFault::OpenEdge { .. }) => unreachable!(),
+    }
+}
+
+// The reduced mesh, which has empty labels, with the labels of the triples that stay.
+fn with_kept_labels(
+    alloc: Global,
+    mesh: &Mesh,
+    marks: &[bool],
+    kept: Mesh,
+) -> Result<Mesh, NoMemory>
+    requires marks { marks.now ≡ kept_marks mesh.now.triples }
+    requires known { length marks.now ≤ most_triangles }
+    requires count { length kept.triples ≡ length (kept_triples mesh.now.triples) }
+    requires empty { kept.labels ≡ no_labels (kept_triples mesh.now.triples) }
+    ensures points { IfOk result (λ m. m.points ≡ kept.points) }
+    ensures triples { IfOk result (λ m. m.triples ≡ kept.triples) }
+    ensures labels { IfOk result (λ m. m.labels ≡ picked (kept_marks mesh.now.triples) mesh.now.labels) }
+{
+    match mesh.labels() {
+        Some(labels) => Ok(kept.with_labels(marked_labels(alloc, labels, marks)?)),
+        None => Ok(kept),
     }
 }
 
@@ -76,6 +108,21 @@ fn marked(alloc: Global, triples: &[[u32; 3]], marks: &[bool]) -> Result<Vec<[u3
     for (place, triple) in triples.iter().enumerate() {
         if marks[place] {
             kept.push(*triple)?;
+        }
+    }
+    Ok(kept)
+}
+
+// The labels with a mark. Those past the end of the list, which are empty, end the new list too.
+fn marked_labels(alloc: Global, labels: &Labels, marks: &[bool]) -> Result<Labels, NoMemory>
+    requires few { length labels.now ≤ length marks.now }
+    requires known { length marks.now ≤ most_triangles }
+    ensures { IfOk result (λ kept. kept ≡ picked marks.now labels.now) }
+{
+    let mut kept = Labels::start(alloc);
+    for place in 0..labels.len() {
+        if marks[place] {
+            kept.push(labels.get(place as u32))?;
         }
     }
     Ok(kept)

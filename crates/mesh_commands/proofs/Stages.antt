@@ -27,22 +27,22 @@ copy_unread k limits from to before now out why ask =
 
 -- the copy was not written
 pub copy_unwritten : (k : ℕ) (to : Bytes) (m : Soup) (before now : OnShelf) (out : OnOutput) (why : Why)
-    → ShelfMeets (write_mesh k to m.points m.triples) before now (Err why)
+    → ShelfMeets (write_mesh k to m.points m.triples m.labels) before now (Err why)
     → Meets (copied_task k to m) (seen before out.told out.faults) (seen now out.told out.faults) (Err why)
 copy_unwritten k to m before now out why write =
     let first = seen before out.told out.faults in
     let last = seen now out.told out.faults in
-    meets_stop (write_mesh k to m.points m.triples) (λ _. say_line (copied_line to m)) why first last (write out.told out.faults)
+    meets_stop (write_mesh k to m.points m.triples m.labels) (λ _. say_line (copied_line to m)) why first last (write out.told out.faults)
 
 -- the copy was written, and was told or not
 pub copy_told : (k : ℕ) (to : Bytes) (m : Soup) (before now : OnShelf) (out told : OnOutput) (r : Result (Unit {0}) Why)
-    → ShelfMeets (write_mesh k to m.points m.triples) before now (Ok tt) → OutputMeets (say_line (copied_line to m)) out told r
+    → ShelfMeets (write_mesh k to m.points m.triples m.labels) before now (Ok tt) → OutputMeets (say_line (copied_line to m)) out told r
     → Meets (copied_task k to m) (seen before out.told out.faults) (seen now told.told told.faults) r
 copy_told k to m before now out told r write line =
     let first = seen before out.told out.faults in
     let second = seen now out.told out.faults in
     let last = seen now told.told told.faults in
-    meets_then (write_mesh k to m.points m.triples) (λ _. say_line (copied_line to m)) tt r first second last (write out.told out.faults) (line now)
+    meets_then (write_mesh k to m.points m.triples m.labels) (λ _. say_line (copied_line to m)) tt r first second last (write out.told out.faults) (line now)
 
 -- the file of a copy was read, and the rest was done or not
 pub copy_ended : (k : ℕ) (limits : Limits) (from to : Bytes) (m : Soup) (before mid now : OnShelf) (out told : OnOutput) (r : Result (Unit {0}) Why)
@@ -68,7 +68,8 @@ inside_unread k meanings limits name point before now out why ask =
     meets_stop (ask_mesh k limits name) (winding_task meanings point) why (seen before out.told out.faults) (seen now out.told out.faults) (ask out.told out.faults)
 
 -- the mesh of a point was read, and the number was told or not
-pub inside_ended : (k : ℕ) (meanings : Meanings) (limits : Limits) (name : Bytes) (point : List ℤ) (m : Soup) (before now : OnShelf) (out told : OnOutput) (r : Result (Unit {0}) Why)
+pub inside_ended : (k : ℕ) (meanings : Meanings) (limits : Limits) (name : Bytes) (point : List ℤ) (m : Soup) (before now : OnShelf)
+    (out told : OnOutput) (r : Result (Unit {0}) Why)
     → ShelfMeets (ask_mesh k limits name) before now (Ok m) → OutputMeets (winding_task meanings point m) out told r
     → Meets (inside_task k meanings limits name point) (seen before out.told out.faults) (seen now told.told told.faults) r
 inside_ended k meanings limits name point m before now out told r ask rest =

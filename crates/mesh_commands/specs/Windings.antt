@@ -4,4 +4,4 @@ use Rattle.winding.specs.Windings.{winding_at}
 
 -- the winding number is that under the kernels of the grid and rounding to the nearest
 abbrev pub windings : Meanings
-windings = record { winding = λ point soup. winding_at point (record { points = soup.points; triples = soup.triples }) }
+windings = record { winding = λ point soup. winding_at point (record { points = soup.points; triples = soup.triples; labels = soup.labels }) }

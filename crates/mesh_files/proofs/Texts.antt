@@ -8,11 +8,13 @@ use Rattle.run_terms.specs.Files.{Bytes}
 use Rattle.play_terms.specs.Commands.{checked, if_closed}
 
 -- a closed mesh of a text without a fault is what is expected of it
-pub checked_closed : (name : Bytes) (given : Result Soup Fault) (soup : Soup) (points : List (List ℤ)) (triples : List Triple) (unused : ℕ)
-    → given ≡ Ok soup → IsClosed (all_edges soup.triples) → points ≡ soup.points → triples ≡ soup.triples → unused ≡ soup.unused
-    → checked name given ≡ Ok (record { points = points; triples = triples; unused = unused })
-checked_closed name given soup points triples unused is closed same_points same_triples same_unused =
+pub checked_closed : (name : Bytes) (given : Result Soup Fault) (soup : Soup) (points : List (List ℤ)) (triples : List Triple) (labels : List Bytes) (unused : ℕ)
+    → given ≡ Ok soup → IsClosed (all_edges soup.triples) → points ≡ soup.points → triples ≡ soup.triples → labels ≡ soup.labels → unused ≡ soup.unused
+    → checked name given ≡ Ok (record { points = points; triples = triples; labels = labels; unused = unused })
+checked_closed name given soup points triples labels unused is closed same_points same_triples same_labels same_unused =
     let none = open_pair_closed (all_edges soup.triples) closed in
-    ap (checked name) is ∙ ap (if_closed name soup) none ∙ ap Ok (same points triples unused soup same_points same_triples same_unused) where
-      same : (points : List (List ℤ)) (triples : List Triple) (unused : ℕ) (soup : Soup) → points ≡ soup.points → triples ≡ soup.triples → unused ≡ soup.unused → soup ≡ record { points = points; triples = triples; unused = unused }
-      same points triples unused soup p t u = rw (p, t, u) refl
+    ap (checked name) is ∙ ap (if_closed name soup) none ∙ ap Ok (same points triples labels unused soup same_points same_triples same_labels same_unused) where
+      same : (points : List (List ℤ)) (triples : List Triple) (labels : List Bytes) (unused : ℕ) (soup : Soup) → points ≡ soup.points →
+          triples ≡ soup.triples → labels ≡ soup.labels → unused ≡ soup.unused
+          → soup ≡ record { points = points; triples = triples; labels = labels; unused = unused }
+      same points triples labels unused soup p t l u = rw (p, t, l, u) refl

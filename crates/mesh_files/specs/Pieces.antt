@@ -7,7 +7,7 @@ use Rattle.play_terms.specs.Formats.{mesh_text}
 
 -- the text of a mesh for a file of this name
 abbrev pub text_in : ℕ → Bytes → Mesh → Bytes
-text_in k name mesh = mesh_text k name mesh.points mesh.triples
+text_in k name mesh = mesh_text k name mesh.points mesh.triples mesh.labels
 
 -- the spare once so many bytes went to a file of this name: less by them where it is this file's, else as it was
 abbrev pub spare_after : Bytes → ℕ → Option (Bytes × ℕ) → Option (Bytes × ℕ)

@@ -33,7 +33,7 @@ is_reading_stop _ = true
 
 -- a mesh, with the number of points that were dropped
 abbrev pub soup_of : Mesh → ℕ → Soup
-soup_of mesh unused = record { points = mesh.points; triples = mesh.triples; unused = unused }
+soup_of mesh unused = record { points = mesh.points; triples = mesh.triples; labels = mesh.labels; unused = unused }
 
 -- how a call at the file of this name ended, where its value counts as this
 abbrev pub ended_by : {T A : Type 0} → (T → A) → Bytes → Result T Stop → Result A Why

@@ -60,7 +60,7 @@ pub fn write<'a, S: Shelf>(
     shelf: &mut S,
 ) -> Result<(), Halt<'a>>
     requires digits { digits ≤ 6 }
-    ensures meets { MeetsOnShelf S.Shelf (write_mesh digits name.now mesh.now.points mesh.now.triples) shelf.old shelf.new (halted result) }
+    ensures meets { MeetsOnShelf S.Shelf (write_mesh digits name.now mesh.now.points mesh.now.triples mesh.now.labels) shelf.old shelf.new (halted result) }
     ensures unwritten { IfErr result (IsUnwrittenAt name.now) }
 {
     match save_mesh(mesh, name, digits, shelf) {

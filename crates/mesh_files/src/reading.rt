@@ -27,7 +27,7 @@ pub struct Read {
     pub unused: u32,
 }
 
-// The points and triangles of a text, in the format of its file's name. The text is let go.
+// The points, triangles and labels of a text, in the format of its file's name. The text is let go.
 fn soup_of_text(
     alloc: Global,
     name: &str,

@@ -65,13 +65,14 @@ fn append_text<S: Shelf>(mesh: &Mesh, name: &str, digits: u8, shelf: &mut S) -> 
 /// room, the mesh is saved. Such a spare is less by what was written, whole or in part; any other is as it was. It takes no memory.
 pub fn save_mesh<S: Shelf>(mesh: &Mesh, name: &str, digits: u8, shelf: &mut S) -> Result<(), Stop>
     requires { digits ≤ 6 }
-    ensures meets { MeetsOnShelf S.Shelf (write_mesh digits name.now mesh.now.points mesh.now.triples) shelf.old shelf.new (saved name.now result) }
+    ensures meets { MeetsOnShelf S.Shelf (write_mesh digits name.now mesh.now.points mesh.now.triples mesh.now.labels) shelf.old shelf.new
+        (saved name.now result) }
     ensures stop { IfErr result (λ stop. stop ≡ Stop.WriteFault) }
     ensures spare { OnOk result (S.spare shelf.new ≡
-        spare_after name.now (length (mesh_text digits name.now mesh.now.points mesh.now.triples)) (S.spare shelf.old)) }
-    ensures part { OnErr result (WritesPart (S.tells shelf.old) name.now (mesh_text digits name.now mesh.now.points mesh.now.triples)
+        spare_after name.now (length (mesh_text digits name.now mesh.now.points mesh.now.triples mesh.now.labels)) (S.spare shelf.old)) }
+    ensures part { OnErr result (WritesPart (S.tells shelf.old) name.now (mesh_text digits name.now mesh.now.points mesh.now.triples mesh.now.labels)
         (S.files shelf.old) (S.files shelf.new) (S.spare shelf.old) (S.spare shelf.new)) }
-    ensures sure { HasRoom (S.spare shelf.old) name.now (mesh_text digits name.now mesh.now.points mesh.now.triples) → IsOk result }
+    ensures sure { HasRoom (S.spare shelf.old) name.now (mesh_text digits name.now mesh.now.points mesh.now.triples mesh.now.labels) → IsOk result }
 {
     let Ok(()) = shelf.begin(name) else {
         return Err(Stop::WriteFault);

@@ -1,5 +1,6 @@
 // Lattices of boxes.
 ghost use Rattle.std.specs.Prelude.{◌≡◌, ◌≤◌, ◌<◌, ◌+◌, ◌*◌, ◌++◌, List, IfOk, OnOk, length, map};
+ghost use Rattle.mesh_terms.specs.Labels.{no_labels};
 ghost use Rattle.mesh_terms.specs.Meshes.{triples_of};
 ghost use Rattle.made_terms.specs.Lattice.{
   lattice_box,
@@ -31,6 +32,7 @@ pub fn make_lattice(alloc: Global, n: u32, seed: u32, limits: &Limits) -> Result
     ensures refused { IsRefusedFor (lattice_fault limits.now n seed) result }
     ensures points { IfOk result (λ m. m.points ≡ lattice_points n seed) }
     ensures triples { IfOk result (λ m. m.triples ≡ lattice_triples n) }
+    ensures labels { IfOk result (λ m. m.labels ≡ no_labels (lattice_triples n)) }
 {
     if let Some(fault) = lattice_fault(n, seed, limits) {
         return Err(fault);
@@ -53,6 +55,7 @@ fn lattice_of(alloc: Global, n: u32, seed: u32) -> Result<Mesh, NoMemory>
     requires seed { seed ≤ 999999 }
     ensures points { IfOk result (λ m. m.points ≡ lattice_points n seed) }
     ensures triples { IfOk result (λ m. m.triples ≡ lattice_triples n) }
+    ensures labels { IfOk result (λ m. m.labels ≡ no_labels (lattice_triples n)) }
 {
     let points = lattice_points(alloc, n, seed)?;
     let triples = boxes_triples(alloc, cube(n))?;

@@ -1,6 +1,7 @@
 //! Made meshes: boxes, tetrahedra, prisms and lattices of boxes, and meshes that are shifted, scaled, mirrored or turned.
 //!
-//! Each answer is closed by its form, so nothing is searched to accept it. Refusals come in one order: `FlatSolid`, then
+//! Each answer is closed by its form, so nothing is searched to accept it. Made triangles have empty labels, and a motion
+//! keeps the labels, shared by the two meshes. Refusals come in one order: `FlatSolid`, then
 //! `OutOfGrid`, then `Over` for points and for triangles; each exactly where its reason stands and none before it.
 #![tactic(auto)]
 

@@ -1,5 +1,6 @@
 // Meshes of made points and triangles.
 ghost use Rattle.std.specs.Prelude.{◌≡◌, Bool, IfOk, None, length};
+ghost use Rattle.mesh_terms.specs.Labels.{no_labels};
 ghost use Rattle.mesh_terms.specs.Meshes.{IsAccepted, triples_of};
 ghost use Rattle.made_terms.specs.Refusals.{excess, solid_fault};
 ghost use Rattle.mesh_make.specs.Refused.{IsRefusedFor, refusal};
@@ -25,6 +26,7 @@ pub fn solid(
     ensures refused { IsRefusedFor (solid_fault flat limits.now rows.now (length triples.now)) result }
     ensures points { IfOk result (λ m. m.points ≡ rows.now) }
     ensures triples { IfOk result (λ m. m.triples ≡ triples_of triples.now) }
+    ensures labels { IfOk result (λ m. m.labels ≡ no_labels (triples_of triples.now)) }
 {
     if let Some(fault) = solid_fault(flat, rows, triples.len() as u64, limits) {
         return Err(fault);
@@ -38,6 +40,7 @@ fn solid_of(alloc: Global, rows: &[[i64; 3]], triples: &[[u32; 3]]) -> Result<Me
     requires fine { AreFine rows.now (length triples.now) }
     ensures points { IfOk result (λ m. m.points ≡ rows.now) }
     ensures triples { IfOk result (λ m. m.triples ≡ triples_of triples.now) }
+    ensures labels { IfOk result (λ m. m.labels ≡ no_labels (triples_of triples.now)) }
 {
     let mut points = Vec::with_capacity(alloc, rows.len())?;
     push_points(&mut points, rows)?;
@@ -80,6 +83,7 @@ pub fn mesh_of(alloc: Global, points: Vec<Point>, triples: &[[u32; 3]]) -> Resul
     requires { IsAccepted (length points.items) (triples_of triples.now) }
     ensures points { IfOk result (λ m. m.points ≡ points.items) }
     ensures triples { IfOk result (λ m. m.triples ≡ triples_of triples.now) }
+    ensures labels { IfOk result (λ m. m.labels ≡ no_labels (triples_of triples.now)) }
 {
     match Twins::of(alloc, triples) {
         Ok(twins) => Ok(Mesh::of_twins(points, twins)),

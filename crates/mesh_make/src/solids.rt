@@ -1,5 +1,6 @@
 // Boxes, tetrahedra and prisms.
 ghost use Rattle.std.specs.Prelude.{◌≡◌, ◌≤◌, ◌^◌, ◌||◌, List, IfOk, pos, int_le, unsigned_abs};
+ghost use Rattle.mesh_terms.specs.Labels.{no_labels};
 ghost use Rattle.mesh_terms.specs.Points.{IsPoint};
 ghost use Rattle.made_terms.specs.Refusals.{box_fault, tetra_fault, prism_fault, is_flat_box};
 ghost use Rattle.made_terms.specs.Solids.{
@@ -57,6 +58,7 @@ pub fn make_box(alloc: Global, low: Point, high: Point, limits: &Limits) -> Resu
     ensures refused { IsRefusedFor (box_fault limits.now low high) result }
     ensures points { IfOk result (λ m. m.points ≡ box_points low high) }
     ensures triples { IfOk result (λ m. m.triples ≡ box_triples) }
+    ensures labels { IfOk result (λ m. m.labels ≡ no_labels box_triples) }
 {
     let (low, high) = (row_of(low), row_of(high));
     solid(
@@ -74,6 +76,7 @@ pub fn make_tetra(alloc: Global, at: Point, size: i32, limits: &Limits) -> Resul
     ensures refused { IsRefusedFor (tetra_fault limits.now at size) result }
     ensures points { IfOk result (λ m. m.points ≡ tetra_points at size) }
     ensures triples { IfOk result (λ m. m.triples ≡ tetra_triples) }
+    ensures labels { IfOk result (λ m. m.labels ≡ no_labels tetra_triples) }
 {
     let rows = tetra_rows(&row_of(at), i64::from(size));
     solid(alloc, is_flat(size), &rows, &TETRA, limits)
@@ -91,6 +94,7 @@ pub fn make_prism(
     ensures refused { IsRefusedFor (prism_fault limits.now at size height) result }
     ensures points { IfOk result (λ m. m.points ≡ prism_points at size height) }
     ensures triples { IfOk result (λ m. m.triples ≡ prism_triples) }
+    ensures labels { IfOk result (λ m. m.labels ≡ no_labels prism_triples) }
 {
     let rows = prism_rows(&row_of(at), i64::from(size), i64::from(height));
     solid(alloc, are_flat(size, height), &rows, &PRISM, limits)

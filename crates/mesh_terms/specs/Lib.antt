@@ -1,6 +1,7 @@
 pub mod Fans
 pub mod Faults
 pub mod Halves
+pub mod Labels
 pub mod Limits
 pub mod Meshes
 pub mod OpenEdges

@@ -25,5 +25,5 @@ pub record IsLawful (l : Limits) : Type 0 where
   pub few_points : l.points ≤ most_points
   pub triangles_enough : 5 * l.halfedges ≤ 3 * l.triangles
   pub points_enough : 3 * l.triangles ≤ 2 * l.points
-  pub bytes_enough : 41 * l.points + 32 * l.triangles ≤ l.file_bytes
+  pub bytes_enough : 41 * l.points + 99 * l.triangles ≤ l.file_bytes
   pub bytes_bounded : l.file_bytes ≤ 2 ^ 40

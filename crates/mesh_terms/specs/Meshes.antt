@@ -1,4 +1,4 @@
--- Triangle meshes: points and triples of point numbers, each point used, each edge with its reverse.
+-- Triangle meshes: points and triples of point numbers, each point used, each edge with its reverse, each triple with a label.
 use Rattle.std.specs.Prelude.{◌≡◌, ◌≢◌, ℕ, suc, ◌-◌, ◌<◌, ◌≤◌, ℤ, List, [], ◌∷◌, ◌++◌, true, Bool, cond, length, get_or, ◌==◌, ◌||◌, map, filter}
 use Rattle.std.specs.List.{All, list_any}
 use Rattle.chain_terms.specs.Chains.{all_edges, IsClosed}
@@ -49,16 +49,18 @@ pub record IsAccepted (points : ℕ) (ts : List Triple) : Type 0 where
   pub mesh : IsMesh points ts
   pub closed : IsClosed (all_edges ts)
 
--- points, triples, and the number of points that were dropped as unused
+-- points, triples, the label of each triple, and the number of points that were dropped as unused
 pub record Soup : Type 0 where
   pub points : List (List ℤ)
   pub triples : List Triple
+  pub labels : List (List ℕ)
   pub unused : ℕ
 
--- points and triples
+-- points, triples, and the label of each triple
 pub record Mesh : Type 0 where
   pub points : List (List ℤ)
   pub triples : List Triple
+  pub labels : List (List ℕ)
 
 -- the points from number v on that some triple uses
 abbrev pub used_from : {X : Type 0} → List Triple → ℕ → List X → List X
@@ -72,8 +74,8 @@ new_number ts v = length (filter (is_used ts) (upto v))
 abbrev pub renumbered : List Triple → List Triple
 renumbered ts = map (λ t. (new_number ts t.0, new_number ts t.1, new_number ts t.2)) ts
 
--- points that no triple uses are dropped and counted; the others keep their order
-abbrev pub soup_of : List (List ℤ) → List Triple → Soup
-soup_of points ts =
+-- points that no triple uses are dropped and counted; the others keep their order, and the triples their labels
+abbrev pub soup_of : List (List ℤ) → List Triple → List (List ℕ) → Soup
+soup_of points ts labels =
     let used = used_from ts 0 points in
-    record { points = used; triples = renumbered ts; unused = length points - length used }
+    record { points = used; triples = renumbered ts; labels = labels; unused = length points - length used }

@@ -1,3 +1,4 @@
+pub mod Faces
 pub mod Corners
 pub mod Pages
 pub mod Passing

@@ -1,8 +1,10 @@
 // The lines of a mesh, put on a page. A line is made from its end to its front, since the last digits of a number are known first.
-ghost use Rattle.std.specs.Prelude.{◌≡◌, ◌≤◌, ◌+◌, ◌++◌, length, drop, decimal};
+ghost use Rattle.std.specs.Prelude.{◌≡◌, ◌≤◌, ◌+◌, ◌++◌, IsTrue, length, drop, decimal};
 ghost use Rattle.arrayvec.specs.ArrayVec.{array_vec_len};
 ghost use Rattle.text_terms.specs.Written.{line_of, three_numbers};
+ghost use Rattle.mesh_terms.specs.Labels.{IsLabel};
 ghost use Rattle.mesh_terms.specs.Meshes.{triple_of};
+ghost use Rattle.obj_terms.specs.Labels.{label_change, label_line};
 ghost use Rattle.obj_terms.specs.Written.{point_line, face_line};
 ghost use Rattle.stl_terms.specs.Written.{corner_text};
 
@@ -80,9 +82,39 @@ pub fn put_corner(page: &mut Page, point: &Point, digits: u8)
     put_numbers(page, b"vertex ", point, digits);
 }
 
+// Adds the line of a label before a triangle, where it is not that of the one before. So much room is left that the line
+// of the triangle may follow. Where both are known to be the same, their bytes are not looked at.
+pub fn put_change(page: &mut Page, before: &[u8], label: &[u8], same: bool)
+    requires label { IsLabel label.now }
+    requires same { IsTrue same → label.now ≡ before.now }
+    requires room { array_vec_len page.old ≤ 3968 }
+    ensures text { page.new.items ≡ page.old.items ++ label_change before.now label.now }
+    ensures room { array_vec_len page.new ≤ 4061 }
+{
+    if !same && label != before {
+        put_label(page, label);
+    }
+}
+
+// Adds the line of a label.
+fn put_label(page: &mut Page, label: &[u8])
+    requires label { IsLabel label.now }
+    requires room { array_vec_len page.old ≤ 3968 }
+    ensures text { page.new.items ≡ page.old.items ++ label_line label.now }
+    ensures room { array_vec_len page.new ≤ 4061 }
+{
+    if label.is_empty() {
+        put_text(page, b"g\n");
+    } else {
+        put_text(page, b"g ");
+        put_text(page, label);
+        put_text(page, b"\n");
+    }
+}
+
 // Adds the line of a triangle.
 pub fn put_face(page: &mut Page, triple: &[u32; 3])
-    requires { array_vec_len page.old ≤ 3968 }
+    requires { array_vec_len page.old ≤ 4061 }
     ensures { page.new.items ≡ page.old.items ++ face_line (triple_of triple.now) }
 {
     let [a, b, c] = *triple;

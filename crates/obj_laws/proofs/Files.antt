@@ -4,12 +4,24 @@ use Rattle.obj_laws.specs.Files.{FilesRead}
 
 pub files_read : FilesRead
 files_read = record {
-  lawful = record { few_triangles = omega arith; few_points = omega arith; triangles_enough = omega arith; points_enough = omega arith; bytes_enough = omega arith; bytes_bounded = omega arith };
+  lawful =
+      record {
+        few_triangles = omega arith;
+        few_points = omega arith;
+        triangles_enough = omega arith;
+        points_enough = omega arith;
+        bytes_enough =
+            omega arith;
+        bytes_bounded = omega arith;
+      };
   modelled = refl;
   marked = refl;
   joined = refl;
   alone = refl;
   polygon = refl;
+  grouped = refl;
+  cut = refl;
+  replaced = refl;
   weighted = refl;
   unknown = refl;
   few = refl;

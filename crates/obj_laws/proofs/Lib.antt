@@ -5,7 +5,10 @@ pub mod Decimals
 pub mod Plain
 pub mod Alone
 pub mod WrittenWords
+pub mod LabelWords
+pub mod ReadWords
 pub mod SavedLines
+pub mod SavedLabels
 pub mod SavedMeshes
 pub mod ReadMeshes
 pub mod Files

@@ -46,7 +46,7 @@ IsPlain-letter c high = record {
 }
 
 -- the last byte of a text with a word at its end
-last_is-append : (b : ℕ) (xs : List ℕ) (y : ℕ) (ys : List ℕ) → last_is b (xs ++ y ∷ ys) ≡ last_is b (y ∷ ys)
+pub last_is-append : (b : ℕ) (xs : List ℕ) (y : ℕ) (ys : List ℕ) → last_is b (xs ++ y ∷ ys) ≡ last_is b (y ∷ ys)
 last_is-append b [] y ys = refl
 last_is-append b (x ∷ []) y ys = refl
 last_is-append b (x ∷ z ∷ xs) y ys = last_is-append b (z ∷ xs) y ys
@@ -59,7 +59,8 @@ last_is-word xs (c ∷ cs) plain = last_is-append 92 xs c cs ∙ plain.no_end
 AreNumberBytes-digits : (ds : List ℕ) → all_digits ds ≡ true → AreNumberBytes ds
 AreNumberBytes-digits [] digits = All-nil (λ c. IsTrue (is_number_byte c))
 AreNumberBytes-digits (d ∷ ds) digits =
-    All-cons (λ c. IsTrue (is_number_byte c)) d ds (first (is_digit d) (all_digits ds) digits) (AreNumberBytes-digits ds (second (is_digit d) (all_digits ds) digits)) where
+    All-cons (λ c. IsTrue (is_number_byte c)) d ds (first (is_digit d) (all_digits ds) digits)
+    (AreNumberBytes-digits ds (second (is_digit d) (all_digits ds) digits)) where
       first : (a b : Bool) → (a && b) ≡ true → (a || (d == 45) || (d == 46)) ≡ true
       first a b e = grind arith
 

@@ -1,5 +1,6 @@
 -- What each line of the text of a mesh gives its reader.
-use Rattle.std.proofs.Common.{◌≡◌, ℕ, ◌+◌, ◌<◌, ◌≤◌, if◌then◌else◌, Bool, List, [], ◌∷◌, ◌++◌, false, length, decimal, codes, refl, ap, ◌∙◌, arith, Result, Ok, Err, append_assoc, ℤ, nat_lt}
+use Rattle.std.proofs.Common.{◌≡◌, ℕ, ◌+◌, ◌<◌, ◌≤◌, if◌then◌else◌, Bool, List, [], ◌∷◌, ◌++◌, false, length, decimal}
+use Rattle.std.proofs.Common.{codes, refl, ap, ◌∙◌, arith, Result, Ok, Err, append_assoc, ℤ, nat_lt}
 use Rattle.std.proofs.lemmas.Bool.Decides.{nat_tests}
 use Rattle.text_terms.specs.Lines.{words_of, before_comment}
 use Rattle.text_terms.specs.Written.{written}
@@ -18,7 +19,7 @@ use Rattle.obj_laws.proofs.Plain.{IsPlain, IsPlain-letter, last_is-word}
 use Rattle.obj_laws.proofs.Alone.{IsAlone}
 use Rattle.obj_laws.proofs.WrittenWords.{IsTextOf, IsTextOf-written, IsItemOf-decimal}
 
--- a line of four words with spaces between them: no byte below a space, it does not go on, and these are its words
+-- a line of words with spaces between them: no byte below a space, it does not go on, and these are its words
 pub record HasWords (line : List ℕ) (words : List (List ℕ)) : Type 0 where
   pub above : Above 13 line
   pub alone : IsAlone line
@@ -53,7 +54,8 @@ pub three_spaced : (a b c : List ℕ) → a ++ codes " " ++ b ++ codes " " ++ c 
 three_spaced a b c = simp append_assoc
 
 -- the line of a point as four words
-pub point_spaced : (k : ℕ) (p : List ℤ) → point_line_text k p ≡ spaced (codes "v") (written k (coordinate_of p 0)) (written k (coordinate_of p 1)) (written k (coordinate_of p 2))
+pub point_spaced : (k : ℕ) (p : List ℤ) →
+    point_line_text k p ≡ spaced (codes "v") (written k (coordinate_of p 0)) (written k (coordinate_of p 1)) (written k (coordinate_of p 2))
 point_spaced k p = ap (λ (l : List ℕ). codes "v " ++ l) (three_spaced (written k (coordinate_of p 0)) (written k (coordinate_of p 1)) (written k (coordinate_of p 2)))
 
 -- the line of a triple as four words
@@ -61,8 +63,11 @@ pub face_spaced : (t : Triple) → face_line_text t ≡ spaced (codes "f") (deci
 face_spaced t = ap (λ (l : List ℕ). codes "f " ++ l) (three_spaced (decimal (t.0 + 1)) (decimal (t.1 + 1)) (decimal (t.2 + 1)))
 
 -- each written coordinate
-pub coordinate_text : (k : ℕ) (p : List ℤ) → k ≤ 6 → IsPoint p → (IsTextOf k (coordinate_of p 0) (written k (coordinate_of p 0))) × (IsTextOf k (coordinate_of p 1) (written k (coordinate_of p 1))) × (IsTextOf k (coordinate_of p 2) (written k (coordinate_of p 2)))
-coordinate_text k p few on = (IsTextOf-written k (coordinate_of p 0) few on.x, IsTextOf-written k (coordinate_of p 1) few on.y, IsTextOf-written k (coordinate_of p 2) few on.z)
+pub coordinate_text : (k : ℕ) (p : List ℤ) → k ≤ 6 → IsPoint p →
+    (IsTextOf k (coordinate_of p 0) (written k (coordinate_of p 0))) × (IsTextOf k (coordinate_of p 1) (written k (coordinate_of p 1)))
+    × (IsTextOf k (coordinate_of p 2) (written k (coordinate_of p 2)))
+coordinate_text k p few on =
+    (IsTextOf-written k (coordinate_of p 0) few on.x, IsTextOf-written k (coordinate_of p 1) few on.y, IsTextOf-written k (coordinate_of p 2) few on.z)
 
 -- the words of a point's line
 abbrev pub point_words : ℕ → List ℤ → List (List ℕ)
@@ -91,7 +96,8 @@ HasWords-face count few t below =
     HasWords-spaced (face_line_text t) (codes "f") a b c (face_spaced t) (IsPlain-letter 102 (omega arith)) x.plain y.plain z.plain
 
 -- three words that read
-each_read-three : {X Y E : Type 0} (f : X → Result Y E) (a b c : X) (x y z : Y) → f a ≡ Ok x → f b ≡ Ok y → f c ≡ Ok z → each_read f (a ∷ b ∷ c ∷ []) ≡ Ok (x ∷ y ∷ z ∷ [])
+each_read-three : {X Y E : Type 0} (f : X → Result Y E) (a b c : X) (x y z : Y) → f a ≡ Ok x → f b ≡ Ok y → f c ≡ Ok z →
+    each_read f (a ∷ b ∷ c ∷ []) ≡ Ok (x ∷ y ∷ z ∷ [])
 each_read-three f a b c x y z p q r = λ i. put_read (p i) (put_read (q i) (put_read (r i) (Ok [])))
 
 -- a point is its three coordinates
@@ -104,25 +110,28 @@ three_coordinates (x ∷ y ∷ z ∷ w ∷ r) e = absurd (omega (arith, e))
 
 -- the line of a point adds it
 pub read_point : (k : ℕ) (limits : Limits) (n : ℕ) (s : Gathered) (p : List ℤ) → k ≤ 6 → IsPoint p → length s.points < limits.points →
-    obj_line k limits n (point_words k p) s ≡ Ok (record { points = s.points ++ p ∷ []; triples = s.triples })
+    obj_line k limits n (point_words k p) s ≡ Ok (record { points = s.points ++ p ∷ []; triples = s.triples; labels = s.labels; label = s.label })
 read_point k limits n s p few on room =
     let t = coordinate_text k p few on in
     let a = written k (coordinate_of p 0) in
     let b = written k (coordinate_of p 1) in
     let c = written k (coordinate_of p 2) in
     let values : each_read (coordinate k) (a ∷ b ∷ c ∷ []) ≡ Ok p =
-    each_read-three (coordinate k) a b c (coordinate_of p 0) (coordinate_of p 1) (coordinate_of p 2) t.0.reads t.1.reads t.2.reads ∙ ap (λ (q : List ℤ). Ok q) (three_coordinates p on.three) in
+    each_read-three (coordinate k) a b c (coordinate_of p 0) (coordinate_of p 1) (coordinate_of p 2) t.0.reads t.1.reads t.2.reads
+    ∙ ap (λ (q : List ℤ). Ok q) (three_coordinates p on.three) in
     let test : nat_lt limits.points (length s.points + 1) ≡ false = grind (arith, nat_tests) in
     ap (λ (r : Result (List ℤ) ℕ). then_read (on_line n r) (with_point limits s)) values
-    ∙ ap (λ (b : Bool). if b then Err (Over Points (length s.points + 1)) else Ok (record { points = s.points ++ p ∷ []; triples = s.triples })) test
+    ∙ ap (λ (b : Bool). if b then Err (Over Points (length s.points + 1)) else Ok
+    (record { points = s.points ++ p ∷ []; triples = s.triples; labels = s.labels; label = s.label })) test
 
 -- three different numbers have no repeat
 no_repeat : (t : Triple) → HasThree t → has_repeat (t.0 ∷ t.1 ∷ t.2 ∷ []) ≡ false
 no_repeat t three = grind (arith, nat_tests, three.ab, three.bc, three.ca)
 
--- the line of a triple adds it
-pub read_face : (k : ℕ) (limits : Limits) (n : ℕ) (s : Gathered) (t : Triple) → length s.points ≤ 150000000 → IsBelow (length s.points) t → HasThree t → length s.triples < limits.triangles →
-    obj_line k limits n (face_words t) s ≡ Ok (record { points = s.points; triples = s.triples ++ t ∷ [] })
+-- the line of a triple adds it with the present label
+pub read_face : (k : ℕ) (limits : Limits) (n : ℕ) (s : Gathered) (t : Triple) → length s.points ≤ 150000000 → IsBelow (length s.points) t →
+    HasThree t → length s.triples < limits.triangles →
+    obj_line k limits n (face_words t) s ≡ Ok (record { points = s.points; triples = s.triples ++ t ∷ []; labels = s.labels ++ s.label ∷ []; label = s.label })
 read_face k limits n s t few below three room =
     let count = length s.points in
     let x = IsItemOf-decimal count t.0 below.a few in
@@ -130,6 +139,8 @@ read_face k limits n s t few below three room =
     let z = IsItemOf-decimal count t.2 below.c few in
     let vs = t.0 ∷ t.1 ∷ t.2 ∷ [] in
     let test : nat_lt limits.triangles (length s.triples + 1) ≡ false = grind (arith, nat_tests) in
-    ap (λ (r : Result (List ℕ) ℕ). then_read (on_line n r) (obj_triples limits n s)) (each_read-three (item_vertex count) (decimal (t.0 + 1)) (decimal (t.1 + 1)) (decimal (t.2 + 1)) t.0 t.1 t.2 x.reads y.reads z.reads)
+    ap (λ (r : Result (List ℕ) ℕ). then_read (on_line n r) (obj_triples limits n s))
+    (each_read-three (item_vertex count) (decimal (t.0 + 1)) (decimal (t.1 + 1)) (decimal (t.2 + 1)) t.0 t.1 t.2 x.reads y.reads z.reads)
     ∙ ap (λ (b : Bool). if b then Err (Bad n 7) else with_triples limits s (face_fan vs)) (no_repeat t three)
-    ∙ ap (λ (b : Bool). if b then Err (Over Triangles (length s.triples + 1)) else Ok (record { points = s.points; triples = s.triples ++ t ∷ [] })) test
+    ∙ ap (λ (b : Bool). if b then Err (Over Triangles (length s.triples + 1)) else Ok
+    (record { points = s.points; triples = s.triples ++ t ∷ []; labels = s.labels ++ s.label ∷ []; label = s.label })) test

@@ -1,6 +1,9 @@
 -- Words with one space between them are the words of their line.
 use Rattle.std.proofs.Common.{◌≡◌, ℕ, ◌<◌, false, not, List, [], ◌∷◌, ◌++◌, length, refl, ap, ◌∙◌, sym, arith, append-nil}
+use Rattle.std.specs.List.{All}
 use Rattle.std.proofs.lemmas.Bool.Decides.{nat_tests}
+use Rattle.std.proofs.lemmas.List.Elements.{All-head, All-tail}
+use Rattle.mesh_terms.specs.Labels.{with_blanks}
 use Rattle.text_terms.specs.Lines.{is_blank, begins_word, words_of, add_first}
 use Rattle.text_laws.proofs.Words.{words_of-last, words_of-more}
 use Rattle.obj_laws.proofs.Bytes.{Above, Above-append, Above-lower, IsWord}
@@ -16,6 +19,25 @@ words_of-word (c ∷ []) rest some marks ends = words_of-last c rest (no_blank c
 words_of-word (c ∷ d ∷ word) rest some marks ends =
     words_of-more c (d ∷ (word ++ rest)) (no_blank c marks.0) (ap not (no_blank d marks.1.0))
     ∙ ap (add_first c) (words_of-word (d ∷ word) rest (omega arith) marks.1 ends)
+
+-- words joined by one blank are the words of their line
+pub words_of-joined : (ws : List (List ℕ)) → All IsWord ws → words_of (with_blanks ws) ≡ ws
+words_of-joined [] all = refl
+words_of-joined (w ∷ []) all =
+    let here = All-head IsWord w [] all in
+    ap words_of (sym (append-nil w)) ∙ words_of-word w [] here.some here.marks refl
+words_of-joined (w ∷ v ∷ ws) all =
+    let here = All-head IsWord w (v ∷ ws) all in
+    words_of-word w (32 ∷ with_blanks (v ∷ ws)) here.some here.marks refl
+    ∙ ap (λ (l : List (List ℕ)). w ∷ l) (words_of-joined (v ∷ ws) (All-tail IsWord w (v ∷ ws) all))
+
+-- with no byte below a space
+pub Above-joined : (ws : List (List ℕ)) → All IsWord ws → Above 31 (with_blanks ws)
+Above-joined [] all = tt
+Above-joined (w ∷ []) all = Above-lower 31 32 w (omega arith) (All-head IsWord w [] all).marks
+Above-joined (w ∷ v ∷ ws) all =
+    Above-append 31 w (32 ∷ with_blanks (v ∷ ws)) (Above-lower 31 32 w (omega arith) (All-head IsWord w (v ∷ ws) all).marks)
+    (omega arith, Above-joined (v ∷ ws) (All-tail IsWord w (v ∷ ws) all))
 
 -- four words with a space between them
 abbrev pub spaced : List ℕ → List ℕ → List ℕ → List ℕ → List ℕ

@@ -1,3 +1,4 @@
 pub mod Files
 pub mod Within
 pub mod ReadingBack
+pub mod ReadWords

@@ -1,8 +1,8 @@
 //! Laws of reading and writing OBJ, each as the contract of a function that does nothing.
 //!
-//! Under lawful limits the text of a mesh within them, whatever the digits, reads as the same points and triangles in the same
-//! order, and is short enough to be read; and what is read of any file is such a mesh. The lemmas stand in `proofs/`: bytes,
-//! lines, words and numbers, what one line gives its reader, and what all lines give.
+//! Under lawful limits the text of a mesh within them, whatever the digits, reads as the same points, triangles and labels in
+//! the same order, and is short enough to be read; and what is read of any file is such a mesh, with a label for each triangle.
+//! The lemmas stand in `proofs/`: bytes, lines, words and numbers, what one line gives its reader, and what all lines give.
 #![tactic(auto)]
 
 ghost use Rattle.obj_laws.specs.Files.{FilesRead};

@@ -1,3 +1,4 @@
 pub mod Faces
+pub mod Labels
 pub mod Obj
 pub mod Written

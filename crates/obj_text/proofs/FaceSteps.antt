@@ -1,5 +1,6 @@
 -- A reading with one more point, and with the triangles of one more face.
-use Rattle.std.proofs.Common.{◌≡◌, ℕ, ◌+◌, ◌-◌, ◌<◌, ◌≤◌, Bool, true, false, ℤ, List, [], ◌∷◌, ◌++◌, length, Ok, Err, ap, ◌∙◌, arith, length-append}
+use Rattle.std.proofs.Common.{◌≡◌, ℕ, ◌+◌, ◌-◌, ◌<◌, ◌≤◌, Bool, true, false, ℤ, List, [], ◌∷◌, ◌++◌, length, replicate}
+use Rattle.std.proofs.Common.{Ok, Err, ap, ◌∙◌, arith, length-append}
 use Rattle.std.specs.Prelude.{nat_lt, if◌then◌else◌}
 use Rattle.std.specs.List.{All}
 use Rattle.std.proofs.lemmas.Bool.Decides.{nat_tests}
@@ -22,7 +23,8 @@ pub triples_of-push : (old new : List (List ℕ)) (a b c : ℕ) → new ≡ old 
 triples_of-push old new a b c stored = ap triples_of stored ∙ map-append triple_of old ((a ∷ b ∷ c ∷ []) ∷ [])
 
 -- a reading stays sound with the triangles of a face
-pub IsSound-face : (n : ℕ) (ts us : List Triple) (vs : List ℕ) → IsSound n ts → us ≡ ts ++ face_fan vs → has_repeat vs ≡ false → All (λ v. v < n) vs → length ts + (length vs - 2) ≤ 100000000 → IsSound n us
+pub IsSound-face : (n : ℕ) (ts us : List Triple) (vs : List ℕ) → IsSound n ts → us ≡ ts ++ face_fan vs → has_repeat vs ≡ false → All (λ v. v < n) vs →
+    length ts + (length vs - 2) ≤ 100000000 → IsSound n us
 IsSound-face n ts us vs sound is apart below few = rw is (record {
   three = All-append HasThree ts (face_fan vs) sound.three (face_three vs apart);
   below = All-append (IsBelow n) ts (face_fan vs) sound.below (face_below n vs below);
@@ -31,7 +33,8 @@ IsSound-face n ts us vs sound is apart below few = rw is (record {
 })
 
 -- with one triangle more
-pub IsSound-triple : (n : ℕ) (ts us : List Triple) (t : Triple) → IsSound n ts → us ≡ ts ++ t ∷ [] → HasThree t → IsBelow n t → length ts < 100000000 → IsSound n us
+pub IsSound-triple : (n : ℕ) (ts us : List Triple) (t : Triple) → IsSound n ts → us ≡ ts ++ t ∷ [] → HasThree t → IsBelow n t →
+    length ts < 100000000 → IsSound n us
 IsSound-triple n ts us t sound is apart below few = rw is (record {
   three = All-push HasThree ts t sound.three apart;
   below = All-push (IsBelow n) ts t sound.below below;
@@ -49,27 +52,35 @@ IsSound-point n m ts sound more few = record {
 }
 
 -- too many points
-pub with_point-over : (limits : Limits) (s : Gathered) (p : List ℤ) (n : ℕ) → length s.points + 1 ≡ n → limits.points < n → with_point limits s p ≡ Err (Over Points n)
+pub with_point-over : (limits : Limits) (s : Gathered) (p : List ℤ) (n : ℕ) → length s.points + 1 ≡ n → limits.points < n →
+    with_point limits s p ≡ Err (Over Points n)
 with_point-over limits s p n e over =
     let test : nat_lt limits.points (length s.points + 1) ≡ true = grind (arith, nat_tests) in
-    ap (λ (b : Bool). if b then Err (Over Points (length s.points + 1)) else Ok (record { points = s.points ++ p ∷ []; triples = s.triples })) test
+    ap (λ (b : Bool). if b then Err (Over Points (length s.points + 1)) else Ok
+    (record { points = s.points ++ p ∷ []; triples = s.triples; labels = s.labels; label = s.label })) test
     ∙ ap (λ (m : ℕ). Err (Over Points m)) e
 
 -- no more than the limit
-pub with_point-within : (limits : Limits) (s : Gathered) (p : List ℤ) → length s.points + 1 ≤ limits.points → with_point limits s p ≡ Ok (record { points = s.points ++ p ∷ []; triples = s.triples })
+pub with_point-within : (limits : Limits) (s : Gathered) (p : List ℤ) → length s.points + 1 ≤ limits.points →
+    with_point limits s p ≡ Ok (record { points = s.points ++ p ∷ []; triples = s.triples; labels = s.labels; label = s.label })
 with_point-within limits s p within =
     let test : nat_lt limits.points (length s.points + 1) ≡ false = grind (arith, nat_tests) in
-    ap (λ (b : Bool). if b then Err (Over Points (length s.points + 1)) else Ok (record { points = s.points ++ p ∷ []; triples = s.triples })) test
+    ap (λ (b : Bool). if b then Err (Over Points (length s.points + 1)) else Ok
+    (record { points = s.points ++ p ∷ []; triples = s.triples; labels = s.labels; label = s.label })) test
 
 -- too many triangles
-pub with_triples-over : (limits : Limits) (s : Gathered) (ts : List Triple) (n : ℕ) → length s.triples + length ts ≡ n → limits.triangles < n → with_triples limits s ts ≡ Err (Over Triangles n)
+pub with_triples-over : (limits : Limits) (s : Gathered) (ts : List Triple) (n : ℕ) → length s.triples + length ts ≡ n → limits.triangles < n →
+    with_triples limits s ts ≡ Err (Over Triangles n)
 with_triples-over limits s ts n e over =
     let test : nat_lt limits.triangles (length s.triples + length ts) ≡ true = grind (arith, nat_tests) in
-    ap (λ (b : Bool). if b then Err (Over Triangles (length s.triples + length ts)) else Ok (record { points = s.points; triples = s.triples ++ ts })) test
+    ap (λ (b : Bool). if b then Err (Over Triangles (length s.triples + length ts)) else Ok
+    (record { points = s.points; triples = s.triples ++ ts; labels = s.labels ++ replicate (length ts) s.label; label = s.label })) test
     ∙ ap (λ (m : ℕ). Err (Over Triangles m)) e
 
 -- no more than the limit
-pub with_triples-within : (limits : Limits) (s : Gathered) (ts : List Triple) → length s.triples + length ts ≤ limits.triangles → with_triples limits s ts ≡ Ok (record { points = s.points; triples = s.triples ++ ts })
+pub with_triples-within : (limits : Limits) (s : Gathered) (ts : List Triple) → length s.triples + length ts ≤ limits.triangles →
+    with_triples limits s ts ≡ Ok (record { points = s.points; triples = s.triples ++ ts; labels = s.labels ++ replicate (length ts) s.label; label = s.label })
 with_triples-within limits s ts within =
     let test : nat_lt limits.triangles (length s.triples + length ts) ≡ false = grind (arith, nat_tests) in
-    ap (λ (b : Bool). if b then Err (Over Triangles (length s.triples + length ts)) else Ok (record { points = s.points; triples = s.triples ++ ts })) test
+    ap (λ (b : Bool). if b then Err (Over Triangles (length s.triples + length ts)) else Ok
+    (record { points = s.points; triples = s.triples ++ ts; labels = s.labels ++ replicate (length ts) s.label; label = s.label })) test

@@ -5,6 +5,7 @@ mod DigitSteps
 mod ItemSteps
 mod NamedTwice
 mod FaceSteps
+mod LabelSteps
 mod PlainLines
 mod PlainReads
 mod ShortNumbers

@@ -1,4 +1,4 @@
-//! Reads the text of a Wavefront OBJ file into points and triangles.
+//! Reads the text of a Wavefront OBJ file into points and triangles with labels.
 //!
 //! A line ends at LF or at the end of the text, and one CR at its end is dropped. EF BB BF at the start is
 //! passed over. A line whose last byte is `\` goes on in the next, where its first word does not begin with
@@ -9,7 +9,8 @@
 //! |---|---|
 //! | `v` | three to seven: x, y and z as decimal numbers, and up to four that are not looked at |
 //! | `f` | three or more items `i`, `i/j`, `i//k` or `i/j/k`, each number an optional `-` and digits |
-//! | `vt` `vn` `o` `g` `s` `usemtl` `mtllib` `l` `p` | the line is passed over |
+//! | `g` | the label of the triangles of the faces after it: all words, joined by one blank, with `_` for a byte that is below 33, 127 or a backslash, the first 64 bytes of them, without a blank at the end |
+//! | `vt` `vn` `o` `s` `usemtl` `mtllib` `l` `p` | the line is passed over |
 //!
 //! The number i of an item names the i-th point so far, counted from 1, or counts back from the last, which
 //! is -1. A face of n items is n - 2 triangles: its first item with each two that follow one another.
@@ -21,6 +22,7 @@ ghost use Rattle.obj_terms.specs.Obj.{obj};
 ghost use Rattle.text_lines.specs.Faults.{IsFaultOf};
 
 mod decimals;
+mod groups;
 mod items;
 mod lines;
 mod plain;
@@ -33,7 +35,7 @@ use reading::Reading;
 use std::alloc::Global;
 use text_lines::without_mark;
 
-/// The points and triangles of a Wavefront OBJ file in the order of the file: points in grid steps, 10 to
+/// The points and triangles of a Wavefront OBJ file in the order of the file, each triangle with its label: points in grid steps, 10 to
 /// the power of `digits` a unit, rounded to the nearest, and vertices from 0. Points that no triangle uses
 /// are dropped and counted.
 ///

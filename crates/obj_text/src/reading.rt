@@ -2,6 +2,7 @@
 ghost use Rattle.std.specs.Prelude.{◌≡◌, ◌<◌, ◌≤◌, [], ◌∷◌, ◌++◌, ℕ, false, Ok, OnOk, OnErr, IfOk, IfErr, IsTrue, IsFalse, All, length, bytes_eq};
 ghost use Rattle.std.specs.List.{list_any};
 ghost use Rattle.text_terms.specs.Lines.{joined_lines};
+ghost use Rattle.mesh_terms.specs.Labels.{labels_for, no_labels};
 ghost use Rattle.mesh_terms.specs.Limits.{most_points, most_triangles};
 ghost use Rattle.mesh_terms.specs.Meshes.{HasThree, IsBelow, triples_of, soup_of};
 ghost use Rattle.obj_terms.specs.Faces.{face_fan, has_repeat};
@@ -9,34 +10,37 @@ ghost use Rattle.obj_terms.specs.Obj.{nothing_gathered, with_point, with_triples
 ghost use Rattle.text_lines.specs.Faults.{IsFaultOf};
 ghost use Rattle.obj_text.specs.Plain.{ReadsLine};
 
+use crate::groups::Groups;
 use crate::items::{point_of, read_vertices};
 use crate::lines::Lines;
 use crate::repeats::has_repeat;
 use crate::words::Words;
-use mb_base::{Counted, Limits, NoMemory, Point, Soup, TextFault, TextKind};
+use mb_base::{Counted, Labels, Limits, NoMemory, Point, Soup, TextFault, TextKind};
 use std::alloc::{AllocError, Global};
 use std::marker::Model;
 use text_lines::bad;
 use unused_points::without_unused;
 
-/// The points and the triangles that the lines so far gave.
+/// The points and the triangles that the lines so far gave, and their groups.
 #[derive(Drop)]
 pub struct Gathered {
     points: Vec<Point>,
     triples: Vec<[u32; 3]>,
+    groups: Groups,
 }
 
 impl Model for Gathered {
     ghost use Rattle.std.specs.Prelude.{length};
+    ghost use Rattle.mesh_terms.specs.Labels.{labels_for};
     ghost use Rattle.mesh_terms.specs.Meshes.{triples_of};
     ghost use Rattle.obj_terms.specs.Obj.{Gathered as TheGathered};
-    ghost use Rattle.unused_points.specs.Used.{IsSound};
+    ghost use Rattle.obj_text.specs.Groups.{IsGathering};
 
     ghost Value = { TheGathered };
 
-    ghost view = { λ g. record { points = g.points.items; triples = triples_of g.triples.items } };
+    ghost view = { λ g. record { points = g.points.items; triples = triples_of g.triples.items; labels = labels_for (triples_of g.triples.items) g.groups.labels; label = g.groups.label } };
 
-    ghost invariant = { λ g. IsSound (length g.points.items) (triples_of g.triples.items) };
+    ghost invariant = { λ g. IsGathering (length g.points.items) (triples_of g.triples.items) g.groups.labels };
 }
 
 impl Gathered {
@@ -47,6 +51,7 @@ impl Gathered {
         Gathered {
             points: Vec::new(alloc),
             triples: Vec::new(alloc),
+            groups: Groups::new(alloc),
         }
     }
 
@@ -57,14 +62,18 @@ impl Gathered {
         self.points.len() as u32
     }
 
-    // The soup of the points and the triangles.
+    // The soup of the points and the triangles with their labels.
     fn into_soup(self, alloc: Global) -> Result<Soup, TextFault>
-        ensures soup { IfOk result (λ soup. soup ≡ soup_of self.points self.triples) }
+        ensures soup { IfOk result (λ soup. soup ≡ soup_of self.points self.triples self.labels) }
         ensures fault { IfErr result (λ e. e ≡ TextFault.NoMemory) }
     {
-        let Gathered { points, triples } = self;
+        let Gathered {
+            points,
+            triples,
+            groups,
+        } = self;
         match without_unused(alloc, points, triples) {
-            Ok(soup) => Ok(soup),
+            Ok(soup) => Ok(with_labels(soup, groups.into_labels())),
             Err(NoMemory) => Err(TextFault::NoMemory),
         }
     }
@@ -100,7 +109,9 @@ impl Gathered {
                 seen,
             });
         }
+        let before = self.triples.len();
         push_fan(&mut self.triples, vertices)?;
+        self.groups.extend(before, self.triples.len())?;
         Ok(())
     }
 
@@ -110,7 +121,7 @@ impl Gathered {
         lines: &mut Lines<'_>,
         digits: u8,
         limits: &Limits,
-    ) -> Result<bool, AllocError>
+    ) -> Result<bool, NoMemory>
         requires { digits ≤ 6 }
         ensures { IfOk result (ReadsLine digits limits.now (lines.old, self.old) (lines.new, self.new)) }
     {
@@ -121,11 +132,7 @@ impl Gathered {
     }
 
     // The same for the line of a face.
-    fn read_plain_face(
-        &mut self,
-        lines: &mut Lines<'_>,
-        limits: &Limits,
-    ) -> Result<bool, AllocError>
+    fn read_plain_face(&mut self, lines: &mut Lines<'_>, limits: &Limits) -> Result<bool, NoMemory>
         ensures { IfOk result (λ more. (k : ℕ) → ReadsLine k limits.now (lines.old, self.old) (lines.new, self.new) more) }
     {
         let Some((a, b, c, after)) = lines.face() else {
@@ -145,7 +152,7 @@ impl Gathered {
         lines: &mut Lines<'_>,
         digits: u8,
         limits: &Limits,
-    ) -> Result<bool, AllocError>
+    ) -> Result<bool, NoMemory>
         requires { digits ≤ 6 }
         ensures { IfOk result (ReadsLine digits limits.now (lines.old, self.old) (lines.new, self.new)) }
     {
@@ -178,24 +185,43 @@ impl Gathered {
     }
 
     // Adds a triangle.
-    fn push_triangle(&mut self, a: u64, b: u64, c: u64) -> Result<(), AllocError>
+    fn push_triangle(&mut self, a: u64, b: u64, c: u64) -> Result<(), NoMemory>
         requires below { IsBelow (length self.old.points) (a, b, c) }
         requires apart { HasThree (a, b, c) }
         requires room { length self.old.triples < most_triangles }
-        ensures { OnOk result (self.new ≡ record { points = self.old.points; triples = self.old.triples ++ (a, b, c) ∷ [] }) }
+        ensures { OnOk result (self.new ≡ record { points = self.old.points; triples = self.old.triples ++ (a, b, c) ∷ []; labels = self.old.labels ++ self.old.label ∷ []; label = self.old.label }) }
     {
+        let before = self.triples.len();
         self.triples.push([a as u32, b as u32, c as u32])?;
+        self.groups.extend(before, before + 1)?;
         Ok(())
     }
 
     // Adds a point.
     fn push_point(&mut self, point: Point) -> Result<(), AllocError>
         requires { length self.old.points < most_points }
-        ensures { OnOk result (self.new ≡ record { points = self.old.points ++ point ∷ []; triples = self.old.triples }) }
+        ensures { OnOk result (self.new ≡ record { points = self.old.points ++ point ∷ []; triples = self.old.triples; labels = self.old.labels; label = self.old.label }) }
     {
         self.points.push(point)?;
         Ok(())
     }
+}
+
+// The soup with these labels.
+fn with_labels(soup: Soup, labels: Labels) -> Soup
+    requires few { length labels ≤ length soup.triples }
+    requires none { soup.labels ≡ no_labels soup.triples }
+    ensures points { result.points ≡ soup.points }
+    ensures triples { result.triples ≡ soup.triples }
+    ensures labels { result.labels ≡ labels_for soup.triples labels }
+    ensures unused { result.unused ≡ soup.unused }
+{
+    if labels.len() == 0 {
+        return soup;
+    }
+    let unused = soup.unused();
+    let (points, triples, _) = soup.into_parts();
+    Soup::labelled(points, triples, labels, unused)
 }
 
 // Adds the triangles of a face of these vertices: the first with each two that follow one another. Where
@@ -265,9 +291,9 @@ impl Reading {
         Ok(true)
     }
 
-    /// The points and triangles, without the points that no triangle uses.
+    /// The points and triangles with their labels, without the points that no triangle uses.
     pub fn into_soup(self, alloc: Global) -> Result<Soup, TextFault>
-        ensures soup { IfOk result (λ soup. soup ≡ soup_of self.gathered.points self.gathered.triples) }
+        ensures soup { IfOk result (λ soup. soup ≡ soup_of self.gathered.points self.gathered.triples self.gathered.labels) }
         ensures fault { IfErr result (λ e. e ≡ TextFault.NoMemory) }
     {
         let Reading {
@@ -297,6 +323,9 @@ impl Reading {
             self.read_point(words, number, digits, limits)
         } else if word == b"f".as_slice() {
             self.read_face(words, number, limits)
+        } else if word == b"g".as_slice() {
+            self.gathered.groups.set(words);
+            Ok(())
         } else if is_passed_over(word) {
             Ok(())
         } else {
@@ -339,7 +368,6 @@ fn is_passed_over(word: &[u8]) -> bool
     ensures { result ≡ list_any (bytes_eq word.now) passed_over }
 {
     let short = word == b"o".as_slice()
-        || word == b"g".as_slice()
         || word == b"s".as_slice()
         || word == b"l".as_slice()
         || word == b"p".as_slice();

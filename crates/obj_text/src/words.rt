@@ -1,6 +1,8 @@
 // The words of a line.
 ghost use Rattle.std.specs.Prelude.{◌≡◌, ◌<◌, ◌≤◌, ◌⊎◌, [], ◌∷◌, length, take, IsTrue, IfSome, IfNone};
 ghost use Rattle.text_terms.specs.Lines.{is_continued, begins_word, before_comment, words_of, lines_of, begins_comment};
+ghost use Rattle.std.specs.List.{All};
+ghost use Rattle.obj_laws.specs.ReadWords.{IsReadWord};
 ghost use Rattle.obj_text.specs.Lines.{first_words, words_left};
 
 use std::marker::Model;
@@ -31,6 +33,14 @@ impl<'t> Words<'t> {
     {
         let (part, later) = part_of(line, after);
         Words { part, later }
+    }
+
+    /// Each word has some bytes, and none begins with `#`.
+    pub fn are_read(&self)
+        ensures { All IsReadWord self.now }
+    {
+        // Read so that what is left of the line is known here.
+        let _part = self.part;
     }
 
     /// The next three words, where there are so many.

@@ -1,3 +1,4 @@
+pub mod FaceLabels
 pub mod FanLists
 pub mod FanNumbers
 pub mod GridNumbers

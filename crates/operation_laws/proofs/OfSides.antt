@@ -1,5 +1,5 @@
 -- What an operation makes of two sides with conserved numbers comes from the prescribed vertices, face by face, and is clean.
-use Rattle.std.proofs.Common.{◌≡◌, ◌≤◌, List, length, map, refl, subst}
+use Rattle.std.proofs.Common.{◌≡◌, ◌≤◌, ℕ, List, length, map, refl, subst}
 use Rattle.std.proofs.lemmas.List.{length-map}
 use Rattle.chain_terms.specs.Chains.{all_edges}
 use Rattle.halfedge.specs.Clean.{IsClean}
@@ -27,9 +27,9 @@ pub record IsResultOfSides (p q : Side) (o : Outcome) : Type 0 where
   pub faces : AreBounded p q o.copies o.from o.source o.triples
   pub clean : IsCleanOver o.from o.triples
 
-pub result_of_sides : AreFilled → FacesAreFilled → (op : Op) (p q : Side) (n : Numbers) → IsKnown p → IsKnown q → AreNumbersOf p q n
-    → prescribed_halfedges op p q n ≤ most_halfedges → IsResultOfSides p q (outcome_of op p q n)
-result_of_sides laws filled op p q n p_known q_known known few =
+pub result_of_sides : AreFilled → FacesAreFilled → (labels : List (List ℕ)) → (op : Op) (p q : Side) (n : Numbers) → IsKnown p → IsKnown q → AreNumbersOf p q n
+    → prescribed_halfedges op p q n ≤ most_halfedges → IsResultOfSides p q (outcome_of labels op p q n)
+result_of_sides laws filled labels op p q n p_known q_known known few =
     let cs : List Copy = prescribed op p q n in
     let ts : List Triple = all_triples (all_filled p q cs) in
     let points = points_of_copies cs in

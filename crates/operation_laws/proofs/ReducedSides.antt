@@ -3,9 +3,11 @@ use Rattle.std.proofs.Common.{◌≡◌, ℕ, suc, ℤ, ◌*ℤ◌, Bool, List, 
 use Rattle.std.specs.List.{All}
 use Rattle.std.proofs.lemmas.Bool.{cond_both}
 use Rattle.std.proofs.lemmas.Int.{ints}
+use Rattle.std.proofs.lemmas.List.{length-map}
 use Rattle.std.proofs.lemmas.List.Elements.{All-cons, All-head, All-nil, All-tail}
 use Rattle.mb_base.specs.declared.TheConstants.{UNIT}
-use Rattle.mesh_terms.specs.Meshes.{IsAccepted, Mesh, Triple, is_used, used_from}
+use Rattle.mesh_terms.specs.Labels.{AreLabels}
+use Rattle.mesh_terms.specs.Meshes.{IsAccepted, Mesh, Triple, is_used, new_number, renumbered, used_from}
 use Rattle.mesh_terms.specs.Points.{IsOnGrid, IsPoint, coordinate_of}
 use Rattle.unused_points.proofs.KeptMesh.{kept_mesh}
 use Rattle.mesh_check.specs.Reduced.{NoOpposite, kept_triples}
@@ -18,6 +20,7 @@ use Rattle.assembly_terms.specs.PointLaws.{corners_points}
 use Rattle.assembly_terms.specs.Points.{points_of}
 use Rattle.mesh_boolean.specs.Operation.{reduced_mesh}
 use Rattle.made_laws.specs.Laws.{IsGiven}
+use Rattle.operation_laws.proofs.FaceLabels.{kept_labels}
 
 -- a side at points of the grid, without opposite triples
 pub record IsKnown (side : Side) : Type 0 where
@@ -32,14 +35,19 @@ used_all P ts v (p ∷ ps) all =
     let rest = used_all P ts (suc v) ps (All-tail P p ps all) in
     cond_both (is_used ts v) (p ∷ []) [] (λ l. All P (l ++ used_from ts (suc v) ps)) (λ _. All-cons P p (used_from ts (suc v) ps) (All-head P p ps all) rest) (λ _. rest)
 
+-- as many triples under new numbers
+length-renumbered : (ts : List Triple) → length (renumbered ts) ≡ length ts
+length-renumbered ts = length-map {B = Triple} ts (λ t. (new_number ts t.0, new_number ts t.1, new_number ts t.2))
+
 -- the reduced mesh is such a mesh
 pub reduced_given : (m : Mesh) → IsGiven m → IsGiven (reduced_mesh m)
 reduced_given m given = record {
   accepted = record {
     mesh = kept_mesh (kept_triples m.triples) m.points (kept_sound (length m.points) m.triples given.accepted.mesh);
-    closed = reduced_closed m.points m.triples given.accepted.mesh given.accepted.closed;
+    closed = reduced_closed m.points m.triples m.labels given.accepted.mesh given.accepted.closed;
   };
   on_grid = used_all IsPoint (kept_triples m.triples) 0 m.points given.on_grid;
+  labels = subst (λ n. AreLabels n (reduced_mesh m).labels) (sym (length-renumbered (kept_triples m.triples))) (kept_labels m.triples m.labels given.labels);
 }
 
 -- a coordinate on the grid is fine in fine steps
@@ -57,7 +65,8 @@ corner_fine p u on = record {
 corners_fine : (ps : List (List ℤ)) (us : List (List Bool)) → All IsPoint ps → AllFine (corners_of ps us)
 corners_fine [] us on = All-nil IsFineCorner
 corners_fine (p ∷ ps) [] on = All-nil IsFineCorner
-corners_fine (p ∷ ps) (u ∷ us) on = All-cons IsFineCorner (corner_of p u) (corners_of ps us) (corner_fine p u (All-head IsPoint p ps on)) (corners_fine ps us (All-tail IsPoint p ps on))
+corners_fine (p ∷ ps) (u ∷ us) on =
+    All-cons IsFineCorner (corner_of p u) (corners_of ps us) (corner_fine p u (All-head IsPoint p ps on)) (corners_fine ps us (All-tail IsPoint p ps on))
 
 -- the side of such a mesh with marks for each point
 pub side_is : (m : Mesh) (ups : List (List Bool)) → IsGiven m → length ups ≡ length m.points → IsSide (side_of m ups)
@@ -73,6 +82,6 @@ pub reduced_side : (m : Mesh) (ups : List (List Bool)) → IsGiven m → length 
 reduced_side m ups given each =
     let known = reduced_given m given in record {
       kept = side_is (reduced_mesh m) ups known each;
-      apart = reduced_no_opposite m.points m.triples given.accepted.mesh;
+      apart = reduced_no_opposite m.points m.triples m.labels given.accepted.mesh;
       on_grid = subst (All IsPoint) (sym (corners_points (reduced_mesh m).points ups known.on_grid each)) known.on_grid;
     }

@@ -23,13 +23,14 @@ use Rattle.play_laws.specs.ScriptsReadingBack.{MeshReadable}
 use Rattle.play_laws.proofs.Readable.{readable_within, within_of_readable}
 use Rattle.play_laws.proofs.ScriptsReadingBack.{steps_keep}
 use Rattle.play_terms.specs.Plays.{mesh_at}
-use Rattle.mesh_boolean.specs.Operation.{Outcome, first_side, numbers_of, operation, reduced_mesh, second_side}
+use Rattle.mesh_boolean.specs.Operation.{Outcome, face_labels, first_side, numbers_of, operation, reduced_mesh, second_side}
 use Rattle.operation_laws.specs.Kernels.{meanings_under, rule_under, tests_under, told_of}
 use Rattle.operation_laws.specs.Laws.{OperationsAreAccepted, OperationsAreReadable}
 use Rattle.operation_laws.specs.Results.{OperationsAreResults, ScriptsGiveResults}
 use Rattle.operation_laws.proofs.OfSides.{result_of_sides}
 use Rattle.operation_laws.proofs.GridNumbers.{are_numbers}
 use Rattle.operation_laws.proofs.Made.{AreFilled, IsMade, is_made}
+use Rattle.operation_laws.proofs.FaceLabels.{face_labels-are}
 use Rattle.operation_laws.proofs.ReducedSides.{IsKnown, reduced_side}
 
 -- rounding to the nearest stays between, and settles as it should
@@ -55,17 +56,19 @@ first_known op p given = reduced_side p (leans_of op (reduced_mesh p)) given (le
 
 second_known : (q : Mesh) → IsGiven q → IsKnown (second_side q)
 second_known q given =
-    reduced_side q (replicate (length (reduced_mesh q).points) (false ∷ false ∷ false ∷ [])) given (length-replicate (length (reduced_mesh q).points) (false ∷ false ∷ false ∷ []))
+    reduced_side q (replicate (length (reduced_mesh q).points) (false ∷ false ∷ false ∷ [])) given
+    (length-replicate (length (reduced_mesh q).points) (false ∷ false ∷ false ∷ []))
 
 -- what an operation makes of accepted meshes
-pub operation_made : AreFilled → (kernels : KernelKind) (op : Op) (p q : Mesh) → IsGiven p → IsGiven q → (operation (tests_under kernels) op p q).halfedges ≤ most_halfedges →
+pub operation_made : AreFilled → (kernels : KernelKind) (op : Op) (p q : Mesh) → IsGiven p → IsGiven q →
+    (operation (tests_under kernels) op p q).halfedges ≤ most_halfedges →
     IsMade (operation (tests_under kernels) op p q)
 operation_made laws kernels op p q p_given q_given few =
     let one = first_known op p p_given in
     let other = second_known q q_given in
     let first = first_side op p in
     let second = second_side q in
-    is_made laws op first second (numbers_of (tests_under kernels) first second) one other
+    is_made laws (face_labels p q) (face_labels-are p q p_given q_given) op first second (numbers_of (tests_under kernels) first second) one other
     (are_numbers (lawful_under kernels) settle_nearest nearest_settles first second one.kept other.kept) few
 
 -- the half-edges of a lawful limit are at most sixty million
@@ -80,7 +83,7 @@ made_of laws limits lawful kernels op p q p_given q_given within =
 -- what is made is within lawful limits where its half-edges are
 made_within : (limits : Limits) (o : Outcome) → IsLawful limits → IsMade o → o.halfedges ≤ limits.halfedges → IsGivenWithin limits (told_of o).mesh
 made_within limits o lawful made within = record {
-  given = record { accepted = made.accepted; on_grid = made.on_grid };
+  given = record { accepted = made.accepted; on_grid = made.on_grid; labels = made.labels };
   few_points = omega (arith, made.few_points, made.few_triples, within, lawful.triangles_enough, lawful.points_enough);
   few_triples = omega (arith, made.few_triples, within, lawful.triangles_enough);
 }
@@ -91,7 +94,8 @@ operations_are_accepted laws limits lawful kernels op p q p_given q_given within
     made_within limits (operation (tests_under kernels) op p q) lawful (made_of laws limits lawful kernels op p q p_given q_given within) within
 
 -- which is read of its text
-pub operations_are_readable : AreFilled → (k : ℕ) (limits : Limits) → k ≤ 6 → IsLawful limits → (kernels : KernelKind) (op : Op) (p q : Mesh) → IsGiven p → IsGiven q →
+pub operations_are_readable : AreFilled → (k : ℕ) (limits : Limits) → k ≤ 6 → IsLawful limits → (kernels : KernelKind) (op : Op) (p q : Mesh) →
+    IsGiven p → IsGiven q →
     (operation (tests_under kernels) op p q).halfedges ≤ limits.halfedges →
     MeshReadable k limits (told_of (operation (tests_under kernels) op p q)).mesh
 operations_are_readable laws k limits few lawful kernels op p q p_given q_given within =
@@ -102,7 +106,8 @@ operations_are_readable laws k limits few lawful kernels op p q p_given q_given 
 -- so what a script makes of meshes that are read of their texts is read of its text
 pub results_readable : AreFilled → OperationsAreReadable
 results_readable laws k limits few lawful kernels op p q p_readable q_readable within =
-    operations_are_readable laws k limits few lawful kernels op p q (within_of_readable k limits p lawful p_readable).given (within_of_readable k limits q lawful q_readable).given
+    operations_are_readable laws k limits few lawful kernels op p q (within_of_readable k limits p lawful p_readable).given
+    (within_of_readable k limits q lawful q_readable).given
     (ltb-false limits.halfedges (operation (tests_under kernels) op p q).halfedges within)
 
 -- and what an operation gives is a result of its meshes
@@ -113,8 +118,8 @@ operations_are_results laws filled kernels op p q p_given q_given few =
     let first = first_side op p in
     let second = second_side q in
     let known = are_numbers (lawful_under kernels) settle_nearest nearest_settles first second one.kept other.kept in
-    let made = result_of_sides laws filled op first second (numbers_of (tests_under kernels) first second) one other known few in
-    record { conserved = known.conserved; prescribed = refl; from = made.from; faces = made.faces; clean = made.clean }
+    let made = result_of_sides laws filled (face_labels p q) op first second (numbers_of (tests_under kernels) first second) one other known few in
+    record { conserved = known.conserved; prescribed = refl; from = made.from; faces = made.faces; clean = made.clean; labels = refl }
 
 -- so is what a script has of an operation on the meshes of two names
 pub scripts_give_results : AreFilled → FacesAreFilled → ScriptsGiveResults

@@ -28,7 +28,15 @@ tests_under kernels = tests_of (rule_under kernels) nearest settle_nearest
 -- what an operation gives, as far as a script tells it
 abbrev pub told_of : Outcome → Combined
 told_of o =
-    record { mesh = record { points = o.points; triples = o.triples }; p_kept = o.p_kept; q_kept = o.q_kept; crossings = o.crossings; forced = o.forced; halfedges = o.halfedges }
+    record {
+      mesh = record { points = o.points; triples = o.triples; labels = o.labels };
+      p_kept = o.p_kept;
+      q_kept = o.q_kept;
+      crossings =
+          o.crossings;
+      forced = o.forced;
+      halfedges = o.halfedges;
+    }
 
 -- what the steps of a script mean under these kernels
 abbrev pub meanings_under : KernelKind → Meanings

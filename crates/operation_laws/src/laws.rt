@@ -18,7 +18,7 @@ pub fn operations_are_readable()
 /// Under the kernels of the grid and under exact ones what an operation gives of two accepted meshes is a result of them, where its half-edges are at most
 /// `most_halfedges`, which no lawful limit passes: along each half-edge of both, reduced, the winding number in the other changes by its signed
 /// crossings; the vertices, before pinched ones are split, are the prescribed ones, each as often; the triangles of each source face are bounded
-/// by its segments; and the mesh is closed, its half-edges are paired, and each vertex has one fan. The meshes of the names of a script are such
+/// by its segments and have its label; and the mesh is closed, its half-edges are paired, and each vertex has one fan. The meshes of the names of a script are such
 /// meshes, whatever lines of it were done.
 pub fn operations_are_results()
     ensures results { OperationsAreResults }

@@ -8,6 +8,8 @@ mod faces;
 #[cfg(test)]
 mod handed;
 #[cfg(test)]
+mod labels;
+#[cfg(test)]
 mod prescribed;
 #[cfg(test)]
 mod results;

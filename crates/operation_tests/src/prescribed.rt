@@ -83,7 +83,7 @@ fn counts_of(all: &Result<Prescribed, PrescribeFault>) -> Result<(bool, [u64; 4]
 
 // That of the boxes for an operation, with as many half-edges at most.
 fn boxes(alloc: Global, op: Op, halfedges: u32) -> Result<(bool, [u64; 4]), Fail> {
-    let limits = Limits::of(1 << 30, 15_000_000, 10_000_000, halfedges).ok_or("no limits")?;
+    let limits = Limits::of(1 << 31, 15_000_000, 10_000_000, halfedges).ok_or("no limits")?;
     let (p, q) = read_meshes(alloc, POST_IN_BOX)?;
     let all = answer(alloc, op, &p, &q, NUMBERS, &limits)?;
     counts_of(&all)

@@ -42,8 +42,8 @@ fn answer<K: Kernels, L: Ledger>(
     boolean(alloc, op, p, q, kernels, limits, &mut steps)
 }
 
-// That, with a counter of steps that begins anew.
-fn operated<K: Kernels>(
+/// That, with a counter of steps that begins anew.
+pub fn operated<K: Kernels>(
     alloc: Global,
     op: Op,
     p: &Mesh,
@@ -154,7 +154,7 @@ fn has_the_numbers_worked_out(rt: HostRuntime) -> Result<(), Fail> {
 // How many half-edges are too many for a post through a box where so many are the limit, if any are.
 fn too_many(alloc: Global, halfedges: u32) -> Result<Option<u64>, Fail> {
     let (p, q) = read_meshes(alloc, POST_IN_BOX)?;
-    let limits = Limits::of(13_090, 210, 140, halfedges).ok_or("no limits")?;
+    let limits = Limits::of(22_470, 210, 140, halfedges).ok_or("no limits")?;
     let kernels = Grid { rounding: Nearest };
     seen_by(&operated(alloc, Op::Union, &p, &q, &kernels, &limits))
 }

@@ -4,6 +4,7 @@ ghost use Rattle.std.specs.List.{All};
 ghost use Rattle.chain_terms.specs.Chains.{all_edges, IsClosed};
 ghost use Rattle.chain_terms.specs.Sums.{upto};
 ghost use Rattle.mesh_terms.specs.Fans.{AreFans};
+ghost use Rattle.mesh_terms.specs.Labels.{no_labels};
 ghost use Rattle.mesh_terms.specs.Limits.{most_triangles};
 ghost use Rattle.mesh_terms.specs.Meshes.{HasThree, IsAccepted, IsMesh, triples_of};
 ghost use Rattle.mesh_terms.specs.Twins.{twins_of};
@@ -21,7 +22,7 @@ use std::alloc::Global;
 
 /// The closed mesh of these points and triangles with one vertex for each fan, which has the point of its
 /// old vertex. The new vertices go by their old vertex, and at one vertex by the least half-edge of the
-/// fan. The triangles keep their order, and each half-edge its twin. `NoMemory` may come for any mesh.
+/// fan. The triangles keep their order, and each half-edge its twin; their labels are empty. `NoMemory` may come for any mesh.
 /// First the twins are found, as in `Twins::of`. Where each vertex has one fan, which is then found out in time
 /// linear in the triangles, the mesh is given as it is. Otherwise its fans are listed, which sorts its half-edges
 /// by their starts, and the rest takes linear time; but where two half-edges run the same way, the twins are
@@ -36,6 +37,7 @@ pub fn split(alloc: Global, points: &[Point], triples: &[[u32; 3]]) -> Result<Sp
     ensures clean { IfOk result (λ s. IsClean (all_edges s.mesh.triples)) }
     ensures twins { IfOk result (λ s. twins_of s.mesh.triples ≡ twins_of (triples_of triples.now)) }
     ensures few { IfOk result (λ s. 2 * length s.mesh.points ≤ 3 * length s.mesh.triples) }
+    ensures labels { IfOk result (λ s. s.mesh.labels ≡ no_labels s.mesh.triples) }
 {
     let twins = closed_twins(alloc, triples)?;
     if twins.are_clean(alloc, points.len())? {
@@ -67,6 +69,7 @@ fn whole(alloc: Global, points: &[Point], twins: Twins) -> Result<Split, NoMemor
     ensures from { IfOk result (λ s. s.from.items ≡ upto (length points.now)) }
     ensures there { IfOk result (λ s. ComeFrom s.mesh.points points.now s.from.items) }
     ensures back { IfOk result (λ s. map (named_by s.from.items) s.mesh.triples ≡ twins.triples) }
+    ensures labels { IfOk result (λ s. s.mesh.labels ≡ no_labels s.mesh.triples) }
 {
     let from = numbers(alloc, points.len())?;
     let points = points.to_vec(alloc)?;
@@ -86,6 +89,7 @@ fn split_by(alloc: Global, points: &[Point], twins: Twins, fans: Fans) -> Result
     ensures there { IfOk result (λ s. ComeFrom s.mesh.points points.now s.from.items) }
     ensures back { IfOk result (λ s. map (named_by s.from.items) s.mesh.triples ≡ twins.triples) }
     ensures few { IfOk result (λ s. 2 * length s.mesh.points ≤ 3 * length s.mesh.triples) }
+    ensures labels { IfOk result (λ s. s.mesh.labels ≡ no_labels s.mesh.triples) }
 {
     let from = starts(alloc, twins.triples(), &fans.first)?;
     let points = points_at(alloc, points, &from)?;

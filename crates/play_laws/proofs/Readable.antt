@@ -26,14 +26,19 @@ pub within_of_readable : (k : ℕ) (limits : Limits) (m : Mesh) → IsLawful lim
 within_of_readable k limits m lawful readable = by_length (nat_lt limits.file_bytes (length text)) (readable [] (λ name. Some text) refl refl)
   where
     text : Bytes
-    text = obj_text k m.points m.triples
+    text = obj_text k m.points m.triples m.labels
 
     given : checked [] (mesh_soup k limits [] text) ≡ Ok (soup_of_mesh m) → IsGivenWithin limits m
     given is =
         let taken = mesh_taken k limits [] text (soup_of_mesh m) lawful is in
-        let within = taken.0 in
+        let within = taken.0.within in
         record {
-          given = record { accepted = record { mesh = within.mesh; closed = closed_from_open_pair (all_edges m.triples) taken.1 }; on_grid = within.on_grid };
+          given = record {
+            accepted = record { mesh = within.mesh; closed = closed_from_open_pair (all_edges m.triples) taken.1 };
+            on_grid =
+                within.on_grid;
+            labels = taken.0.labels;
+          };
           few_points = within.few_points;
           few_triples = within.few_triples;
         }
@@ -46,5 +51,10 @@ within_of_readable k limits m lawful readable = by_length (nat_lt limits.file_by
 pub readable_within : (k : ℕ) (limits : Limits) (m : Mesh) → k ≤ 6 → IsLawful limits → IsGivenWithin limits m → MeshReadable k limits m
 readable_within k limits m few lawful within =
     let mesh = within.given.accepted.mesh in
-    closed_readable k limits (soup_of_mesh m) few lawful (record { on_grid = within.given.on_grid; mesh = mesh; few_points = within.few_points; few_triples = within.few_triples })
+    closed_readable k limits (soup_of_mesh m) few lawful
+    (record {
+      within =
+          record { on_grid = within.given.on_grid; mesh = mesh; few_points = within.few_points; few_triples = within.few_triples };
+      labels = within.given.labels;
+    })
     (open_pair_closed (all_edges m.triples) within.given.accepted.closed)

@@ -38,7 +38,8 @@ use Rattle.play_laws.proofs.Readable.{readable_within, within_of_readable}
 taken_within : (limits : Limits) (o a : Combined) → within limits o ≡ Ok a → (o ≡ a) × (nat_lt limits.halfedges o.halfedges ≡ false)
 taken_within limits o a e = by_limit (nat_lt limits.halfedges o.halfedges) refl e
   where
-    by_limit : (b : Bool) → nat_lt limits.halfedges o.halfedges ≡ b → (if b then Err (over Halfedges o.halfedges) else Ok o) ≡ Ok a → (o ≡ a) × (nat_lt limits.halfedges o.halfedges ≡ false)
+    by_limit : (b : Bool) → nat_lt limits.halfedges o.halfedges ≡ b → (if b then Err (over Halfedges o.halfedges) else Ok o) ≡ Ok a →
+        (o ≡ a) × (nat_lt limits.halfedges o.halfedges ≡ false)
     by_limit true past e = absurd (cc)
     by_limit false is e = (cc, is)
 
@@ -47,7 +48,8 @@ taken_made : (script : Bytes) (line : ℕ) (fault : Option MadeFault) (m n : Mes
 taken_made script line None m n is = (refl, cc)
 taken_made script line (Some fault) m n is = cc
 
-module _ (means : KernelKind → Meanings) (k : ℕ) (limits : Limits) (few : k ≤ 6) (lawful : IsLawful limits) (results : (kernels : KernelKind) → ResultsReadable (means kernels) k limits) where
+module _ (means : KernelKind → Meanings) (k : ℕ) (limits : Limits) (few : k ≤ 6) (lawful : IsLawful limits)
+    (results : (kernels : KernelKind) → ResultsReadable (means kernels) k limits) where
   abbrev Writes : Action → Type 0
   Writes a = WritesReadable k limits a
 
@@ -63,8 +65,8 @@ module _ (means : KernelKind → Meanings) (k : ℕ) (limits : Limits) (few : k 
   asked name = record { actions = λ files. All-cons Writes (Ask name) [] tt (All-nil Writes); value = λ files a is. tt }
 
   -- a mesh without points
-  empty_readable : MeshReadable k limits (record { points = []; triples = [] })
-  empty_readable = read_again k limits [] [] (soup_of_mesh (record { points = []; triples = [] })) few lawful refl
+  empty_readable : MeshReadable k limits (record { points = []; triples = []; labels = [] })
+  empty_readable = read_again k limits [] [] (soup_of_mesh (record { points = []; triples = []; labels = [] })) few lawful refl
 
   -- a name more has such a mesh
   named_more : (name : Bytes) (m : Mesh) (named : Named) → Names named → MeshReadable k limits m → Names (with_name name m named)
@@ -86,28 +88,31 @@ module _ (means : KernelKind → Meanings) (k : ℕ) (limits : Limits) (few : k 
   load_keeps : (name file : Bytes) (named : Named) → Names named → Keeps Writes Names (load_task k limits name file named)
   load_keeps name file named all =
       keeps_then Writes (IsReadable k limits) Names (ask_mesh k limits file)
-      (λ m. then_task (say_line (load_line name file m)) (λ _. give (Ok (with_name name (record { points = m.points; triples = m.triples }) named))))
+      (λ m. then_task (say_line (load_line name file m)) (λ _. give (Ok (with_name name (record { points = m.points; triples = m.triples; labels = m.labels }) named))))
       (mesh_asked k limits file few lawful)
-      (λ m more. told_and_named (load_line name file m) name (record { points = m.points; triples = m.triples }) named all more)
+      (λ m more. told_and_named (load_line name file m) name (record { points = m.points; triples = m.triples; labels = m.labels }) named all more)
 
   save_keeps : (name file : Bytes) (m : Mesh) (named : Named) → Names named → MeshReadable k limits m → Keeps Writes Names (save_task k name file m named)
   save_keeps name file m named all such =
-      keeps_then Writes (λ _. Unit {0}) Names (write_mesh k file m.points m.triples) (λ _. then_task (say_line (save_line name file m)) (λ _. give (Ok named)))
-      (keeps_act Writes (Write file (mesh_text k file m.points m.triples)) (soup_of_mesh m, refl, such)) (λ _ _. told (save_line name file m) named all)
+      keeps_then Writes (λ _. Unit {0}) Names (write_mesh k file m.points m.triples m.labels) (λ _. then_task (say_line (save_line name file m)) (λ _. give (Ok named)))
+      (keeps_act Writes (Write file (mesh_text k file m.points m.triples m.labels)) (soup_of_mesh m, refl, such)) (λ _ _. told (save_line name file m) named all)
 
   measure_keeps : (name : Bytes) (m : Mesh) (named : Named) → Names named → Keeps Writes Names (measure_task name m named)
   measure_keeps name m named all = told (measure_line name m) named all
 
-  combine_keeps : (kernels : KernelKind) (op : Op) (name left right : Bytes) (named : Named) → Names named → Keeps Writes Names (combine_task (means kernels) limits op name left right named)
+  combine_keeps : (kernels : KernelKind) (op : Op) (name left right : Bytes) (named : Named) → Names named →
+      Keeps Writes Names (combine_task (means kernels) limits op name left right named)
   combine_keeps kernels op name left right named all =
       let o = (means kernels).operation op (mesh_at named left) (mesh_at named right) in
       let R : Combined → Type 0 = λ a. MeshReadable k limits a.mesh in
       keeps_then Writes R Names (give (within limits o)) (λ a. then_task (say_line (combine_line op name left right a)) (λ _. give (Ok (with_name name a.mesh named))))
-      (keeps_give Writes R (within limits o) (λ a is. let taken = taken_within limits o a is in subst R taken.0 (results kernels op (mesh_at named left) (mesh_at named right) (all left) (all right) taken.1)))
+      (keeps_give Writes R (within limits o)
+      (λ a is. let taken = taken_within limits o a is in subst R taken.0 (results kernels op (mesh_at named left) (mesh_at named right) (all left) (all right) taken.1)))
       (λ a more. told_and_named (combine_line op name left right a) name a.mesh named all more)
 
   -- a name more has what is made, where that is not refused
-  made_and_named : (script : Bytes) (line : ℕ) (name : Bytes) (fault : Option MadeFault) (m : Mesh) (named : Named) → Names named → (fault ≡ None → MeshReadable k limits m)
+  made_and_named : (script : Bytes) (line : ℕ) (name : Bytes) (fault : Option MadeFault) (m : Mesh) (named : Named) → Names named →
+      (fault ≡ None → MeshReadable k limits m)
       → Keeps Writes Names (then_task (give (made script line fault m)) (λ n. give (Ok (with_name name n named))))
   made_and_named script line name fault m named all such =
       let R : Mesh → Type 0 = λ n. MeshReadable k limits n in
@@ -115,18 +120,21 @@ module _ (means : KernelKind → Meanings) (k : ℕ) (limits : Limits) (few : k 
       (keeps_give Writes R (made script line fault m) (λ n is. let taken = taken_made script line fault m n is in subst R taken.1 (such taken.0)))
       (λ n more. keeps_value Writes Names (with_name name n named) (named_more name n named all more))
 
-  make_keeps : (script : Bytes) (line : ℕ) (name : Bytes) (solid : Solid) (named : Named) → Names named → Keeps Writes Names (make_task limits script line name solid named)
+  make_keeps : (script : Bytes) (line : ℕ) (name : Bytes) (solid : Solid) (named : Named) → Names named →
+      Keeps Writes Names (make_task limits script line name solid named)
   make_keeps script line name solid named all =
       made_and_named script line name (solid_fault limits solid) (solid_mesh solid) named all
       (λ none. readable_within k limits (solid_mesh solid) few lawful (solid_given limits lawful solid none))
 
-  move_keeps : (script : Bytes) (line : ℕ) (name old : Bytes) (motion : Motion) (named : Named) → Names named → Keeps Writes Names (move_task script line name old motion named)
+  move_keeps : (script : Bytes) (line : ℕ) (name old : Bytes) (motion : Motion) (named : Named) → Names named →
+      Keeps Writes Names (move_task script line name old motion named)
   move_keeps script line name old motion named all =
       let m = mesh_at named old in
       made_and_named script line name (motion_fault motion m.points) (moved_mesh motion m) named all
       (λ none. readable_within k limits (moved_mesh motion m) few lawful (moved_within limits motion m (within_of_readable k limits m lawful (all old)) none))
 
-  step_keeps : (kernels : KernelKind) (script : Bytes) (line : ℕ) (step : Step) (named : Named) → Names named → Keeps Writes Names (step_task (means kernels) k limits script line step named)
+  step_keeps : (kernels : KernelKind) (script : Bytes) (line : ℕ) (step : Step) (named : Named) → Names named →
+      Keeps Writes Names (step_task (means kernels) k limits script line step named)
   step_keeps kernels script line (Load name file) named all = load_keeps name file named all
   step_keeps kernels script line (Save name file) named all = save_keeps name file (mesh_at named name) named all (all name)
   step_keeps kernels script line (Measure name) named all = measure_keeps name (mesh_at named name) named all
@@ -153,7 +161,8 @@ module _ (means : KernelKind → Meanings) (k : ℕ) (limits : Limits) (few : k 
   read_of_texts : (m : Mesh) → MeshReadable k limits m → IsReadOfTexts k limits m
   read_of_texts m readable =
       let given = within_of_readable k limits m lawful readable in
-      let within : IsWithin limits m.points m.triples = record { on_grid = given.given.on_grid; mesh = given.given.accepted.mesh; few_points = given.few_points; few_triples = given.few_triples } in
+      let within : IsWithin limits m.points m.triples =
+      record { on_grid = given.given.on_grid; mesh = given.given.accepted.mesh; few_points = given.few_points; few_triples = given.few_triples } in
       record { obj = readable; stl = meshes_read_welded k few limits lawful m.points m.triples within }
 
   -- so is the mesh of each name, whatever lines are done, and a line that saves it writes its text
@@ -169,6 +178,8 @@ module _ (means : KernelKind → Meanings) (k : ℕ) (limits : Limits) (few : k 
       keeps_then Writes (λ _. Unit {0}) (λ _. Unit {0}) (ask_file limits name)
       (λ bytes. then_task (give (script_checked name (script k bytes))) (λ lines. then_task (steps_task means k limits name lines at_first) (λ _. give (Ok tt))))
       (asked name)
-      (λ bytes _. keeps_then Writes (λ _. Unit {0}) (λ _. Unit {0}) (give (script_checked name (script k bytes))) (λ lines. then_task (steps_task means k limits name lines at_first) (λ _. give (Ok tt)))
+      (λ bytes _. keeps_then Writes (λ _. Unit {0}) (λ _. Unit {0}) (give (script_checked name (script k bytes)))
+      (λ lines. then_task (steps_task means k limits name lines at_first) (λ _. give (Ok tt)))
       (keeps_give Writes (λ _. Unit {0}) (script_checked name (script k bytes)) (λ lines is. tt))
-      (λ lines _. keeps_then Writes Known (λ _. Unit {0}) (steps_task means k limits name lines at_first) (λ _. give (Ok tt)) (steps_keep name lines) (λ state all. keeps_value Writes (λ _. Unit {0}) tt tt)))
+      (λ lines _. keeps_then Writes Known (λ _. Unit {0}) (steps_task means k limits name lines at_first) (λ _. give (Ok tt)) (steps_keep name lines)
+      (λ state all. keeps_value Writes (λ _. Unit {0}) tt tt)))

@@ -1,6 +1,7 @@
 -- What is needed of operations, so that what a script writes can be read; and how the meshes of its names are read and saved.
 use Rattle.std.specs.Prelude.{◌≡◌, ℕ, nat_lt, false, List, [], ◌∷◌, Ok}
 use Rattle.mb_base.specs.declared.op.Op.{Op}
+use Rattle.mesh_terms.specs.Labels.{no_labels}
 use Rattle.mesh_terms.specs.Limits.{Limits}
 use Rattle.mesh_terms.specs.Meshes.{Mesh, Soup, soup_of}
 use Rattle.mb_base.specs.declared.kernel_kind.KernelKind.{KernelKind}
@@ -17,7 +18,7 @@ use Rattle.stl_terms.specs.Written.{stl_text}
 
 -- a mesh with nothing dropped
 abbrev pub soup_of_mesh : Mesh → Soup
-soup_of_mesh m = record { points = m.points; triples = m.triples; unused = 0 }
+soup_of_mesh m = record { points = m.points; triples = m.triples; labels = m.labels; unused = 0 }
 
 -- wherever a file holds the text of the mesh, the mesh is read of it
 abbrev pub MeshReadable : ℕ → Limits → Mesh → Type 0
@@ -33,10 +34,10 @@ ResultsReadable means k limits =
 abbrev pub NamesReadable : ℕ → Limits → Named → Type 0
 NamesReadable k limits named = (name : Bytes) → MeshReadable k limits (mesh_at named name)
 
--- a mesh is read, point by point and triple by triple, of its OBJ text, wherever that stands; and its STL text reads as the mesh welded
+-- a mesh is read, point by point and triple by triple with its label, of its OBJ text, wherever that stands; and its STL text reads as the mesh welded, without labels
 pub record IsReadOfTexts (k : ℕ) (limits : Limits) (m : Mesh) : Type 0 where
   pub obj : MeshReadable k limits m
-  pub stl : let w = welded_mesh m.points m.triples in stl k limits (stl_text k m.points m.triples) ≡ Ok (soup_of w.points w.triples)
+  pub stl : let w = welded_mesh m.points m.triples in stl k limits (stl_text k m.points m.triples) ≡ Ok (soup_of w.points w.triples (no_labels w.triples))
 
 -- the meshes of the names of a script are read of their texts and saved
 pub record KeepsMeshes (means : KernelKind → Meanings) (k : ℕ) (limits : Limits) (script : Bytes) : Type 0 where
@@ -45,4 +46,5 @@ pub record KeepsMeshes (means : KernelKind → Meanings) (k : ℕ) (limits : Lim
       → (name : Bytes) → IsReadOfTexts k limits (mesh_at state.named name)
   -- and a line that saves a name writes the text of this mesh, in the format of the file's name, and says so
   pub saves : (state : State) (line : ℕ) (name file : Bytes) (files : Files) → let m = mesh_at state.named name in
-      (line_task means k limits script (line, Save name file) state files).actions ≡ Write file (mesh_text k file m.points m.triples) ∷ Say (save_line name file m) ∷ []
+      (line_task means k limits script (line, Save name file) state files).actions ≡
+      Write file (mesh_text k file m.points m.triples m.labels) ∷ Say (save_line name file m) ∷ []

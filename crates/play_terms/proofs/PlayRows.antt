@@ -1,5 +1,5 @@
 -- The plays of small scripts, computed.
-use Rattle.std.specs.Prelude.{◌≡◌, ℕ, pos, List, [], ◌∷◌, ◌++◌, ◌&&◌, if◌then◌else◌, length, map, codes, bytes_eq, None, Ok, Err}
+use Rattle.std.specs.Prelude.{◌≡◌, ℕ, pos, List, [], ◌∷◌, ◌++◌, ◌&&◌, if◌then◌else◌, length, map, replicate, codes, bytes_eq, None, Ok, Err}
 use Rattle.std.proofs.Common.{refl}
 use Rattle.std.specs.Fmt.{digits}
 use Rattle.std.specs.Char.{encode_utf8}
@@ -18,7 +18,7 @@ use Rattle.play_terms.specs.Operands.{number_of, number_fault}
 use Rattle.play_terms.specs.Plays.{Meanings, script_task}
 
 abbrev program : Limits
-program = record { file_bytes = 1073741824; points = 15000000; triangles = 10000000; halfedges = 6000000 }
+program = record { file_bytes = 2147483648; points = 15000000; triangles = 10000000; halfedges = 6000000 }
 
 -- limits of so many bytes of a file and so many prescribed half-edges
 abbrev small : Limits
@@ -54,13 +54,14 @@ united = record {
       (4, 12, 15) ∷ (6, 4, 15) ∷ (6, 15, 21) ∷ (6, 21, 19) ∷ (6, 19, 20) ∷ (6, 20, 17) ∷ (0, 1, 4) ∷ (1, 5, 4) ∷ (1, 3, 7) ∷ (1, 7, 5) ∷
       (3, 2, 6) ∷ (3, 6, 7) ∷ (0, 4, 6) ∷ (0, 6, 2) ∷ (8, 9, 11) ∷ (8, 11, 10) ∷ (12, 14, 8) ∷ (8, 15, 12) ∷ (14, 16, 9) ∷ (9, 8, 14) ∷
       (13, 17, 11) ∷ (11, 18, 13) ∷ (16, 18, 11) ∷ (11, 9, 16) ∷ (19, 10, 20) ∷ (17, 20, 10) ∷ (10, 11, 17) ∷ (21, 15, 8) ∷ (8, 10, 21) ∷ (21, 10, 19) ∷ [];
+  labels = replicate 40 [];
 }
 
 -- an operation of which a table knows the union of the cube and the box alone
 abbrev tabled : Mesh → Mesh → Combined
 tabled p q =
-    if bytes_eq (obj_text 0 p.points p.triples) cube && bytes_eq (obj_text 0 q.points q.triples) box then record { mesh = united; p_kept = 8; q_kept = 4; crossings = 10; forced = 0; halfedges = 84 }
-    else record { mesh = record { points = []; triples = [] }; p_kept = 0; q_kept = 0; crossings = 0; forced = 0; halfedges = 0 }
+    if bytes_eq (obj_text 0 p.points p.triples p.labels) cube && bytes_eq (obj_text 0 q.points q.triples q.labels) box then record { mesh = united; p_kept = 8; q_kept = 4; crossings = 10; forced = 0; halfedges = 84 }
+    else record { mesh = record { points = []; triples = []; labels = [] }; p_kept = 0; q_kept = 0; crossings = 0; forced = 0; halfedges = 0 }
 
 abbrev table : KernelKind → Meanings
 table kernels = record { operation = λ op p q. tabled p q }

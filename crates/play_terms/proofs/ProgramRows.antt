@@ -12,7 +12,7 @@ use Rattle.run_terms.specs.Tasks.{NoCommand, FaultyScript, NoFile, FaultyMesh, R
 use Rattle.play_terms.specs.Program.{Meanings, play}
 
 abbrev program : Limits
-program = record { file_bytes = 1073741824; points = 15000000; triangles = 10000000; halfedges = 6000000 }
+program = record { file_bytes = 2147483648; points = 15000000; triangles = 10000000; halfedges = 6000000 }
 
 -- one file of that name
 abbrev only : Bytes → Bytes → Files
@@ -43,7 +43,7 @@ plain_cube = codes "v 0 0 0\nv 10 0 0\nv 0 10 0\nv 10 10 0\nv 0 0 10\nv 10 0 10\
 abbrev told : Meanings
 told = record {
   points = record { winding = λ p m. get_or p 0 (pos 0) };
-  scripts = λ kernels. record { operation = λ op p q. record { mesh = record { points = []; triples = [] }; p_kept = 0; q_kept = 0; crossings = 0; forced = 0; halfedges = 0 } };
+  scripts = λ kernels. record { operation = λ op p q. record { mesh = record { points = []; triples = []; labels = [] }; p_kept = 0; q_kept = 0; crossings = 0; forced = 0; halfedges = 0 } };
 }
 
 abbrev play_on : Bytes → Part (Unit {0})
@@ -70,6 +70,12 @@ record FaultsAreTold : Type 0 where
 copies_the_tetrahedron : play_on tetrahedron ≡ record { actions = Ask (codes "t.obj") ∷ Write (codes "u.obj") tetrahedron ∷ Say (line_of (codes "copied u.obj: points 4, triangles 4, unused 0")) ∷ []; result = Ok tt }
 unfolding digits
 copies_the_tetrahedron = refl
+
+-- the group of each triangle, where it is not the one before
+copies_groups : play_on (corners ++ codes "g red  blue\nf 1 3 2\nf 1 2 4\ng\nf 2 3 4\nf 3 1 4\n")
+    ≡ record { actions = Ask (codes "t.obj") ∷ Write (codes "u.obj") (corners ++ codes "g red blue\nf 1 3 2\nf 1 2 4\ng\nf 2 3 4\nf 3 1 4\n") ∷ Say (line_of (codes "copied u.obj: points 4, triangles 4, unused 0")) ∷ []; result = Ok tt }
+unfolding digits
+copies_groups = refl
 
 copies_an_empty_file : play_on [] ≡ record { actions = Ask (codes "t.obj") ∷ Write (codes "u.obj") [] ∷ Say (line_of (codes "copied u.obj: points 0, triangles 0, unused 0")) ∷ []; result = Ok tt }
 unfolding digits

@@ -39,15 +39,15 @@ abbrev pub ask_mesh : ℕ → Limits → Bytes → Task Soup
 ask_mesh k limits name = then_task (ask_file limits name) (λ bytes. give (checked name (mesh_soup k limits name bytes)))
 
 -- the text of a mesh, in the format of the name, is written under k digits
-abbrev pub write_mesh : ℕ → Bytes → List (List ℤ) → List Triple → Task (Unit {0})
-write_mesh k name points triples = act (Write name (mesh_text k name points triples))
+abbrev pub write_mesh : ℕ → Bytes → List (List ℤ) → List Triple → List Bytes → Task (Unit {0})
+write_mesh k name points triples labels = act (Write name (mesh_text k name points triples labels))
 
 abbrev pub say_line : Bytes → Task (Unit {0})
 say_line line = act (Say line)
 
 -- a mesh is written and told
 abbrev pub copied_task : ℕ → Bytes → Soup → Task (Unit {0})
-copied_task k to m = then_task (write_mesh k to m.points m.triples) (λ _. say_line (copied_line to m))
+copied_task k to m = then_task (write_mesh k to m.points m.triples m.labels) (λ _. say_line (copied_line to m))
 
 abbrev pub copy_task : ℕ → Limits → Bytes → Bytes → Task (Unit {0})
 copy_task k limits from to = then_task (ask_mesh k limits from) (copied_task k to)

@@ -17,6 +17,6 @@ is_mesh_name name = is_obj name || is_stl name
 abbrev pub mesh_soup : ℕ → Limits → Bytes → Bytes → Result Soup Fault
 mesh_soup k limits name bytes = if is_stl name then stl k limits bytes else obj k limits bytes
 
--- the text of a mesh for a file of this name
-abbrev pub mesh_text : ℕ → Bytes → List (List ℤ) → List Triple → Bytes
-mesh_text k name points ts = if is_stl name then stl_text k points ts else obj_text k points ts
+-- the text of a mesh for a file of this name; an STL text has no labels
+abbrev pub mesh_text : ℕ → Bytes → List (List ℤ) → List Triple → List Bytes → Bytes
+mesh_text k name points ts labels = if is_stl name then stl_text k points ts else obj_text k points ts labels

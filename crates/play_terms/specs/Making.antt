@@ -1,5 +1,6 @@
 -- The solids that a script makes and the motions of its meshes: points, triangles, and why there are none.
 use Rattle.std.specs.Prelude.{ℕ, ℤ, pos, List, map, Option, None}
+use Rattle.mesh_terms.specs.Labels.{no_labels}
 use Rattle.mesh_terms.specs.Limits.{Limits}
 use Rattle.mesh_terms.specs.Meshes.{Triple, Mesh}
 use Rattle.made_terms.specs.Lattice.{lattice_points, lattice_triples}
@@ -40,8 +41,9 @@ solid_fault limits (Tetra at size) = tetra_fault limits at size
 solid_fault limits (Prism at size height) = prism_fault limits at size height
 solid_fault limits (Lattice n seed) = lattice_fault limits n seed
 
+-- its labels are empty
 abbrev pub solid_mesh : Solid → Mesh
-solid_mesh solid = record { points = solid_points solid; triples = solid_triples solid }
+solid_mesh solid = record { points = solid_points solid; triples = solid_triples solid; labels = no_labels (solid_triples solid) }
 
 -- where the points go
 abbrev pub motion_points : Motion → List (List ℤ) → List (List ℤ)
@@ -64,5 +66,6 @@ motion_fault (Scale factor) points = moved_fault (motion_points (Scale factor) p
 motion_fault (Mirror axis) points = None
 motion_fault (Turn axis) points = None
 
+-- each triangle keeps its label
 abbrev pub moved_mesh : Motion → Mesh → Mesh
-moved_mesh motion m = record { points = motion_points motion m.points; triples = motion_triples motion m.triples }
+moved_mesh motion m = record { points = motion_points motion m.points; triples = motion_triples motion m.triples; labels = m.labels }

@@ -34,7 +34,7 @@ with_name name m named = λ n. if bytes_eq n name then Some m else named n
 
 -- the mesh of a name; one without points where it has none
 abbrev pub mesh_or_none : Option Mesh → Mesh
-mesh_or_none None = record { points = []; triples = [] }
+mesh_or_none None = record { points = []; triples = []; labels = [] }
 mesh_or_none (Some m) = m
 
 abbrev pub mesh_at : Named → Bytes → Mesh
@@ -45,12 +45,12 @@ abbrev pub load_task : ℕ → Limits → Bytes → Bytes → Named → Task Nam
 load_task k limits name file named =
     then_task (ask_mesh k limits file) (λ m.
     then_task (say_line (load_line name file m)) (λ _.
-    give (Ok (with_name name (record { points = m.points; triples = m.triples }) named))))
+    give (Ok (with_name name (record { points = m.points; triples = m.triples; labels = m.labels }) named))))
 
 -- the mesh of a name is written to a file and told; the names stay
 abbrev pub save_task : ℕ → Bytes → Bytes → Mesh → Named → Task Named
 save_task k name file m named =
-    then_task (write_mesh k file m.points m.triples) (λ _.
+    then_task (write_mesh k file m.points m.triples m.labels) (λ _.
     then_task (say_line (save_line name file m)) (λ _.
     give (Ok named)))
 

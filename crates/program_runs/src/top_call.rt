@@ -40,12 +40,12 @@ use steps::Steps;
 /// all, and with 8 memory ran out between two actions. So where the files are told, a run whose play gives no refusal, and in which no
 /// fault came, ends with 0, or for want of memory. Whatever the files and however the run ended, each file that the play writes holds the text of a mesh in the format of its name,
 /// and the mesh is read of its OBJ text under the same digits and limits; for a copy this mesh is the one that was read of IN, in either format, without its
-/// unused points. Whatever lines of a script were done, the mesh of each name is read of its OBJ text and, welded, its points in another
-/// order, of its STL text; and a line that saves a name writes the text of this mesh.
+/// unused points. Whatever lines of a script were done, the mesh of each name is read of its OBJ text, with its labels; and of its STL text,
+/// welded, its points in another order, and without labels; and a line that saves a name writes the text of this mesh.
 /// Whatever lines of a script were done, what the play has of an operation on the meshes of two names is a result of these, under the kernels chosen by then: along each half-edge of both, reduced,
 /// the winding number in the other changes by its signed crossings; the vertices, before pinched ones are split, are those that these numbers prescribe, each as
-/// often; the triangles made in each face of either are bounded by the segments prescribed there; and half-edges pair, none with itself, with one fan at each
-/// vertex.
+/// often; the triangles made in each face of either are bounded by the segments prescribed there and have the label of that face; and half-edges pair, none with itself,
+/// with one fan at each vertex.
 ///
 /// The read faults of the shelf rise with status 6 alone, its write faults and the faults of `out` with 7 alone, and one of the two does. With
 /// 6 the read faults rose, or the shelf tells no files and a read into some space gave nothing below the size that was stated. The shelf

@@ -9,8 +9,8 @@ mod words;
 ghost use Rattle.std.specs.Prelude.{◌≡◌, ◌<◌, ◌^◌, ◌-◌, IfOk};
 
 use files::{
-    CUBE, CUBE_AND_FLAT, CUBES_AT_A_CORNER, MODELLED_CUBE, MODELLED_CUBE_COPIED, NESTED_CUBES,
-    OPEN_CUBE, PRISM, TETRAHEDRON, TURNED_CUBE,
+    CUBE, CUBE_AND_FLAT, CUBES_AT_A_CORNER, GROUPED_COPIED, GROUPED_TETRAHEDRON, MODELLED_CUBE,
+    MODELLED_CUBE_COPIED, NESTED_CUBES, OPEN_CUBE, PRISM, TETRAHEDRON, TURNED_CUBE,
 };
 use mb_base::{ArgList, Limits, NoMemory};
 use mb_outside::{MemoryShelf, MemorySink, Shelf, SureShelf};
@@ -251,6 +251,20 @@ fn a_modelled_file_is_copied_as_plain(rt: HostRuntime) -> Result<(), Fail> {
         is_saved: true,
         saved: MODELLED_CUBE_COPIED,
     };
+    judge(&rt, &case)?;
+    Ok(())
+}
+
+#[test]
+fn groups_are_copied(rt: HostRuntime) -> Result<(), Fail> {
+    let words = ["copy", "t.obj", "u.obj"];
+    let case = copied(
+        &words,
+        "t.obj",
+        GROUPED_TETRAHEDRON,
+        b"copied u.obj: points 4, triangles 4, unused 0\n",
+        GROUPED_COPIED,
+    );
     judge(&rt, &case)?;
     Ok(())
 }

@@ -1,6 +1,7 @@
 pub mod Known
 pub mod MadeMeshes
 pub mod Naming
+mod Operated
 pub mod Progress
 pub mod Reading
 pub mod Stages

@@ -24,7 +24,8 @@ module _ {A B : Type 0} (t : Task A) (next : A → Task B) where
   shelf_then a r before mid out now first rest = meets_then t next a r (beside before out) (beside mid out) now (first out.told out.faults) rest
 
   -- or that stopped
-  shelf_stop : (why : Why) (before now : OnShelf) (out : OnOutput) → ShelfMeets t before now (Err why) → Meets (then_task t next) (beside before out) (beside now out) (Err why)
+  shelf_stop : (why : Why) (before now : OnShelf) (out : OnOutput) → ShelfMeets t before now (Err why) →
+      Meets (then_task t next) (beside before out) (beside now out) (Err why)
   shelf_stop why before now out first = meets_stop t next why (beside before out) (beside now out) (first out.told out.faults)
 
   -- one that touched the output, and the rest
@@ -33,7 +34,8 @@ module _ {A B : Type 0} (t : Task A) (next : A → Task B) where
   output_then a r on before mid now first rest = meets_then t next a r (beside on before) (beside on mid) now (first on) rest
 
   -- or that stopped
-  output_stop : (why : Why) (on : OnShelf) (before now : OnOutput) → OutputMeets t before now (Err why) → Meets (then_task t next) (beside on before) (beside on now) (Err why)
+  output_stop : (why : Why) (on : OnShelf) (before now : OnOutput) → OutputMeets t before now (Err why) →
+      Meets (then_task t next) (beside on before) (beside on now) (Err why)
   output_stop why on before now first = meets_stop t next why (beside on before) (beside on now) (first on)
 
 -- a line was said and a name got a mesh; or one of the two was not done
@@ -61,7 +63,8 @@ module _ (k : ℕ) (limits : Limits) (name file : Bytes) (named : Named) (before
   loading = load_task k limits name file named
 
   abbrev after_asking : Soup → Task Named
-  after_asking m = then_task (say_line (load_line name file m)) (λ _. give (Ok (with_name name (record { points = m.points; triples = m.triples }) named)))
+  after_asking m =
+      then_task (say_line (load_line name file m)) (λ _. give (Ok (with_name name (record { points = m.points; triples = m.triples; labels = m.labels }) named)))
 
   pub load_unread : (why : Why) → ShelfMeets (ask_mesh k limits file) before now (Err why) → Meets loading (beside before out) (beside now out) (Err why)
   load_unread why ask = shelf_stop (ask_mesh k limits file) after_asking why before now out ask
@@ -70,20 +73,20 @@ module _ (k : ℕ) (limits : Limits) (name file : Bytes) (named : Named) (before
       → Meets loading (beside before out) (beside now told) (Err why)
   load_unsaid m why ask line =
       shelf_then (ask_mesh k limits file) after_asking m (Err why) before now out (beside now told) ask
-      (unsaid (load_line name file m) name (record { points = m.points; triples = m.triples }) named now out told why line)
+      (unsaid (load_line name file m) name (record { points = m.points; triples = m.triples; labels = m.labels }) named now out told why line)
 
   pub load_unnamed : (m : Soup) → ShelfMeets (ask_mesh k limits file) before now (Ok m) → OutputMeets (say_line (load_line name file m)) out told (Ok tt)
       → Meets loading (beside before out) (beside now told) (Err Starved)
   load_unnamed m ask line =
       shelf_then (ask_mesh k limits file) after_asking m (Err Starved) before now out (beside now told) ask
-      (unnamed (load_line name file m) name (record { points = m.points; triples = m.triples }) named now out told line)
+      (unnamed (load_line name file m) name (record { points = m.points; triples = m.triples; labels = m.labels }) named now out told line)
 
-  pub load_named : (m : Soup) (after : Named) → after ≡ with_name name (record { points = m.points; triples = m.triples }) named
+  pub load_named : (m : Soup) (after : Named) → after ≡ with_name name (record { points = m.points; triples = m.triples; labels = m.labels }) named
       → ShelfMeets (ask_mesh k limits file) before now (Ok m) → OutputMeets (say_line (load_line name file m)) out told (Ok tt)
       → Meets loading (beside before out) (beside now told) (Ok after)
   load_named m after is ask line =
       shelf_then (ask_mesh k limits file) after_asking m (Ok after) before now out (beside now told) ask
-      (named_so (load_line name file m) name (record { points = m.points; triples = m.triples }) named now out told after is line)
+      (named_so (load_line name file m) name (record { points = m.points; triples = m.triples; labels = m.labels }) named now out told after is line)
 
 -- the mesh of a name, which is this one, is saved
 module _ (k : ℕ) (name file : Bytes) (of m : Mesh) (named : Named) (is : of ≡ m) (before now : OnShelf) (out told : OnOutput) where
@@ -93,25 +96,27 @@ module _ (k : ℕ) (name file : Bytes) (of m : Mesh) (named : Named) (is : of �
   abbrev after_writing : Unit {0} → Task Named
   after_writing u = then_task (say_line (save_line name file m)) (λ _. give (Ok named))
 
-  pub save_unwritten : (why : Why) → ShelfMeets (write_mesh k file m.points m.triples) before now (Err why) → Meets (saving of) (beside before out) (beside now out) (Err why)
+  pub save_unwritten : (why : Why) → ShelfMeets (write_mesh k file m.points m.triples m.labels) before now (Err why) →
+      Meets (saving of) (beside before out) (beside now out) (Err why)
   save_unwritten why write =
       let P : Mesh → Type 0 = λ mesh. Meets (saving mesh) (beside before out) (beside now out) (Err why) in
-      subst P (sym is) (shelf_stop (write_mesh k file m.points m.triples) after_writing why before now out write)
+      subst P (sym is) (shelf_stop (write_mesh k file m.points m.triples m.labels) after_writing why before now out write)
 
-  pub save_unsaid : (why : Why) → ShelfMeets (write_mesh k file m.points m.triples) before now (Ok tt) → OutputMeets (say_line (save_line name file m)) out told (Err why)
+  pub save_unsaid : (why : Why) → ShelfMeets (write_mesh k file m.points m.triples m.labels) before now (Ok tt) →
+      OutputMeets (say_line (save_line name file m)) out told (Err why)
       → Meets (saving of) (beside before out) (beside now told) (Err why)
   save_unsaid why write line =
       let P : Mesh → Type 0 = λ mesh. Meets (saving mesh) (beside before out) (beside now told) (Err why) in
       subst P (sym is)
-      (shelf_then (write_mesh k file m.points m.triples) after_writing tt (Err why) before now out (beside now told) write
+      (shelf_then (write_mesh k file m.points m.triples m.labels) after_writing tt (Err why) before now out (beside now told) write
       (output_stop (say_line (save_line name file m)) (λ _. give (Ok named)) why now out told line))
 
-  pub save_told : ShelfMeets (write_mesh k file m.points m.triples) before now (Ok tt) → OutputMeets (say_line (save_line name file m)) out told (Ok tt)
+  pub save_told : ShelfMeets (write_mesh k file m.points m.triples m.labels) before now (Ok tt) → OutputMeets (say_line (save_line name file m)) out told (Ok tt)
       → Meets (saving of) (beside before out) (beside now told) (Ok named)
   save_told write line =
       let P : Mesh → Type 0 = λ mesh. Meets (saving mesh) (beside before out) (beside now told) (Ok named) in
       subst P (sym is)
-      (shelf_then (write_mesh k file m.points m.triples) after_writing tt (Ok named) before now out (beside now told) write
+      (shelf_then (write_mesh k file m.points m.triples m.labels) after_writing tt (Ok named) before now out (beside now told) write
       (output_then (say_line (save_line name file m)) (λ _. give (Ok named)) tt (Ok named) now out told (beside now told) line
       (meets_given (Ok named) named (beside now told) refl)))
 
@@ -136,7 +141,8 @@ abbrev pub Operates : Limits → Combined → Result Combined Why → Type 0
 Operates limits o r = (now : Seen) → Meets (give (within limits o)) now now r
 
 -- the meshes of two names, which are these, are combined
-module _ (means : Meanings) (limits : Limits) (op : Op) (name left right : Bytes) (p q : Mesh) (named : Named) (is_p : mesh_at named left ≡ p) (is_q : mesh_at named right ≡ q) (out told : OnOutput) where
+module _ (means : Meanings) (limits : Limits) (op : Op) (name left right : Bytes) (p q : Mesh) (named : Named) (is_p : mesh_at named left ≡ p)
+    (is_q : mesh_at named right ≡ q) (out told : OnOutput) where
   abbrev combining : Task Named
   combining = combine_task means limits op name left right named
 
@@ -154,9 +160,11 @@ module _ (means : Meanings) (limits : Limits) (op : Op) (name left right : Bytes
       subst P (sym same) operates
 
   pub combine_stopped : (why : Why) → Operates limits (means.operation op p q) (Err why) → OutputMeets combining out out (Err why)
-  combine_stopped why operates on = meets_stop (give (within limits given)) after_operation why (beside on out) (beside on out) (of_names (Err why) operates (beside on out))
+  combine_stopped why operates on =
+      meets_stop (give (within limits given)) after_operation why (beside on out) (beside on out) (of_names (Err why) operates (beside on out))
 
-  pub combine_unsaid : (o : Combined) (why : Why) → Operates limits (means.operation op p q) (Ok o) → OutputMeets (say_line (combine_line op name left right o)) out told (Err why)
+  pub combine_unsaid : (o : Combined) (why : Why) → Operates limits (means.operation op p q) (Ok o) →
+      OutputMeets (say_line (combine_line op name left right o)) out told (Err why)
       → OutputMeets combining out told (Err why)
   combine_unsaid o why operates line on =
       meets_then (give (within limits given)) after_operation o (Err why) (beside on out) (beside on out) (beside on told) (of_names (Ok o) operates (beside on out))

@@ -1,5 +1,7 @@
 -- The STL text of a mesh, read word after word, gives the welded mesh.
-use Rattle.std.proofs.Common.{◌≡◌, ℕ, suc, ◌+◌, ◌<◌, ◌≤◌, if◌then◌else◌, Bool, true, false, List, [], ◌∷◌, ◌++◌, length, get_or, refl, sym, ap, ◌∙◌, subst, arith, codes, append_assoc, length-append, Result, Ok, Err, ℤ, nat_lt, rules}
+use Rattle.std.proofs.Common.{◌≡◌, ℕ, suc, ◌+◌, ◌<◌, ◌≤◌, if◌then◌else◌, Bool, true, false, List, [], ◌∷◌, ◌++◌, length}
+use Rattle.std.proofs.Common.{get_or, refl, sym, ap, ◌∙◌, subst, arith, codes, append_assoc, length-append, Result, Ok}
+use Rattle.std.proofs.Common.{Err, ℤ, nat_lt, rules}
 use Rattle.std.specs.Prelude.{◌||◌}
 use Rattle.std.specs.Cmp.{IsEquivalence}
 use Rattle.std.specs.List.{All, IsDistinct, flat_map, list_any, position_or_len}
@@ -16,7 +18,8 @@ use Rattle.text_terms.specs.Lines.{lines_of, numbered, words_of}
 use Rattle.text_terms.specs.Written.{line_of, three_numbers, written}
 use Rattle.mesh_terms.specs.Faults.{Fault, Points, Triangles, Over}
 use Rattle.mesh_terms.specs.Limits.{Limits, IsLawful}
-use Rattle.mesh_terms.specs.Meshes.{IsBelow, Mesh, Triple, soup_of}
+use Rattle.mesh_terms.specs.Labels.{no_labels}
+use Rattle.mesh_terms.specs.Meshes.{IsBelow, Triple, soup_of}
 use Rattle.mesh_terms.specs.Points.{IsPoint, coordinate_of}
 use Rattle.obj_laws.specs.Within.{IsWithin}
 use Rattle.obj_laws.proofs.Bytes.{Above, IsWord, Above-lower}
@@ -24,9 +27,10 @@ use Rattle.obj_laws.proofs.Lines.{lines_of-line}
 use Rattle.obj_laws.proofs.Words.{spaced, words_of-spaced, Above-spaced}
 use Rattle.obj_laws.proofs.SavedLines.{coordinate_text, three_coordinates, three_spaced}
 use Rattle.stl_terms.specs.Grammar.{Place, InSolid, Vertex, Number, EndLoop, AfterSolid}
-use Rattle.stl_terms.specs.Stl.{Gathered, after_corners, at_end, last_line, nothing_gathered, repeats, same_point, stl, stl_line, stl_lines, welded, with_corner_at, word_lines}
+use Rattle.stl_terms.specs.Stl.{Gathered, after_corners, at_end, last_line, nothing_gathered, repeats, same_point, stl}
+use Rattle.stl_terms.specs.Stl.{stl_line, stl_lines, welded, with_corner_at, word_lines}
 use Rattle.stl_terms.specs.Written.{corner_text, corner_line, facet_text, stl_text}
-use Rattle.stl_laws.specs.Welding.{placed, with_corners, welded_onto, welded_mesh}
+use Rattle.stl_laws.specs.Welding.{WeldedMesh, placed, with_corners, welded_onto, welded_mesh}
 
 -- a reading with so many points, triangles and corners
 abbrev reading : List (List ℤ) → List Triple → List ℕ → Place → Gathered
@@ -42,10 +46,13 @@ nothing_after (Ok s) = refl
 nothing_after (Err e) = refl
 
 -- the words of a corner's line
-corner_read : (k : ℕ) (limits : Limits) (n : ℕ) (points : List (List ℤ)) (triples : List Triple) (corners : List ℕ) (a b c : List ℕ) (x y z : ℤ) → coordinate k a ≡ Ok x → coordinate k b ≡ Ok y → coordinate k c ≡ Ok z →
+corner_read : (k : ℕ) (limits : Limits) (n : ℕ) (points : List (List ℤ)) (triples : List Triple) (corners : List ℕ) (a b c : List ℕ) (x y z : ℤ) →
+    coordinate k a ≡ Ok x → coordinate k b ≡ Ok y → coordinate k c ≡ Ok z →
     stl_line k limits n (codes "vertex" ∷ a ∷ b ∷ c ∷ []) (reading points triples corners Vertex)
     ≡ with_corner_at (record { points = points; triples = triples; corners = corners; numbers = x ∷ y ∷ []; place = Number }) (welded limits points (x ∷ y ∷ z ∷ []))
-corner_read k limits n points triples corners a b c x y z p q r = rw (p, q, r) (nothing_after (with_corner_at (record { points = points; triples = triples; corners = corners; numbers = x ∷ y ∷ []; place = Number }) (welded limits points (x ∷ y ∷ z ∷ []))))
+corner_read k limits n points triples corners a b c x y z p q r =
+    rw (p, q, r) (nothing_after
+    (with_corner_at (record { points = points; triples = triples; corners = corners; numbers = x ∷ y ∷ []; place = Number }) (welded limits points (x ∷ y ∷ z ∷ []))))
 
 -- two points are the same exactly where they are equal, and so each is one of the other's kind
 point_laws : IsEquivalence same_point
@@ -94,7 +101,8 @@ placed_welded ps points p w member = by_place (nat_lt (position_or_len (same_poi
     distinct = IsDistinct-push point_laws points p w.distinct (none_there (same_point p) points (grind (arith, nat_tests, e)));
     among = λ q is. by_member q (list_any (same_point q) points) refl (sym (list_any-append (same_point q) points (p ∷ [])) ∙ is);
   } where
-    by_member : (q : List ℤ) (b : Bool) → list_any (same_point q) points ≡ b → (list_any (same_point q) points || (same_point q p || false)) ≡ true → is_member same_point ps q ≡ true
+    by_member : (q : List ℤ) (b : Bool) → list_any (same_point q) points ≡ b → (list_any (same_point q) points || (same_point q p || false)) ≡ true →
+        is_member same_point ps q ≡ true
     by_member q true old is = w.among q old
     by_member q false old is =
         let same : same_point q p ≡ true = grind (arith, old, is) in
@@ -107,7 +115,8 @@ tried points p v known over = if known then Ok (v, points) else if over then Err
 -- a corner is at the place that it has, where there is room for it
 welded-placed : (limits : Limits) (points : List (List ℤ)) (p : List ℤ) → length (placed points p).1 ≤ limits.points → welded limits points p ≡ Ok (placed points p)
 welded-placed limits points p room = by_place (position_or_len (same_point p) points) (nat_lt (position_or_len (same_point p) points) (length points)) room where
-  by_place : (v : ℕ) (b : Bool) → length (if b then points else points ++ p ∷ []) ≤ limits.points → tried points p v b (nat_lt limits.points (length points + 1)) ≡ Ok (v, if b then points else points ++ p ∷ [])
+  by_place : (v : ℕ) (b : Bool) → length (if b then points else points ++ p ∷ []) ≤ limits.points →
+      tried points p v b (nat_lt limits.points (length points + 1)) ≡ Ok (v, if b then points else points ++ p ∷ [])
   by_place v true few = refl
   by_place v false few =
       let more : length (points ++ p ∷ []) ≡ length points + 1 = length-append points (p ∷ []) in
@@ -119,8 +128,10 @@ abbrev vertex_text : ℕ → List ℤ → List ℕ
 vertex_text k p = codes "vertex " ++ three_numbers k p
 
 -- as four words
-vertex_spaced : (k : ℕ) (p : List ℤ) → vertex_text k p ≡ spaced (codes "vertex") (written k (coordinate_of p 0)) (written k (coordinate_of p 1)) (written k (coordinate_of p 2))
-vertex_spaced k p = ap (λ (l : List ℕ). codes "vertex " ++ l) (three_spaced (written k (coordinate_of p 0)) (written k (coordinate_of p 1)) (written k (coordinate_of p 2)))
+vertex_spaced : (k : ℕ) (p : List ℤ) →
+    vertex_text k p ≡ spaced (codes "vertex") (written k (coordinate_of p 0)) (written k (coordinate_of p 1)) (written k (coordinate_of p 2))
+vertex_spaced k p =
+    ap (λ (l : List ℕ). codes "vertex " ++ l) (three_spaced (written k (coordinate_of p 0)) (written k (coordinate_of p 1)) (written k (coordinate_of p 2)))
 
 -- the keyword is a word
 vertex_word : IsWord (codes "vertex")
@@ -133,12 +144,14 @@ vertex_line k p rest few on =
     let a = written k (coordinate_of p 0) in
     let b = written k (coordinate_of p 1) in
     let c = written k (coordinate_of p 2) in
-    let above = Above-lower 13 31 (spaced (codes "vertex") a b c) (omega arith) (Above-spaced (codes "vertex") a b c vertex_word t.0.plain.word t.1.plain.word t.2.plain.word) in
+    let above =
+    Above-lower 13 31 (spaced (codes "vertex") a b c) (omega arith) (Above-spaced (codes "vertex") a b c vertex_word t.0.plain.word t.1.plain.word t.2.plain.word) in
     let P : List ℕ → Type 0 = λ l. Above 13 l in
     lines_of-line (vertex_text k p) rest (subst P (sym (vertex_spaced k p)) above)
 
 -- and adds the corner
-vertex_read : (k : ℕ) (limits : Limits) (n : ℕ) (points : List (List ℤ)) (triples : List Triple) (corners : List ℕ) (p : List ℤ) → k ≤ 6 → IsPoint p → length (placed points p).1 ≤ limits.points →
+vertex_read : (k : ℕ) (limits : Limits) (n : ℕ) (points : List (List ℤ)) (triples : List Triple) (corners : List ℕ) (p : List ℤ) → k ≤ 6 → IsPoint p →
+    length (placed points p).1 ≤ limits.points →
     stl_line k limits n (words_of (vertex_text k p)) (reading points triples corners Vertex)
     ≡ Ok (reading (placed points p).1 triples (corners ++ (placed points p).0 ∷ []) (after_corners (corners ++ (placed points p).0 ∷ [])))
 vertex_read k limits n points triples corners p few on room =
@@ -151,7 +164,8 @@ vertex_read k limits n points triples corners p few on room =
     let c = written k z in
     let two : Gathered = record { points = points; triples = triples; corners = corners; numbers = x ∷ y ∷ []; place = Number } in
     ap (λ (l : List ℕ). stl_line k limits n (words_of l) (reading points triples corners Vertex)) (vertex_spaced k p)
-    ∙ ap (λ (ws : List (List ℕ)). stl_line k limits n ws (reading points triples corners Vertex)) (words_of-spaced (codes "vertex") a b c vertex_word t.0.plain.word t.1.plain.word t.2.plain.word)
+    ∙ ap (λ (ws : List (List ℕ)). stl_line k limits n ws (reading points triples corners Vertex))
+    (words_of-spaced (codes "vertex") a b c vertex_word t.0.plain.word t.1.plain.word t.2.plain.word)
     ∙ corner_read k limits n points triples corners a b c x y z t.0.reads t.1.reads t.2.reads
     ∙ ap (λ (q : List ℤ). with_corner_at two (welded limits points q)) (three_coordinates p on.three)
     ∙ ap (with_corner_at two) (welded-placed limits points p room)
@@ -167,13 +181,16 @@ facet_begins : (k : ℕ) (limits : Limits) (n : ℕ) (points : List (List ℤ)) 
 facet_begins k limits n points triples rest = refl
 
 -- a corner
-corner_goes : (k : ℕ) (limits : Limits) (n : ℕ) (points : List (List ℤ)) (triples : List Triple) (corners : List ℕ) (p : List ℤ) (rest : List ℕ) → k ≤ 6 → IsPoint p → length (placed points p).1 ≤ limits.points →
+corner_goes : (k : ℕ) (limits : Limits) (n : ℕ) (points : List (List ℤ)) (triples : List Triple) (corners : List ℕ) (p : List ℤ) (rest : List ℕ) →
+    k ≤ 6 → IsPoint p → length (placed points p).1 ≤ limits.points →
     stl_lines k limits (word_lines_from n (corner_text k p ++ rest)) (reading points triples corners Vertex)
-    ≡ stl_lines k limits (word_lines_from (suc n) rest) (reading (placed points p).1 triples (corners ++ (placed points p).0 ∷ []) (after_corners (corners ++ (placed points p).0 ∷ [])))
+    ≡ stl_lines k limits (word_lines_from (suc n) rest)
+    (reading (placed points p).1 triples (corners ++ (placed points p).0 ∷ []) (after_corners (corners ++ (placed points p).0 ∷ [])))
 corner_goes k limits n points triples corners p rest few on room =
     let s = reading points triples corners Vertex in
     ap (λ (ls : List (List ℕ)). stl_lines k limits (word_lines (numbered n ls)) s) (vertex_line k p rest few on)
-    ∙ ap (λ (r : Result Gathered Fault). then_read r (λ t. stl_lines k limits (word_lines_from (suc n) rest) t)) (vertex_read k limits n points triples corners p few on room)
+    ∙ ap (λ (r : Result Gathered Fault). then_read r (λ t. stl_lines k limits (word_lines_from (suc n) rest) t))
+    (vertex_read k limits n points triples corners p few on room)
 
 -- the triangles with one more, unless two of its corners are one point
 abbrev with_triple : List Triple → Triple → List Triple
@@ -184,12 +201,19 @@ facet_ends : (k : ℕ) (limits : Limits) (n : ℕ) (points : List (List ℤ)) (t
     stl_lines k limits (word_lines_from n (line_of (codes "endloop") ++ (line_of (codes "endfacet") ++ rest))) (reading points triples (a ∷ b ∷ c ∷ []) EndLoop)
     ≡ stl_lines k limits (word_lines_from (suc (suc n)) rest) (reading points (with_triple triples (a, b, c)) [] InSolid)
 facet_ends k limits n points triples a b c rest room = by_triple (repeats (a, b, c)) where
-  by_triple : (d : Bool) → then_read (then_read (if d then Ok (reading points triples [] InSolid) else if nat_lt limits.triangles (length triples + 1) then Err (Over Triangles (length triples + 1)) else Ok (reading points (triples ++ (a, b, c) ∷ []) [] InSolid)) (λ t. Ok t)) (λ t. stl_lines k limits (word_lines_from (suc (suc n)) rest) t)
+  by_triple : (d : Bool) →
+      then_read (then_read
+      (if d then Ok (reading points triples [] InSolid) else if nat_lt limits.triangles (length triples + 1) then Err
+      (Over Triangles (length triples + 1)) else Ok (reading points (triples ++ (a, b, c) ∷ []) [] InSolid)) (λ t. Ok t))
+      (λ t. stl_lines k limits (word_lines_from (suc (suc n)) rest) t)
       ≡ stl_lines k limits (word_lines_from (suc (suc n)) rest) (reading points (if d then triples else triples ++ (a, b, c) ∷ []) [] InSolid)
   by_triple true = refl
   by_triple false =
       let test : nat_lt limits.triangles (length triples + 1) ≡ false = grind (arith, nat_tests, room) in
-      let answer : Bool → Result Gathered Fault = λ over. then_read (then_read (if over then Err (Over Triangles (length triples + 1)) else Ok (reading points (triples ++ (a, b, c) ∷ []) [] InSolid)) (λ t. Ok t)) (λ t. stl_lines k limits (word_lines_from (suc (suc n)) rest) t) in
+      let answer : Bool → Result Gathered Fault =
+      λ over. then_read
+      (then_read (if over then Err (Over Triangles (length triples + 1)) else Ok (reading points (triples ++ (a, b, c) ∷ []) [] InSolid))
+      (λ t. Ok t)) (λ t. stl_lines k limits (word_lines_from (suc (suc n)) rest) t) in
       ap answer test
 
 -- the corners of a triangle are points of the mesh
@@ -199,20 +223,22 @@ record HasCorners (ps : List (List ℤ)) (t : Triple) : Type 0 where
   c : IsPoint (get_or ps t.2 [])
 
 -- the points after the first corner, the first two and all three of a triangle
-abbrev after_one : List (List ℤ) → Mesh → Triple → List (List ℤ)
+abbrev after_one : List (List ℤ) → WeldedMesh → Triple → List (List ℤ)
 after_one ps m t = (placed m.points (get_or ps t.0 [])).1
 
-abbrev after_two : List (List ℤ) → Mesh → Triple → List (List ℤ)
+abbrev after_two : List (List ℤ) → WeldedMesh → Triple → List (List ℤ)
 after_two ps m t = (placed (after_one ps m t) (get_or ps t.1 [])).1
 
-abbrev after_three : List (List ℤ) → Mesh → Triple → List (List ℤ)
+abbrev after_three : List (List ℤ) → WeldedMesh → Triple → List (List ℤ)
 after_three ps m t = (placed (after_two ps m t) (get_or ps t.2 [])).1
 
 -- a facet gives its triangle
-facet_goes : (k : ℕ) (limits : Limits) (n : ℕ) (ps : List (List ℤ)) (m : Mesh) (t : Triple) (rest : List ℕ) → k ≤ 6 → HasCorners ps t
-    → length (after_one ps m t) ≤ limits.points → length (after_two ps m t) ≤ limits.points → length (after_three ps m t) ≤ limits.points → length m.triples < limits.triangles →
+facet_goes : (k : ℕ) (limits : Limits) (n : ℕ) (ps : List (List ℤ)) (m : WeldedMesh) (t : Triple) (rest : List ℕ) → k ≤ 6 → HasCorners ps t
+    → length (after_one ps m t) ≤ limits.points → length (after_two ps m t) ≤ limits.points → length (after_three ps m t) ≤ limits.points →
+    length m.triples < limits.triangles →
     stl_lines k limits (word_lines_from n (facet_text k ps t ++ rest)) (reading m.points m.triples [] InSolid)
-    ≡ stl_lines k limits (word_lines_from (suc (suc (suc (suc (suc (suc (suc n))))))) rest) (reading (with_corners ps m t).points (with_corners ps m t).triples [] InSolid)
+    ≡ stl_lines k limits (word_lines_from (suc (suc (suc (suc (suc (suc (suc n))))))) rest)
+    (reading (with_corners ps m t).points (with_corners ps m t).triples [] InSolid)
 facet_goes k limits n ps m t rest few on one two three room =
     let a = placed m.points (get_or ps t.0 []) in
     let b = placed a.1 (get_or ps t.1 []) in
@@ -234,7 +260,8 @@ facet_goes k limits n ps m t rest few on one two three room =
     ∙ facet_ends k limits n5 c.1 m.triples a.0 b.0 c.0 rest room
 
 -- one triangle more
-corners_welded : (ps : List (List ℤ)) (m : Mesh) (t : Triple) → IsBelow (length ps) t → IsWelded ps m.points → IsWelded ps (after_one ps m t) × IsWelded ps (after_two ps m t) × IsWelded ps (after_three ps m t)
+corners_welded : (ps : List (List ℤ)) (m : WeldedMesh) (t : Triple) → IsBelow (length ps) t → IsWelded ps m.points →
+    IsWelded ps (after_one ps m t) × IsWelded ps (after_two ps m t) × IsWelded ps (after_three ps m t)
 corners_welded ps m t below w =
     let one = placed_welded ps m.points (get_or ps t.0 []) w (member_at ps t.0 below.a) in
     let two = placed_welded ps (after_one ps m t) (get_or ps t.1 []) one (member_at ps t.1 below.b) in
@@ -248,7 +275,8 @@ few_triples triples u = by_triple (repeats u) where
   by_triple false = omega (arith, length-append triples (u ∷ []))
 
 -- all facets and the end of the solid
-solid_goes : (k : ℕ) (limits : Limits) (n : ℕ) (ps : List (List ℤ)) (m : Mesh) (ts : List Triple) → k ≤ 6 → All IsPoint ps → length ps ≤ limits.points → All (IsBelow (length ps)) ts → IsWelded ps m.points → length m.triples + length ts ≤ limits.triangles →
+solid_goes : (k : ℕ) (limits : Limits) (n : ℕ) (ps : List (List ℤ)) (m : WeldedMesh) (ts : List Triple) → k ≤ 6 → All IsPoint ps →
+    length ps ≤ limits.points → All (IsBelow (length ps)) ts → IsWelded ps m.points → length m.triples + length ts ≤ limits.triangles →
     stl_lines k limits (word_lines_from n (flat_map (facet_text k ps) ts ++ line_of (codes "endsolid manifold"))) (reading m.points m.triples [] InSolid)
     ≡ Ok (reading (welded_onto ps m ts).points (welded_onto ps m ts).triples [] AfterSolid)
 solid_goes k limits n ps m [] few on room below w left = refl
@@ -261,10 +289,13 @@ solid_goes k limits n ps m (t ∷ ts) few on room below w left =
     let c = placed b.1 (get_or ps t.2 []) in
     let corners : HasCorners ps t = record { a = on t.0 [] here.a; b = on t.1 [] here.b; c = on t.2 [] here.c } in
     let end = line_of (codes "endsolid manifold") in
-    ap (λ (text : List ℕ). stl_lines k limits (word_lines_from n text) (reading m.points m.triples [] InSolid)) (append_assoc (facet_text k ps t) (flat_map (facet_text k ps) ts) end)
+    ap (λ (text : List ℕ). stl_lines k limits (word_lines_from n text) (reading m.points m.triples [] InSolid))
+    (append_assoc (facet_text k ps t) (flat_map (facet_text k ps) ts) end)
     ∙ facet_goes k limits n ps m t (flat_map (facet_text k ps) ts ++ end) few corners
-    (omega (arith, few_welded ps (after_one ps m t) after.0, room)) (omega (arith, few_welded ps (after_two ps m t) after.1, room)) (omega (arith, few_welded ps (after_three ps m t) after.2, room)) (omega (arith, left))
-    ∙ solid_goes k limits (suc (suc (suc (suc (suc (suc (suc n))))))) ps next ts few on room (All-tail (IsBelow (length ps)) t ts below) after.2 (omega (arith, left, few_triples m.triples (a.0, b.0, c.0)))
+    (omega (arith, few_welded ps (after_one ps m t) after.0, room)) (omega (arith, few_welded ps (after_two ps m t) after.1, room))
+    (omega (arith, few_welded ps (after_three ps m t) after.2, room)) (omega (arith, left))
+    ∙ solid_goes k limits (suc (suc (suc (suc (suc (suc (suc n))))))) ps next ts few on room (All-tail (IsBelow (length ps)) t ts below) after.2
+    (omega (arith, left, few_triples m.triples (a.0, b.0, c.0)))
 
 -- no points are welded
 none_welded : (ps : List (List ℤ)) → IsWelded ps []
@@ -273,13 +304,14 @@ none_welded ps = record { distinct = search rules; among = λ q is. absurd (cc) 
 
 -- the text of a mesh within lawful limits reads as the welded mesh
 pub meshes_read_welded : (k : ℕ) → k ≤ 6 → (limits : Limits) → IsLawful limits → (points : List (List ℤ)) (ts : List Triple) → IsWithin limits points ts →
-    stl k limits (stl_text k points ts) ≡ Ok (soup_of (welded_mesh points ts).points (welded_mesh points ts).triples)
+    stl k limits (stl_text k points ts) ≡ Ok (soup_of (welded_mesh points ts).points (welded_mesh points ts).triples (no_labels (welded_mesh points ts).triples))
 meshes_read_welded k few limits lawful points ts within =
     let facets = flat_map (facet_text k points) ts in
     let end = line_of (codes "endsolid manifold") in
     let text = stl_text k points ts in
-    let none : Mesh = record { points = []; triples = [] } in
-    let first : stl_lines k limits (word_lines_from 1 (line_of (codes "solid manifold") ++ (facets ++ end))) nothing_gathered ≡ stl_lines k limits (word_lines_from 2 (facets ++ end)) (reading [] [] [] InSolid) = refl in
+    let none : WeldedMesh = record { points = []; triples = [] } in
+    let first : stl_lines k limits (word_lines_from 1 (line_of (codes "solid manifold") ++ (facets ++ end))) nothing_gathered ≡
+    stl_lines k limits (word_lines_from 2 (facets ++ end)) (reading [] [] [] InSolid) = refl in
     let lines = ap (λ (t : List ℕ). stl_lines k limits (word_lines_from 1 t) nothing_gathered) (append_assoc (line_of (codes "solid manifold")) facets end)
     ∙ first
     ∙ solid_goes k limits 2 points none ts few within.on_grid within.few_points within.mesh.below (none_welded points) (omega (arith, within.few_triples)) in

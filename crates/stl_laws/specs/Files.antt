@@ -1,6 +1,7 @@
 -- Files of the ASCII STL profile, spelled out, and what they give.
 use Rattle.std.specs.Prelude.{◌≡◌, ℕ, ◌^◌, ℤ, pos, List, [], ◌∷◌, ◌++◌, Result, Ok, Err, codes}
 use Rattle.mesh_terms.specs.Faults.{Fault, Points, Triangles, Bad, Over}
+use Rattle.mesh_terms.specs.Labels.{no_labels}
 use Rattle.mesh_terms.specs.Limits.{Limits, IsLawful}
 use Rattle.mesh_terms.specs.Meshes.{Triple, Soup}
 use Rattle.stl_terms.specs.Stl.{stl}
@@ -31,7 +32,7 @@ abbrev pub z : List ℤ
 z = point 0 0 1
 
 abbrev pub read_as : List (List ℤ) → List Triple → ℕ → Result Soup Fault
-read_as points triples unused = Ok (record { points = points; triples = triples; unused = unused })
+read_as points triples unused = Ok (record { points = points; triples = triples; labels = no_labels triples; unused = unused })
 
 -- a facet with these corners, on seven lines
 abbrev pub facet : List ℕ → List ℕ → List ℕ → List ℕ

@@ -2,7 +2,8 @@
 use Rattle.std.specs.Prelude.{◌≡◌, ℕ, ◌≤◌, ℤ, List, [], ◌∷◌, ◌++◌, if◌then◌else◌, get_or, length, nat_lt, Ok}
 use Rattle.std.specs.List.{position_or_len}
 use Rattle.mesh_terms.specs.Limits.{Limits, IsLawful}
-use Rattle.mesh_terms.specs.Meshes.{Mesh, Triple, soup_of}
+use Rattle.mesh_terms.specs.Labels.{no_labels}
+use Rattle.mesh_terms.specs.Meshes.{Triple, soup_of}
 use Rattle.obj_laws.specs.Within.{IsWithin}
 use Rattle.stl_terms.specs.Stl.{repeats, same_point, stl}
 use Rattle.stl_terms.specs.Written.{stl_text}
@@ -13,8 +14,13 @@ placed points p =
     let v = position_or_len (same_point p) points in
     (v, if nat_lt v (length points) then points else points ++ p ∷ [])
 
+-- welded points and triangles
+pub record WeldedMesh : Type 0 where
+  pub points : List (List ℤ)
+  pub triples : List Triple
+
 -- one triangle more of a mesh with these points: its corners in order, unless two of them are one point
-abbrev pub with_corners : List (List ℤ) → Mesh → Triple → Mesh
+abbrev pub with_corners : List (List ℤ) → WeldedMesh → Triple → WeldedMesh
 with_corners ps m t =
     let a = placed m.points (get_or ps t.0 []) in
     let b = placed a.1 (get_or ps t.1 []) in
@@ -23,15 +29,15 @@ with_corners ps m t =
     record { points = c.1; triples = if repeats u then m.triples else m.triples ++ u ∷ [] }
 
 -- all triangles, one after the other
-abbrev pub welded_onto : List (List ℤ) → Mesh → List Triple → Mesh
+abbrev pub welded_onto : List (List ℤ) → WeldedMesh → List Triple → WeldedMesh
 welded_onto ps m [] = m
 welded_onto ps m (t ∷ ts) = welded_onto ps (with_corners ps m t) ts
 
-abbrev pub welded_mesh : List (List ℤ) → List Triple → Mesh
+abbrev pub welded_mesh : List (List ℤ) → List Triple → WeldedMesh
 welded_mesh ps ts = welded_onto ps (record { points = []; triples = [] }) ts
 
--- under lawful limits the STL text of a mesh within them, whatever the digits, reads as the welded mesh, without the points that only dropped triangles used
+-- under lawful limits the STL text of a mesh within them, whatever the digits, reads as the welded mesh with empty labels, without the points that only dropped triangles used
 abbrev pub MeshesReadWelded : Type 0
 MeshesReadWelded =
     (k : ℕ) → k ≤ 6 → (limits : Limits) → IsLawful limits → (points : List (List ℤ)) (ts : List Triple) → IsWithin limits points ts →
-    let m = welded_mesh points ts in stl k limits (stl_text k points ts) ≡ Ok (soup_of m.points m.triples)
+    let m = welded_mesh points ts in stl k limits (stl_text k points ts) ≡ Ok (soup_of m.points m.triples (no_labels m.triples))

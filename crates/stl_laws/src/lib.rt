@@ -1,8 +1,8 @@
 //! Laws of reading and writing ASCII STL, each as the contract of a function that does nothing.
 //!
-//! What is read of any file under lawful limits is a mesh within them, whose OBJ text so reads back; and the STL text of a mesh within
-//! them reads as the welded mesh: its points in the order in which the corners have them, those at one place as one, and without the
-//! triangles that then have a point twice. The lemmas stand in `proofs/`.
+//! What is read of any file under lawful limits is a mesh within them with empty labels, whose OBJ text so reads back; and the STL text
+//! of a mesh within them reads as the welded mesh: its points in the order in which the corners have them, those at one place as one,
+//! and without the triangles that then have a point twice. The lemmas stand in `proofs/`.
 #![tactic(auto)]
 
 ghost use Rattle.stl_laws.specs.Files.{FilesRead};
@@ -14,12 +14,12 @@ pub fn spelled_files_read()
     ensures { FilesRead }
 {}
 
-/// What is read of a file under lawful limits, whatever the file, is a mesh within them.
+/// What is read of a file under lawful limits, whatever the file, is a mesh within them with empty labels.
 pub fn files_give_meshes()
     ensures { FilesGiveMeshes }
 {}
 
-/// Under lawful limits the text of a mesh within them, whatever the digits, reads as the welded mesh.
+/// Under lawful limits the text of a mesh within them, whatever the digits, reads as the welded mesh with empty labels.
 pub fn meshes_read_welded()
     ensures { MeshesReadWelded }
 {}

@@ -7,6 +7,7 @@ use Rattle.text_terms.specs.Coordinates.{coordinate}
 use Rattle.text_terms.specs.FirstFault.{then_read, read_each, on_line}
 use Rattle.text_terms.specs.Lines.{words_of, lines_of, without_mark, numbered}
 use Rattle.mesh_terms.specs.Faults.{Points, Triangles, Fault, Bad, Over}
+use Rattle.mesh_terms.specs.Labels.{no_labels}
 use Rattle.mesh_terms.specs.Limits.{Limits}
 use Rattle.mesh_terms.specs.Meshes.{Triple, Soup, soup_of, triple_of}
 use Rattle.stl_terms.specs.Grammar.{Place, BeforeSolid, InSolid, Vertex, Number, EndLoop, EndFacet, AfterSolid, after_turn, after_word}
@@ -106,9 +107,9 @@ stl_lines k limits ls s = read_each (λ l t. stl_line k limits l.0 l.1 t) ls s
 abbrev pub last_line : List ℕ → ℕ
 last_line bytes = 1 + count_by (λ c. c == 10) bytes
 
--- the file may end after a solid alone; points that no triangle uses are dropped and counted
+-- the file may end after a solid alone; points that no triangle uses are dropped and counted, and every label is empty
 abbrev pub at_end : ℕ → Gathered → Place → Result Soup Fault
-at_end last s AfterSolid = Ok (soup_of s.points s.triples)
+at_end last s AfterSolid = Ok (soup_of s.points s.triples (no_labels s.triples))
 at_end last s place = Err (Bad last 10)
 
 abbrev pub stl : ℕ → Limits → List ℕ → Result Soup Fault

@@ -28,7 +28,7 @@ use std::alloc::Global;
 
 /// The points and triangles of an ASCII STL file: points in grid steps, 10 to the power of `digits` a unit,
 /// rounded to the nearest, in the order in which they come first, and vertices from 0. A triangle with two
-/// corners at one point is dropped. Points that no other triangle uses are dropped and counted.
+/// corners at one point is dropped. Points that no other triangle uses are dropped and counted. All labels are empty.
 ///
 /// The first fault of the file refuses it, word after word. It is `Bad` with the number of the word's line,
 /// from 1, and

@@ -40,24 +40,24 @@ fn limits_have_their_numbers(rt: HostRuntime) -> Result<(), Fail> {
     let most = Limits::of(1 << 40, 150_000_000, 100_000_000, 60_000_000).ok_or("the greatest")?;
     assert!(rt; numbers_of(&most) == [1 << 40, 150_000_000, 100_000_000, 60_000_000]);
     let usual = Limits::program();
-    assert!(rt; numbers_of(&usual) == [1_073_741_824, 15_000_000, 10_000_000, 6_000_000]);
+    assert!(rt; numbers_of(&usual) == [2_147_483_648, 15_000_000, 10_000_000, 6_000_000]);
     Ok(())
 }
 
 // Limits of which one number is beyond what the others allow. 5 * 3 half-edges need 5 triangles, these 8 points, and
-// these 41 * 8 + 32 * 5 bytes.
+// these 41 * 8 + 99 * 5 bytes.
 const UNLAWFUL: [(u64, [u32; 3]); 6] = [
     (1 << 40, [150_000_001, 100_000_000, 60_000_000]),
     (1 << 40, [150_000_000, 100_000_001, 60_000_000]),
     ((1 << 40) + 1, [150_000_000, 100_000_000, 60_000_000]),
-    (487, [8, 5, 3]),
-    (488, [7, 5, 3]),
-    (488, [8, 5, 4]),
+    (822, [8, 5, 3]),
+    (823, [7, 5, 3]),
+    (823, [8, 5, 4]),
 ];
 
 #[test]
 fn limits_end_with_each_rule(rt: HostRuntime) {
-    assert!(rt; Limits::of(488, 8, 5, 3).is_some());
+    assert!(rt; Limits::of(823, 8, 5, 3).is_some());
     for (bytes, [points, triangles, halfedges]) in &UNLAWFUL {
         assert!(rt;
             Limits::of(*bytes, *points, *triangles, *halfedges).is_none(),
@@ -94,8 +94,10 @@ fn a_soup_keeps_its_lists(rt: HostRuntime) -> Result<(), Fail> {
     assert!(rt; Soup::fits(&points, &triples));
     let soup = Soup::of(points, triples, 5);
     assert!(rt; has(&soup, &(&TETRAHEDRON, 5, &SIDES)));
-    let (points, triples) = soup.into_parts();
-    assert!(rt; stand_at(&points, &TETRAHEDRON) && triples.as_slice() == &SIDES[..]);
+    let (points, triples, labels) = soup.into_parts();
+    assert!(rt;
+        stand_at(&points, &TETRAHEDRON) && triples.as_slice() == &SIDES[..] && labels.is_none()
+    );
     Ok(())
 }
 

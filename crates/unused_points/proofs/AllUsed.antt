@@ -27,12 +27,13 @@ map-same {X} f P (x ∷ xs) same all =
     rw (same x (all 0 x (omega arith))) (ap (λ (ys : List X). x ∷ ys) (map-same f P xs same (λ k d h. all (suc k) d (omega arith))))
 
 -- points and triples stay as they are, and no point is dropped
-pub soup_of-all : (points : List (List ℤ)) (ts : List Triple) → All (IsBelow (length points)) ts → ((v : ℕ) → v < length points → is_used ts v ≡ true) → soup_of points ts ≡ record { points = points; triples = ts; unused = 0 }
-soup_of-all points ts below used =
+pub soup_of-all : (points : List (List ℤ)) (ts : List Triple) (labels : List (List ℕ)) → All (IsBelow (length points)) ts → ((v : ℕ) → v < length points → is_used ts v ≡ true) →
+    soup_of points ts labels ≡ record { points = points; triples = ts; labels = labels; unused = 0 }
+soup_of-all points ts labels below used =
     let kept : used_from ts 0 points ≡ points = used_from-all ts 0 points (λ k h. rw zero-add (used k h)) in
     let same : renumbered ts ≡ ts = map-same (λ t. (new_number ts t.0, new_number ts t.1, new_number ts t.2)) (IsBelow (length points)) ts stays below in
     let none : length points - length (used_from ts 0 points) ≡ 0 = rw kept (omega arith) in
-    λ i. record { points = kept i; triples = same i; unused = none i } where
+    λ i. record { points = kept i; triples = same i; labels = labels; unused = none i } where
       number : (v : ℕ) → v < length points → new_number ts v ≡ v
       number v h = count-all (is_used ts) 0 v (λ w low high. used w (omega arith))
 

@@ -3,6 +3,7 @@
 
 ghost use Rattle.std.specs.Prelude.{◌≡◌, ◌≤◌, ◌↔◌, List, length, true, IfOk, IsTrue};
 ghost use Rattle.std.specs.List.{All};
+ghost use Rattle.mesh_terms.specs.Labels.{no_labels};
 ghost use Rattle.mesh_terms.specs.Limits.{most_points};
 ghost use Rattle.mesh_terms.specs.Meshes.{IsBelow, Triple, triples_of, soup_of, used_from};
 ghost use Rattle.unused_points.specs.Used.{IsSound, MarksUsed, NumbersUsed, renamed};
@@ -10,8 +11,8 @@ ghost use Rattle.unused_points.specs.Used.{IsSound, MarksUsed, NumbersUsed, rena
 use mb_base::{NoMemory, Point, Soup};
 use std::alloc::Global;
 
-/// The soup of these points and triangles: the points that no triangle uses are dropped and counted,
-/// and the others keep their order. `NoMemory` may come for any of them. The time is in proportion to
+/// The soup of these points and triangles, with empty labels: the points that no triangle uses are dropped
+/// and counted, and the others keep their order. `NoMemory` may come for any of them. The time is in proportion to
 /// the points and the triangles.
 pub fn without_unused(
     alloc: Global,
@@ -19,7 +20,7 @@ pub fn without_unused(
     triples: Vec<[u32; 3]>,
 ) -> Result<Soup, NoMemory>
     requires { IsSound (length points.items) (triples_of triples.items) }
-    ensures { IfOk result (λ soup. soup ≡ soup_of points.items (triples_of triples.items)) }
+    ensures { IfOk result (λ soup. soup ≡ soup_of points.items (triples_of triples.items) (no_labels (triples_of triples.items))) }
 {
     let marks = marks_of(alloc, &triples, points.len())?;
     if are_set(&marks) {

@@ -55,10 +55,10 @@ record NumbersBack : Type 0 where
 
 -- a point in the mesh as it was read, and in the one turned inside out
 record NumbersAt : Type 0 where
-  inside : winding_at (pos 1 ∷ pos 1 ∷ pos 1 ∷ []) (record { points = points; triples = outward }) ≡ pos 1
-  outside : winding_at (pos 1 ∷ pos 1 ∷ negsuc 0 ∷ []) (record { points = points; triples = outward }) ≡ pos 0
-  turned : winding_at (pos 1 ∷ pos 1 ∷ pos 1 ∷ []) (record { points = points; triples = inward }) ≡ negsuc 0
-  twice : winding_at (pos 1 ∷ pos 1 ∷ pos 1 ∷ []) (record { points = points; triples = outward ++ outward }) ≡ pos 2
+  inside : winding_at (pos 1 ∷ pos 1 ∷ pos 1 ∷ []) (record { points = points; triples = outward; labels = [] }) ≡ pos 1
+  outside : winding_at (pos 1 ∷ pos 1 ∷ negsuc 0 ∷ []) (record { points = points; triples = outward; labels = [] }) ≡ pos 0
+  turned : winding_at (pos 1 ∷ pos 1 ∷ pos 1 ∷ []) (record { points = points; triples = inward; labels = [] }) ≡ negsuc 0
+  twice : winding_at (pos 1 ∷ pos 1 ∷ pos 1 ∷ []) (record { points = points; triples = outward ++ outward; labels = [] }) ≡ pos 2
 
 numbers : Numbers
 unfolding meet02 meet01 lifted joined by_ends met spot01 spot_between

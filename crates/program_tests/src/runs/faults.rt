@@ -184,7 +184,7 @@ const POINT: &[u8] = b"v 0 0 0\n";
 
 // Texts one after the other, each so often, and the line of the limit that they pass.
 static PAST: [(&[(&[u8], u32)], &[u8]); 4] = [
-    (&[(b" ", 13_091)], b"limit file_bytes 13091\n"),
+    (&[(b" ", 22_471)], b"limit file_bytes 22471\n"),
     (&[(POINT, 211)], b"limit points 211\n"),
     (&[(POINT, 3), (b"f 1 2 3\n", 141)], b"limit triangles 141\n"),
     (
@@ -239,7 +239,7 @@ fn the_first_count_past_its_limit_is_named(rt: HostRuntime) -> Result<(), Fail> 
     // A long file is not read: the second call fails. The others are read at once, and no third call is made.
     let mut fails = 2;
     for (parts, line) in &PAST {
-        let limits = Limits::of(13_090, 210, 140, 84).ok_or("these limits are lawful")?;
+        let limits = Limits::of(22_470, 210, 140, 84).ok_or("these limits are lawful")?;
         judge_past(&rt, limits, parts, fails, line)?;
         fails = 3;
     }

@@ -48,3 +48,18 @@ pub const BOX: &[u8] =
 // The union of the cube and the box, as a program that follows the definitions in plain sums gives it.
 pub const UNION: &[u8] =
     b"v 0 0 0\nv 10 0 0\nv 0 10 0\nv 10 10 0\nv 0 0 10\nv 10 0 10\nv 0 10 10\nv 10 10 10\nv 3 4 20\nv 6 4 20\nv 3 7 20\nv 6 7 20\nv 4 4 10\nv 6 6 10\nv 5 4 10\nv 3 4 10\nv 6 4 10\nv 6 7 10\nv 6 5 10\nv 3 7 10\nv 5 7 10\nv 3 5 10\nf 1 4 2\nf 1 3 4\nf 13 5 6\nf 6 8 14\nf 6 14 19\nf 6 19 17\nf 6 17 15\nf 6 15 13\nf 18 14 8\nf 18 8 7\nf 5 13 16\nf 7 5 16\nf 7 16 22\nf 7 22 20\nf 7 20 21\nf 7 21 18\nf 1 2 5\nf 2 6 5\nf 2 4 8\nf 2 8 6\nf 4 3 7\nf 4 7 8\nf 1 5 7\nf 1 7 3\nf 9 10 12\nf 9 12 11\nf 13 15 9\nf 9 16 13\nf 15 17 10\nf 10 9 15\nf 14 18 12\nf 12 19 14\nf 17 19 12\nf 12 10 17\nf 20 11 21\nf 18 21 11\nf 11 12 18\nf 22 16 9\nf 9 11 22\nf 22 11 20\n";
+
+// The tetrahedron in two groups, and its copy.
+pub const GROUPED_TETRAHEDRON: &[u8] =
+    b"v 0 0 0\nv 1 0 0\nv 0 1 0\nv 0 0 1\ng red  blue\nf 1 3 2\nf 1 2 4\ng\nf 2 3 4\nf 3 1 4\n";
+
+pub const GROUPED_COPIED: &[u8] =
+    b"v 0 0 0\nv 1 0 0\nv 0 1 0\nv 0 0 1\ng red blue\nf 1 3 2\nf 1 2 4\ng\nf 2 3 4\nf 3 1 4\n";
+
+// The cube with all faces in one group.
+pub const BODY: &[u8] =
+    b"v 0 0 0\nv 10 0 0\nv 0 10 0\nv 10 10 0\nv 0 0 10\nv 10 0 10\nv 0 10 10\nv 10 10 10\ng body\nf 1 4 2\nf 1 3 4\nf 5 6 8\nf 5 8 7\nf 1 2 5\nf 2 6 5\nf 2 4 8\nf 2 8 6\nf 4 3 7\nf 4 7 8\nf 1 5 7\nf 1 7 3\n";
+
+// That cube less the box, as a program that follows the definitions in plain sums gives it.
+pub const BODY_LESS_BOX: &[u8] =
+    b"v 0 0 0\nv 10 0 0\nv 0 10 0\nv 10 10 0\nv 0 0 10\nv 10 0 10\nv 0 10 10\nv 10 10 10\nv 3 4 5\nv 6 4 5\nv 3 7 5\nv 6 7 5\nv 4 4 10\nv 6 6 10\nv 5 4 10\nv 3 4 10\nv 6 4 10\nv 6 7 10\nv 6 5 10\nv 3 7 10\nv 5 7 10\nv 3 5 10\ng body\nf 1 4 2\nf 1 3 4\nf 13 5 6\nf 6 8 14\nf 6 14 19\nf 6 19 17\nf 6 17 15\nf 6 15 13\nf 18 14 8\nf 18 8 7\nf 5 13 16\nf 7 5 16\nf 7 16 22\nf 7 22 20\nf 7 20 21\nf 7 21 18\nf 1 2 5\nf 2 6 5\nf 2 4 8\nf 2 8 6\nf 4 3 7\nf 4 7 8\nf 1 5 7\nf 1 7 3\ng\nf 12 9 10\nf 11 9 12\nf 15 10 9\nf 9 16 13\nf 9 13 15\nf 17 10 15\nf 18 12 10\nf 10 19 14\nf 10 14 18\nf 19 10 17\nf 20 11 12\nf 12 21 20\nf 21 12 18\nf 16 9 22\nf 20 22 9\nf 9 11 20\n";

@@ -1,7 +1,7 @@
 // Whole runs of scripts over a cube and a box.
 ghost use Rattle.std.specs.Prelude.{◌≡◌, IfOk};
 
-use super::files::{BOX, CUBE, UNION};
+use super::files::{BODY, BODY_LESS_BOX, BOX, CUBE, UNION};
 use super::{ROOM, expect_run, is_same, put};
 use mb_base::{Limits, NoMemory};
 use mb_outside::{MemoryShelf, Shelf};
@@ -23,13 +23,14 @@ struct Case<'a> {
     saved: Option<&'a [u8]>,
 }
 
-// Puts the script, the cube and the box on a shelf, which raises no count of faults.
+// Puts the script, the cube with and without a group, and the box on a shelf, which raises no count of faults.
 fn put_script(shelf: &mut MemoryShelf, script: &[u8]) -> Result<(), NoMemory>
     ensures reads { shelf.new.read_faults ≡ shelf.old.read_faults }
     ensures writes { shelf.new.write_faults ≡ shelf.old.write_faults }
 {
     put(shelf, "s.txt", script)?;
     put(shelf, "cube.obj", CUBE)?;
+    put(shelf, "body.obj", BODY)?;
     put(shelf, "b.obj", BOX)
 }
 
@@ -67,7 +68,7 @@ fn a_script_unites_two_meshes(rt: HostRuntime) -> Result<(), Fail> {
 
 #[test]
 fn the_half_edges_of_an_operation_have_a_limit(rt: HostRuntime) -> Result<(), Fail> {
-    let limits = Limits::of(13_090, 210, 140, 83).ok_or("these limits are lawful")?;
+    let limits = Limits::of(22_470, 210, 140, 83).ok_or("these limits are lawful")?;
     let case = Case {
         script: b"load a cube.obj\nload b b.obj\nunion u a b\nsave u u.obj\n",
         limits,
@@ -121,6 +122,20 @@ fn what_was_saved_before_a_stop_stays(rt: HostRuntime) -> Result<(), Fail> {
         out: b"load a cube.obj: points 8, triangles 12, unused 0\nsave a u.obj: points 8, triangles 12\n",
         err: b"none.obj: missing\n",
         saved: Some(CUBE),
+    };
+    judge(&rt, &case)?;
+    Ok(())
+}
+
+#[test]
+fn faces_keep_their_groups_in_a_difference(rt: HostRuntime) -> Result<(), Fail> {
+    let case = Case {
+        script: b"load a body.obj\nload b b.obj\nsubtract u a b\nsave u u.obj\n",
+        limits: Limits::program(),
+        status: 0,
+        out: b"load a body.obj: points 8, triangles 12, unused 0\nload b b.obj: points 8, triangles 12, unused 0\nu = subtract a b: kept 8 4, crossings 10, forced 0\nsave u u.obj: points 22, triangles 40\n",
+        err: b"",
+        saved: Some(BODY_LESS_BOX),
     };
     judge(&rt, &case)?;
     Ok(())

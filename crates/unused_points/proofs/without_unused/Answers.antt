@@ -1,6 +1,8 @@
-use Rattle.std.proofs.Common.{◌≡◌, ◌<◌, ◌-◌, ℕ, ℤ, true, false, Bool, List, length, sym, ◌∙◌, ap, subst, arith, rules}
+use Rattle.std.proofs.Common.{◌≡◌, ◌<◌, ◌-◌, ℕ, ℤ, true, false, Bool, List, [], length, replicate, sym, ◌∙◌, ap, subst, arith, rules}
 use Rattle.std.specs.List.{All}
-use Rattle.mesh_terms.specs.Meshes.{Triple, Soup, IsBelow, IsMesh, triples_of, is_used, used_from, renumbered, soup_of}
+use Rattle.std.proofs.lemmas.List.{length-map}
+use Rattle.mesh_terms.specs.Labels.{no_labels}
+use Rattle.mesh_terms.specs.Meshes.{Triple, Soup, IsBelow, IsMesh, triples_of, is_used, new_number, used_from, renumbered, soup_of}
 use Rattle.unused_points.specs.Used.{MarksUsed, NumbersUsed}
 use Rattle.unused_points.proofs.AllUsed.{soup_of-all}
 use Rattle.unused_points.proofs.KeptMesh.{few_kept, kept_mesh}
@@ -11,8 +13,12 @@ marked_used : (n : ℕ) (ts : List Triple) (marks : List Bool) → MarksUsed n t
 marked_used n ts marks known set v low = sym (known.used v low) ∙ set v false (omega (arith, low, known.each))
 
 -- a soup by its parts
-soup_is : (points : List (List ℤ)) (ts : List Triple) (s : Soup) → s.points ≡ used_from ts 0 points → s.triples ≡ renumbered ts → s.unused ≡ length points - length (used_from ts 0 points) → s ≡ soup_of points ts
-soup_is points ts s first second third = λ i. record { points = first i; triples = second i; unused = third i }
+soup_is : (points : List (List ℤ)) (ts : List Triple) (s : Soup) → s.points ≡ used_from ts 0 points → s.triples ≡ renumbered ts → s.labels ≡ no_labels s.triples → s.unused ≡ length points - length (used_from ts 0 points)
+    → s ≡ soup_of points ts (no_labels ts)
+soup_is points ts s first second third fourth =
+    let count : length (renumbered ts) ≡ length ts = length-map {B = Triple} ts (λ t. (new_number ts t.0, new_number ts t.1, new_number ts t.2)) in
+    let labels : s.labels ≡ no_labels ts = third ∙ ap no_labels second ∙ ap (λ (n : ℕ). replicate n []) count in
+    λ i. record { points = first i; triples = second i; labels = labels i; unused = fourth i }
 
 -- marks, as they are read later
 marks_as : (n m : ℕ) (us ts : List Triple) (marks now : List Bool) → n ≡ m → us ≡ ts → now ≡ marks → MarksUsed n us marks → MarksUsed m ts now
@@ -30,8 +36,8 @@ returns-then-are_set c =
     let marks = marks_as c.len.result (length points) (triples_of c.deref.result.now) ts c.in_ok-marks.marks.items c.deref-2.result.now
     (c.len.ensures ∙ c.args.points.ok.0) (ap triples_of c.deref.ensures.value) c.deref-2.ensures.value c.in_ok-marks.ensures in
     let set : All (λ mark. mark ≡ true) c.deref-2.result.now = search rules in
-    let same = soup_of-all points ts c.requires.below (marked_used (length points) ts c.deref-2.result.now marks set) in
-    (λ i. record { points = c.of.ensures.points i; triples = c.of.ensures.triples i; unused = c.of.ensures.unused i }) ∙ sym same
+    let same = soup_of-all points ts (no_labels ts) c.requires.below (marked_used (length points) ts c.deref-2.result.now marks set) in
+    (λ i. record { points = c.of.ensures.points i; triples = c.of.ensures.triples i; labels = c.of.ensures.labels i; unused = c.of.ensures.unused i }) ∙ sym same
 
 pub overflow_sub-unused : goal.overflow_sub-unused
 overflow_sub-unused c =
@@ -77,4 +83,4 @@ returns c =
     (sym (ap length c.deref-5.ensures.value ∙ numbers.each)) c.deref-5.ensures.value numbers) in
     let unused : c.of-2.result.unused ≡ length points - length (used_from ts 0 points) =
     omega (arith, c.of-2.ensures.unused, c.len-2.ensures ∙ c.args.points.ok.0, c.len-3.ensures ∙ c.in_ok-kept.kept.ok.0, ap length kept) in
-    soup_is points ts c.of-2.result (c.of-2.ensures.points ∙ kept) (c.of-2.ensures.triples ∙ after) unused
+    soup_is points ts c.of-2.result (c.of-2.ensures.points ∙ kept) (c.of-2.ensures.triples ∙ after) (c.of-2.ensures.labels ∙ sym (ap no_labels c.of-2.ensures.triples)) unused

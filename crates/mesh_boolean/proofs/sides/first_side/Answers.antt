@@ -8,18 +8,24 @@ use Rattle.mesh_boolean.proofs.sides.first_side.Goals as goal
 
 pub returns-then-is_plainly_reduced-clause-value : goal.returns-then-is_plainly_reduced-clause-value
 returns-then-is_plainly_reduced-clause-value c =
-    IfOk-weaker c.marked_side.result (λ side. side ≡ p_side c.args.op c.args.p.now) (λ side. side ≡ p_side c.args.op (reduced_mesh c.args.p.now)) (λ side is. side_of_reduced (p_side c.args.op) c.args.p.now c.args.p.now side (c.is_plainly_reduced.ensures.points (search rules)) (c.is_plainly_reduced.ensures.triples (search rules)) is) c.marked_side.ensures
+    IfOk-weaker c.marked_side.result (λ side. side ≡ p_side c.args.op c.args.p.now) (λ side. side ≡ p_side c.args.op (reduced_mesh c.args.p.now))
+    (λ side is. side_of_reduced (p_side c.args.op) c.args.p.now c.args.p.now side (c.is_plainly_reduced.ensures.points (search rules))
+    (c.is_plainly_reduced.ensures.triples (search rules)) (c.is_plainly_reduced.ensures.labels (search rules)) is) c.marked_side.ensures
 
 pub returns-then-is_plainly_reduced-clause-apart : goal.returns-then-is_plainly_reduced-clause-apart
 returns-then-is_plainly_reduced-clause-apart c =
-    IfOk-weaker c.marked_side.result (λ side. side ≡ p_side c.args.op c.args.p.now) (λ side. NoOpposite side.triples) (λ side is. subst (λ (s : Side). NoOpposite s.triples) (sym is) (c.is_plainly_reduced.ensures.apart (search rules))) c.marked_side.ensures
+    IfOk-weaker c.marked_side.result (λ side. side ≡ p_side c.args.op c.args.p.now) (λ side. NoOpposite side.triples)
+    (λ side is. subst (λ (s : Side). NoOpposite s.triples) (sym is) (c.is_plainly_reduced.ensures.apart (search rules))) c.marked_side.ensures
 
 pub returns-clause-value : goal.returns-clause-value
 returns-clause-value c =
     let m = c.in_ok-p.p in
-    IfOk-weaker c.marked_side-2.result (λ side. side ≡ p_side c.args.op m) (λ side. side ≡ p_side c.args.op (reduced_mesh c.args.p.now)) (λ side is. side_of_reduced (p_side c.args.op) m c.args.p.now side c.in_ok-p.ensures.points c.in_ok-p.ensures.triples is) c.marked_side-2.ensures
+    IfOk-weaker c.marked_side-2.result (λ side. side ≡ p_side c.args.op m) (λ side. side ≡ p_side c.args.op (reduced_mesh c.args.p.now))
+    (λ side is. side_of_reduced (p_side c.args.op) m c.args.p.now side c.in_ok-p.ensures.points c.in_ok-p.ensures.triples c.in_ok-p.ensures.labels is)
+    c.marked_side-2.ensures
 
 pub returns-clause-apart : goal.returns-clause-apart
 returns-clause-apart c =
     let m = c.in_ok-p.p in
-    IfOk-weaker c.marked_side-2.result (λ side. side ≡ p_side c.args.op m) (λ side. NoOpposite side.triples) (λ side is. subst (λ (s : Side). NoOpposite s.triples) (sym is) c.in_ok-p.ensures.apart) c.marked_side-2.ensures
+    IfOk-weaker c.marked_side-2.result (λ side. side ≡ p_side c.args.op m) (λ side. NoOpposite side.triples)
+    (λ side is. subst (λ (s : Side). NoOpposite s.triples) (sym is) c.in_ok-p.ensures.apart) c.marked_side-2.ensures

@@ -1,7 +1,7 @@
 use Rattle.std.proofs.Common.{◌≡◌, ◌++◌, ℕ, Bool, false, cond, List, [], ◌∷◌, Vec, Global, get_or, take, sym, ◌∙◌, ap, arith}
 use Rattle.std.proofs.lemmas.List.{append-nil, take_all}
 use Rattle.mesh_terms.specs.Meshes.{triple_of, triples_of}
-use Rattle.mesh_check.specs.Cancelling.{picked}
+use Rattle.mesh_check.specs.Reduced.{picked}
 use Rattle.mesh_check.proofs.KeptMarks.{picked_more, map-picked}
 use Rattle.mesh_check.proofs.reduction.marked.Goals as goal
 use Rattle.mesh_check.proofs.reduction.marked.Goals.{then-marks-place+in_ok-push, else-marks-place}

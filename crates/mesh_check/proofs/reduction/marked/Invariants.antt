@@ -1,5 +1,5 @@
 use Rattle.std.proofs.Common.{◌≡◌, take}
-use Rattle.mesh_check.specs.Cancelling.{picked}
+use Rattle.mesh_check.specs.Reduced.{picked}
 use Rattle.mesh_check.proofs.reduction.marked.Given as goal
 
 -- the triples so far

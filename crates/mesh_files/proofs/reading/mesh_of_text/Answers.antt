@@ -7,4 +7,5 @@ returns-clause-meets c now =
     let name = c.args.name.now in
     let e = c.in_ok-mesh.ensures in
     meets_given _ _ now
-    (checked_closed name _ c.in_ok-soup.soup c.in_ok-mesh.mesh.points c.in_ok-mesh.mesh.triples c.unused-unused.result c.in_ok-soup.ensures.soup e.closed e.points e.triples c.unused-unused.ensures)
+    (checked_closed name _ c.in_ok-soup.soup c.in_ok-mesh.mesh.points c.in_ok-mesh.mesh.triples c.in_ok-mesh.mesh.labels c.unused-unused.result
+    c.in_ok-soup.ensures.soup e.closed e.points e.triples e.labels c.unused-unused.ensures)

@@ -9,7 +9,7 @@ use Rattle.mesh_files.proofs.saving.save_mesh.Goals as goal
 pub returns-in_default-clause-meets : goal.returns-in_default-clause-meets
 returns-in_default-clause-meets g c =
     let e = c.in_default.ensures in
-    unwritten c.args.digits c.args.name.now c.args.mesh.now.points c.args.mesh.now.triples _ _ e.told e.reads e.short
+    unwritten c.args.digits c.args.name.now c.args.mesh.now.points c.args.mesh.now.triples c.args.mesh.now.labels _ _ e.told e.reads e.short
     (record { later = e.writes.later; rose = e.writes.failed refl })
     (λ told. begun_in_part c.args.name.now _ _ _ (e.kept told) (e.others told))
 
@@ -19,7 +19,8 @@ returns-in_default-append_text-clause-meets g c =
     let begun = c.in-Ok.ensures in
     let e = c.in_default-append_text.ensures in
     let Q : ℕ → Type 0 = λ before. Grew before (g.S.Shelf.write_faults c.append_text.new.shelf) in
-    unwritten c.args.digits c.args.name.now c.args.mesh.now.points c.args.mesh.now.triples _ _ (e.told ∙ begun.told) (e.reads ∙ begun.reads) (e.short ∙ begun.short)
+    unwritten c.args.digits c.args.name.now c.args.mesh.now.points c.args.mesh.now.triples c.args.mesh.now.labels _ _ (e.told ∙ begun.told)
+    (e.reads ∙ begun.reads) (e.short ∙ begun.short)
     (subst Q (begun.writes.ok refl) (record { later = e.writes.later; rose = e.writes.failed refl }))
     (λ told.
     let mid = subst P (sym begun.told) told in
@@ -30,7 +31,8 @@ returns-clause-meets g c =
     let P : Bool → Type 0 = λ b. IsTrue b in
     let begun = c.in-Ok.ensures in
     let e = c.in-Ok-append_text.ensures in
-    written_whole c.args.digits c.args.name.now c.args.mesh.now.points c.args.mesh.now.triples _ _ (e.told ∙ begun.told) (e.reads ∙ begun.reads) (e.short ∙ begun.short) (e.writes.ok refl ∙ begun.writes.ok refl)
+    written_whole c.args.digits c.args.name.now c.args.mesh.now.points c.args.mesh.now.triples c.args.mesh.now.labels _ _ (e.told ∙ begun.told)
+    (e.reads ∙ begun.reads) (e.short ∙ begun.short) (e.writes.ok refl ∙ begun.writes.ok refl)
     (λ told. let mid = subst P (sym begun.told) told in written_after c.args.name.now _ _ _ _ (e.text mid) (begun.others told) (e.others mid))
 
 pub append_text-requires : goal.append_text-requires
@@ -62,6 +64,7 @@ returns-in_default-append_text-clause-part g c =
     record {
       part = e.part.part;
       first = e.part.first;
-      files = λ told. let mid = subst P (sym begun.told) told in inr (written_after c.args.name.now e.part.part _ _ _ (e.part.holds mid) (begun.others told) (e.others mid));
+      files = λ told. let mid = subst P (sym begun.told) told in
+          inr (written_after c.args.name.now e.part.part _ _ _ (e.part.holds mid) (begun.others told) (e.others mid));
       spare = e.part.spare ∙ ap (λ (s : Option (Bytes × ℕ)). spare_after c.args.name.now (length e.part.part) s) begun.spare;
     }

@@ -1,4 +1,4 @@
-use Rattle.std.proofs.Common.{◌-◌, arith, length}
+use Rattle.std.proofs.Common.{◌-◌, length}
 use Rattle.std.proofs.lemmas.Result.{on_ok_weaker, on_err_weaker}
 use Rattle.mesh_writer.proofs.Passing.{ended, ended_room, ended_in_part, last_fits, left_of}
 use Rattle.mesh_writer.proofs.stl.write_stl.Goals as goal

@@ -9,7 +9,7 @@ use Rattle.report_lines.proofs.report.say_copied.Goals as goal
 pub returns : goal.returns
 returns g c =
     let to = c.args.to.now in
-    let m : Soup = record { points = c.args.mesh.now.points; triples = c.args.mesh.now.triples; unused = c.args.unused } in
+    let m : Soup = record { points = c.args.mesh.now.points; triples = c.args.mesh.now.triples; labels = c.args.mesh.now.labels; unused = c.args.unused } in
     let points : length c.points.result.now ≡ length m.points = ap length c.points.ensures.value in
     let triples : length c.triples.result.now ≡ length m.triples = sym (length-map c.triples.result.now triple_of) ∙ ap length c.triples.ensures.value in
     let tail : Bytes = c.as_slice.result.now in

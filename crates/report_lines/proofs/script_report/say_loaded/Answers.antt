@@ -13,11 +13,13 @@ pub returns : goal.returns
 returns g c =
     let name = c.args.name.now in
     let file = c.args.file.now in
-    let m : Soup = record { points = c.args.mesh.now.points; triples = c.args.mesh.now.triples; unused = c.args.unused } in
+    let m : Soup = record { points = c.args.mesh.now.points; triples = c.args.mesh.now.triples; labels = c.args.mesh.now.labels; unused = c.args.unused } in
     let points : length c.points.result.now ≡ length m.points = ap length c.points.ensures.value in
     let triples : length c.triples.result.now ≡ length m.triples = sym (length-map c.triples.result.now triple_of) ∙ ap length c.triples.ensures.value in
     let text = counts_text (length m.points) (length m.triples) m.unused in
     let is : c.as_slice.result.now ≡ line_of text = c.as_slice.ensures.value ∙ (rw (points, triples, c.from.ensures) at c.copied_tail-tail.ensures) in
     let parts : Bytes → Bytes → Bytes = λ a b. codes "load " ++ (a ++ (codes " " ++ (b ++ c.as_slice.result.now))) in
-    let line = (λ i. parts (c.as_bytes-name.ensures.value i) (c.as_bytes-file.ensures.value i)) ∙ four_before (codes "load ") name (codes " ") file text c.as_slice.result.now is in
+    let line =
+    (λ i. parts (c.as_bytes-name.ensures.value i) (c.as_bytes-file.ensures.value i))
+    ∙ four_before (codes "load ") name (codes " ") file text c.as_slice.result.now is in
     record { meets = met_as (load_line name file m) _ _ _ c.say_five.result line c.say_five.ensures.added c.say_five.ensures.part c.say_five.ensures.count }

@@ -1,0 +1,7 @@
+use Rattle.std.proofs.Common.{◌≡◌, ◌++◌, map, take}
+use Rattle.obj_terms.specs.Labels.{label_byte}
+use Rattle.obj_text.proofs.groups.push_word.Given as goal
+
+-- the bytes so far are added
+abbrev pub invariant-loop-byte : goal.invariant-loop-byte
+invariant-loop-byte l = l.label.items ≡ take 64 (l.initial.label.items ++ map label_byte (take l.byte-index l.word))

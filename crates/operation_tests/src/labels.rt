@@ -1,0 +1,108 @@
+// Labels of triangles, through reduction, motions and operations. What is expected was found by a reference program.
+use crate::results::operated;
+use mb_base::{Limits, Op};
+use mesh_check::{Mesh, reduce};
+use mesh_make::{mirror, quarter_turn, scale, shift};
+use obj_text::read_obj;
+use rounding::Nearest;
+use shadow_kernels::Grid;
+use std::alloc::Global;
+use std::process::Abort;
+use std::test::Fail;
+use test_tables::{POST_IN_BOX, read_meshes};
+
+// The box from (0,0,0) to (10,10,10) with a sheet of two triangles between three of its corners, each triangle with its own
+// label: x and y those of the sheet.
+const BOX_WITH_SHEET: &[u8] =
+    b"v 0 0 0\nv 10 0 0\nv 0 10 0\nv 10 10 0\nv 0 0 10\nv 10 0 10\nv 0 10 10\nv 10 10 10\n\
+g x\nf 1 2 3\ng a\nf 1 4 2\ng b\nf 1 3 4\ng c\nf 5 6 8\ng d\nf 5 8 7\ng e\nf 1 2 5\ng f\nf 2 6 5\n\
+g y\nf 3 2 1\ng g\nf 2 4 8\ng h\nf 2 8 6\ng i\nf 4 3 7\ng j\nf 4 7 8\ng k\nf 1 5 7\ng l\nf 1 7 3\n";
+
+// The post from (3,4,5) to (6,7,20), each triangle with its own label.
+const POST: &[u8] = b"v 3 4 5\nv 6 4 5\nv 3 7 5\nv 6 7 5\nv 3 4 20\nv 6 4 20\nv 3 7 20\nv 6 7 20\n\
+g A\nf 1 4 2\ng B\nf 1 3 4\ng C\nf 5 6 8\ng D\nf 5 8 7\ng E\nf 1 2 5\ng F\nf 2 6 5\n\
+g G\nf 2 4 8\ng H\nf 2 8 6\ng I\nf 4 3 7\ng J\nf 4 7 8\ng K\nf 1 5 7\ng L\nf 1 7 3\n";
+
+// The box alone, all of it one body.
+const BODY: &[u8] =
+    b"v 0 0 0\nv 10 0 0\nv 0 10 0\nv 10 10 0\nv 0 0 10\nv 10 0 10\nv 0 10 10\nv 10 10 10\n\
+g body\nf 1 4 2\nf 1 3 4\nf 5 6 8\nf 5 8 7\nf 1 2 5\nf 2 6 5\n\
+f 2 4 8\nf 2 8 6\nf 4 3 7\nf 4 7 8\nf 1 5 7\nf 1 7 3\n";
+
+fn read(alloc: Global, text: &[u8]) -> Result<Mesh, Fail> {
+    let soup = read_obj(alloc, text, 0, &Limits::program())?;
+    Ok(Mesh::check(alloc, soup)?)
+}
+
+// The labels of all triangles, one behind the other.
+fn labels_of(alloc: Global, mesh: &Mesh) -> Result<String, Fail> {
+    let mut text = String::new(alloc);
+    for triangle in 0..mesh.triples().len() {
+        for byte in mesh.label(triangle as u32) {
+            text.push(char::from(*byte))?;
+        }
+    }
+    Ok(text)
+}
+
+// The labels of what an operation gives of the box and the post.
+fn labels_after(alloc: Global, op: Op) -> Result<String, Fail> {
+    let (p, q) = (read(alloc, BOX_WITH_SHEET)?, read(alloc, POST)?);
+    let kernels = Grid { rounding: Nearest };
+    let outcome = operated(alloc, op, &p, &q, &kernels, &Limits::program())?;
+    labels_of(alloc, &outcome.mesh)
+}
+
+#[test]
+fn a_triangle_has_the_label_of_its_source_face(rt: HostRuntime) -> Result<(), Fail> {
+    let united = labels_after(rt.alloc(), Op::Union)?;
+    assert_eq!(rt; united.as_str(), "abccccccddddddddefghijklCDEEFFGGHHIJJKKL");
+    let common = labels_after(rt.alloc(), Op::Intersect)?;
+    assert_eq!(rt; common.as_str(), "cccdddddABEEEFGGGHIIJKLL");
+    let rest = labels_after(rt.alloc(), Op::Subtract)?;
+    assert_eq!(rt; rest.as_str(), "abccccccddddddddefghijklABEEEFGGGHIIJKLL");
+    Ok(())
+}
+
+// How many triangles have this label.
+fn count_of(mesh: &Mesh, label: &[u8]) -> usize {
+    let mut count = 0usize;
+    for triangle in 0..mesh.triples().len() {
+        if mesh.label(triangle as u32) == label {
+            count = count.wrapping_add(1);
+        }
+    }
+    count
+}
+
+#[test]
+fn faces_of_a_mesh_without_labels_stay_without(rt: HostRuntime) -> Result<(), Fail> {
+    let body = read(rt.alloc(), BODY)?;
+    let (_, post) = read_meshes(rt.alloc(), POST_IN_BOX)?;
+    let kernels = Grid { rounding: Nearest };
+    let limits = Limits::program();
+    let rest = operated(rt.alloc(), Op::Subtract, &body, &post, &kernels, &limits)?;
+    assert!(rt; count_of(&rest.mesh, b"body") == 24);
+    assert!(rt; count_of(&rest.mesh, b"") == 16);
+    Ok(())
+}
+
+// Compares the labels of all triangles with a text.
+fn expect_labels(rt: &impl Abort, alloc: Global, mesh: &Mesh, expected: &str) -> Result<(), Fail> {
+    let labels = labels_of(alloc, mesh)?;
+    assert_eq!(rt; labels.as_str(), expected);
+    Ok(())
+}
+
+#[test]
+fn reduction_and_motions_keep_labels(rt: HostRuntime) -> Result<(), Fail> {
+    let mesh = read(rt.alloc(), BOX_WITH_SHEET)?;
+    let all = "xabcdefyghijkl";
+    expect_labels(&rt, rt.alloc(), &mesh, all)?;
+    expect_labels(&rt, rt.alloc(), &mesh.clone()?, all)?;
+    expect_labels(&rt, rt.alloc(), &shift(rt.alloc(), &mesh, [1, 2, 3])?, all)?;
+    expect_labels(&rt, rt.alloc(), &scale(rt.alloc(), &mesh, 3)?, all)?;
+    expect_labels(&rt, rt.alloc(), &mirror(rt.alloc(), &mesh, 1)?, all)?;
+    expect_labels(&rt, rt.alloc(), &quarter_turn(rt.alloc(), &mesh, 2)?, all)?;
+    expect_labels(&rt, rt.alloc(), &reduce(rt.alloc(), &mesh)?, "abcdefghijkl")
+}

@@ -1,0 +1,107 @@
+// The groups of faces: what is read of a `g` line, and what is written of it.
+use crate::lists::joined;
+use mb_base::{Labels, Limits, NoMemory, Soup};
+use mb_outside::MemorySink;
+use mesh_check::Mesh;
+use mesh_writer::write_obj;
+use obj_text::read_obj;
+use std::alloc::Global;
+use std::test::Fail;
+
+// A triangle and its reverse, and between them the line of a group.
+const FRONT: &[u8] = b"v 0 0 0\nv 1 0 0\nv 0 1 0\nf 1 2 3\n";
+
+const AFTER: &[u8] = b"f 3 2 1\n";
+
+// The line of a group, as it is read and as it is written.
+static GROUPS: [(&[u8], &[u8]); 14] = [
+    (b"", b""),
+    (b"g\n", b""),
+    (b"g # red\n", b""),
+    (b"g red\ng\n", b""),
+    (b"g red\n", b"g red\n"),
+    (b"\tg  red \t blue # green\r\n", b"g red blue\n"),
+    (b"g red \\\n blue\n", b"g red blue\n"),
+    (b"o red\ng body\ns off\nusemtl blue\n", b"g body\n"),
+    (b"g a\\b\x01\x7f \x1f\n", b"g a_b__ _\n"),
+    (b"g \xc3\xa4 \xff#\n", b"g \xc3\xa4 \xff#\n"),
+    // 64 bytes, and 65.
+    (
+        b"g xxxxxxxxxxxxxxxxxxxxxxxxxxxxxxxxxxxxxxxxxxxxxxxxxxxxxxxxxxxxxxxx\n",
+        b"g xxxxxxxxxxxxxxxxxxxxxxxxxxxxxxxxxxxxxxxxxxxxxxxxxxxxxxxxxxxxxxxx\n",
+    ),
+    (
+        b"g xxxxxxxxxxxxxxxxxxxxxxxxxxxxxxxxxxxxxxxxxxxxxxxxxxxxxxxxxxxxxxxxy\n",
+        b"g xxxxxxxxxxxxxxxxxxxxxxxxxxxxxxxxxxxxxxxxxxxxxxxxxxxxxxxxxxxxxxxx\n",
+    ),
+    // A blank as byte 64, and as byte 63.
+    (
+        b"g xxxxxxxxxxxxxxxxxxxxxxxxxxxxxxxxxxxxxxxxxxxxxxxxxxxxxxxxxxxxxxx y\n",
+        b"g xxxxxxxxxxxxxxxxxxxxxxxxxxxxxxxxxxxxxxxxxxxxxxxxxxxxxxxxxxxxxxx\n",
+    ),
+    (
+        b"g xxxxxxxxxxxxxxxxxxxxxxxxxxxxxxxxxxxxxxxxxxxxxxxxxxxxxxxxxxxxxx yz\n",
+        b"g xxxxxxxxxxxxxxxxxxxxxxxxxxxxxxxxxxxxxxxxxxxxxxxxxxxxxxxxxxxxxx y\n",
+    ),
+];
+
+// What is read where this line stands between the triangles, under limits that allow no more.
+fn read_between(alloc: Global, line: &[u8], limits: &Limits) -> Result<Option<Soup>, NoMemory> {
+    let bytes = joined(alloc, FRONT, line, AFTER)?;
+    Ok(read_obj(alloc, &bytes, 0, limits).ok())
+}
+
+// Whether this is written where that stands between the triangles.
+fn is_written(
+    alloc: Global,
+    line: &[u8],
+    wanted: &[u8],
+    limits: &Limits,
+) -> Result<bool, NoMemory> {
+    let Some(soup) = read_between(alloc, line, limits)? else {
+        return Ok(false);
+    };
+    let text = joined(alloc, FRONT, wanted, AFTER)?;
+    let Some(mesh) = Mesh::check(alloc, soup).ok() else {
+        return Ok(false);
+    };
+    let mut sink = MemorySink::of(alloc, 1000, 1000, Vec::new(alloc))?;
+    Ok(write_obj(&mesh, 0, &mut sink).is_ok() && sink.bytes() == text.as_slice())
+}
+
+#[test]
+fn groups_are_written_as_they_were_read(rt: HostRuntime) -> Result<(), Fail> {
+    let limits = Limits::of(321, 3, 2, 0).ok_or("these limits are lawful")?;
+    for (line, wanted) in &GROUPS {
+        assert!(rt;
+            is_written(rt.alloc(), line, wanted, &limits)?,
+            "at {line:?}"
+        );
+        assert!(rt;
+            is_written(rt.alloc(), wanted, wanted, &limits)?,
+            "again at {line:?}"
+        );
+    }
+    Ok(())
+}
+
+// Whether these are an empty label and this one, and past their end an empty one.
+fn are_two(labels: &Labels, second: &[u8]) -> bool {
+    labels.len() == 2
+        && labels.get(0).is_empty()
+        && labels.get(1) == second
+        && labels.get(2).is_empty()
+}
+
+#[test]
+fn labels_stand_by_their_triangles(rt: HostRuntime) -> Result<(), Fail> {
+    let limits = Limits::of(321, 3, 2, 0).ok_or("these limits are lawful")?;
+    let plain = read_between(rt.alloc(), b"g\n", &limits)?.ok_or("this is read")?;
+    assert!(rt; plain.labels().is_none());
+    let grouped = read_between(rt.alloc(), b"g red  blue\n", &limits)?.ok_or("this is read")?;
+    let labels = grouped.labels().ok_or("one has a label")?;
+    assert!(rt; are_two(labels, b"red blue"));
+    let copy = labels.copy(rt.alloc())?;
+    assert!(rt; are_two(&copy, b"red blue"));
+    Ok(())
+}
