@@ -1,9 +1,10 @@
 """Draws OBJ files as one SVG picture, seen from afar: fills from far to near, then the parts of lines that nothing hides, one light.
 
-Usage: draw.py OUT.svg [--turn DEGREES] [--tilt DEGREES] [--width PIXELS] [--unit PIXELS] [--all] [--groups] [--on FILE.obj[=COLOUR]].. FILE.obj[=COLOUR]..
+Usage: draw.py OUT.svg [--turn DEGREES] [--tilt DEGREES] [--width PIXELS] [--unit PIXELS] [--all] [--flat] [--groups] [--on FILE.obj[=COLOUR]].. FILE.obj[=COLOUR]..
 
 The picture turns about the upright axis z by --turn and is seen from --tilt above the level. It is --width wide, or has --unit pixels for a unit
-of the file. Lines are drawn where faces meet at an angle; --all draws those of all triangles. COLOUR is six hexadecimal digits. --groups gives each group of
+of the file. Lines are drawn where faces meet at an angle; --all draws those of all triangles. --flat draws triangles
+without area, which are lines, in red. COLOUR is six hexadecimal digits. --groups gives each group of
 faces a colour of its own, in the order in which they come; faces without one have the file's. --on gives a colour to the faces that lie on those of a file:
 so a cut shows whose tool made it. Where a mesh is open, its insides are drawn too, in red, and its open edges thick.
 
@@ -65,6 +66,12 @@ def normal_of(a, b, c, least):
     whole = cross(sub(b, a), sub(c, a))
     longest = max(dot(d, d) for d in (sub(b, a), sub(c, b), sub(a, c)))
     return unit(whole) if dot(whole, whole) > longest * least * least else None
+
+
+def longest(points, triangle):
+    """The longest edge of a triangle."""
+    edges = [(min(a, b), max(a, b)) for a, b in zip(triangle, triangle[1:] + triangle[:1])]
+    return max(edges, key=lambda e: dot(sub(points[e[0]], points[e[1]]), sub(points[e[0]], points[e[1]])))
 
 
 def open_edges(triangles):
@@ -141,7 +148,7 @@ class Piece:
         return (self.level - self.normal[0] * x - self.normal[1] * y) / self.normal[2]
 
 
-def pieces_of(file, colour, on, turn, tilt, every, colours):
+def pieces_of(file, colour, on, turn, tilt, every, flat, colours):
     """What there is to draw of one mesh: pieces, and lines as pairs of points with a kind. Colours of groups are in the map, to which new ones are added."""
     points, triangles, groups = read(file)
     for group in groups if colours is not None else ():
@@ -163,6 +170,8 @@ def pieces_of(file, colour, on, turn, tilt, every, colours):
         facing, corners = (n, corners) if n[2] > 0 else ((-n[0], -n[1], -n[2]), corners[::-1])
         lit = 0.55 + 0.45 * max(0.0, dot(facing, unit(LIGHT)))
         pieces.append(Piece(corners, facing, "".join("%02x" % min(255, round(int(shade[i : i + 2], 16) * lit)) for i in (0, 2, 4))))
+    if flat:
+        drawn.update((longest(points, t), 2) for t, n in zip(triangles, normals) if not n)
     return pieces, [(points[a], points[b], kind) for (a, b), kind in drawn.items()]
 
 
@@ -387,11 +396,13 @@ def picture(pieces, lines, width, factor):
 
 def main(words):
     options = {"--turn": "-30", "--tilt": "28", "--width": "480", "--unit": "0"}
-    every, colours, files, tools = False, None, [], []
+    every, flat, colours, files, tools = False, False, None, [], []
     words = iter(words)
     for word in words:
         if word == "--all":
             every = True
+        elif word == "--flat":
+            flat = True
         elif word == "--groups":
             colours = {}
         elif word == "--on":
@@ -411,7 +422,7 @@ def main(words):
         on.append((Faces(points, triangles, 1e-4 * max(abs(c) for p in points for c in p)), colour or CUT))
     for k, file in enumerate(files[1:]):
         name, _, colour = file.partition("=")
-        its, edges = pieces_of(name, colour or COLOURS[k % len(COLOURS)], on, turn, tilt, every, colours)
+        its, edges = pieces_of(name, colour or COLOURS[k % len(COLOURS)], on, turn, tilt, every, flat, colours)
         pieces += its
         lines += edges
     if not pieces:

@@ -3,6 +3,7 @@ ghost use Rattle.std.specs.Prelude.{◌≡◌, ◌<◌};
 
 mod numbers;
 mod pairs;
+mod stacks;
 mod table;
 
 use crate::boxes::{Span, boxes_of, mesh_of, plain_boxes};

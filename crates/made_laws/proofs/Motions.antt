@@ -10,7 +10,9 @@ use Rattle.mesh_terms.specs.Labels.{AreLabels}
 use Rattle.mesh_terms.specs.Limits.{Limits}
 use Rattle.mesh_terms.specs.Meshes.{IsAccepted, Mesh, Triple}
 use Rattle.mesh_terms.specs.Points.{IsPoint}
-use Rattle.play_terms.specs.Making.{Mirror, Motion, Scale, Shift, Turn, motion_fault, moved_mesh}
+use Rattle.made_terms.specs.Motions.{motion_fault, moved_mesh}
+use Rattle.made_terms.specs.declared.motion.Motion.{Motion}
+use Rattle.made_terms.specs.declared.motion.Motion.TheVariants.{Mirror, Scale, Shift, Turn}
 use Rattle.made_laws.specs.Laws.{IsGiven, IsGivenWithin, IsMovedFrom}
 use Rattle.made_laws.proofs.Mirrors.{turned_accepted}
 use Rattle.made_laws.proofs.Points.{is_three, mirrored_point, moved_points, turned_point}

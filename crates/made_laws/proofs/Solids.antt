@@ -11,7 +11,9 @@ use Rattle.mesh_terms.proofs.Labels.{no_labels-are}
 use Rattle.mesh_terms.specs.Labels.{no_labels}
 use Rattle.mesh_terms.specs.Limits.{IsLawful, Limits}
 use Rattle.mesh_terms.specs.Meshes.{Triple}
-use Rattle.play_terms.specs.Making.{Box, Lattice, Prism, Solid, Tetra, solid_fault, solid_mesh}
+use Rattle.made_terms.specs.Making.{solid_fault, solid_mesh}
+use Rattle.made_terms.specs.declared.solid.Solid.{Solid}
+use Rattle.made_terms.specs.declared.solid.Solid.TheVariants.{Box, Lattice, Prism, Tetra}
 use Rattle.made_laws.specs.Laws.{IsGivenWithin}
 use Rattle.made_laws.specs.Solids.{IsSolid}
 use Rattle.made_laws.proofs.Lattices.{boxes_solid, lattice_threes, points_of_boxes}

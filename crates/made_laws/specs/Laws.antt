@@ -5,7 +5,10 @@ use Rattle.mesh_terms.specs.Labels.{AreLabels}
 use Rattle.mesh_terms.specs.Limits.{IsLawful, Limits}
 use Rattle.mesh_terms.specs.Meshes.{IsAccepted, Mesh}
 use Rattle.mesh_terms.specs.Points.{IsPoint}
-use Rattle.play_terms.specs.Making.{Motion, Solid, motion_fault, moved_mesh, solid_fault, solid_mesh}
+use Rattle.made_terms.specs.Making.{solid_fault, solid_mesh}
+use Rattle.made_terms.specs.Motions.{motion_fault, moved_mesh}
+use Rattle.made_terms.specs.declared.motion.Motion.{Motion}
+use Rattle.made_terms.specs.declared.solid.Solid.{Solid}
 
 -- an accepted mesh at points of the grid, with a label for each triangle
 pub record IsGiven (m : Mesh) : Type 0 where

@@ -1,5 +1,6 @@
 pub mod Euler
 pub mod Lattice
+pub mod Making
 pub mod Motions
 pub mod Refusals
 pub mod Solids

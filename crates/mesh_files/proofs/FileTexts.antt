@@ -7,7 +7,7 @@ use Rattle.mesh_terms.specs.Faults.{FileBytes}
 use Rattle.mesh_terms.specs.Limits.{Limits}
 use Rattle.run_terms.specs.Files.{Bytes, text_of, length_of}
 use Rattle.play_terms.specs.Commands.{bytes_in}
-use Rattle.play_terms.specs.Lines.{missing, over}
+use Rattle.run_terms.specs.Tasks.{NoFile, PastLimit}
 use Rattle.mesh_files.specs.ReadPieces.{ReadsOn}
 
 -- a whole text was read
@@ -19,13 +19,13 @@ pub reads_on : (text old new : Bytes) (have n : ℕ) → ReadsOn text have n old
 reads_on text old new have n is was = is ∙ ap (λ x. x ++ take n (drop have text)) was ∙ sym (take-add have n text)
 
 -- a file that is not there is refused
-pub bytes_of_none : (limits : Limits) (name : Bytes) (file : Option Bytes) → length_of file ≡ None → bytes_in limits name file ≡ Err (missing name)
+pub bytes_of_none : (limits : Limits) (name : Bytes) (file : Option Bytes) → length_of file ≡ None → bytes_in limits name file ≡ Err (NoFile name)
 bytes_of_none limits name None none = refl
 bytes_of_none limits name (Some text) none = cc
 
 -- a file that is too long is refused
 pub bytes_of_long : (limits : Limits) (name : Bytes) (file : Option Bytes) (most size : ℕ)
-    → length_of file ≡ Some size → most ≡ limits.file_bytes → most < size → bytes_in limits name file ≡ Err (over FileBytes size)
+    → length_of file ≡ Some size → most ≡ limits.file_bytes → most < size → bytes_in limits name file ≡ Err (PastLimit FileBytes size)
 bytes_of_long limits name None most size is same long = cc
 bytes_of_long limits name (Some text) most size is same long =
     let seen : length text ≡ size = cc in

@@ -1,24 +1,22 @@
 -- Why a file was not read or saved, and what a call that ended so owes.
 use Rattle.std.specs.Prelude.{ℕ, Bool, true, false, Result, Ok, Err}
 use Rattle.mb_base.specs.Faults.{counted_of, kind_number}
-use Rattle.mesh_terms.specs.Faults as faults
 use Rattle.mesh_terms.specs.Meshes.{Mesh, Soup}
-use Rattle.play_terms.specs.Lines.{usage, missing, fault_refusal, open_refusal, over}
 use Rattle.run_terms.specs.Files.{Bytes}
 use Rattle.run_terms.specs.Meets.{Why, Refused, Unread, Unwritten, Starved}
-use Rattle.play_terms.specs.ScriptLines.{script_refusal, step_refusal}
+use Rattle.run_terms.specs.Tasks.{NoCommand, FaultyScript, NoFile, FaultyText, OpenEdge, FaultyStep, PastLimit}
 use Rattle.mesh_files.specs.declared.stop.Stop.{Stop}
 use Rattle.mesh_files.specs.declared.stop.Stop.TheVariants.{Usage, BadScript, BadStep, Missing, BadText, BadEdge, Over, ReadFault, WriteFault, NoMemory}
 
 -- a stop at the file of this name, or at a line of the script of this name
 abbrev pub why_of : Bytes → Stop → Why
-why_of name Usage = Refused usage
-why_of name (BadScript line kind) = Refused (script_refusal name (faults.Bad line kind))
-why_of name (BadStep line kind) = Refused (step_refusal name line kind)
-why_of name Missing = Refused (missing name)
-why_of name (BadText line kind) = Refused (fault_refusal name (faults.Bad line (kind_number kind)))
-why_of name (BadEdge from to) = Refused (open_refusal name (from, to))
-why_of name (Over what seen) = Refused (over (counted_of what) seen)
+why_of name Usage = Refused NoCommand
+why_of name (BadScript line kind) = Refused (FaultyScript name line kind)
+why_of name (BadStep line kind) = Refused (FaultyStep name line kind)
+why_of name Missing = Refused (NoFile name)
+why_of name (BadText line kind) = Refused (FaultyText name line (kind_number kind))
+why_of name (BadEdge from to) = Refused (OpenEdge name from to)
+why_of name (Over what seen) = Refused (PastLimit (counted_of what) seen)
 why_of name ReadFault = Unread name
 why_of name WriteFault = Unwritten name
 why_of name NoMemory = Starved

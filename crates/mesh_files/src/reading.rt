@@ -15,7 +15,7 @@ use crate::stop::Stop;
 use mb_base::{Limits, Soup, TextFault};
 use mb_outside::Shelf;
 use mesh_check::Mesh;
-use mesh_names::is_stl_name;
+use mesh_names::{Format, format_of};
 use obj_text::read_obj;
 use std::alloc::Global;
 use stl_text::read_stl;
@@ -39,10 +39,9 @@ fn soup_of_text(
     ensures soup { IfOk result (λ soup. mesh_soup digits limits.now name.now bytes.items ≡ Ok soup) }
     ensures fault { IfErr result (IsFaultOf (mesh_soup digits limits.now name.now bytes.items)) }
 {
-    if is_stl_name(name.as_bytes()) {
-        read_stl(alloc, &bytes, digits, limits)
-    } else {
-        read_obj(alloc, &bytes, digits, limits)
+    match format_of(name.as_bytes()) {
+        Format::Obj => read_obj(alloc, &bytes, digits, limits),
+        Format::Stl => read_stl(alloc, &bytes, digits, limits),
     }
 }
 

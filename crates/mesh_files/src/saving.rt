@@ -14,7 +14,7 @@ ghost use Rattle.mesh_files.specs.Pieces.{HasRoom, HoldsPart, WritesPart, spare_
 use crate::stop::Stop;
 use mb_outside::{Failed, Shelf, Sink};
 use mesh_check::Mesh;
-use mesh_names::is_stl_name;
+use mesh_names::{Format, format_of};
 use mesh_writer::{PageSink, write_obj, write_stl};
 
 // Writes the text of a mesh for a file of this name.
@@ -31,10 +31,9 @@ fn write_text<K: Sink>(mesh: &Mesh, name: &str, digits: u8, sink: &mut K) -> Res
     ensures other_spare { K.other_spare sink.new ≡ K.other_spare sink.old }
     ensures sure { (free : ℕ) → K.room sink.old ≡ Some free → length (text_in digits name.now mesh.now) ≤ free → IsOk result }
 {
-    if is_stl_name(name.as_bytes()) {
-        write_stl(mesh, digits, sink)
-    } else {
-        write_obj(mesh, digits, sink)
+    match format_of(name.as_bytes()) {
+        Format::Obj => write_obj(mesh, digits, sink),
+        Format::Stl => write_stl(mesh, digits, sink),
     }
 }
 

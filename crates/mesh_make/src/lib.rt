@@ -1,4 +1,4 @@
-//! Made meshes: boxes, tetrahedra, prisms and lattices of boxes, and meshes that are shifted, scaled, mirrored or turned.
+//! Made meshes: solids, and meshes after a motion.
 //!
 //! Each answer is closed by its form, so nothing is searched to accept it. Made triangles have empty labels, and a motion
 //! keeps the labels, shared by the two meshes. Refusals come in one order: `FlatSolid`, then
@@ -8,12 +8,15 @@
 mod fault;
 mod lattice;
 mod made;
+mod making;
 mod motions;
 mod rows;
 mod solids;
 
 pub use fault::MakeFault;
 pub use lattice::make_lattice;
+pub use made_terms::{Motion, Solid};
+pub use making::make_solid;
 pub use mesh_measures::{Measure, measure, volume6};
-pub use motions::{mirror, quarter_turn, scale, shift};
+pub use motions::{mirror, move_by, quarter_turn, scale, shift};
 pub use solids::{make_box, make_prism, make_tetra};

@@ -2,6 +2,9 @@
 ghost use Rattle.std.specs.Prelude.{◌≡◌, ◌≤◌, ◌<◌, IfOk, length, map, pos};
 ghost use Rattle.mesh_terms.specs.Labels.{no_labels};
 ghost use Rattle.made_terms.specs.Motions.{
+  IsMotion,
+  motion_fault,
+  moved_mesh,
   shifted,
   scaled,
   mirrored,
@@ -18,6 +21,7 @@ mod rigid;
 use crate::fault::MakeFault;
 use crate::made::mesh_of;
 use grid::{GridMotion, moved_points, stay};
+use made_terms::Motion;
 use mb_base::{NoMemory, Point};
 use mesh_check::Mesh;
 use rigid::{mirrored_points, turned_points, turned_triples};
@@ -70,6 +74,20 @@ pub fn quarter_turn(alloc: Global, mesh: &Mesh, axis: u8) -> Result<Mesh, NoMemo
 {
     let points = turned_points(alloc, mesh.points(), axis)?;
     with_points(alloc, mesh, points)
+}
+
+/// The mesh after a motion.
+pub fn move_by(alloc: Global, mesh: &Mesh, motion: Motion) -> Result<Mesh, MakeFault>
+    requires { IsMotion motion }
+    ensures refused { IsRefusedFor (motion_fault motion mesh.now.points) result }
+    ensures mesh { IfOk result (λ moved. moved ≡ moved_mesh motion mesh.now) }
+{
+    match motion {
+        Motion::Shift(by) => shift(alloc, mesh, by),
+        Motion::Scale(factor) => scale(alloc, mesh, factor),
+        Motion::Mirror(axis) => Ok(mirror(alloc, mesh, axis)?),
+        Motion::Turn(axis) => Ok(quarter_turn(alloc, mesh, axis)?),
+    }
 }
 
 // The mesh after a motion that may leave the grid.

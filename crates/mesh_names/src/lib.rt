@@ -4,7 +4,9 @@
 ghost use Rattle.std.specs.Prelude.{◌≡◌};
 ghost use Rattle.obj_terms.specs.Written.{is_obj};
 ghost use Rattle.stl_terms.specs.Written.{is_stl};
-ghost use Rattle.play_terms.specs.Formats.{is_mesh_name};
+ghost use Rattle.play_terms.specs.Formats.{format_of, is_mesh_name};
+
+pub use play_terms::Format;
 
 /// Whether a name ends with `.obj` or `.stl`, ASCII case ignored.
 pub fn is_mesh_name(name: &[u8]) -> bool
@@ -13,8 +15,19 @@ pub fn is_mesh_name(name: &[u8]) -> bool
     is_obj_name(name) || is_stl_name(name)
 }
 
-/// Whether a name ends with `.stl`, ASCII case ignored.
-pub fn is_stl_name(name: &[u8]) -> bool
+/// The format of a file by its name: ASCII STL where that ends with `.stl`, ASCII case ignored, and else OBJ.
+pub fn format_of(name: &[u8]) -> Format
+    ensures { result ≡ format_of name.now }
+{
+    if is_stl_name(name) {
+        Format::Stl
+    } else {
+        Format::Obj
+    }
+}
+
+// Whether a name ends with `.stl`, ASCII case ignored.
+fn is_stl_name(name: &[u8]) -> bool
     ensures { result ≡ is_stl name.now }
 {
     let start = name.len().saturating_sub(4);

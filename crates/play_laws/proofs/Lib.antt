@@ -5,3 +5,4 @@ pub mod Readable
 pub mod ReadingBack
 pub mod ScriptsReadingBack
 pub mod Tasks
+mod Tidied

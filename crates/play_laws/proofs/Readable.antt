@@ -8,10 +8,9 @@ use Rattle.mesh_terms.specs.Meshes.{Mesh, Soup}
 use Rattle.obj_terms.specs.Written.{obj_text}
 use Rattle.run_terms.specs.Files.{Bytes}
 use Rattle.run_terms.specs.Runs.{Ask}
-use Rattle.run_terms.specs.Tasks.{Refusal, give, joined}
+use Rattle.run_terms.specs.Tasks.{PastLimit, Refusal, give, joined}
 use Rattle.play_terms.specs.Commands.{checked}
 use Rattle.play_terms.specs.Formats.{mesh_soup}
-use Rattle.play_terms.specs.Lines.{over}
 use Rattle.play_laws.proofs.ReadingBack.{closed_readable, mesh_taken}
 use Rattle.halfedge.proofs.OpenPair.{closed_from_open_pair, open_pair_closed}
 use Rattle.made_laws.specs.Laws.{IsGivenWithin}
@@ -43,7 +42,7 @@ within_of_readable k limits m lawful readable = by_length (nat_lt limits.file_by
           few_triples = within.few_triples;
         }
 
-    by_length : (b : Bool) → read_as k limits text (if b then Err (over FileBytes (length text)) else Ok text) ≡ Ok (soup_of_mesh m) → IsGivenWithin limits m
+    by_length : (b : Bool) → read_as k limits text (if b then Err (PastLimit FileBytes (length text)) else Ok text) ≡ Ok (soup_of_mesh m) → IsGivenWithin limits m
     by_length true is = absurd (cc)
     by_length false is = given is
 

@@ -4,29 +4,28 @@ use Rattle.std.proofs.Common.{Result, Ok, Err, cond, length, ap, ◌∙◌, refl
 use Rattle.std.proofs.lemmas.Bool.{le-ltb}
 use Rattle.std.proofs.lemmas.List.Elements.{All-nil, All-cons}
 use Rattle.chain_terms.specs.Chains.{all_edges}
-use Rattle.mesh_terms.specs.Faults.{Fault, FileBytes}
+use Rattle.mesh_terms.specs.Faults.{Fault, FileBytes, Bad, Over}
 use Rattle.mesh_terms.specs.Limits.{Limits, IsLawful}
 use Rattle.mesh_terms.specs.Labels.{AreLabels}
 use Rattle.mesh_terms.specs.Meshes.{Soup}
 use Rattle.mesh_terms.proofs.Labels.{no_labels-are}
 use Rattle.mesh_terms.specs.OpenEdges.{open_pair}
-use Rattle.obj_terms.specs.Obj.{obj}
 use Rattle.obj_terms.specs.Written.{obj_text}
 use Rattle.obj_laws.specs.ReadingBack.{ReadsBack}
 use Rattle.obj_laws.specs.Within.{IsWithin}
 use Rattle.obj_laws.proofs.ReadMeshes.{files_give_meshes as obj_gives_meshes}
 use Rattle.obj_laws.proofs.SavedMeshes.{meshes_read_back}
 use Rattle.stl_laws.proofs.ReadMeshes.{files_give_meshes as stl_gives_meshes}
-use Rattle.stl_terms.specs.Stl.{stl}
 use Rattle.stl_terms.specs.Written.{is_stl}
 use Rattle.run_terms.specs.Files.{Bytes}
 use Rattle.run_terms.specs.Runs.{Ask, Write, Say}
-use Rattle.run_terms.specs.Tasks.{Refusal, give, joined}
+use Rattle.run_terms.specs.Tasks.{PastLimit, Refusal, give, joined}
 use Rattle.play_laws.specs.Keeping.{Keeps}
 use Rattle.play_laws.proofs.Keeping.{keeps_give, keeps_act, keeps_then}
 use Rattle.play_terms.specs.Commands.{Meanings, ask_file, ask_mesh, bytes_in, checked, copied_task, copy_task, if_closed, inside_task, say_line, winding_task, write_mesh}
-use Rattle.play_terms.specs.Formats.{mesh_soup, mesh_text}
-use Rattle.play_terms.specs.Lines.{copied_line, over, winding_line}
+use Rattle.play_terms.specs.Formats.{mesh_soup, mesh_text, soup_in}
+use Rattle.play_terms.specs.declared.format.Format.TheVariants.{Obj, Stl}
+use Rattle.play_terms.specs.Lines.{copied_line, winding_line}
 use Rattle.play_terms.specs.ReadingBack.{GivesReadable, IsReadable, WritesReadable, as_saved}
 
 -- a mesh that was taken had no open pair
@@ -36,7 +35,8 @@ taken_closed name s soup (Some e) is = cc
 
 -- a text that was taken is the mesh's, and the mesh is closed
 taken_checked : (name : Bytes) (r : Result Soup Fault) (soup : Soup) → checked name r ≡ Ok soup → (r ≡ Ok soup) × (open_pair (all_edges soup.triples) ≡ None)
-taken_checked name (Err fault) soup is = cc
+taken_checked name (Err (Bad line kind)) soup is = cc
+taken_checked name (Err (Over what seen)) soup is = cc
 taken_checked name (Ok s) soup is =
     let taken = taken_closed name s soup (open_pair (all_edges s.triples)) is in
     let P : Soup → Type 0 = λ t. open_pair (all_edges t.triples) ≡ None in
@@ -47,10 +47,10 @@ text_is_taken : (k : ℕ) (limits : Limits) (m : Soup) → ReadsBack k limits m.
 text_is_taken k limits m back closed name files other is =
     let text = obj_text k m.points m.triples m.labels in
     let read : Result Bytes Refusal → Result Soup Refusal = λ r. (joined (Ask name ∷ []) r (λ bytes. give (checked name (mesh_soup k limits name bytes)) files)).result in
-    let reads : mesh_soup k limits name text ≡ Ok (as_saved m) = ap (λ b. if b then stl k limits text else obj k limits text) other ∙ back.reads in
+    let reads : mesh_soup k limits name text ≡ Ok (as_saved m) = ap (λ b. soup_in (if b then Stl else Obj) k limits text) other ∙ back.reads in
     let short = le-ltb limits.file_bytes (length text) back.fits in
     ap (λ file. read (bytes_in limits name file)) is
-    ∙ ap (λ b. read (cond b (Err (over FileBytes (length text))) (Ok text))) short
+    ∙ ap (λ b. read (cond b (Err (PastLimit FileBytes (length text))) (Ok text))) short
     ∙ ap (checked name) reads
     ∙ ap (if_closed name (as_saved m)) closed
 
@@ -62,7 +62,7 @@ pub record IsLabelledWithin (limits : Limits) (m : Soup) : Type 0 where
 -- what is read of a file of either format is such a mesh
 mesh_within : (k : ℕ) (limits : Limits) (name bytes : Bytes) (m : Soup) → IsLawful limits → mesh_soup k limits name bytes ≡ Ok m → IsLabelledWithin limits m
 mesh_within k limits name bytes m lawful is = by_format (is_stl name) is where
-  by_format : (b : Bool) → (if b then stl k limits bytes else obj k limits bytes) ≡ Ok m → IsLabelledWithin limits m
+  by_format : (b : Bool) → soup_in (if b then Stl else Obj) k limits bytes ≡ Ok m → IsLabelledWithin limits m
   by_format true read =
       let given = stl_gives_meshes k limits lawful bytes m read in
       record { within = given.0; labels = subst (AreLabels (length m.triples)) (sym given.1) (no_labels-are m.triples) }

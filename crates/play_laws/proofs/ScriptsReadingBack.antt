@@ -10,35 +10,38 @@ use Rattle.mb_base.specs.declared.kernel_kind.KernelKind.{KernelKind}
 use Rattle.mb_base.specs.declared.op.Op.{Op}
 use Rattle.run_terms.specs.Files.{Bytes}
 use Rattle.run_terms.specs.Runs.{Action, Ask, Write, Say}
-use Rattle.run_terms.specs.Tasks.{give, then_task}
+use Rattle.run_terms.specs.Tasks.{PastLimit, give, then_task}
 use Rattle.play_laws.specs.Keeping.{Keeps}
 use Rattle.play_laws.proofs.Keeping.{keeps_give, keeps_act, keeps_then}
 use Rattle.play_terms.specs.Commands.{ask_file, ask_mesh, say_line, write_mesh}
 use Rattle.play_terms.specs.Formats.{mesh_text}
-use Rattle.play_terms.specs.Lines.{over}
 use Rattle.play_terms.specs.ReadingBack.{IsReadable, WritesReadable}
 use Rattle.play_laws.proofs.ReadingBack.{mesh_asked, read_again}
 use Rattle.play_terms.specs.Combined.{Combined}
-use Rattle.play_terms.specs.ScriptLines.{load_line, save_line, measure_line, combine_line}
-use Rattle.play_terms.specs.Making.{Solid, solid_fault, solid_mesh, Motion, motion_fault, moved_mesh}
+use Rattle.play_terms.specs.ScriptLines.{load_line, save_line, measure_line, combine_line, tidy_line}
+use Rattle.made_terms.specs.Making.{solid_fault, solid_mesh}
+use Rattle.made_terms.specs.Motions.{motion_fault, moved_mesh}
+use Rattle.made_terms.specs.declared.motion.Motion.{Motion}
+use Rattle.made_terms.specs.declared.solid.Solid.{Solid}
 use Rattle.play_terms.specs.Plays.{Meanings, Named, with_name, mesh_at, mesh_or_none, within, made, load_task, save_task, measure_task, combine_task}
-use Rattle.play_terms.specs.Plays.{State, at_first, line_task, make_task, move_task, script_checked, script_task, state_after, step_task, steps_task}
+use Rattle.play_terms.specs.Plays.{State, at_first, line_task, make_task, move_task, script_checked, script_task, state_after, step_task, steps_task, tidy_task}
 use Rattle.play_terms.specs.Scripts.{script}
-use Rattle.play_terms.specs.Steps.{Line, Step, Load, Save, Measure, Combine, Make, Move, Exact}
+use Rattle.play_terms.specs.Steps.{Line, Step, Load, Save, Measure, Combine, Make, Move, Tidy, Exact}
+use Rattle.tidy_terms.specs.Tidy.{tidied, tidy_mesh}
 use Rattle.made_laws.proofs.Motions.{moved_within}
 use Rattle.made_laws.proofs.Solids.{solid_given}
 use Rattle.obj_laws.specs.Within.{IsWithin}
 use Rattle.stl_laws.proofs.SavedMeshes.{meshes_read_welded}
-use Rattle.made_laws.specs.Laws.{IsGivenWithin}
 use Rattle.play_laws.specs.ScriptsReadingBack.{IsReadOfTexts, KeepsMeshes, MeshReadable, NamesReadable, ResultsReadable, soup_of_mesh}
 use Rattle.play_laws.proofs.KeepingInOrder.{keeps_value, keeps_in_order}
 use Rattle.play_laws.proofs.Readable.{readable_within, within_of_readable}
+use Rattle.play_laws.proofs.Tidied.{tidied_given, tidied_is_tidy}
 
 -- what was within the limit is what was asked for
 taken_within : (limits : Limits) (o a : Combined) → within limits o ≡ Ok a → (o ≡ a) × (nat_lt limits.halfedges o.halfedges ≡ false)
 taken_within limits o a e = by_limit (nat_lt limits.halfedges o.halfedges) refl e
   where
-    by_limit : (b : Bool) → nat_lt limits.halfedges o.halfedges ≡ b → (if b then Err (over Halfedges o.halfedges) else Ok o) ≡ Ok a →
+    by_limit : (b : Bool) → nat_lt limits.halfedges o.halfedges ≡ b → (if b then Err (PastLimit Halfedges o.halfedges) else Ok o) ≡ Ok a →
         (o ≡ a) × (nat_lt limits.halfedges o.halfedges ≡ false)
     by_limit true past e = absurd (cc)
     by_limit false is e = (cc, is)
@@ -133,6 +136,11 @@ module _ (means : KernelKind → Meanings) (k : ℕ) (limits : Limits) (few : k 
       made_and_named script line name (motion_fault motion m.points) (moved_mesh motion m) named all
       (λ none. readable_within k limits (moved_mesh motion m) few lawful (moved_within limits motion m (within_of_readable k limits m lawful (all old)) none))
 
+  tidy_keeps : (name old : Bytes) (m : Mesh) (named : Named) → Names named → MeshReadable k limits m → Keeps Writes Names (tidy_task name old m named)
+  tidy_keeps name old m named all such =
+      told_and_named (tidy_line name old (tidied m.points m.triples m.labels).collapses) name (tidy_mesh m) named all
+      (readable_within k limits (tidy_mesh m) few lawful (tidied_given limits m (within_of_readable k limits m lawful such)))
+
   step_keeps : (kernels : KernelKind) (script : Bytes) (line : ℕ) (step : Step) (named : Named) → Names named →
       Keeps Writes Names (step_task (means kernels) k limits script line step named)
   step_keeps kernels script line (Load name file) named all = load_keeps name file named all
@@ -141,6 +149,7 @@ module _ (means : KernelKind → Meanings) (k : ℕ) (limits : Limits) (few : k 
   step_keeps kernels script line (Combine op name left right) named all = combine_keeps kernels op name left right named all
   step_keeps kernels script line (Make name solid) named all = make_keeps script line name solid named all
   step_keeps kernels script line (Move name old motion) named all = move_keeps script line name old motion named all
+  step_keeps kernels script line (Tidy name old) named all = tidy_keeps name old (mesh_at named old) named all (all old)
   step_keeps kernels script line Exact named all = keeps_value Writes Names named all
 
   abbrev Known : State → Type 0
@@ -169,6 +178,8 @@ module _ (means : KernelKind → Meanings) (k : ℕ) (limits : Limits) (few : k 
   pub meshes_kept : (script : Bytes) → KeepsMeshes means k limits script
   meshes_kept script = record {
     names = λ files lines state is name. read_of_texts (mesh_at state.named name) ((steps_keep script lines).value files state is name);
+    tidies = λ files lines state is name.
+        let m = mesh_at state.named name in tidied_is_tidy limits m (within_of_readable k limits m lawful ((steps_keep script lines).value files state is name));
     saves = λ state line name file files. refl;
   }
 

@@ -1,4 +1,4 @@
--- What is needed of operations, so that what a script writes can be read; and how the meshes of its names are read and saved.
+-- What is needed of operations, so that what a script writes can be read; and how the meshes of its names are read, saved and tidied.
 use Rattle.std.specs.Prelude.{◌≡◌, ℕ, nat_lt, false, List, [], ◌∷◌, Ok}
 use Rattle.mb_base.specs.declared.op.Op.{Op}
 use Rattle.mesh_terms.specs.Labels.{no_labels}
@@ -15,6 +15,8 @@ use Rattle.play_terms.specs.Steps.{Line, Save}
 use Rattle.stl_laws.specs.Welding.{welded_mesh}
 use Rattle.stl_terms.specs.Stl.{stl}
 use Rattle.stl_terms.specs.Written.{stl_text}
+use Rattle.tidy_terms.specs.Tidy.{tidy_mesh}
+use Rattle.tidy_laws.specs.Laws.{IsTidyMesh}
 
 -- a mesh with nothing dropped
 abbrev pub soup_of_mesh : Mesh → Soup
@@ -39,11 +41,14 @@ pub record IsReadOfTexts (k : ℕ) (limits : Limits) (m : Mesh) : Type 0 where
   pub obj : MeshReadable k limits m
   pub stl : let w = welded_mesh m.points m.triples in stl k limits (stl_text k m.points m.triples) ≡ Ok (soup_of w.points w.triples (no_labels w.triples))
 
--- the meshes of the names of a script are read of their texts and saved
+-- the meshes of the names of a script are read of their texts, saved, and tidied
 pub record KeepsMeshes (means : KernelKind → Meanings) (k : ℕ) (limits : Limits) (script : Bytes) : Type 0 where
   -- whatever lines were done, over whatever files, the mesh of each name is read of its texts
   pub names : (files : Files) (lines : List Line) (state : State) → (steps_task means k limits script lines at_first files).result ≡ Ok state
       → (name : Bytes) → IsReadOfTexts k limits (mesh_at state.named name)
+  -- the tidied mesh of it is accepted, clean where that is, has its volume and as many triangles at each three different points, and nothing of it can be collapsed
+  pub tidies : (files : Files) (lines : List Line) (state : State) → (steps_task means k limits script lines at_first files).result ≡ Ok state
+      → (name : Bytes) → IsTidyMesh (mesh_at state.named name) (tidy_mesh (mesh_at state.named name))
   -- and a line that saves a name writes the text of this mesh, in the format of the file's name, and says so
   pub saves : (state : State) (line : ℕ) (name file : Bytes) (files : Files) → let m = mesh_at state.named name in
       (line_task means k limits script (line, Save name file) state files).actions ≡

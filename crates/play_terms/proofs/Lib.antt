@@ -1,3 +1,4 @@
+mod Endings
 mod PlayRows
 mod ProgramRows
 mod Rows

@@ -10,12 +10,13 @@ use Rattle.obj_terms.specs.Written.{obj_text}
 use Rattle.text_terms.specs.Written.{line_of}
 use Rattle.run_terms.specs.Files.{Bytes, Files, put}
 use Rattle.run_terms.specs.Runs.{Action, Ask, Write, Say}
-use Rattle.run_terms.specs.Tasks.{FaultyScript, FaultyMesh, NoFile, PastLimit, Part, Refusal}
+use Rattle.run_terms.specs.Tasks.{Part}
 use Rattle.mb_base.specs.declared.kernel_kind.KernelKind.{KernelKind}
 use Rattle.mb_base.specs.declared.kernel_kind.KernelKind.TheVariants.{Exact, Grid}
 use Rattle.play_terms.specs.Combined.{Combined}
 use Rattle.play_terms.specs.Operands.{number_of, number_fault}
 use Rattle.play_terms.specs.Plays.{Meanings, script_task}
+use Rattle.play_terms.proofs.Endings.{ending, refused_with}
 
 abbrev program : Limits
 program = record { file_bytes = 2147483648; points = 15000000; triangles = 10000000; halfedges = 6000000 }
@@ -74,8 +75,8 @@ abbrev play : Limits → Bytes → Part (Unit {0})
 play limits text = script_task table 0 limits (codes "s.txt") (beside text)
 
 -- the script alone is asked for, and its fault is told by this line
-abbrev refused : Bytes → Part (Unit {0})
-refused text = record { actions = Ask (codes "s.txt") ∷ []; result = Err (record { cause = FaultyScript; line = line_of text }) }
+abbrev refused : Bytes → List Action × ℕ × Bytes
+refused text = refused_with 2 (Ask (codes "s.txt") ∷ []) text
 
 abbrev uniting : Bytes
 uniting = codes "load a cube.obj\nload b b.obj\nunion u a b\nsave u u.obj\n"
@@ -96,8 +97,8 @@ unfolding digits chars is_utf8 encode_utf8
 unites_and_saves = refl
 
 -- more half-edges than the limit
-stops_at_the_limit : play small uniting
-    ≡ record { actions = loading; result = Err (record { cause = PastLimit; line = line_of (codes "limit halfedges 84") }) }
+stops_at_the_limit : ending (play small uniting)
+    ≡ refused_with 5 loading (codes "limit halfedges 84")
 unfolding digits chars is_utf8 encode_utf8
 stops_at_the_limit = refl
 
@@ -115,41 +116,38 @@ unfolding digits chars is_utf8 encode_utf8
 loads_what_was_saved = refl
 
 -- the lines before a file that is not there were done
-stops_at_a_missing_file : play program (codes "load a cube.obj\nload b none.obj\nload c b.obj\n")
-    ≡ record {
-      actions =
-          Ask (codes "s.txt") ∷ Ask (codes "cube.obj") ∷ Say (line_of (codes "load a cube.obj: points 8, triangles 12, unused 0")) ∷
-          Ask (codes "none.obj") ∷ [];
-      result = Err (record { cause = NoFile; line = line_of (codes "none.obj: missing") });
-    }
+stops_at_a_missing_file : ending (play program (codes "load a cube.obj\nload b none.obj\nload c b.obj\n"))
+    ≡ refused_with 3
+    (Ask (codes "s.txt") ∷ Ask (codes "cube.obj") ∷ Say (line_of (codes "load a cube.obj: points 8, triangles 12, unused 0")) ∷ Ask (codes "none.obj") ∷ [])
+    (codes "none.obj: missing")
 unfolding digits chars is_utf8 encode_utf8
 stops_at_a_missing_file = refl
 
 -- no file is asked for where a later line is faulty
-reads_the_whole_script_first : play program (codes "load a cube.obj\nunion c a b\n") ≡ refused (codes "s.txt:2: 23 NameNotDefined")
+reads_the_whole_script_first : ending (play program (codes "load a cube.obj\nunion c a b\n")) ≡ refused (codes "s.txt:2: 23 NameNotDefined")
 unfolding digits chars is_utf8 encode_utf8
 reads_the_whole_script_first = refl
 
 -- a fault of each kind is told
 record FaultsAreTold : Type 0 where
-  word : play program (codes "cut a b\n") ≡ refused (codes "s.txt:1: 20 BadWord")
-  count : play program (codes "load a\n") ≡ refused (codes "s.txt:1: 21 WrongCount")
-  name : play program (codes "load 1a cube.obj\n") ≡ refused (codes "s.txt:1: 22 BadName")
-  old : play program (codes "save a a.obj\n") ≡ refused (codes "s.txt:1: 23 NameNotDefined")
-  number : play program (codes "lattice l 61 0\n") ≡ refused (codes "s.txt:1: 24 BadNumber")
-  suffix : play program (codes "load a cube.ply\n") ≡ refused (codes "s.txt:1: 25 BadSuffix")
+  word : ending (play program (codes "cut a b\n")) ≡ refused (codes "s.txt:1: 20 BadWord")
+  count : ending (play program (codes "load a\n")) ≡ refused (codes "s.txt:1: 21 WrongCount")
+  name : ending (play program (codes "load 1a cube.obj\n")) ≡ refused (codes "s.txt:1: 22 BadName")
+  old : ending (play program (codes "save a a.obj\n")) ≡ refused (codes "s.txt:1: 23 NameNotDefined")
+  number : ending (play program (codes "lattice l 61 0\n")) ≡ refused (codes "s.txt:1: 24 BadNumber")
+  suffix : ending (play program (codes "load a cube.ply\n")) ≡ refused (codes "s.txt:1: 25 BadSuffix")
 
 tells_each_kind : FaultsAreTold
 unfolding digits chars is_utf8 encode_utf8
 tells_each_kind = record { word = refl; count = refl; name = refl; old = refl; number = refl; suffix = refl }
 
-refuses_a_missing_script : script_task table 0 program (codes "s.txt") (λ n. None)
-    ≡ record { actions = Ask (codes "s.txt") ∷ []; result = Err (record { cause = NoFile; line = line_of (codes "s.txt: missing") }) }
+refuses_a_missing_script : ending (script_task table 0 program (codes "s.txt") (λ n. None))
+    ≡ refused_with 3 (Ask (codes "s.txt") ∷ []) (codes "s.txt: missing")
 refuses_a_missing_script = refl
 
 -- a script is no longer than the limit on files
-refuses_a_long_script : play (record { file_bytes = 15; points = 210; triangles = 140; halfedges = 83 }) (codes "load a cube.obj\n")
-    ≡ record { actions = Ask (codes "s.txt") ∷ []; result = Err (record { cause = PastLimit; line = line_of (codes "limit file_bytes 16") }) }
+refuses_a_long_script : ending (play (record { file_bytes = 15; points = 210; triangles = 140; halfedges = 83 }) (codes "load a cube.obj\n"))
+    ≡ refused_with 5 (Ask (codes "s.txt") ∷ []) (codes "limit file_bytes 16")
 unfolding digits
 refuses_a_long_script = refl
 
@@ -174,11 +172,8 @@ abbrev says : List Bytes → Part (Unit {0})
 says lines = record { actions = Ask (codes "s.txt") ∷ map (λ l. Say (line_of l)) lines; result = Ok tt }
 
 -- or says nothing and is refused
-abbrev refuses : Refusal → Part (Unit {0})
-refuses why = record { actions = Ask (codes "s.txt") ∷ []; result = Err why }
-
-abbrev refuses_mesh : Bytes → Part (Unit {0})
-refuses_mesh text = refuses (record { cause = FaultyMesh; line = line_of text })
+abbrev refuses : ℕ → Bytes → List Action × ℕ × Bytes
+refuses status text = refused_with status (Ask (codes "s.txt") ∷ []) text
 
 measures_a_union : alone program (codes "box a 0 0 0 10 10 10\nunion u a a\nmeasure u\n")
     ≡ says (codes "u = union a a: kept 8 0, crossings 0, forced 0" ∷ codes "u: points 8, triangles 12, components 1, euler 2, volume6 6000" ∷ [])
@@ -200,6 +195,23 @@ measures_a_lattice : alone program (codes "lattice l 2 7\nmeasure l\n") ≡ says
 unfolding digits chars is_utf8 encode_utf8 number_of number_fault
 measures_a_lattice = refl
 
+-- a tetrahedron whose last corner stands twice, and without that
+abbrev split_tetra : Bytes
+split_tetra = codes "v 0 0 0\nv 1 0 0\nv 0 1 0\nv 0 0 1\nv 0 0 1\nf 1 3 2\nf 1 2 4\nf 2 3 5\nf 3 1 5\nf 4 2 5\nf 1 4 5\n"
+
+abbrev whole_tetra : Bytes
+whole_tetra = codes "v 0 0 0\nv 1 0 0\nv 0 1 0\nv 0 0 1\nf 1 3 2\nf 1 2 4\nf 2 3 4\nf 3 1 4\n"
+
+tidies : script_task first 0 program (codes "s.txt") (put (codes "t.obj") split_tetra (beside (codes "load a t.obj\ntidy b a\nsave b b.obj\ntidy a b\n")))
+    ≡ record {
+      actions =
+          Ask (codes "s.txt") ∷ Ask (codes "t.obj") ∷ Say (line_of (codes "load a t.obj: points 5, triangles 6, unused 0")) ∷ Say (line_of (codes "b = tidy a: collapsed 1")) ∷
+          Write (codes "b.obj") whole_tetra ∷ Say (line_of (codes "save b b.obj: points 4, triangles 4")) ∷ Say (line_of (codes "a = tidy b: collapsed 0")) ∷ [];
+      result = Ok tt;
+    }
+unfolding digits chars is_utf8 encode_utf8
+tidies = refl
+
 -- where the coordinates go is seen in what is saved
 saves_moved_points : (alone program (codes "tetra t 1 2 3 6\nmirror m t y\nturn a m x\nturn b a y\nsave b b.obj\n")).actions
     ≡ Ask (codes "s.txt") ∷ Write (codes "b.obj") (codes "v -2 -3 -1\nv -2 -3 -7\nv -8 -3 -1\nv -2 -9 -1\nf 1 2 3\nf 1 4 2\nf 2 4 3\nf 3 4 1\n") ∷
@@ -209,16 +221,16 @@ saves_moved_points = refl
 
 -- a mesh that can't be made is refused by its line
 record MeshesAreRefused : Type 0 where
-  flat_box : alone program (codes "box b 0 0 0 0 1 1") ≡ refuses_mesh (codes "s.txt:1: 16 FlatSolid")
-  turned_box : alone program (codes "box b 0 0 5 1 1 -5") ≡ refuses_mesh (codes "s.txt:1: 16 FlatSolid")
-  flat_tetra : alone program (codes "\ntetra t 0 0 0 0") ≡ refuses_mesh (codes "s.txt:2: 16 FlatSolid")
-  flat_prism : alone program (codes "prism p 0 0 0 4 -1") ≡ refuses_mesh (codes "s.txt:1: 16 FlatSolid")
-  outside : alone program (codes "tetra t 1073741824 0 0 1") ≡ refuses_mesh (codes "s.txt:1: 15 OutOfGrid")
-  shifted : alone program (codes "box b 0 0 0 1 1 1\nshift c b 1073741824 0 0") ≡ refuses_mesh (codes "s.txt:2: 15 OutOfGrid")
-  scaled : alone program (codes "box b 0 0 0 1 1 2000\nscale c b 1000000") ≡ refuses_mesh (codes "s.txt:2: 15 OutOfGrid")
-  points : alone small (codes "lattice l 3 0") ≡ refuses (record { cause = PastLimit; line = line_of (codes "limit points 216") })
-  triangles : alone (record { file_bytes = 400; points = 64; triangles = 95; halfedges = 83 }) (codes "lattice l 2 0")
-      ≡ refuses (record { cause = PastLimit; line = line_of (codes "limit triangles 96") })
+  flat_box : ending (alone program (codes "box b 0 0 0 0 1 1")) ≡ refuses 4 (codes "s.txt:1: 16 FlatSolid")
+  turned_box : ending (alone program (codes "box b 0 0 5 1 1 -5")) ≡ refuses 4 (codes "s.txt:1: 16 FlatSolid")
+  flat_tetra : ending (alone program (codes "\ntetra t 0 0 0 0")) ≡ refuses 4 (codes "s.txt:2: 16 FlatSolid")
+  flat_prism : ending (alone program (codes "prism p 0 0 0 4 -1")) ≡ refuses 4 (codes "s.txt:1: 16 FlatSolid")
+  outside : ending (alone program (codes "tetra t 1073741824 0 0 1")) ≡ refuses 4 (codes "s.txt:1: 15 OutOfGrid")
+  shifted : ending (alone program (codes "box b 0 0 0 1 1 1\nshift c b 1073741824 0 0")) ≡ refuses 4 (codes "s.txt:2: 15 OutOfGrid")
+  scaled : ending (alone program (codes "box b 0 0 0 1 1 2000\nscale c b 1000000")) ≡ refuses 4 (codes "s.txt:2: 15 OutOfGrid")
+  points : ending (alone small (codes "lattice l 3 0")) ≡ refuses 5 (codes "limit points 216")
+  triangles : ending (alone (record { file_bytes = 400; points = 64; triangles = 95; halfedges = 83 }) (codes "lattice l 2 0"))
+      ≡ refuses 5 (codes "limit triangles 96")
 
 meshes_are_refused : MeshesAreRefused
 unfolding digits chars is_utf8 encode_utf8 number_of number_fault

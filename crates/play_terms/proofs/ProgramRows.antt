@@ -1,5 +1,5 @@
 -- The plays of small command lines over one file, computed.
-use Rattle.std.specs.Prelude.{◌≡◌, pos, get_or, List, [], ◌∷◌, ◌++◌, if◌then◌else◌, codes, bytes_eq, Some, None, Ok, Err}
+use Rattle.std.specs.Prelude.{◌≡◌, ℕ, pos, get_or, List, [], ◌∷◌, ◌++◌, if◌then◌else◌, codes, bytes_eq, Some, None, Ok, Err}
 use Rattle.std.proofs.Common.{refl}
 use Rattle.std.specs.Char.{encode_utf8}
 use Rattle.std.specs.Fmt.{digits}
@@ -7,9 +7,10 @@ use Rattle.std.specs.Str.{chars, is_utf8}
 use Rattle.mesh_terms.specs.Limits.{Limits}
 use Rattle.text_terms.specs.Written.{line_of}
 use Rattle.run_terms.specs.Files.{Bytes, Files}
-use Rattle.run_terms.specs.Runs.{Ask, Write, Say}
-use Rattle.run_terms.specs.Tasks.{NoCommand, FaultyScript, NoFile, FaultyMesh, Refusal, Part}
+use Rattle.run_terms.specs.Runs.{Action, Ask, Write, Say}
+use Rattle.run_terms.specs.Tasks.{Part}
 use Rattle.play_terms.specs.Program.{Meanings, play}
+use Rattle.play_terms.proofs.Endings.{ending, refused_with}
 
 abbrev program : Limits
 program = record { file_bytes = 2147483648; points = 15000000; triangles = 10000000; halfedges = 6000000 }
@@ -49,23 +50,23 @@ told = record {
 abbrev play_on : Bytes → Part (Unit {0})
 play_on bytes = play told program copying (only (codes "t.obj") bytes)
 
--- it ends so after the file was asked for
-abbrev stopped : Refusal → Part (Unit {0})
-stopped why = record { actions = Ask (codes "t.obj") ∷ []; result = Err why }
+-- it ends with this status and line after the file was asked for
+abbrev stopped : ℕ → Bytes → List Action × ℕ × Bytes
+stopped status text = refused_with status (Ask (codes "t.obj") ∷ []) text
 
 -- a file that is refused with this line
-abbrev faulty : Bytes → Part (Unit {0})
-faulty text = stopped (record { cause = FaultyMesh; line = line_of text })
+abbrev faulty : Bytes → List Action × ℕ × Bytes
+faulty text = stopped 4 text
 
 -- a line of each kind of fault after the tetrahedron, whose file has eight lines
 record FaultsAreTold : Type 0 where
-  unknown : play_on (tetrahedron ++ line_of (codes "curv 0 1")) ≡ faulty (codes "t.obj:9: 1 UnknownLine")
-  vertex : play_on (tetrahedron ++ line_of (codes "v 1 2")) ≡ faulty (codes "t.obj:9: 2 BadVertex")
-  number : play_on (tetrahedron ++ line_of (codes "v 1 2 3,5")) ≡ faulty (codes "t.obj:9: 3 BadNumber")
-  off_grid : play_on (tetrahedron ++ line_of (codes "v 1 2 -107374.18245")) ≡ faulty (codes "t.obj:9: 4 OutOfGrid")
-  face : play_on (tetrahedron ++ line_of (codes "f 1 2")) ≡ faulty (codes "t.obj:9: 5 BadFace")
-  index : play_on (tetrahedron ++ line_of (codes "f 1 2 5")) ≡ faulty (codes "t.obj:9: 6 BadIndex")
-  repeated : play_on (tetrahedron ++ line_of (codes "f 1 2 -4")) ≡ faulty (codes "t.obj:9: 7 FaceRepeatsVertex")
+  unknown : ending (play_on (tetrahedron ++ line_of (codes "curv 0 1"))) ≡ faulty (codes "t.obj:9: 1 UnknownLine")
+  vertex : ending (play_on (tetrahedron ++ line_of (codes "v 1 2"))) ≡ faulty (codes "t.obj:9: 2 BadVertex")
+  number : ending (play_on (tetrahedron ++ line_of (codes "v 1 2 3,5"))) ≡ faulty (codes "t.obj:9: 3 BadNumber")
+  off_grid : ending (play_on (tetrahedron ++ line_of (codes "v 1 2 -107374.18245"))) ≡ faulty (codes "t.obj:9: 4 OutOfGrid")
+  face : ending (play_on (tetrahedron ++ line_of (codes "f 1 2"))) ≡ faulty (codes "t.obj:9: 5 BadFace")
+  index : ending (play_on (tetrahedron ++ line_of (codes "f 1 2 5"))) ≡ faulty (codes "t.obj:9: 6 BadIndex")
+  repeated : ending (play_on (tetrahedron ++ line_of (codes "f 1 2 -4"))) ≡ faulty (codes "t.obj:9: 7 FaceRepeatsVertex")
 
 copies_the_tetrahedron : play_on tetrahedron ≡ record { actions = Ask (codes "t.obj") ∷ Write (codes "u.obj") tetrahedron ∷ Say (line_of (codes "copied u.obj: points 4, triangles 4, unused 0")) ∷ []; result = Ok tt }
 unfolding digits
@@ -81,7 +82,8 @@ copies_an_empty_file : play_on [] ≡ record { actions = Ask (codes "t.obj") ∷
 unfolding digits
 copies_an_empty_file = refl
 
-refuses_an_open_mesh : play_on (corners ++ three_faces) ≡ stopped (record { cause = FaultyMesh; line = line_of (codes "t.obj: 11 OpenEdge 1 3") })
+refuses_an_open_mesh : ending (play_on (corners ++ three_faces))
+    ≡ stopped 4 (codes "t.obj: 11 OpenEdge 1 3")
 unfolding digits
 refuses_an_open_mesh = refl
 
@@ -97,14 +99,16 @@ refuses_each_kind_of_line : FaultsAreTold
 unfolding digits
 refuses_each_kind_of_line = record { unknown = refl; vertex = refl; number = refl; off_grid = refl; face = refl; index = refl; repeated = refl }
 
-refuses_a_cut_file : play_on (corners ++ three_faces ++ codes "f 3 1") ≡ faulty (codes "t.obj:8: 5 BadFace")
+refuses_a_cut_file : ending (play_on (corners ++ three_faces ++ codes "f 3 1")) ≡ faulty (codes "t.obj:8: 5 BadFace")
 unfolding digits
 refuses_a_cut_file = refl
 
-refuses_a_missing_file : play told program copying (λ n. None) ≡ stopped (record { cause = NoFile; line = line_of (codes "t.obj: missing") })
+refuses_a_missing_file : ending (play told program copying (λ n. None))
+    ≡ stopped 3 (codes "t.obj: missing")
 refuses_a_missing_file = refl
 
-refuses_other_words : play told program (codes "copy" ∷ codes "t.obj" ∷ []) (λ n. None) ≡ record { actions = []; result = Err (record { cause = NoCommand; line = line_of (codes "usage: manifold_tool copy IN OUT, inside FILE X Y Z or run SCRIPT, each with --digits K") }) }
+refuses_other_words : ending (play told program (codes "copy" ∷ codes "t.obj" ∷ []) (λ n. None))
+    ≡ refused_with 1 [] (codes "usage: manifold_tool copy IN OUT, inside FILE X Y Z or run SCRIPT, each with --digits K")
 refuses_other_words = refl
 
 says_a_winding_number : play told program (codes "inside" ∷ codes "t.obj" ∷ codes "2" ∷ codes "07" ∷ codes "0" ∷ []) (only (codes "t.obj") tetrahedron) ≡ record { actions = Ask (codes "t.obj") ∷ Say (line_of (codes "winding 20000")) ∷ []; result = Ok tt }
@@ -143,11 +147,13 @@ welds_corners_after_rounding : copied (codes "c.stl") (codes "u.obj") (with_last
 unfolding digits
 welds_corners_after_rounding = refl
 
-refuses_corners_a_step_apart : copied (codes "c.stl") (codes "u.obj") (with_last (codes "1.0001") ++ codes "endsolid") ≡ record { actions = Ask (codes "c.stl") ∷ []; result = Err (record { cause = FaultyMesh; line = line_of (codes "c.stl: 11 OpenEdge 1 5") }) }
+refuses_corners_a_step_apart : ending (copied (codes "c.stl") (codes "u.obj") (with_last (codes "1.0001") ++ codes "endsolid"))
+    ≡ refused_with 4 (Ask (codes "c.stl") ∷ []) (codes "c.stl: 11 OpenEdge 1 5")
 unfolding digits
 refuses_corners_a_step_apart = refl
 
-refuses_a_cut_solid : copied (codes "t.stl") (codes "u.obj") (codes "solid manifold\nfacet normal 0 0 0\nouter loop\nvertex 0 0 0\nvertex 0 1 0\nvertex 1 0 0\nendloop\nendfacet\n") ≡ record { actions = Ask (codes "t.stl") ∷ []; result = Err (record { cause = FaultyMesh; line = line_of (codes "t.stl:9: 10 NotStl") }) }
+refuses_a_cut_solid : ending (copied (codes "t.stl") (codes "u.obj") (codes "solid manifold\nfacet normal 0 0 0\nouter loop\nvertex 0 0 0\nvertex 0 1 0\nvertex 1 0 0\nendloop\nendfacet\n"))
+    ≡ refused_with 4 (Ask (codes "t.stl") ∷ []) (codes "t.stl:9: 10 NotStl")
 unfolding digits
 refuses_a_cut_solid = refl
 
@@ -165,6 +171,7 @@ runs_a_script : scripted (codes "load t t.obj\nsave t u.obj\n")
 unfolding digits chars is_utf8 encode_utf8
 runs_a_script = refl
 
-refuses_a_faulty_script : scripted (codes "load t t.obj\nsave u u.obj\n") ≡ record { actions = Ask (codes "s.txt") ∷ []; result = Err (record { cause = FaultyScript; line = line_of (codes "s.txt:2: 23 NameNotDefined") }) }
+refuses_a_faulty_script : ending (scripted (codes "load t t.obj\nsave u u.obj\n"))
+    ≡ refused_with 2 (Ask (codes "s.txt") ∷ []) (codes "s.txt:2: 23 NameNotDefined")
 unfolding digits chars is_utf8 encode_utf8
 refuses_a_faulty_script = refl

@@ -8,12 +8,15 @@ use Rattle.mb_base.specs.declared.op.Op.{Op}
 use Rattle.mb_base.specs.declared.op.Op.TheVariants.{Union, Intersect, Subtract}
 use Rattle.text_terms.specs.FirstFault.{then_read, on_line}
 use Rattle.run_terms.specs.Files.{Bytes}
-use Rattle.play_terms.specs.ScriptCommands.{Command, at, load, save, measure, combine, exact, box, tetra, prism, lattice, shift, scale, mirror, turn, commands, named_in, command_named}
+use Rattle.play_terms.specs.ScriptCommands.{Command, at, load, save, measure, combine, tidy, exact, box, tetra, prism, lattice, shift, scale, mirror, turn, commands, named_in, command_named}
 use Rattle.play_terms.specs.Formats.{is_mesh_name}
-use Rattle.play_terms.specs.Making.{Solid, Motion}
+use Rattle.made_terms.specs.declared.motion.Motion.{Motion}
+use Rattle.made_terms.specs.declared.solid.Solid.{Solid}
 use Rattle.play_terms.specs.Operands.{NewName, is_name, new_name_fault, old_name_fault, operand_fault, operands_fault}
 use Rattle.play_terms.specs.Scripts.{unless_refused, command_step, step_by, script_line, script_lines, numbered_words, script}
-use Rattle.play_terms.specs.Sound.{IsSolid, IsMotion, IsSound, AreSound}
+use Rattle.made_terms.specs.Making.{IsSolid}
+use Rattle.made_terms.specs.Motions.{IsMotion}
+use Rattle.play_terms.specs.Sound.{IsSound, AreSound}
 use Rattle.play_terms.specs.Steps.{Line, Step, Make, Move, is_given}
 use Rattle.play_terms.proofs.Taken.{name_taken, old_taken, file_taken, number_taken, within_taken, axis_taken, point_taken, none_at}
 
@@ -74,6 +77,16 @@ combine_sound op k before ws none =
     record {
       given = two (IsGiven before) (at ws 1) (at ws 2) left.1 right.1;
       names = All-cons IsNamed (at ws 0) (at ws 1 ∷ at ws 2 ∷ []) name (two IsNamed (at ws 1) (at ws 2) left.0 right.0);
+      files = All-nil IsFile;
+      numbers = tt;
+    }
+
+tidy_sound : GivesSound tidy
+tidy_sound k before ws none =
+    let old = old_taken before (at ws 1) (none 1 (omega arith)) in
+    record {
+      given = one (IsGiven before) (at ws 1) old.1;
+      names = two IsNamed (at ws 0) (at ws 1) (name_taken (at ws 0) (none 0 (omega arith))) old.0;
       files = All-nil IsFile;
       numbers = tt;
     }
@@ -145,7 +158,7 @@ all_sound : Each GivesSound commands
 all_sound =
     let making : Each GivesSound (box ∷ tetra ∷ prism ∷ lattice ∷ shift ∷ scale ∷ mirror ∷ turn ∷ []) =
     (box_sound, (tetra_sound, (prism_sound, (lattice_sound, (shift_sound, (scale_sound, (mirror_sound, (turn_sound, tt)))))))) in
-    (load_sound, (save_sound, (measure_sound, (combine_sound Union, (combine_sound Intersect, (combine_sound Subtract, (exact_sound, making)))))))
+    (load_sound, (save_sound, (measure_sound, (combine_sound Union, (combine_sound Intersect, (combine_sound Subtract, (tidy_sound, (exact_sound, making))))))))
 
 -- the step of a command whose steps are sound
 command_sound : (k : ℕ) (before : List Line) (ws : List Bytes) (c : Command) (step : Step) → GivesSound c → command_step k before ws c ≡ Ok step → IsSound before step

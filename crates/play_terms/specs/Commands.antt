@@ -1,15 +1,15 @@
 -- What copy and inside do: a file is asked for, read and checked; then a copy is written and told, or a winding number is told.
 use Rattle.std.specs.Prelude.{ℕ, ℤ, List, if◌then◌else◌, nat_lt, length, Option, Some, None, Result, Ok, Err, [], ◌∷◌}
 use Rattle.chain_terms.specs.Chains.{all_edges}
-use Rattle.mesh_terms.specs.Faults.{FileBytes, Fault}
+use Rattle.mesh_terms.specs.Faults.{FileBytes, Fault, Bad, Over}
 use Rattle.mesh_terms.specs.Limits.{Limits}
 use Rattle.mesh_terms.specs.Meshes.{Triple, Soup}
 use Rattle.mesh_terms.specs.OpenEdges.{open_pair}
 use Rattle.run_terms.specs.Files.{Bytes}
 use Rattle.run_terms.specs.Runs.{Ask, Write, Say}
-use Rattle.run_terms.specs.Tasks.{Refusal, Task, give, act, then_task}
+use Rattle.run_terms.specs.Tasks.{Refusal, NoFile, FaultyText, OpenEdge, PastLimit, Task, give, act, then_task}
 use Rattle.play_terms.specs.Formats.{mesh_soup, mesh_text}
-use Rattle.play_terms.specs.Lines.{missing, over, fault_refusal, open_refusal, copied_line, winding_line}
+use Rattle.play_terms.specs.Lines.{copied_line, winding_line}
 
 -- what the commands need of geometry: the winding number of a point in a mesh
 pub record Meanings : Type 0 where
@@ -17,17 +17,18 @@ pub record Meanings : Type 0 where
 
 -- the bytes of a file of this name: refused where it is not there or too long
 abbrev pub bytes_in : Limits → Bytes → Option Bytes → Result Bytes Refusal
-bytes_in limits name None = Err (missing name)
-bytes_in limits name (Some bytes) = if nat_lt limits.file_bytes (length bytes) then Err (over FileBytes (length bytes)) else Ok bytes
+bytes_in limits name None = Err (NoFile name)
+bytes_in limits name (Some bytes) = if nat_lt limits.file_bytes (length bytes) then Err (PastLimit FileBytes (length bytes)) else Ok bytes
 
 -- an open mesh is refused by its least open pair
 abbrev pub if_closed : Bytes → Soup → Option (ℕ × ℕ) → Result Soup Refusal
 if_closed name soup None = Ok soup
-if_closed name soup (Some e) = Err (open_refusal name e)
+if_closed name soup (Some e) = Err (OpenEdge name e.0 e.1)
 
 -- a text is refused by its first fault, and then by its edges
 abbrev pub checked : Bytes → Result Soup Fault → Result Soup Refusal
-checked name (Err fault) = Err (fault_refusal name fault)
+checked name (Err (Bad line kind)) = Err (FaultyText name line kind)
+checked name (Err (Over what seen)) = Err (PastLimit what seen)
 checked name (Ok soup) = if_closed name soup (open_pair (all_edges soup.triples))
 
 -- a file is read

@@ -8,15 +8,31 @@ use Rattle.obj_terms.specs.Written.{is_obj, obj_text}
 use Rattle.stl_terms.specs.Stl.{stl}
 use Rattle.stl_terms.specs.Written.{is_stl, stl_text}
 use Rattle.run_terms.specs.Files.{Bytes}
+use Rattle.play_terms.specs.declared.format.Format.{Format}
+use Rattle.play_terms.specs.declared.format.Format.TheVariants.{Obj, Stl}
 
 -- the name has one of the two suffixes
 abbrev pub is_mesh_name : Bytes → Bool
 is_mesh_name name = is_obj name || is_stl name
 
+-- a name without either is taken as that of an OBJ file
+abbrev pub format_of : Bytes → Format
+format_of name = if is_stl name then Stl else Obj
+
+-- what the bytes of a file give in a format under k digits
+abbrev pub soup_in : Format → ℕ → Limits → Bytes → Result Soup Fault
+soup_in Obj k limits bytes = obj k limits bytes
+soup_in Stl k limits bytes = stl k limits bytes
+
 -- what a file of this name gives under k digits
 abbrev pub mesh_soup : ℕ → Limits → Bytes → Bytes → Result Soup Fault
-mesh_soup k limits name bytes = if is_stl name then stl k limits bytes else obj k limits bytes
+mesh_soup k limits name bytes = soup_in (format_of name) k limits bytes
+
+-- the text of a mesh in a format
+abbrev pub text_as : Format → ℕ → List (List ℤ) → List Triple → List Bytes → Bytes
+text_as Obj k points ts labels = obj_text k points ts labels
+text_as Stl k points ts labels = stl_text k points ts
 
 -- the text of a mesh for a file of this name; an STL text has no labels
 abbrev pub mesh_text : ℕ → Bytes → List (List ℤ) → List Triple → List Bytes → Bytes
-mesh_text k name points ts labels = if is_stl name then stl_text k points ts else obj_text k points ts labels
+mesh_text k name points ts labels = text_as (format_of name) k points ts labels

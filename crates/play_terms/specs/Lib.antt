@@ -3,7 +3,6 @@ pub mod Commands
 pub mod Ends
 pub mod Formats
 pub mod Lines
-pub mod Making
 pub mod Operands
 pub mod Plays
 pub mod Program

@@ -1,23 +1,22 @@
 -- The lines that the program says on its output, and those that tell why it ended.
 use Rattle.std.specs.Prelude.{ℕ, ℤ, ◌+◌, ◌++◌, ◌==◌, if◌then◌else◌, length, codes, decimal}
 use Rattle.std.specs.Fmt.{signed_decimal}
-use Rattle.mesh_terms.specs.Faults.{Counted, FileBytes, Points, Triangles, Halfedges, Fault, Bad, Over}
+use Rattle.mesh_terms.specs.Faults.{Counted, FileBytes, Points, Triangles, Halfedges}
 use Rattle.mesh_terms.specs.Meshes.{Soup}
 use Rattle.text_terms.specs.Written.{line_of}
 use Rattle.run_terms.specs.Files.{Bytes}
-use Rattle.run_terms.specs.Tasks.{Cause, NoCommand, NoFile, FaultyMesh, PastLimit, Refusal}
 
--- a refusal with the line of this text
-abbrev pub refusal : Cause → Bytes → Refusal
-refusal cause text = record { cause = cause; line = line_of text }
+abbrev pub usage : Bytes
+usage = line_of (codes "usage: manifold_tool copy IN OUT, inside FILE X Y Z or run SCRIPT, each with --digits K")
 
-abbrev pub usage : Refusal
-usage = refusal NoCommand (codes "usage: manifold_tool copy IN OUT, inside FILE X Y Z or run SCRIPT, each with --digits K")
+abbrev pub missing : Bytes → Bytes
+missing name = line_of (name ++ codes ": missing")
 
-abbrev pub missing : Bytes → Refusal
-missing name = refusal NoFile (name ++ codes ": missing")
+-- NAME:LINE: NUMBER KIND
+abbrev pub faulty_line : Bytes → ℕ → ℕ → Bytes → Bytes
+faulty_line name line kind kind_name = line_of (name ++ codes ":" ++ decimal line ++ codes ": " ++ decimal kind ++ codes " " ++ kind_name)
 
--- the name of a kind of fault by its number
+-- the name of a kind of fault of a mesh's text by its number
 abbrev pub kind_name : ℕ → Bytes
 kind_name kind =
     if kind == 1 then codes "UnknownLine"
@@ -36,17 +35,12 @@ limit_name Triangles = codes "triangles"
 limit_name Halfedges = codes "halfedges"
 
 -- limit WHAT SEEN
-abbrev pub over : Counted → ℕ → Refusal
-over what seen = refusal PastLimit (codes "limit " ++ limit_name what ++ codes " " ++ decimal seen)
-
--- FILE:LINE: NUMBER KIND
-abbrev pub fault_refusal : Bytes → Fault → Refusal
-fault_refusal name (Bad line kind) = refusal FaultyMesh (name ++ codes ":" ++ decimal line ++ codes ": " ++ decimal kind ++ codes " " ++ kind_name kind)
-fault_refusal name (Over what seen) = over what seen
+abbrev pub over : Counted → ℕ → Bytes
+over what seen = line_of (codes "limit " ++ limit_name what ++ codes " " ++ decimal seen)
 
 -- FILE: 11 OpenEdge FROM TO, counted from 1
-abbrev pub open_refusal : Bytes → (ℕ × ℕ) → Refusal
-open_refusal name e = refusal FaultyMesh (name ++ codes ": 11 OpenEdge " ++ decimal (e.0 + 1) ++ codes " " ++ decimal (e.1 + 1))
+abbrev pub open_edge : Bytes → ℕ → ℕ → Bytes
+open_edge name from to = line_of (name ++ codes ": 11 OpenEdge " ++ decimal (from + 1) ++ codes " " ++ decimal (to + 1))
 
 abbrev pub read_fault : Bytes → Bytes
 read_fault name = line_of (name ++ codes ": read fault")

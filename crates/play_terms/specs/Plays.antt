@@ -1,23 +1,26 @@
 -- What a script does: its file is asked for and read, and then its steps are done in order, over the names and files as they are by then.
 use Rattle.std.specs.Prelude.{ℕ, List, [], ◌∷◌, if◌then◌else◌, nat_lt, bytes_eq, Option, Some, None, Result, Ok, Err}
-use Rattle.mesh_terms.specs.Faults.{Halfedges, Fault}
+use Rattle.mesh_terms.specs.Faults.{Halfedges, Fault, Bad, Over}
 use Rattle.mesh_terms.specs.Limits.{Limits}
 use Rattle.mesh_terms.specs.Meshes.{Mesh}
-use Rattle.made_terms.specs.Refusals.{MadeFault}
+use Rattle.made_terms.specs.Refusals.{MadeFault, Flat, Outside, Exceeds}
 use Rattle.run_terms.specs.Files.{Bytes}
-use Rattle.run_terms.specs.Tasks.{Refusal, Task, give, then_task}
+use Rattle.run_terms.specs.Tasks.{Refusal, FaultyScript, FaultyStep, PastLimit, Task, give, then_task}
 use Rattle.play_terms.specs.Commands.{ask_file, ask_mesh, write_mesh, say_line}
-use Rattle.play_terms.specs.Lines.{over}
 use Rattle.mb_base.specs.declared.kernel_kind.KernelKind.{KernelKind}
 use Rattle.mb_base.specs.declared.kernel_kind.KernelKind.TheVariants.{Grid}
 use Rattle.mb_base.specs.declared.op.Op.{Op}
 use Rattle.play_terms.specs.Combined.{Combined}
-use Rattle.play_terms.specs.ScriptLines.{load_line, save_line, measure_line, combine_line, script_refusal, made_refusal}
-use Rattle.play_terms.specs.Making.{Solid, solid_fault, solid_mesh, Motion, motion_fault, moved_mesh}
+use Rattle.play_terms.specs.ScriptLines.{load_line, save_line, measure_line, combine_line, tidy_line}
+use Rattle.made_terms.specs.Making.{solid_fault, solid_mesh}
+use Rattle.made_terms.specs.Motions.{motion_fault, moved_mesh}
+use Rattle.made_terms.specs.declared.motion.Motion.{Motion}
+use Rattle.made_terms.specs.declared.solid.Solid.{Solid}
 use Rattle.play_terms.specs.Scripts.{script}
-use Rattle.play_terms.specs.Steps.{Line, Step, Load, Save, Measure, Combine, Make, Move, Exact, kernels_after}
+use Rattle.play_terms.specs.Steps.{Line, Step, Load, Save, Measure, Combine, Make, Move, Tidy, Exact, kernels_after}
+use Rattle.tidy_terms.specs.Tidy.{tidied, tidy_mesh}
 
--- what the steps need of geometry: what an operation gives of two meshes. Solids, motions and measures are definitions
+-- what the steps need of geometry: what an operation gives of two meshes. Solids, motions, tidying and measures are definitions
 pub record Meanings : Type 0 where
   pub operation : Op → Mesh → Mesh → Combined
 
@@ -62,7 +65,7 @@ measure_task name m named =
 
 -- refused where more half-edges are prescribed than the limit
 abbrev pub within : Limits → Combined → Result Combined Refusal
-within limits o = if nat_lt limits.halfedges o.halfedges then Err (over Halfedges o.halfedges) else Ok o
+within limits o = if nat_lt limits.halfedges o.halfedges then Err (PastLimit Halfedges o.halfedges) else Ok o
 
 -- a name gets what an operation gives, and that is told
 abbrev pub combine_task : Meanings → Limits → Op → Bytes → Bytes → Bytes → Named → Task Named
@@ -70,6 +73,12 @@ combine_task means limits op name left right named =
     then_task (give (within limits (means.operation op (mesh_at named left) (mesh_at named right)))) (λ o.
     then_task (say_line (combine_line op name left right o)) (λ _.
     give (Ok (with_name name o.mesh named))))
+
+-- why a solid is not made or a mesh not moved on this line of the script
+abbrev pub made_refusal : Bytes → ℕ → MadeFault → Refusal
+made_refusal script line Outside = FaultyStep script line 15
+made_refusal script line Flat = FaultyStep script line 16
+made_refusal script line (Exceeds what seen) = PastLimit what seen
 
 -- refused on this line of the script where there is a fault
 abbrev pub made : Bytes → ℕ → Option MadeFault → Mesh → Result Mesh Refusal
@@ -88,6 +97,12 @@ move_task script line name old motion named =
     then_task (give (made script line (motion_fault motion (mesh_at named old).points) (moved_mesh motion (mesh_at named old)))) (λ m.
     give (Ok (with_name name m named)))
 
+-- a name gets the tidied mesh of a name, and how many edges were collapsed is told
+abbrev pub tidy_task : Bytes → Bytes → Mesh → Named → Task Named
+tidy_task name old m named =
+    then_task (say_line (tidy_line name old (tidied m.points m.triples m.labels).collapses)) (λ _.
+    give (Ok (with_name name (tidy_mesh m) named)))
+
 -- one row for each kind of step, on this line of the script; the choice of kernels leaves the names as they are
 abbrev pub step_task : Meanings → ℕ → Limits → Bytes → ℕ → Step → Named → Task Named
 step_task means k limits script line (Load name file) named = load_task k limits name file named
@@ -96,6 +111,7 @@ step_task means k limits script line (Measure name) named = measure_task name (m
 step_task means k limits script line (Combine op name left right) named = combine_task means limits op name left right named
 step_task means k limits script line (Make name solid) named = make_task limits script line name solid named
 step_task means k limits script line (Move name old motion) named = move_task script line name old motion named
+step_task means k limits script line (Tidy name old) named = tidy_task name old (mesh_at named old) named
 step_task means k limits script line Exact named = give (Ok named)
 
 -- what steps hand on: the kernels under which operations are taken from here on, and the mesh of each name that has one
@@ -128,7 +144,8 @@ steps_task means k limits script lines state = in_order (line_task means k limit
 
 -- the lines of a script of this name, or its first fault as a refusal
 abbrev pub script_checked : Bytes → Result (List Line) Fault → Result (List Line) Refusal
-script_checked name (Err fault) = Err (script_refusal name fault)
+script_checked name (Err (Bad line kind)) = Err (FaultyScript name line kind)
+script_checked name (Err (Over what seen)) = Err (PastLimit what seen)
 script_checked name (Ok lines) = Ok lines
 
 -- the file of a script is read, the whole script before any step

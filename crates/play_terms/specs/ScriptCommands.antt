@@ -1,13 +1,16 @@
 -- The commands of a script: the word of each, its operands, and its step.
-use Rattle.std.specs.Prelude.{ℕ, ◌+◌, ℤ, List, [], ◌∷◌, get_or, replicate, if◌then◌else◌, codes, bytes_eq, Option, Some, None, unwrap_or}
+use Rattle.std.specs.Prelude.{ℕ, ◌+◌, ℤ, List, [], ◌∷◌, ◌++◌, get_or, replicate, if◌then◌else◌, codes, bytes_eq, Option, Some, None, unwrap_or}
 use Rattle.text_terms.specs.Numbers.{digits_value}
 use Rattle.made_terms.specs.Solids.{point}
 use Rattle.run_terms.specs.Files.{Bytes}
 use Rattle.mb_base.specs.declared.op.Op.{Op}
 use Rattle.mb_base.specs.declared.op.Op.TheVariants.{Union, Intersect, Subtract}
-use Rattle.play_terms.specs.Making.{Solid, Box, Tetra, Prism, Lattice, Motion, Shift, Scale, Mirror, Turn}
+use Rattle.made_terms.specs.declared.motion.Motion.{Motion}
+use Rattle.made_terms.specs.declared.motion.Motion.TheVariants.{Shift, Scale, Mirror, Turn}
+use Rattle.made_terms.specs.declared.solid.Solid.{Solid}
+use Rattle.made_terms.specs.declared.solid.Solid.TheVariants.{Box, Tetra, Prism, Lattice}
 use Rattle.play_terms.specs.Operands.{Operand, NewName, OldName, FileName, Number, Within, Axis, axis, number_of}
-use Rattle.play_terms.specs.Steps.{Step, Load, Save, Measure, Combine, Make, Move, Exact}
+use Rattle.play_terms.specs.Steps.{Step, Load, Save, Measure, Combine, Make, Move, Tidy, Exact}
 
 -- a command: its word, what words stand after it, and the step of such words under so many digits
 pub record Command : Type 0 where
@@ -52,6 +55,9 @@ op_word Subtract = codes "subtract"
 abbrev pub combine : Op → Command
 combine op = record { word = op_word op; operands = NewName ∷ OldName ∷ OldName ∷ []; step = λ k ws. Combine op (at ws 0) (at ws 1) (at ws 2) }
 
+abbrev pub tidy : Command
+tidy = record { word = codes "tidy"; operands = NewName ∷ OldName ∷ []; step = λ k ws. Tidy (at ws 0) (at ws 1) }
+
 abbrev pub exact : Command
 exact = record { word = codes "exact"; operands = []; step = λ k ws. Exact }
 
@@ -91,9 +97,16 @@ mirror = moving (codes "mirror") (Axis ∷ []) (λ k ws. Mirror (axis_at ws 2))
 abbrev pub turn : Command
 turn = moving (codes "turn") (Axis ∷ []) (λ k ws. Turn (axis_at ws 2))
 
+-- those that make a solid
+abbrev pub solids : List Command
+solids = box ∷ tetra ∷ prism ∷ lattice ∷ []
+
+-- those that move a mesh
+abbrev pub motions : List Command
+motions = shift ∷ scale ∷ mirror ∷ turn ∷ []
+
 abbrev pub commands : List Command
-commands =
-    load ∷ save ∷ measure ∷ combine Union ∷ combine Intersect ∷ combine Subtract ∷ exact ∷ box ∷ tetra ∷ prism ∷ lattice ∷ shift ∷ scale ∷ mirror ∷ turn ∷ []
+commands = load ∷ save ∷ measure ∷ combine Union ∷ combine Intersect ∷ combine Subtract ∷ tidy ∷ exact ∷ (solids ++ motions)
 
 -- the first of some commands whose word is this
 abbrev pub named_in : List Command → Bytes → Option Command

@@ -1,26 +1,13 @@
 -- What is known of the steps of a script without a fault.
-use Rattle.std.specs.Prelude.{◌≤◌, ◌<◌, List, [], ◌∷◌, ◌++◌, IsTrue}
+use Rattle.std.specs.Prelude.{List, [], ◌∷◌, ◌++◌, IsTrue}
 use Rattle.std.specs.List.{All}
-use Rattle.mesh_terms.specs.Points.{IsOnGrid, IsPoint}
 use Rattle.play_terms.specs.Formats.{is_mesh_name}
-use Rattle.play_terms.specs.Making.{Solid, Box, Tetra, Prism, Lattice, Motion, Shift, Scale, Mirror, Turn}
+use Rattle.made_terms.specs.Making.{IsSolid}
+use Rattle.made_terms.specs.Motions.{IsMotion}
 use Rattle.play_terms.specs.Operands.{is_name}
-use Rattle.play_terms.specs.Steps.{Line, Step, Load, Save, Measure, Combine, Make, Move, Exact, files_in, is_given, names_in, taken}
+use Rattle.play_terms.specs.Steps.{Line, Step, Load, Save, Measure, Combine, Make, Move, Tidy, Exact, files_in, is_given, names_in, taken}
 
--- points and sizes are on the grid, and other numbers in their range
-abbrev pub IsSolid : Solid → Type 0
-IsSolid (Box low high) = IsPoint low × IsPoint high
-IsSolid (Tetra at size) = IsPoint at × IsOnGrid size
-IsSolid (Prism at size height) = IsPoint at × IsOnGrid size × IsOnGrid height
-IsSolid (Lattice n seed) = (1 ≤ n) × (n ≤ 60) × (seed ≤ 999999)
-
-abbrev pub IsMotion : Motion → Type 0
-IsMotion (Shift by) = IsPoint by
-IsMotion (Scale factor) = (1 ≤ factor) × (factor ≤ 1000000)
-IsMotion (Mirror axis) = axis < 3
-IsMotion (Turn axis) = axis < 3
-
--- so are the numbers of a step
+-- the numbers of a step are in their range
 abbrev pub HasNumbers : Step → Type 0
 HasNumbers (Load name file) = Unit {0}
 HasNumbers (Save name file) = Unit {0}
@@ -28,6 +15,7 @@ HasNumbers (Measure name) = Unit {0}
 HasNumbers (Combine op name left right) = Unit {0}
 HasNumbers (Make name solid) = IsSolid solid
 HasNumbers (Move name old motion) = IsMotion motion
+HasNumbers (Tidy name old) = Unit {0}
 HasNumbers Exact = Unit {0}
 
 -- each name that the step takes got a mesh in a line before, each name is one, each file has the suffix of a mesh file, and each number is in its range

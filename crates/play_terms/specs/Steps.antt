@@ -5,10 +5,11 @@ use Rattle.run_terms.specs.Files.{Bytes}
 use Rattle.mb_base.specs.declared.kernel_kind.KernelKind.{KernelKind}
 use Rattle.mb_base.specs.declared.kernel_kind.KernelKind.TheVariants as kinds
 use Rattle.mb_base.specs.declared.op.Op.{Op}
-use Rattle.play_terms.specs.Making.{Solid, Motion}
+use Rattle.made_terms.specs.declared.motion.Motion.{Motion}
+use Rattle.made_terms.specs.declared.solid.Solid.{Solid}
 
--- a mesh of a file gets a name, the mesh of a name is written to a file or measured, a name gets the result of an operation, a solid, or the moved
--- mesh of a name, or the operations after it are taken under exact kernels
+-- a mesh of a file gets a name, the mesh of a name is written to a file or measured, a name gets the result of an operation, a solid, or the moved or
+-- tidied mesh of a name, or the operations after it are taken under exact kernels
 pub data Step : Type 0 where
   Load : (name file : Bytes) → Step
   Save : (name file : Bytes) → Step
@@ -16,6 +17,7 @@ pub data Step : Type 0 where
   Combine : (op : Op) → (name left right : Bytes) → Step
   Make : (name : Bytes) → (solid : Solid) → Step
   Move : (name old : Bytes) → (motion : Motion) → Step
+  Tidy : (name old : Bytes) → Step
   Exact : Step
 
 -- a step with the number of its line, from 1
@@ -30,6 +32,7 @@ new_name (Measure name) = None
 new_name (Combine op name left right) = Some name
 new_name (Make name solid) = Some name
 new_name (Move name old motion) = Some name
+new_name (Tidy name old) = Some name
 new_name Exact = None
 
 abbrev pub is_that : Bytes → Option Bytes → Bool
@@ -52,6 +55,7 @@ taken (Measure name) = name ∷ []
 taken (Combine op name left right) = left ∷ right ∷ []
 taken (Make name solid) = []
 taken (Move name old motion) = old ∷ []
+taken (Tidy name old) = old ∷ []
 taken Exact = []
 
 -- the names in a step
@@ -62,6 +66,7 @@ names_in (Measure name) = name ∷ []
 names_in (Combine op name left right) = name ∷ left ∷ right ∷ []
 names_in (Make name solid) = name ∷ []
 names_in (Move name old motion) = name ∷ old ∷ []
+names_in (Tidy name old) = name ∷ old ∷ []
 names_in Exact = []
 
 -- the files that a step reads or writes
@@ -72,6 +77,7 @@ files_in (Measure name) = []
 files_in (Combine op name left right) = []
 files_in (Make name solid) = []
 files_in (Move name old motion) = []
+files_in (Tidy name old) = []
 files_in Exact = []
 
 -- the kernels under which the operations after a step are taken, where those before it are taken under these
@@ -83,3 +89,4 @@ kernels_after (Measure name) kernels = kernels
 kernels_after (Combine op name left right) kernels = kernels
 kernels_after (Make name solid) kernels = kernels
 kernels_after (Move name old motion) kernels = kernels
+kernels_after (Tidy name old) kernels = kernels

@@ -8,8 +8,8 @@ use Rattle.mb_outside.specs.declared.sink.Sink.{Ghosts as OfSink}
 use Rattle.play_terms.specs.Program.{play}
 use Rattle.run_terms.specs.Files.{Bytes, Grew}
 use Rattle.run_terms.specs.Meets.{Faults, Meets, ReadRose, Refused, Rises, Seen, Starved, Unread, Unsaid, Unwritten, Why}
-use Rattle.run_terms.specs.Tasks.{Cause, FaultyMesh, FaultyScript, NoCommand, NoFile, PastLimit, Task}
-use Rattle.play_terms.specs.Ends.{ReadFailed, RiseWith, cause_status, ended_status}
+use Rattle.run_terms.specs.Tasks.{Refusal, NoCommand, FaultyScript, NoFile, FaultyText, OpenEdge, FaultyStep, PastLimit, Task}
+use Rattle.play_terms.specs.Ends.{ReadFailed, RiseWith, refusal_status, ended_status}
 use Rattle.mesh_commands.specs.Statuses.{IsDoneOrStarved, status_number}
 use Rattle.mesh_commands.specs.declared.status.Status.{Status}
 use Rattle.mesh_commands.specs.declared.status.Status.TheVariants as statuses
@@ -26,20 +26,22 @@ read_failed tells before now below up = elim up [ inl grew ↦ inl (rose before.
 calm : (n : ℕ) (tells : Bool) (before now : Faults) → (n ≡ 6 → ⊥) → (n ≡ 7 → ⊥) → now ≡ before → RiseWith n tells before now
 calm n tells before now not_six not_seven same = record { read = λ six. absurd (not_six six); write = λ seven. absurd (not_seven seven); calm = λ _ _. same }
 
-refused_below_six : (cause : Cause) → cause_status cause < 6
+refused_below_six : (why : Refusal) → refusal_status why < 6
 refused_below_six NoCommand = omega arith
-refused_below_six FaultyScript = omega arith
-refused_below_six NoFile = omega arith
-refused_below_six FaultyMesh = omega arith
-refused_below_six PastLimit = omega arith
+refused_below_six (FaultyScript script line kind) = omega arith
+refused_below_six (NoFile name) = omega arith
+refused_below_six (FaultyText name line kind) = omega arith
+refused_below_six (OpenEdge name from to) = omega arith
+refused_below_six (FaultyStep script line kind) = omega arith
+refused_below_six (PastLimit what seen) = omega arith
 
 -- the counts rise with the status
 pub rise_with : (ended : Result (Unit {0}) Why) (tells : Bool) (before now : Faults) → before.read < 2 ^ 64 - 1 → before.write < 2 ^ 64 - 1 → before.out < 2 ^ 64 - 1
     → Rises tells before now ended → RiseWith (ended_status ended) tells before now
 rise_with (Ok done) tells before now reads writes outs rises = calm 0 tells before now (λ is. cc) (λ is. cc) rises
 rise_with (Err (Refused why)) tells before now reads writes outs rises =
-    let few = refused_below_six why.cause in
-    calm (cause_status why.cause) tells before now (λ is. omega (arith, few, is)) (λ is. omega (arith, few, is)) rises
+    let few = refused_below_six why in
+    calm (refusal_status why) tells before now (λ is. omega (arith, few, is)) (λ is. omega (arith, few, is)) rises
 rise_with (Err (Unread name)) tells before now reads writes outs rises =
     record { read = λ _. (read_failed tells before now reads rises.0, rises.1, rises.2); write = λ is. absurd cc; calm = λ other _. absurd (other refl) }
 rise_with (Err (Unwritten name)) tells before now reads writes outs rises =

@@ -3,6 +3,7 @@ use Rattle.std.proofs.Common.{◌≡◌, ◌≤◌, ◌+◌, ◌∙◌, ℕ, ℤ
 use Rattle.mesh_terms.specs.Limits.{Limits}
 use Rattle.run_terms.specs.Files.{Bytes}
 use Rattle.run_terms.specs.Meets.{Meets, Refused, Starved}
+use Rattle.run_terms.specs.Tasks.{NoCommand}
 use Rattle.play_laws.proofs.Tasks.{meets_starved}
 use Rattle.play_terms.specs.Commands.{copy_task, inside_task}
 use Rattle.play_terms.specs.Ends.{ended_status}
@@ -85,11 +86,11 @@ module _ {S O E : Type 0} (s : OfShelf S) (o : OfSink O) (e : OfSink E) (limits 
       (none_counted limits (s.tells old.0) (s.files old.0) (Some (CopyFile k from to)) steps status (λ inside _. let wrong = inside.3 in absurd cc))
 
   -- words of no command are refused
-  pub refused_run : (shelf : S) (out : O) (err told : E) → words ≡ None → IsReported usage.line (on_output e err) (on_output e told)
+  pub refused_run : (shelf : S) (out : O) (err told : E) → words ≡ None → IsReported usage (on_output e err) (on_output e told)
       → IsRunOf s o e limits words (shelf, out, err) (shelf, out, told) steps steps statuses.Usage
   refused_run shelf out err told none line =
       let now = seen_of s o shelf out in
-      let refused : Meets (command_task meanings limits None) now now (Err (Refused usage)) = record { tells = refl; faults = refl; does = λ t. record { gives = refl; all_done = refl } } in
+      let refused : Meets (command_task meanings limits None) now now (Err (Refused NoCommand)) = record { tells = refl; faults = refl; does = λ t. record { gives = refl; all_done = refl } } in
       let P : Option Command → Type 0 = λ w. IsRunOf s o e limits w (shelf, out, err) (shelf, out, told) steps steps statuses.Usage in
       subst P (sym none)
       (record {
@@ -98,7 +99,7 @@ module _ {S O E : Type 0} (s : OfShelf S) (o : OfSink O) (e : OfSink E) (limits 
         refused = λ _. line;
         untouched = λ _. (refl, refl);
         quiet = λ is. absurd cc;
-        play = (Err (Refused usage), refused, (refl, line));
+        play = (Err (Refused NoCommand), refused, (refl, line));
         steps = none_counted limits (s.tells shelf) (s.files shelf) None steps statuses.Usage (λ _ is. cc);
       })
 

@@ -1,4 +1,5 @@
 pub mod Counting
 pub mod Playing
+pub mod Promises
 pub mod Results
 pub mod Running

@@ -13,7 +13,7 @@ CommandGivesResults limits (Some (CopyFile k from to)) = Unit {0}
 CommandGivesResults limits (Some (InsideFile k file p)) = Unit {0}
 CommandGivesResults limits (Some (RunScript k script)) = GivesResults k limits script
 
--- whatever lines of the script that it does, if it does one, the mesh of each name is read of its texts, and a line that saves it writes its text
+-- whatever lines of the script that it does, if it does one, the mesh of each name is read of its texts, its tidied mesh is a tidy one of it, and a line that saves it writes its text
 abbrev pub CommandKeepsMeshes : Limits → Option Command → Type 0
 CommandKeepsMeshes limits None = Unit {0}
 CommandKeepsMeshes limits (Some (CopyFile k from to)) = Unit {0}

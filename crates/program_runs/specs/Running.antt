@@ -27,7 +27,7 @@ pub record IsCounted (limits : Limits) (what : Option Command) (tells : Bool) (f
 pub record IsRunOf {S O E : Type 0} (s : OfShelf S) (o : OfSink O) (e : OfSink E) (limits : Limits) (what : Option Command) (old new : S × O × E) (before now : ℕ) (status : Status) : Type 0 where
   pub usage : status ≡ Usage → what ≡ None
   pub no_command : what ≡ None → IsUsageOrStarved status
-  pub refused : status ≡ Usage → IsReported lines.usage.line (on_output e old.2) (on_output e new.2)
+  pub refused : status ≡ Usage → IsReported lines.usage (on_output e old.2) (on_output e new.2)
   pub untouched : status ≡ Usage → (new.0 ≡ old.0) × (new.1 ≡ old.1)
   pub quiet : status ≡ Done → new.2 ≡ old.2
   pub play : MeetsAs s o e (command_task meanings limits what) old new (status_number status)

@@ -1,16 +1,6 @@
 // The top call.
-ghost use Rattle.std.specs.Prelude.{◌≡◌, ◌≤◌, ◌<◌, ◌+◌, ◌^◌, ◌-◌, All, IsTrue, None};
-ghost use Rattle.play_terms.specs.Lines.{usage};
-ghost use Rattle.play_terms.specs.ReadingBack.{CopiesReadable, WritesReadable, digits_in};
-ghost use Rattle.play_terms.specs.Words.{IsCopy, IsInside, IsRun, command};
-ghost use Rattle.play_terms.specs.Program.{play};
-ghost use Rattle.run_terms.specs.Files.{Files};
-ghost use Rattle.mb_outside.specs.Seen.{on_output};
-ghost use Rattle.report_lines.specs.Reports.{IsReported};
-ghost use Rattle.program_runs.specs.Counting.{play_cost};
-ghost use Rattle.program_runs.specs.Playing.{IsUntroubled, RiseOn, RunMeets, meanings};
-ghost use Rattle.program_runs.specs.Results.{CommandGivesResults, CommandKeepsMeshes};
-ghost use Rattle.mesh_commands.specs.Statuses.{IsDoneOrStarved, IsUsageOrStarved, status_number};
+ghost use Rattle.std.specs.Prelude.{◌<◌, ◌^◌, ◌-◌};
+ghost use Rattle.program_runs.specs.Promises.{IsSoundRun};
 
 use crate::back::{plays_are_readable, plays_give_results};
 use crate::dispatch::dispatch;
@@ -27,9 +17,9 @@ use steps::Steps;
 /// memory aside, and nothing is done but the usage line on `err`. A unit of the files has 10^K steps of the grid, where K are the digits. `copy` reads and
 /// checks the mesh of IN, saves it to OUT and reports that on `out` in one line. `inside` reads and checks the mesh of FILE and reports the winding number of
 /// the point in it, and counts one step; a run that ends before the number is found counts none. `run` reads the whole script of SCRIPT, whose lines load meshes
-/// or make solids and give them names, shift, scale, mirror and turn them, unite, intersect and subtract them, measure and save them, or choose exact kernels;
+/// or make solids and give them names, move and tidy them, unite, intersect and subtract them, measure and save them, or choose exact kernels;
 /// a faulty line is `BadScript`, and then no line is done. Operations before the first line that chooses exact kernels are taken under the kernels of the grid,
-/// and those after it under exact ones, all with rounding to the nearest. It then does its lines in order, and reports each that loads, combines, measures or saves on `out` in one line.
+/// and those after it under exact ones, all with rounding to the nearest. It then does its lines in order, and reports each that loads, combines, tidies, measures or saves on `out` in one line.
 /// A solid without a volume, and a solid or a moved mesh that would leave the grid, is `BadMesh`. What was saved before a stop stays. Of a script only
 /// operations count steps; where the shelf tells its files these are at most one for each connected component of their meshes, reduced. Whatever goes
 /// wrong first ends the run with its status and one line on `err`, and a fault of `err` changes no status. A run that ends well leaves `err` as it was.
@@ -63,24 +53,8 @@ pub fn run<S: Shelf, O: Sink, E: Sink, L: Ledger>(
     requires writes { S.write_faults shelf.old < 2 ^ 64 - 1 }
     requires outs { O.faults out.old < 2 ^ 64 - 1 }
     requires errs { E.faults err.old < 2 ^ 64 - 1 }
-    ensures usage { result ≡ Status.Usage → command words.now ≡ None }
-    ensures no_command { command words.now ≡ None → IsUsageOrStarved result }
-    ensures refused { result ≡ Status.Usage → IsReported usage.line (on_output E.Sink err.old) (on_output E.Sink err.new) }
-    ensures untouched { result ≡ Status.Usage → (shelf.new ≡ shelf.old) × (out.new ≡ out.old) }
-    ensures quiet { result ≡ Status.Done → err.new ≡ err.old }
-    ensures play { RunMeets S.Shelf O.Sink E.Sink limits.now words.now (shelf.old, out.old, err.old) (shelf.new, out.new, err.new) (status_number result) }
-    ensures counts { RiseOn S.Shelf O.Sink (shelf.old, out.old) (shelf.new, out.new) (status_number result) }
-    ensures complete { IsUntroubled S.Shelf O.Sink limits.now words.now (shelf.old, out.old) (shelf.new, out.new) → IsDoneOrStarved result }
-    ensures mesh_back { CopiesReadable limits.now (command words.now) }
-    ensures back { (files : Files) → All (WritesReadable (digits_in (command words.now)) limits.now) (play meanings limits.now words.now files).actions }
-    ensures held { CommandKeepsMeshes limits.now (command words.now) }
-    ensures results { CommandGivesResults limits.now (command words.now) }
-    ensures copies_uncounted { IsCopy (command words.now) → steps.new ≡ steps.old }
-    ensures counted { IsInside (command words.now) → result ≡ Status.Done → steps.new ≡ steps.old + 1 }
-    ensures most { (IsRun (command words.now) → ⊥) → steps.new ≤ steps.old + 1 }
-    ensures cost { IsTrue (S.tells shelf.old) → steps.new ≤ steps.old + play_cost limits.now words.now (S.files shelf.old) }
-    ensures uncounted { (IsRun (command words.now) → ⊥) →
-        (result ≡ Status.Done → ⊥) → (result ≡ Status.WriteFault → ⊥) → steps.new ≡ steps.old }
+    ensures { IsSoundRun S.Shelf O.Sink E.Sink limits.now words.now
+        (shelf.old, out.old, err.old) (shelf.new, out.new, err.new) steps.old steps.new result }
 {
     // The laws of what a play writes, and of what its operations give.
     plays_are_readable(limits, words);

@@ -4,6 +4,7 @@ mod files;
 mod made;
 mod scripts;
 mod solids;
+mod tidied;
 mod words;
 
 ghost use Rattle.std.specs.Prelude.{◌≡◌, ◌<◌, ◌^◌, ◌-◌, IfOk};

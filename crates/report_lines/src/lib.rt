@@ -9,4 +9,6 @@ mod script_tail;
 mod tail;
 
 pub use report::{say_copied, say_winding, tell_halt, tell_stop};
-pub use script_report::{OperationCounts, say_combined, say_loaded, say_measured, say_saved};
+pub use script_report::{
+    OperationCounts, say_combined, say_loaded, say_measured, say_saved, say_tidied,
+};

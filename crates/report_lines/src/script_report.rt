@@ -7,7 +7,7 @@ ghost use Rattle.mb_outside.specs.Sinks.{AddsPart};
 ghost use Rattle.play_terms.specs.Commands.{say_line};
 ghost use Rattle.play_terms.specs.Combined.{Combined};
 ghost use Rattle.play_terms.specs.ScriptCommands.{op_word};
-ghost use Rattle.play_terms.specs.ScriptLines.{combine_line, load_line, measure_line, save_line};
+ghost use Rattle.play_terms.specs.ScriptLines.{combine_line, load_line, measure_line, save_line, tidy_line};
 ghost use Rattle.mesh_terms.specs.Meshes.{Mesh as TheMesh};
 ghost use Rattle.mesh_files.specs.Reasons.{soup_of};
 ghost use Rattle.report_lines.specs.Counts.{counts_of};
@@ -15,7 +15,7 @@ ghost use Rattle.report_lines.specs.Measures.{IsMeasureOf};
 ghost use Rattle.report_lines.specs.Reports.{said};
 
 use crate::report::say;
-use crate::script_tail::{combined_tail, measured_tail, saved_tail, size_tail};
+use crate::script_tail::{combined_tail, measured_tail, saved_tail, size_tail, tidied_tail};
 use crate::tail::copied_tail;
 use mb_base::Op;
 use mb_outside::{Failed, Sink, write_all};
@@ -108,6 +108,21 @@ pub fn say_measured<K: Sink>(name: &str, measure: &Measure, sink: &mut K) -> Res
     let size = size_tail(measure.points, measure.triangles);
     let tail = measured_tail(measure.components, measure.euler, measure.volume6);
     say(name.as_bytes(), size.as_slice(), tail.as_slice(), sink)
+}
+
+/// Reports a tidied mesh: `NAME = tidy OLD: collapsed N`. After `Failed`, which comes only where the sink's count rose, it has a first
+/// part of the line.
+pub fn say_tidied<K: Sink>(
+    name: &str,
+    source: &str,
+    collapsed: u64,
+    sink: &mut K,
+) -> Result<(), Failed>
+    ensures meets { MeetsOnOutput K.Sink (say_line (tidy_line name.now source.now collapsed)) sink.old sink.new (said result) }
+{
+    let tail = tidied_tail(collapsed);
+    let (name, source) = (name.as_bytes(), source.as_bytes());
+    say_five(b"", name, b" = tidy ", source, tail.as_slice(), sink)
 }
 
 // The word of an operation, between the name that gets the result and those of the two meshes.

@@ -39,6 +39,16 @@ pub fn measured_tail(components: u64, euler: i64, volume6: i128) -> Tail
     tail
 }
 
+/// The end of the line that reports a tidied mesh.
+pub fn tidied_tail(collapsed: u64) -> Tail
+    ensures { result.items ≡ line_of (codes ": collapsed " ++ decimal collapsed) }
+{
+    let mut tail = Tail::new();
+    put_pair(&mut tail, b": collapsed ", collapsed);
+    put(&mut tail, b"\n");
+    tail
+}
+
 /// The end of the line that reports an operation.
 pub fn combined_tail(kept: [u64; 2], crossings: u64, forced: u64) -> Tail
     ensures { result.items ≡

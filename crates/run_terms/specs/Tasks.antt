@@ -1,20 +1,20 @@
 -- Tasks: what is to be done over the files as they are when it begins, one task after the other.
-use Rattle.std.specs.Prelude.{List, [], ◌∷◌, ◌++◌, Result, Ok, Err}
+use Rattle.std.specs.Prelude.{ℕ, List, [], ◌∷◌, ◌++◌, Result, Ok, Err}
+use Rattle.mesh_terms.specs.Faults.{Counted}
 use Rattle.run_terms.specs.Files.{Bytes, Files, put}
 use Rattle.run_terms.specs.Runs.{Action, Ask, Write, Say}
 
--- why what is asked for can't be had: the words are of no command, a script is faulty, a file is not there, a mesh is faulty, or a count is past its limit
-pub data Cause : Type 0 where
-  NoCommand : Cause
-  FaultyScript : Cause
-  NoFile : Cause
-  FaultyMesh : Cause
-  PastLimit : Cause
-
--- the cause, with the line that tells it
-pub record Refusal : Type 0 where
-  pub cause : Cause
-  pub line : Bytes
+-- why what is asked for can't be had: the words are of no command; a line of this script is faulty, by the number of its kind; no file has this name;
+-- a line of the text of a mesh is faulty; an edge of a mesh has no reverse; the mesh that a line of this script makes is faulty; or so many were counted of
+-- what has a lower limit
+pub data Refusal : Type 0 where
+  NoCommand : Refusal
+  FaultyScript : (script : Bytes) → (line kind : ℕ) → Refusal
+  NoFile : (name : Bytes) → Refusal
+  FaultyText : (name : Bytes) → (line kind : ℕ) → Refusal
+  OpenEdge : (name : Bytes) → (from to : ℕ) → Refusal
+  FaultyStep : (script : Bytes) → (line kind : ℕ) → Refusal
+  PastLimit : (what : Counted) → (seen : ℕ) → Refusal
 
 -- actions, and then a value or a refusal
 pub record Part (A : Type 0) : Type 0 where

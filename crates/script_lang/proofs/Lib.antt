@@ -1,2 +1,3 @@
 mod NameSets
 mod NameTests
+mod Named

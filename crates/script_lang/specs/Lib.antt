@@ -1,5 +1,5 @@
-pub mod Commands
 pub mod Faults
+pub mod Jobs
 pub mod Names
 pub mod Operands
 pub mod Steps

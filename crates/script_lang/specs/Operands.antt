@@ -5,6 +5,10 @@ use Rattle.made_terms.specs.Solids.{point}
 use Rattle.run_terms.specs.Files.{Bytes}
 use Rattle.play_terms.specs.Operands.{number_of, number_fault, or_later}
 
+-- no command has more operands
+abbrev pub most_operands : ℕ
+most_operands = 7
+
 -- the numbers of three words
 abbrev pub three_of : ℕ → Bytes → Bytes → Bytes → List ℤ
 three_of k x y z = point (number_of k x) (number_of k y) (number_of k z)

@@ -1,28 +1,12 @@
 // The commands of a script.
-ghost use Rattle.std.specs.Prelude.{◌≡◌};
+ghost use Rattle.std.specs.Prelude.{◌≡◌, ◌++◌};
 ghost use Rattle.std.specs.Option.{option_map};
-ghost use Rattle.play_terms.specs.ScriptCommands.{command_named};
-ghost use Rattle.script_lang.specs.Commands.{command_of};
+ghost use Rattle.play_terms.specs.ScriptCommands.{command_named, motions, named_in, solids};
+ghost use Rattle.script_lang.specs.Steps.{command_of};
 
+use crate::motions::MotionCommand;
+use crate::solids::SolidCommand;
 use mb_base::Op;
-
-/// A solid that a command makes.
-#[derive(Clone, Copy, Drop)]
-pub enum Solid {
-    Box,
-    Tetra,
-    Prism,
-    Lattice,
-}
-
-/// A motion of a mesh.
-#[derive(Clone, Copy, Drop)]
-pub enum Motion {
-    Shift,
-    Scale,
-    Mirror,
-    Turn,
-}
 
 /// A command.
 #[derive(Clone, Copy, Drop)]
@@ -31,8 +15,9 @@ pub enum Command {
     Save,
     Measure,
     Combine(Op),
-    Make(Solid),
-    Move(Motion),
+    Make(SolidCommand),
+    Move(MotionCommand),
+    Tidy,
     Exact,
 }
 
@@ -53,26 +38,32 @@ impl Command {
             Some(Command::Combine(Op::Intersect))
         } else if word == b"subtract".as_slice() {
             Some(Command::Combine(Op::Subtract))
+        } else if word == b"tidy".as_slice() {
+            Some(Command::Tidy)
         } else if word == b"exact".as_slice() {
             Some(Command::Exact)
-        } else if word == b"box".as_slice() {
-            Some(Command::Make(Solid::Box))
-        } else if word == b"tetra".as_slice() {
-            Some(Command::Make(Solid::Tetra))
-        } else if word == b"prism".as_slice() {
-            Some(Command::Make(Solid::Prism))
-        } else if word == b"lattice".as_slice() {
-            Some(Command::Make(Solid::Lattice))
-        } else if word == b"shift".as_slice() {
-            Some(Command::Move(Motion::Shift))
-        } else if word == b"scale".as_slice() {
-            Some(Command::Move(Motion::Scale))
-        } else if word == b"mirror".as_slice() {
-            Some(Command::Move(Motion::Mirror))
-        } else if word == b"turn".as_slice() {
-            Some(Command::Move(Motion::Turn))
         } else {
-            None
+            making_or_moving(word)
         }
+    }
+}
+
+// The command of this word that makes a solid or moves a mesh, if there is one.
+fn making_or_moving(word: &[u8]) -> Option<Command>
+    ensures { option_map command_of result ≡ named_in (solids ++ motions) word.now }
+{
+    match SolidCommand::named(word) {
+        Some(solid) => Some(Command::Make(solid)),
+        None => moving_by(word),
+    }
+}
+
+// The command of this word that moves a mesh, if there is one.
+fn moving_by(word: &[u8]) -> Option<Command>
+    ensures { option_map command_of result ≡ named_in motions word.now }
+{
+    match MotionCommand::named(word) {
+        Some(motion) => Some(Command::Move(motion)),
+        None => None,
     }
 }

@@ -2,23 +2,8 @@
 //!
 //! A line ends at LF or at the end of the text, and one CR at its end is dropped. EF BB BF at the start is passed
 //! over. The words of a line are longest runs without spaces and tabs, up to one that begins with `#`. A line
-//! without words is passed over. Any other is a command and its operands:
-//!
-//! | Command | Operands | Does |
-//! |---|---|---|
-//! | `load` | NAME FILE | the mesh of a file |
-//! | `save` | OLD FILE | a mesh goes to a file |
-//! | `measure` | OLD | tells the measures of a mesh |
-//! | `union` `intersect` `subtract` | NAME OLD OLD | the operation on two meshes |
-//! | `exact` | | operations on later lines are taken under exact kernels |
-//! | `box` | NAME X Y Z X Y Z | the box between two corners, the low one first |
-//! | `tetra` | NAME X Y Z SIZE | a tetrahedron with a right angle at a corner |
-//! | `prism` | NAME X Y Z SIZE HEIGHT | a prism with a right angle at a corner |
-//! | `lattice` | NAME N SEED | N boxes along each axis |
-//! | `shift` | NAME OLD X Y Z | a mesh with X, Y and Z added |
-//! | `scale` | NAME OLD FACTOR | a mesh with each coordinate multiplied |
-//! | `mirror` | NAME OLD AXIS | a mesh with the other sign on one axis |
-//! | `turn` | NAME OLD AXIS | a mesh after a quarter turn about an axis |
+//! without words is passed over. Any other is a command and its operands: `ScriptCommands.antt` of `play_terms` has each
+//! with its word, its operands and its step, and `docs/FORMATS.md` says what they do.
 //!
 //! A NAME has at most 32 bytes, the first an ASCII letter and the others ASCII letters, digits or `_`. An OLD is a name
 //! that a line above gives. A FILE is a text that ends with `.obj` or `.stl`, ASCII case ignored. X, Y, Z, SIZE and HEIGHT are decimal
@@ -33,6 +18,8 @@ ghost use Rattle.script_lang.specs.Faults.{IsFaultOf};
 
 mod commands;
 mod fault;
+mod jobs;
+mod motions;
 mod names;
 mod operands;
 mod reading;
@@ -41,6 +28,7 @@ mod steps;
 mod words;
 
 pub use fault::ScriptFault;
+pub use jobs::Job;
 use reading::Reading;
 use std::alloc::Global;
 pub use steps::{Line, Script, Step, Word};

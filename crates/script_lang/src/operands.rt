@@ -3,8 +3,7 @@ ghost use Rattle.std.specs.Prelude.{◌≡◌, ◌≤◌, ◌<◌, nat_le, map, 
 ghost use Rattle.std.specs.List.{list_all};
 ghost use Rattle.mesh_terms.specs.Points.{IsOnGrid, IsPoint};
 ghost use Rattle.text_terms.specs.Numbers.{digits_value};
-ghost use Rattle.script_lang.specs.Commands.{most_operands};
-ghost use Rattle.script_lang.specs.Operands.{few_digits, three_fault, three_of};
+ghost use Rattle.script_lang.specs.Operands.{few_digits, most_operands, three_fault, three_of};
 ghost use Rattle.play_terms.specs.Operands.{
   axis,
   axis_fault,

@@ -4,14 +4,13 @@ ghost use Rattle.play_terms.specs.Operands.{old_name_fault};
 ghost use Rattle.play_terms.specs.Scripts.{command_step, numbered_words, script_line, script_lines, step_by};
 ghost use Rattle.play_terms.specs.Sound.{AreSound};
 ghost use Rattle.play_terms.specs.Steps.{gives, is_given};
-ghost use Rattle.script_lang.specs.Commands.{command_of, moving};
 ghost use Rattle.script_lang.specs.Faults.{IsFaultOf};
-ghost use Rattle.script_lang.specs.Steps.{line_of, step_of};
+ghost use Rattle.script_lang.specs.Steps.{command_of, line_of, step_of};
 
-use crate::commands::{Command, Motion};
+use crate::commands::Command;
 use crate::fault::{BAD_WORD, NAME_NOT_DEFINED, ScriptFault, WRONG_COUNT};
 use crate::names::Names;
-use crate::operands::{axis, file_text, name_text, taken, three, within};
+use crate::operands::{file_text, name_text, taken};
 use crate::solids::solid_step;
 use crate::steps::{Line, Script, Step, Word};
 use crate::words::Words;
@@ -124,6 +123,10 @@ impl<'a> Reading<'a> {
                 left: Word::of(self.old_text(left)?),
                 right: Word::of(self.old_text(right)?),
             }),
+            (Command::Tidy, &[name, source]) => Ok(Step::Tidy {
+                name: Word::of(name_text(name)?),
+                source: Word::of(self.old_text(source)?),
+            }),
             (Command::Exact, &[]) => Ok(Step::Exact),
             (Command::Make(solid), operands) => solid_step(solid, operands, digits),
             (Command::Move(motion), operands) => self.motion_step(motion, operands, digits),
@@ -131,39 +134,8 @@ impl<'a> Reading<'a> {
         }
     }
 
-    // The step that moves a mesh by these operands; else the kind of the first fault.
-    fn motion_step(&self, motion: Motion, operands: &[&'a [u8]], digits: u8) -> Result<Step<'a>, u8>
-        requires { digits ≤ 6 }
-        ensures step { IfOk result (λ step. command_step digits self.now (map (λ w. w.now) operands.now) (moving motion) ≡ Ok (step_of step)) }
-        ensures fault { IfErr result (λ kind. command_step digits self.now (map (λ w. w.now) operands.now) (moving motion) ≡ Err kind) }
-    {
-        match (motion, operands) {
-            (Motion::Shift, &[name, source, x, y, z]) => Ok(Step::Shift {
-                name: Word::of(name_text(name)?),
-                source: Word::of(self.old_text(source)?),
-                by: three(x, y, z, digits)?,
-            }),
-            (Motion::Scale, &[name, source, factor]) => Ok(Step::Scale {
-                name: Word::of(name_text(name)?),
-                source: Word::of(self.old_text(source)?),
-                factor: within(factor, 1, 1_000_000)?,
-            }),
-            (Motion::Mirror, &[name, source, of]) => Ok(Step::Mirror {
-                name: Word::of(name_text(name)?),
-                source: Word::of(self.old_text(source)?),
-                axis: axis(of)?,
-            }),
-            (Motion::Turn, &[name, source, about]) => Ok(Step::Turn {
-                name: Word::of(name_text(name)?),
-                source: Word::of(self.old_text(source)?),
-                axis: axis(about)?,
-            }),
-            _ => Err(WRONG_COUNT),
-        }
-    }
-
-    // The text of a word that is the name of a mesh; else the kind of its fault.
-    fn old_text(&self, word: &'a [u8]) -> Result<&'a str, u8>
+    /// The text of a word that is the name of a mesh; else the kind of its fault.
+    pub fn old_text(&self, word: &'a [u8]) -> Result<&'a str, u8>
         ensures text { IfOk result (λ text. text.now ≡ word.now) }
         ensures sound { OnOk result (old_name_fault self.now word.now ≡ None) }
         ensures fault { IfErr result (λ kind. old_name_fault self.now word.now ≡ Some kind) }

@@ -1,9 +1,12 @@
 // The steps of a script.
 ghost use Rattle.std.specs.Prelude.{◌≡◌, [], map, option_copied};
 ghost use Rattle.play_terms.specs.Sound.{AreSound};
-ghost use Rattle.play_terms.specs.Steps.{new_name};
+ghost use Rattle.play_terms.specs.Steps.{Make, Move, new_name};
+ghost use Rattle.script_lang.specs.Jobs.{job_step};
 ghost use Rattle.script_lang.specs.Steps.{line_of, step_of};
 
+use crate::jobs::Job;
+use made_terms::{Motion, Solid};
 use mb_base::{Op, Point};
 use std::marker::Model;
 
@@ -110,6 +113,11 @@ pub enum Step<'a> {
         source: Word<'a>,
         axis: u8,
     },
+    /// Gives a name the tidied mesh of another.
+    Tidy {
+        name: Word<'a>,
+        source: Word<'a>,
+    },
     /// From here on operations are taken under exact kernels.
     Exact,
 }
@@ -130,8 +138,82 @@ impl<'a> Step<'a> {
             | Step::Shift { name, .. }
             | Step::Scale { name, .. }
             | Step::Mirror { name, .. }
-            | Step::Turn { name, .. } => Some(name.as_str()),
+            | Step::Turn { name, .. }
+            | Step::Tidy { name, .. } => Some(name.as_str()),
         }
+    }
+
+    /// What the step does, by the names and files in it.
+    pub fn job(&self) -> Job<'a>
+        ensures { job_step result ≡ step_of self.now }
+    {
+        match self {
+            Step::Load { name, file } => Job::Load {
+                name: name.as_str(),
+                file: file.as_str(),
+            },
+            Step::Save { name, file } => Job::Save {
+                name: name.as_str(),
+                file: file.as_str(),
+            },
+            Step::Measure { name } => Job::Measure {
+                name: name.as_str(),
+            },
+            Step::Combine {
+                op,
+                name,
+                left,
+                right,
+            } => Job::Combine {
+                op: *op,
+                name: name.as_str(),
+                left: left.as_str(),
+                right: right.as_str(),
+            },
+            Step::MakeBox { name, low, high } => made(name, Solid::Box(*low, *high)),
+            Step::MakeTetra { name, at, size } => made(name, Solid::Tetra(*at, *size)),
+            Step::MakePrism {
+                name,
+                at,
+                size,
+                height,
+            } => made(name, Solid::Prism(*at, *size, *height)),
+            Step::MakeLattice { name, n, seed } => made(name, Solid::Lattice(*n, *seed)),
+            Step::Shift { name, source, by } => moved(name, source, Motion::Shift(*by)),
+            Step::Scale {
+                name,
+                source,
+                factor,
+            } => moved(name, source, Motion::Scale(*factor)),
+            Step::Mirror { name, source, axis } => moved(name, source, Motion::Mirror(*axis)),
+            Step::Turn { name, source, axis } => moved(name, source, Motion::Turn(*axis)),
+            Step::Tidy { name, source } => Job::Tidy {
+                name: name.as_str(),
+                source: source.as_str(),
+            },
+            Step::Exact => Job::Exact,
+        }
+    }
+}
+
+// A name gets a solid.
+fn made<'a>(name: &Word<'a>, solid: Solid) -> Job<'a>
+    ensures { job_step result ≡ Make name.now solid }
+{
+    Job::Make {
+        name: name.as_str(),
+        solid,
+    }
+}
+
+// A name gets the mesh of another after a motion.
+fn moved<'a>(name: &Word<'a>, source: &Word<'a>, motion: Motion) -> Job<'a>
+    ensures { job_step result ≡ Move name.now source.now motion }
+{
+    Job::Move {
+        name: name.as_str(),
+        source: source.as_str(),
+        motion,
     }
 }
 

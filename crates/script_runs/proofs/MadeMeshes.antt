@@ -7,14 +7,13 @@ use Rattle.mesh_make.specs.declared.fault.MakeFault.{MakeFault}
 use Rattle.mesh_make.specs.declared.fault.MakeFault.TheVariants.{NoMemory}
 use Rattle.mesh_terms.specs.Faults as terms
 use Rattle.mesh_terms.specs.Meshes.{Mesh}
-use Rattle.play_terms.specs.Lines.{over}
 use Rattle.play_laws.proofs.Tasks.{meets_given, meets_refused, meets_starved, meets_stop, meets_then}
 use Rattle.run_terms.specs.Files.{Bytes}
 use Rattle.run_terms.specs.Meets.{Meets, Refused, Seen}
-use Rattle.run_terms.specs.Tasks.{Task, give, then_task}
-use Rattle.play_terms.specs.ScriptLines.{made_refusal}
-use Rattle.play_terms.specs.Making.{Motion, motion_fault, moved_mesh}
-use Rattle.play_terms.specs.Plays.{Named, made, mesh_at, move_task, with_name}
+use Rattle.run_terms.specs.Tasks.{PastLimit, Task, give, then_task}
+use Rattle.made_terms.specs.Motions.{motion_fault, moved_mesh}
+use Rattle.made_terms.specs.declared.motion.Motion.{Motion}
+use Rattle.play_terms.specs.Plays.{Named, made, made_refusal, mesh_at, move_task, with_name}
 use Rattle.script_runs.specs.Made.{why_unmade}
 
 -- what is counted stays the same
@@ -28,7 +27,7 @@ same_counted terms.Halfedges = refl
 told : (script : Bytes) (line : ℕ) (why : MadeFault) → why_unmade script line (fault why) ≡ Refused (made_refusal script line why)
 told script line Flat = refl
 told script line Outside = refl
-told script line (Exceeds what seen) = ap (λ w. Refused (over w seen)) (same_counted what)
+told script line (Exceeds what seen) = ap (λ w. Refused (PastLimit w seen)) (same_counted what)
 
 module _ (script : Bytes) (line : ℕ) (name : Bytes) (mesh : Mesh) (named : Named) where
   -- a name gets the mesh, where there is no reason against it

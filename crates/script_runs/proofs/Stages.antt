@@ -10,8 +10,9 @@ use Rattle.run_terms.specs.Meets.{Meets, Seen, Starved, Why}
 use Rattle.run_terms.specs.Tasks.{Task, give, then_task}
 use Rattle.play_laws.proofs.Tasks.{meets_given, meets_starved, meets_stop, meets_then}
 use Rattle.play_terms.specs.Combined.{Combined}
-use Rattle.play_terms.specs.ScriptLines.{combine_line, load_line, measure_line, save_line}
-use Rattle.play_terms.specs.Plays.{Meanings, Named, combine_task, load_task, measure_task, mesh_at, save_task, with_name, within}
+use Rattle.play_terms.specs.ScriptLines.{combine_line, load_line, measure_line, save_line, tidy_line}
+use Rattle.play_terms.specs.Plays.{Meanings, Named, combine_task, load_task, measure_task, mesh_at, save_task, tidy_task, with_name, within}
+use Rattle.tidy_terms.specs.Tidy.{tidied, tidy_mesh}
 
 -- the shelf and the output together
 abbrev pub beside : OnShelf → OnOutput → Seen
@@ -135,6 +136,32 @@ module _ (name : Bytes) (of m : Mesh) (named : Named) (is : of ≡ m) (out told 
       let P : Mesh → Type 0 = λ mesh. Meets (measuring mesh) (beside on out) (beside on told) (Ok named) in
       subst P (sym is) (output_then (say_line (measure_line name m)) (λ _. give (Ok named)) tt (Ok named) on out told (beside on told) line
       (meets_given (Ok named) named (beside on told) refl))
+
+-- the mesh of a name, which is this one, is tidied, by so many collapses
+module _ (name old : Bytes) (of m : Mesh) (named : Named) (is : of ≡ m) (collapses : ℕ) (count : collapses ≡ (tidied m.points m.triples m.labels).collapses) (out told : OnOutput) where
+  abbrev tidying : Mesh → Task Named
+  tidying mesh = tidy_task name old mesh named
+
+  abbrev line : Bytes
+  line = tidy_line name old (tidied m.points m.triples m.labels).collapses
+
+  -- what is met for this mesh is met for that of the name
+  of_name : (r : Result Named Why) → OutputMeets (tidying m) out told r → OutputMeets (tidying of) out told r
+  of_name r met = let P : Mesh → Type 0 = λ mesh. OutputMeets (tidying mesh) out told r in subst P (sym is) met
+
+  -- a line with this number is that of the mesh
+  line_met : (r : Result (Unit {0}) Why) → OutputMeets (say_line (tidy_line name old collapses)) out told r → OutputMeets (say_line line) out told r
+  line_met r met = let P : ℕ → Type 0 = λ n. OutputMeets (say_line (tidy_line name old n)) out told r in subst P count met
+
+  pub tidy_unsaid : (why : Why) → OutputMeets (say_line (tidy_line name old collapses)) out told (Err why) → OutputMeets (tidying of) out told (Err why)
+  tidy_unsaid why met = of_name (Err why) (λ on. unsaid line name (tidy_mesh m) named on out told why (line_met (Err why) met))
+
+  pub tidy_unnamed : OutputMeets (say_line (tidy_line name old collapses)) out told (Ok tt) → OutputMeets (tidying of) out told (Err Starved)
+  tidy_unnamed met = of_name (Err Starved) (λ on. unnamed line name (tidy_mesh m) named on out told (line_met (Ok tt) met))
+
+  pub tidy_named : (after : Named) → after ≡ with_name name (tidy_mesh m) named → OutputMeets (say_line (tidy_line name old collapses)) out told (Ok tt)
+      → OutputMeets (tidying of) out told (Ok after)
+  tidy_named after same met = of_name (Ok after) (λ on. named_so line name (tidy_mesh m) named on out told after same (line_met (Ok tt) met))
 
 -- an operation on two meshes is within the limit, or not, or ended otherwise
 abbrev pub Operates : Limits → Combined → Result Combined Why → Type 0

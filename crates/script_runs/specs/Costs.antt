@@ -10,7 +10,7 @@ use Rattle.run_terms.specs.Tasks.{Part, Refusal, Task, changed_all}
 use Rattle.play_terms.specs.Commands.{ask_file}
 use Rattle.play_terms.specs.Plays.{Meanings, Named, State, at_first, line_task, mesh_at, script_checked}
 use Rattle.play_terms.specs.Scripts.{script}
-use Rattle.play_terms.specs.Steps.{Combine, Exact, Line, Load, Make, Measure, Move, Save, Step}
+use Rattle.play_terms.specs.Steps.{Combine, Exact, Line, Load, Make, Measure, Move, Save, Step, Tidy}
 use Rattle.winding.specs.Windings.{components_of}
 
 -- an operation counts at most one for each connected component of its two reduced meshes
@@ -25,6 +25,7 @@ step_cost (Measure name) named = 0
 step_cost (Combine op name left right) named = operation_cost op (mesh_at named left) (mesh_at named right)
 step_cost (Make name solid) named = 0
 step_cost (Move name old motion) named = 0
+step_cost (Tidy name old) named = 0
 step_cost Exact named = 0
 
 -- where there is no value nothing comes after

@@ -1,6 +1,5 @@
 pub mod Costs
 pub mod Halts
-pub mod Jobs
 pub mod Made
 pub mod Names
 pub mod Operations

@@ -12,17 +12,17 @@ ghost use Rattle.play_terms.specs.Sound.{AreSound, HasNumbers};
 ghost use Rattle.play_terms.specs.Steps.{kernels_after};
 
 use crate::combining::combine;
-use crate::jobs::{Job, job_of};
 use crate::loading::load;
 use crate::making::make;
 use crate::measuring::measure_mesh;
 use crate::moving::move_mesh;
 use crate::names::Names;
 use crate::saving::save;
+use crate::tidying::tidy_mesh;
 use mb_base::{KernelKind, Limits};
 use mb_outside::{Shelf, Sink};
 use mesh_files::Halt;
-use script_lang::{Line, Step};
+use script_lang::{Job, Line, Step};
 use std::alloc::Global;
 use std::sync::ledger::Ledger;
 use steps::Steps;
@@ -51,7 +51,7 @@ fn do_step<'a, S: Shelf, O: Sink, L: Ledger>(
     ensures kept { OnErr result (names.new ≡ names.old) }
     ensures cost { steps.new ≤ steps.old + step_cost (step_of step.now) (named_in names.old) }
 {
-    match job_of(step) {
+    match step.job() {
         Job::Load { name, file } => load(alloc, name, file, digits, limits, names, shelf, out),
         Job::Save { name, file } => save(name, file, digits, names, shelf, out),
         Job::Measure { name } => measure_mesh(alloc, name, names, out),
@@ -69,6 +69,7 @@ fn do_step<'a, S: Shelf, O: Sink, L: Ledger>(
             source,
             motion,
         } => move_mesh(alloc, script, line, name, source, motion, names),
+        Job::Tidy { name, source } => tidy_mesh(alloc, name, source, names, out),
         Job::Exact => Ok(()),
     }
 }

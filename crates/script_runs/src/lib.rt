@@ -1,11 +1,10 @@
-//! Runs the scripts of the program: the whole script is read, and then its lines load, make, move, combine, measure and save meshes one after the other.
+//! Runs the scripts of the program: the whole script is read, and then its lines load, make, move, combine, tidy, measure and save meshes one after the other.
 //!
 //! Each call meets its task, whatever the shelf and the output. A name may be defined again: it then has the later mesh, and the earlier is freed.
 #![tactic(auto)]
 
 mod combining;
 mod doing;
-mod jobs;
 mod loading;
 mod making;
 mod measuring;
@@ -13,5 +12,6 @@ mod moving;
 mod names;
 mod running;
 mod saving;
+mod tidying;
 
 pub use running::run_script;

@@ -1,22 +1,17 @@
 // The step that makes a solid.
-ghost use Rattle.std.specs.Prelude.{◌≡◌, IfErr, IfOk, OnErr, OnOk};
-ghost use Rattle.mesh_make.specs.Refused.{IsRefusedFor};
+ghost use Rattle.std.specs.Prelude.{◌≡◌, IfErr, OnErr, OnOk};
 ghost use Rattle.mesh_files.specs.Halts.{halted_by, why_in};
 ghost use Rattle.run_terms.specs.Meets.{Meets, Seen};
-ghost use Rattle.script_runs.specs.Jobs.{solid_of};
 ghost use Rattle.script_runs.specs.Halts.{IsHaltOfStep};
 ghost use Rattle.script_runs.specs.Made.{why_unmade};
 ghost use Rattle.script_runs.specs.Names.{IsNamed, named_in};
-ghost use Rattle.play_terms.specs.Making.{solid_fault, solid_mesh};
 ghost use Rattle.play_terms.specs.Plays.{make_task};
-ghost use Rattle.play_terms.specs.Sound.{IsSolid};
+ghost use Rattle.made_terms.specs.Making.{IsSolid};
 
-use crate::jobs::Solid;
 use crate::names::Names;
 use mb_base::Limits;
-use mesh_check::Mesh;
 use mesh_files::{Halt, Stop};
-use mesh_make::{MakeFault, make_box, make_lattice, make_prism, make_tetra};
+use mesh_make::{MakeFault, Solid, make_solid};
 use std::alloc::Global;
 
 /// Where a script stops that makes no solid, or moves no mesh, on this line.
@@ -33,20 +28,6 @@ pub fn halt_at<'a>(script: &'a str, line: u64, fault: MakeFault) -> Halt<'a>
     Halt::At { name, stop }
 }
 
-// The mesh of a solid.
-fn mesh_of(alloc: Global, solid: Solid, limits: &Limits) -> Result<Mesh, MakeFault>
-    requires { IsSolid (solid_of solid) }
-    ensures refused { IsRefusedFor (solid_fault limits.now (solid_of solid)) result }
-    ensures mesh { IfOk result (λ mesh. mesh ≡ solid_mesh (solid_of solid)) }
-{
-    match solid {
-        Solid::Box(low, high) => make_box(alloc, low, high, limits),
-        Solid::Tetra(at, size) => make_tetra(alloc, at, size, limits),
-        Solid::Prism(at, size, height) => make_prism(alloc, at, size, height, limits),
-        Solid::Lattice(n, seed) => make_lattice(alloc, n, seed, limits),
-    }
-}
-
 /// Gives a name the solid of a line of the script.
 pub fn make<'a>(
     alloc: Global,
@@ -57,14 +38,14 @@ pub fn make<'a>(
     limits: &Limits,
     names: &mut Names<'a>,
 ) -> Result<(), Halt<'a>>
-    requires { IsSolid (solid_of solid) }
-    ensures meets { (now : Seen) → Meets (make_task limits.now script.now line name.now (solid_of solid) (named_in names.old)) now now
+    requires { IsSolid solid }
+    ensures meets { (now : Seen) → Meets (make_task limits.now script.now line name.now solid (named_in names.old)) now now
         (halted_by (λ _. named_in names.new) result) }
     ensures halts { IfErr result IsHaltOfStep }
     ensures named { OnOk result (IsNamed name.now (named_in names.old) (named_in names.new)) }
     ensures kept { OnErr result (names.new ≡ names.old) }
 {
-    let mesh = match mesh_of(alloc, solid, limits) {
+    let mesh = match make_solid(alloc, solid, limits) {
         Ok(mesh) => mesh,
         Err(fault) => return Err(halt_at(script, line, fault)),
     };

@@ -29,6 +29,7 @@ fn words_of<'a>(step: &Step<'a>) -> (&'static str, [&'a str; 3]) {
         Step::Scale { name, source, .. } => ("scale", [name.as_str(), source.as_str(), ""]),
         Step::Mirror { name, source, .. } => ("mirror", [name.as_str(), source.as_str(), ""]),
         Step::Turn { name, source, .. } => ("turn", [name.as_str(), source.as_str(), ""]),
+        Step::Tidy { name, source } => ("tidy", [name.as_str(), source.as_str(), ""]),
         Step::Exact => ("exact", ["", "", ""]),
     }
 }
@@ -129,15 +130,17 @@ const NONE: [i64; 6] = [0; 6];
 
 // Steps in order.
 const STEPS: &[u8] =
-    b"load a cube.obj\nload b b.obj\nunion u a b\nmeasure u\nsave u u.obj\nexact # from here on\n";
+    b"load a cube.obj\nload b b.obj\nunion u a b\nmeasure u\nsave u u.obj\nexact # from here on\ntidy v u\ntidy v v\n";
 
-const STEPS_ROWS: [Row<'static>; 6] = [
+const STEPS_ROWS: [Row<'static>; 8] = [
     (1, "load", ["a", "cube.obj", ""], NONE),
     (2, "load", ["b", "b.obj", ""], NONE),
     (3, "union", ["u", "a", "b"], NONE),
     (4, "measure", ["u", "", ""], NONE),
     (5, "save", ["u", "u.obj", ""], NONE),
     (6, "exact", ["", "", ""], NONE),
+    (7, "tidy", ["v", "u", ""], NONE),
+    (8, "tidy", ["v", "v", ""], NONE),
 ];
 
 // A mark, comments, blanks and ends of lines, which are passed over.
@@ -206,7 +209,7 @@ fn the_steps_stand_in_order_with_their_lines_and_numbers(rt: HostRuntime) {
     }
 }
 
-static LINES: [Refused; 28] = [
+static LINES: [Refused; 32] = [
     (b"cut a b", 1, 20),
     (b"Load a c.obj", 1, 20),
     (b"measures a", 1, 20),
@@ -216,6 +219,8 @@ static LINES: [Refused; 28] = [
     (b"load a c.obj d", 1, 21),
     (b"load a #c.obj", 1, 21),
     (b"save", 1, 21),
+    (b"tidy a", 1, 21),
+    (b"tidy a b c", 1, 21),
     (b"box a 0 0 0 1 1", 1, 21),
     (b"box a 0 0 0 1 1 1 1 1", 1, 21),
     (b"union u 1 c.ply 2", 1, 21),
@@ -226,9 +231,11 @@ static LINES: [Refused; 28] = [
     (b"load abcdefghijklmnopqrstuvwxyz_ABCD99 c.obj", 1, 22),
     (b"save 1 c.ply", 1, 22),
     (b"union 1 a b", 1, 22),
+    (b"tidy 1 a", 1, 22),
     (b"save a c.ply", 1, 23),
     (b"union u a 1", 1, 23),
     (b"union u u u", 1, 23),
+    (b"tidy a a", 1, 23),
     (b"load a c", 1, 25),
     (b"load a obj", 1, 25),
     (b"load a c.obj.ply", 1, 25),

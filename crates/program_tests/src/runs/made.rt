@@ -18,8 +18,8 @@ fn put_script(shelf: &mut MemoryShelf, script: &[u8], mesh: &[u8]) -> Result<(),
     put(shelf, "m.obj", mesh)
 }
 
-// A shelf with a script and one mesh.
-fn shelf_of(alloc: Global, script: &[u8], mesh: &[u8]) -> Result<MemoryShelf, NoMemory>
+/// A shelf with a script and one mesh.
+pub fn shelf_of(alloc: Global, script: &[u8], mesh: &[u8]) -> Result<MemoryShelf, NoMemory>
     ensures { IfOk result (λ shelf. (shelf.read_faults ≡ 0) × (shelf.write_faults ≡ 0)) }
 {
     let mut shelf = MemoryShelf::of(alloc, 4, ROOM, ROOM, Vec::new(alloc))?;

@@ -2,7 +2,6 @@ use Rattle.std.proofs.Common.{◌≡◌, ◌∙◌, ap, sym}
 use Rattle.std.proofs.lemmas.Result.{err_from_is_err_and}
 use Rattle.std.specs.Option.{option_map}
 use Rattle.play_laws.proofs.Tasks.{meets_starved}
-use Rattle.script_runs.specs.Jobs.{motion_of}
 use Rattle.play_terms.specs.Plays.{mesh_at, mesh_or_none, move_task, with_name}
 use Rattle.script_runs.specs.Names.{named_in}
 use Rattle.script_runs.proofs.MadeMeshes.{moved_so, unmoved}
@@ -13,12 +12,12 @@ returns-in-Err-clause-meets c now =
     let named = named_in c.args.names.now in
     let is : mesh_at named c.args.source.now ≡ c.in-Some.mesh.now = ap mesh_or_none (sym c.mesh.ensures ∙ ap (option_map (λ m. m.now)) c.in-Some.is) in
     rw c.halt_at.ensures.why
-    (unmoved c.args.script.now c.args.line c.args.name.now c.args.source.now (motion_of c.args.motion) named c.in-Some.mesh.now is _ c.in-Err.fault c.in-Err.ensures.refused now)
+    (unmoved c.args.script.now c.args.line c.args.name.now c.args.source.now c.args.motion named c.in-Some.mesh.now is _ c.in-Err.fault c.in-Err.ensures.refused now)
 
 pub returns-in_err-define-clause-meets : goal.returns-in_err-define-clause-meets
 returns-in_err-define-clause-meets c now =
     let e = err_from_is_err_and c.from_residual.result c.from_residual.ensures.1 in
-    rw (e.1, e.2) (meets_starved (move_task c.args.script.now c.args.line c.args.name.now c.args.source.now (motion_of c.args.motion) (named_in c.args.names.now)) now)
+    rw (e.1, e.2) (meets_starved (move_task c.args.script.now c.args.line c.args.name.now c.args.source.now c.args.motion (named_in c.args.names.now)) now)
 
 pub returns-clause-meets : goal.returns-clause-meets
 returns-clause-meets c now =
@@ -27,7 +26,7 @@ returns-clause-meets c now =
     let mesh = c.in-Some.mesh.now in
     let is : mesh_at named c.args.source.now ≡ mesh = ap mesh_or_none (sym c.mesh.ensures ∙ ap (option_map (λ m. m.now)) c.in-Some.is) in
     let after = c.in_ok-define.ensures.named ∙ ap (λ m. with_name name m named) c.in-Ok.ensures.mesh in
-    moved_so c.args.script.now c.args.line name c.args.source.now (motion_of c.args.motion) named mesh is c.in-Ok.moved c.in-Ok.ensures.refused (named_in c.define.new.self) after now
+    moved_so c.args.script.now c.args.line name c.args.source.now c.args.motion named mesh is c.in-Ok.moved c.in-Ok.ensures.refused (named_in c.define.new.self) after now
 
 pub returns-clause-named : goal.returns-clause-named
 returns-clause-named c = (c.in-Ok.moved, c.in_ok-define.ensures.named)

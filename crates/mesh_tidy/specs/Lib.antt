@@ -1,0 +1,5 @@
+pub mod Doubts
+pub mod Neighbours
+pub mod Pairs
+pub mod Stars
+pub mod Surface

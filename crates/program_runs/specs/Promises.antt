@@ -1,0 +1,42 @@
+-- What the top calls promise of the words.
+use Rattle.std.specs.Prelude.{◌≡◌, ℕ, All, List, None}
+use Rattle.mesh_terms.specs.Limits.{Limits}
+use Rattle.run_terms.specs.Files.{Bytes, Files}
+use Rattle.play_terms.specs.Lines as lines
+use Rattle.play_terms.specs.Program.{play}
+use Rattle.play_terms.specs.ReadingBack.{CopiesReadable, WritesReadable, digits_in}
+use Rattle.play_terms.specs.Words.{command}
+use Rattle.mb_outside.specs.Seen.{on_output}
+use Rattle.mb_outside.specs.declared.shelf.Shelf.{Ghosts as OfShelf}
+use Rattle.mb_outside.specs.declared.sink.Sink.{Ghosts as OfSink}
+use Rattle.report_lines.specs.Reports.{IsReported}
+use Rattle.mesh_commands.specs.Statuses.{IsDoneOrStarved, IsUsageOrStarved, status_number}
+use Rattle.mesh_commands.specs.declared.status.Status.{Status}
+use Rattle.mesh_commands.specs.declared.status.Status.TheVariants.{Done, Usage, WriteFault}
+use Rattle.program_runs.specs.Playing.{IsUntroubled, RiseOn, TellsEnd, meanings}
+use Rattle.program_runs.specs.Results.{CommandGivesResults, CommandKeepsMeshes}
+use Rattle.program_runs.specs.Running.{IsRunOf}
+
+-- whatever the files, how what the play writes is read again, what the names of a script hold, and what its operations give
+pub record IsSoundPlay (limits : Limits) (words : List Bytes) : Type 0 where
+  pub mesh_back : CopiesReadable limits (command words)
+  pub back : (files : Files) → All (WritesReadable (digits_in (command words)) limits) (play meanings limits words files).actions
+  pub held : CommandKeepsMeshes limits (command words)
+  pub results : CommandGivesResults limits (command words)
+
+-- a run on these words over a shelf, an output and standard error, with its steps and its status
+pub record IsSoundRun {S O E : Type 0} (s : OfShelf S) (o : OfSink O) (e : OfSink E) (limits : Limits) (words : List Bytes) (old new : S × O × E) (before now : ℕ) (status : Status) : Type 0 where
+  pub run : IsRunOf s o e limits (command words) old new before now status
+  pub counts : RiseOn s o (old.0, old.1) (new.0, new.1) (status_number status)
+  pub complete : IsUntroubled s o limits words (old.0, old.1) (new.0, new.1) → IsDoneOrStarved status
+  pub sound : IsSoundPlay limits words
+
+-- what the output and standard error have of a run on these words, whatever the shelf
+pub record IsHeard {O E : Type 0} (o : OfSink O) (e : OfSink E) (words : List Bytes) (old new : O × E) (status : Status) : Type 0 where
+  pub usage : status ≡ Usage → command words ≡ None
+  pub no_command : command words ≡ None → IsUsageOrStarved status
+  pub refused : status ≡ Usage → IsReported lines.usage (on_output e old.1) (on_output e new.1)
+  pub untouched : status ≡ Usage → new.0 ≡ old.0
+  pub quiet : status ≡ Done → new.1 ≡ old.1
+  pub told : TellsEnd e old.1 new.1 (status_number status)
+  pub outs : (status ≡ WriteFault → ⊥) → o.faults new.0 ≡ o.faults old.0

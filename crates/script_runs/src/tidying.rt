@@ -1,0 +1,38 @@
+// The step that tidies a mesh.
+ghost use Rattle.std.specs.Prelude.{◌≡◌, IfErr, IsSome, OnErr, OnOk};
+ghost use Rattle.mb_outside.specs.Seen.{MeetsOnOutput};
+ghost use Rattle.mesh_files.specs.Halts.{halted_by};
+ghost use Rattle.script_runs.specs.Halts.{IsHaltOfStep};
+ghost use Rattle.script_runs.specs.Names.{IsNamed, named_in};
+ghost use Rattle.play_terms.specs.Plays.{mesh_at, tidy_task};
+
+use crate::names::Names;
+use mb_outside::Sink;
+use mesh_files::Halt;
+use mesh_tidy::tidy;
+use report_lines::say_tidied;
+use std::alloc::Global;
+
+/// Gives a name the tidied mesh of another, and reports on the output how many edges were collapsed.
+pub fn tidy_mesh<'a, O: Sink>(
+    alloc: Global,
+    name: &'a str,
+    source: &'a str,
+    names: &mut Names<'a>,
+    out: &mut O,
+) -> Result<(), Halt<'a>>
+    requires { IsSome (named_in names.old source.now) }
+    ensures meets { MeetsOnOutput O.Sink (tidy_task name.now source.now (mesh_at (named_in names.old) source.now) (named_in names.old)) out.old out.new
+        (halted_by (λ _. named_in names.new) result) }
+    ensures halts { IfErr result IsHaltOfStep }
+    ensures named { OnOk result (IsNamed name.now (named_in names.old) (named_in names.new)) }
+    ensures kept { OnErr result (names.new ≡ names.old) }
+{
+    let Some(mesh) = names.mesh(source) else {
+        unreachable!();
+    };
+    let tidied = tidy(alloc, mesh)?;
+    say_tidied(name, source, tidied.collapsed, out)?;
+    names.define(name, tidied.mesh)?;
+    Ok(())
+}

@@ -1,0 +1,22 @@
+pub mod Around
+pub mod Back
+pub mod Closed
+pub mod Gluing
+pub mod Kept
+pub mod KeptAll
+pub mod KeptPoints
+pub mod Near
+pub mod Numbered
+pub mod OneToOne
+pub mod Opens
+pub mod Points
+mod Rows
+pub mod Same
+pub mod Six
+pub mod Steps
+pub mod TidyMeshes
+pub mod Tidying
+pub mod Turned
+pub mod Twins
+pub mod TwoGo
+pub mod Used

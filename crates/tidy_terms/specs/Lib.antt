@@ -1,0 +1,4 @@
+pub mod Collapse
+pub mod Collapsible
+pub mod PointTriples
+pub mod Tidy
