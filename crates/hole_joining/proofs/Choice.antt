@@ -379,6 +379,75 @@ best_of_place at h i j l p best now rs within far e =
     ∙ ap (λ k. best_of p (better p best next) (bridges_to at h i k (drop (j + 1) rs))) one
     ∙ sym (at_drop_more (λ r. best_of p best (bridges_to at h i j r)) rs j 0 within)
 
+-- a bridge that does not pass changes nothing
+not_better : (p : Bridge → Bool) (o : Option Bridge) (x : Bridge) → p x ≡ false → better p o x ≡ o
+not_better p o x n = cond-false (is_nearer o x && p x) (Some x) o (and_right (is_nearer o x) (p x) n)
+
+-- one that is no longer than one before which a best comes is taken in its place
+takes : (p : Bridge → Bool) (o : Option Bridge) (b x : Bridge) → p x ≡ true → x.squared_length ≤ b.squared_length →
+    is_nearer o b ≡ true → better p o x ≡ Some x
+takes p o b x y short near = cond-true (is_nearer o x && p x) (Some x) o (and_from (is_nearer o x) (p x) (nearer o near) y)
+  where
+    nearer : (o : Option Bridge) → is_nearer o b ≡ true → is_nearer o x ≡ true
+    nearer None n = refl
+    nearer (Some c) n = lt-ltb x.squared_length c.squared_length (omega (arith, short, ltb-true b.squared_length c.squared_length n))
+
+-- after one that is longer than b the best is still longer than b
+still_longer : (p : Bridge → Bool) (o : Option Bridge) (b x : Bridge) → nat_lt b.squared_length x.squared_length ≡ true →
+    is_nearer o b ≡ true → is_nearer (better p o x) b ≡ true
+still_longer p o b x long near = elim (cases_Bool (is_nearer o x && p x)) as (λ _. is_nearer (better p o x) b ≡ true) [
+  | inl y ↦ ap (λ z. is_nearer z b) (cond-true (is_nearer o x && p x) (Some x) o y) ∙ long
+  | inr n ↦ ap (λ z. is_nearer z b) (cond-false (is_nearer o x && p x) (Some x) o n) ∙ near
+]
+
+-- a pass finds the same whatever it begins with, if that is longer than a bridge of the list that passes
+pub same_best : (p : Bridge → Bool) (o q : Option Bridge) (bs : List Bridge) (b : Bridge) → Member b bs → p b ≡ true →
+    is_nearer o b ≡ true → is_nearer q b ≡ true → best_of p o bs ≡ best_of p q bs
+same_best p o q [] b m y s t = elim m [ ]
+same_best p o q (x ∷ xs) b m y s t = elim (cases_Bool (p x)) as (λ _. best_of p o (x ∷ xs) ≡ best_of p q (x ∷ xs)) [
+  | inr n ↦
+      ap (λ z. best_of p z xs) (not_better p o x n) ∙ same_best p o q xs b (other n m) y s t
+      ∙ sym (ap (λ z. best_of p z xs) (not_better p q x n))
+  | inl u ↦ elim (cases_Bool (nat_lt b.squared_length x.squared_length)) as (λ _. best_of p o (x ∷ xs) ≡ best_of p q (x ∷ xs)) [
+    | inl long ↦
+        same_best p (better p o x) (better p q x) xs b (later long m) y (still_longer p o b x long s) (still_longer p q b x long t)
+    | inr short ↦
+        let no_longer = ltb-false b.squared_length x.squared_length short in
+        ap (λ z. best_of p z xs) (takes p o b x u no_longer s ∙ sym (takes p q b x u no_longer t))
+  ]
+]
+  where
+    other : p x ≡ false → (b ≡ x) ⊎ Member b xs → Member b xs
+    other n (inl e) = absurd (both_ways (p x) n (sym (ap p e) ∙ y))
+    other n (inr r) = r
+
+    later : nat_lt b.squared_length x.squared_length ≡ true → (b ≡ x) ⊎ Member b xs → Member b xs
+    later long (inl e) = absurd (omega (arith, ltb-true b.squared_length x.squared_length long, ap (λ (z : Bridge). z.squared_length) e))
+    later long (inr r) = r
+
+-- a bridge to a place, of a length
+abbrev pub bridge_of : ℕ → ℕ → ℕ → Bridge
+bridge_of i k l = record { ring = i; place = k; squared_length = l }
+
+-- the bridge to a place is one of those to its ring
+member_place : (at : Plane) (h i j k n : ℕ) (rs : List ℕ) → k < length rs → n ≡ j + k →
+    Member (bridge_of i n (unsigned_abs (squared_distance (at h) (at (get_or rs k 0))))) (bridges_to at h i j rs)
+member_place at h i j k n [] less e = absurd (omega (arith, less))
+member_place at h i j zero n (r ∷ rs) less e =
+    let here : n ≡ j = omega (arith, e) in inl (ap (λ m. bridge_of i m (unsigned_abs (squared_distance (at h) (at r)))) here)
+member_place at h i j (suc k) n (r ∷ rs) less e = inr (member_place at h i (suc j) k n rs (omega (arith, less)) (omega (arith, e)))
+
+-- a pass over the bridges to one ring may begin with one longer than one of them that is shorter than the best and passes
+pub from_bound : (at : Plane) (h i k l : ℕ) (p : Bridge → Bool) (best : Option Bridge) (rs : List ℕ) → k < length rs →
+    pos l ≡ squared_distance (at h) (at (get_or rs k 0)) → (is_nearer best (bridge_of i k l) && p (bridge_of i k l)) ≡ true →
+    best_of p (Some (bridge_of i k (l + 1))) (bridges_to at h i 0 rs) ≡ best_of p best (bridges_to at h i 0 rs)
+from_bound at h i k l p best rs less far y =
+    let bs = bridges_to at h i 0 rs in
+    let there : Member (bridge_of i k l) bs =
+    subst (λ m. Member (bridge_of i k m) bs) (sym (ap unsigned_abs far)) (member_place at h i 0 k k rs less (omega arith)) in
+    let both = and_parts (is_nearer best (bridge_of i k l)) (p (bridge_of i k l)) y in
+    same_best p (Some (bridge_of i k (l + 1))) best bs (bridge_of i k l) there both.1 (lt-ltb l (l + 1) (omega arith)) both.0
+
 -- a pass over one ring more
 pub best_of_ring : (at : Plane) (h i : ℕ) (p : Bridge → Bool) (best now : Option Bridge) (rings : List (List ℕ)) → i < length rings →
     now ≡ best_of p best (bridges_to at h i 0 (get_or rings i [])) →

@@ -5,7 +5,7 @@ ghost use Rattle.box_tree.specs.Touching.{IsBox};
 ghost use Rattle.mesh_terms.specs.Limits.{most_halfedges};
 ghost use Rattle.hole_joining.specs.Bridges.{edges_of};
 ghost use Rattle.hole_joining.specs.Cones.{bars};
-ghost use Rattle.hole_joining.specs.Obstacles.{AreBoxed, all_edges, box_round, edge_box};
+ghost use Rattle.hole_joining.specs.Obstacles.{AreBoxed, IsOver, all_edges, box_round, edge_box};
 ghost use Rattle.hole_joining.specs.Seen.{plane_at, segment_of};
 
 use crate::barred::{any_bars, edge_bars};
@@ -17,16 +17,29 @@ use face_plane::FlatPoint;
 use mb_base::{Box3, NoMemory};
 use std::alloc::Global;
 
-// How many bridges are a list, at least, and what part of the edges, at most.
+// How many bridges are a list, at least.
 const FEW: usize = 32;
 
-/// What bars bridges: the edges of rings and holes, of which those near a segment are found by a tree, and the bridges so
-/// far, each both ways.
+// What part of the recent ones it is, at most.
+const PART_LISTED: usize = 16;
+
+// What part of the edges these are, at most.
+const PART_RECENT: usize = 4;
+
+/// Edges with a tree, by which those near a segment are found.
 #[derive(Drop)]
-pub struct Obstacles {
+pub struct EdgeTree {
     pub edges: Vec<(u32, u32)>,
     // Over the boxes of the edges.
     pub tree: Tree,
+}
+
+/// What bars bridges: the edges of rings and holes, and the bridges so far, each both ways. Of these the last are a list, and
+/// those before them have a tree of their own, until they are many enough to be among the edges.
+#[derive(Drop)]
+pub struct Obstacles {
+    pub edges: EdgeTree,
+    pub recent: EdgeTree,
     pub bridges: Vec<(u32, u32)>,
 }
 
@@ -79,6 +92,53 @@ fn tree_over(alloc: Global, flat: &FlatPoints, edges: &[(u32, u32)]) -> Result<T
     Tree::over(alloc, &EdgeBoxes { flat: *flat, edges })
 }
 
+impl EdgeTree {
+    // The tree over edges.
+    fn over(alloc: Global, flat: &FlatPoints, edges: Vec<(u32, u32)>) -> Result<EdgeTree, NoMemory>
+        requires { length edges.items ≤ MOST_BOXES }
+        ensures over { IfOk result (λ t. IsOver (plane_at flat.now) t) }
+        ensures edges { IfOk result (λ t. t.edges.items ≡ edges.items) }
+    {
+        let tree = tree_over(alloc, flat, &edges)?;
+        Ok(EdgeTree { edges, tree })
+    }
+
+    // Takes more edges among its own, unless they are too many.
+    fn take(
+        &mut self,
+        alloc: Global,
+        flat: &FlatPoints,
+        more: &mut Vec<(u32, u32)>,
+    ) -> Result<(), NoMemory>
+        requires { IsOver (plane_at flat.now) self.old }
+        ensures over { OnOk result (IsOver (plane_at flat.now) self.new) }
+        ensures all { OnOk result (self.new.edges.items ++ more.new.items ≡ self.old.edges.items ++ more.old.items) }
+        ensures left { OnOk result (length more.new.items ≤ length more.old.items) }
+    {
+        let (old, new) = (self.edges.len(), more.len());
+        if new <= MOST_BOXES && old <= MOST_BOXES - new {
+            self.edges.append(more)?;
+            self.tree = tree_over(alloc, flat, &self.edges)?;
+        }
+        Ok(())
+    }
+
+    // Whether an edge bars the segment between two vertices. Only those are asked whose boxes touch its box.
+    fn bar(&self, flat: &FlatPoints, segment: &BridgeLine) -> bool
+        requires over { IsOver (plane_at flat.now) self.now }
+        requires segment { segment.now ≡ segment_of (plane_at flat.now) segment.now.from.vertex segment.now.to.vertex }
+        ensures { result ≡ list_any (bars (plane_at flat.now) segment.now.from.vertex segment.now.to.vertex) self.now.edges.items }
+    {
+        let area = box_round(segment.from.at, segment.to.at);
+        for number in self.tree.touching(area) {
+            if edge_bars(flat, segment, self.edges[number as usize]) {
+                return true;
+            }
+        }
+        false
+    }
+}
+
 impl Obstacles {
     /// The edges of rings and holes; no bridges so far.
     pub fn of(
@@ -94,25 +154,40 @@ impl Obstacles {
         let mut edges = Vec::new(alloc);
         push_edges(&mut edges, rings)?;
         push_edges(&mut edges, holes)?;
-        let tree = tree_over(alloc, flat, &edges)?;
+        let edges = EdgeTree::over(alloc, flat, edges)?;
+        let recent = EdgeTree::over(alloc, flat, Vec::new(alloc))?;
         let bridges = Vec::new(alloc);
         Ok(Obstacles {
             edges,
-            tree,
+            recent,
             bridges,
         })
     }
 
-    // Takes the bridges among the edges of the tree once they are many.
+    // Takes the recent ones among the edges once they are many.
+    fn settle(&mut self, alloc: Global, flat: &FlatPoints) -> Result<(), NoMemory>
+        requires { AreBoxed (plane_at flat.now) self.old }
+        ensures boxed { OnOk result (AreBoxed (plane_at flat.now) self.new) }
+        ensures all { OnOk result (all_edges self.new ≡ all_edges self.old) }
+    {
+        let (old, new) = (self.edges.edges.len(), self.recent.edges.len());
+        if new > old / PART_RECENT && new <= MOST_BOXES {
+            self.edges.take(alloc, flat, &mut self.recent.edges)?;
+            self.recent.tree = tree_over(alloc, flat, &self.recent.edges)?;
+        }
+        Ok(())
+    }
+
+    // Takes the bridges of the list among the recent ones once they are many.
     fn gather(&mut self, alloc: Global, flat: &FlatPoints) -> Result<(), NoMemory>
         requires { AreBoxed (plane_at flat.now) self.old }
         ensures boxed { OnOk result (AreBoxed (plane_at flat.now) self.new) }
         ensures all { OnOk result (all_edges self.new ≡ all_edges self.old) }
     {
-        let (old, new) = (self.edges.len(), self.bridges.len());
-        if new > FEW && new > old / FEW && new <= MOST_BOXES && old <= MOST_BOXES - new {
-            self.edges.append(&mut self.bridges)?;
-            self.tree = tree_over(alloc, flat, &self.edges)?;
+        let (old, new) = (self.recent.edges.len(), self.bridges.len());
+        if new > FEW && new > old / PART_LISTED {
+            self.recent.take(alloc, flat, &mut self.bridges)?;
+            self.settle(alloc, flat)?;
         }
         Ok(())
     }
@@ -133,27 +208,14 @@ impl Obstacles {
         self.gather(alloc, flat)
     }
 
-    // Whether an edge bars the segment between two vertices. Only those are asked whose boxes touch its box.
-    fn edges_bar(&self, flat: &FlatPoints, segment: &BridgeLine) -> bool
-        requires boxed { AreBoxed (plane_at flat.now) self.now }
-        requires segment { segment.now ≡ segment_of (plane_at flat.now) segment.now.from.vertex segment.now.to.vertex }
-        ensures { result ≡ list_any (bars (plane_at flat.now) segment.now.from.vertex segment.now.to.vertex) self.now.edges.items }
-    {
-        let area = box_round(segment.from.at, segment.to.at);
-        for number in self.tree.touching(area) {
-            if edge_bars(flat, segment, self.edges[number as usize]) {
-                return true;
-            }
-        }
-        false
-    }
-
     /// Whether an edge or a bridge bars the segment between two vertices.
     pub fn bar(&self, flat: &FlatPoints, segment: &BridgeLine) -> bool
         requires boxed { AreBoxed (plane_at flat.now) self.now }
         requires segment { segment.now ≡ segment_of (plane_at flat.now) segment.now.from.vertex segment.now.to.vertex }
         ensures { result ≡ list_any (bars (plane_at flat.now) segment.now.from.vertex segment.now.to.vertex) (all_edges self.now) }
     {
-        self.edges_bar(flat, segment) || any_bars(flat, segment, &self.bridges)
+        self.edges.bar(flat, segment)
+            || self.recent.bar(flat, segment)
+            || any_bars(flat, segment, &self.bridges)
     }
 }

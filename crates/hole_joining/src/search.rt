@@ -1,5 +1,5 @@
 // The search for the bridge of a hole.
-ghost use Rattle.std.specs.Prelude.{◌≡◌, ◌<◌, ◌≤◌, length, get_or, []};
+ghost use Rattle.std.specs.Prelude.{◌≡◌, ◌<◌, ◌≤◌, ◌&&◌, length, get_or, []};
 ghost use Rattle.hole_joining.specs.Seen.{clear_of, bridges_from, bridges_in, bridges_of, IsReady, KnowsObstacles};
 ghost use Rattle.hole_joining.specs.Bridges.{chosen};
 ghost use Rattle.hole_joining.specs.Passes.{is_after, is_nearer, better, best_of, passes};
@@ -51,6 +51,16 @@ impl Joining<'_> {
         }
     }
 
+    // Whether b is shorter than the best so far and passes.
+    fn improves(&self, best: Option<Bridge>, b: Bridge, asks: bool, refused: Option<Bridge>) -> bool
+        requires obstacles { KnowsObstacles self.now }
+        requires ring { b.ring < length self.now.rings.now }
+        requires place { b.place < length (get_or self.now.rings.now b.ring []) }
+        ensures { result ≡ (is_nearer best b && passes (clear_of self.now) asks refused b) }
+    {
+        is_nearer(best, b) && self.passes(b, asks, refused)
+    }
+
     // The best so far, or b where it is shorter and passes.
     fn better(
         &self,
@@ -64,7 +74,7 @@ impl Joining<'_> {
         requires place { b.place < length (get_or self.now.rings.now b.ring []) }
         ensures { result ≡ better (passes (clear_of self.now) asks refused) best b }
     {
-        if is_nearer(best, b) && self.passes(b, asks, refused) {
+        if self.improves(best, b, asks, refused) {
             Some(b)
         } else {
             best
@@ -111,6 +121,99 @@ impl Joining<'_> {
         best
     }
 
+    // The first place of a run of the ring that may be near, and the one after its last: the run whose middle place is the
+    // nearest. Both are 0 where the ring has no runs.
+    fn near(&self, ring: usize) -> (usize, usize)
+        requires ready { IsReady self.now }
+        requires ring { ring < length self.now.rings.now }
+    {
+        let start = self.flat.at(vertex_at(self.hole, 0));
+        let rings = self.rings;
+        let places = &rings[ring];
+        let runs = self.runs;
+        let mut least = u64::MAX;
+        let mut near = (0, 0);
+        let mut place = 0usize;
+        for run in runs[ring].as_slice() {
+            let end = place.saturating_add(run.count);
+            if let Some(middle) = places.places.get(place.saturating_add(run.count / 2)) {
+                let squared_length = FlatPoint::squared_distance(start, self.flat.at(*middle));
+                if squared_length < least {
+                    least = squared_length;
+                    near = (place, end);
+                }
+            }
+            place = end;
+        }
+        near
+    }
+
+    // One longer than the bridge to a place of the ring, where that one is shorter than the best so far and passes, so that a
+    // pass over the ring finds the same from there; else the best so far.
+    fn bound_at(
+        &self,
+        best: Option<Bridge>,
+        ring: usize,
+        place: usize,
+        asks: bool,
+        refused: Option<Bridge>,
+    ) -> Option<Bridge>
+        requires obstacles { KnowsObstacles self.now }
+        requires ring { ring < length self.now.rings.now }
+        requires place { place < length (get_or self.now.rings.now ring []) }
+        ensures { best_of (passes (clear_of self.now) asks refused) result (bridges_in self.now ring) ≡
+            best_of (passes (clear_of self.now) asks refused) best (bridges_in self.now ring) }
+    {
+        let start = self.flat.at(vertex_at(self.hole, 0));
+        let rings = self.rings;
+        let places = &rings[ring];
+        let squared_length = FlatPoint::squared_distance(start, self.flat.at(places.places[place]));
+        let bridge = Bridge {
+            ring,
+            place,
+            squared_length,
+        };
+        if squared_length == u64::MAX {
+            return best;
+        }
+        if self.improves(best, bridge, asks, refused) {
+            Some(Bridge {
+                ring,
+                place,
+                squared_length: squared_length + 1,
+            })
+        } else {
+            best
+        }
+    }
+
+    // With what a pass over the places of one ring begins, so that it leaves out far runs from the first one on: the bound by
+    // the best bridge to a run that may be near.
+    fn bound(
+        &self,
+        best: Option<Bridge>,
+        ring: usize,
+        asks: bool,
+        refused: Option<Bridge>,
+    ) -> Option<Bridge>
+        requires ready { IsReady self.now }
+        requires ring { ring < length self.now.rings.now }
+        ensures { best_of (passes (clear_of self.now) asks refused) result (bridges_in self.now ring) ≡
+            best_of (passes (clear_of self.now) asks refused) best (bridges_in self.now ring) }
+    {
+        let (from, to) = self.near(ring);
+        let rings = self.rings;
+        let places = &rings[ring];
+        let len = places.places.len();
+        let to = to.min(len);
+        match self.best_among(None, ring, from.min(to), to, false, refused) {
+            Some(bridge) if bridge.place < len => {
+                self.bound_at(best, ring, bridge.place, asks, refused)
+            }
+            _ => best,
+        }
+    }
+
     // The best after a pass over the places of one ring. Runs of places that are farther away than the best so far are left
     // out.
     fn best_in(
@@ -129,7 +232,7 @@ impl Joining<'_> {
         let places = &rings[ring];
         let len = places.places.len();
         let runs = self.runs;
-        let mut best = best;
+        let mut best = self.bound(best, ring, asks, refused);
         let mut place = 0;
         for run in runs[ring].as_slice() {
             let end = place + run.count;

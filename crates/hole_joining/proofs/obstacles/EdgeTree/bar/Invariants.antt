@@ -3,7 +3,7 @@ use Rattle.std.specs.List.{All, list_any}
 use Rattle.hole_joining.specs.Seen.{plane_at}
 use Rattle.hole_joining.specs.Cones.{bars}
 use Rattle.hole_joining.proofs.Barring.{edge_bars}
-use Rattle.hole_joining.proofs.obstacles.Obstacles.edges_bar.Given as goal
+use Rattle.hole_joining.proofs.obstacles.EdgeTree.bar.Given as goal
 
 abbrev pub invariant-loop-number : goal.invariant-loop-number
 invariant-loop-number l = record {

@@ -10,7 +10,7 @@ use Rattle.hole_joining.specs.Cones.{bars}
 use Rattle.hole_joining.specs.Obstacles.{box_round, edge_box}
 use Rattle.hole_joining.specs.Seen.{plane_at}
 use Rattle.hole_joining.proofs.Barring.{edge_bars, near_any, near_below}
-use Rattle.hole_joining.proofs.obstacles.Obstacles.edges_bar.Goals as goal
+use Rattle.hole_joining.proofs.obstacles.EdgeTree.bar.Goals as goal
 
 pub loop-number-init : goal.loop-number-init
 loop-number-init c =
@@ -23,7 +23,7 @@ loop-number-init c =
     c.box_round-area.ensures ∙ (λ j. box_round (c.requires.segment j).from.at (c.requires.segment j).to.at) in
     let found =
     subst (λ (boxes : List Box3). IsPermutation (touching_numbers boxes c.box_round-area.result) c.touching-number-items.result)
-    c.requires.boxed c.touching-number-items.ensures in
+    c.requires.over c.touching-number-items.ensures in
     let there = subst (λ (b : Box3). IsPermutation (touching_numbers (map (edge_box at) edges) b) c.touching-number-items.result) area found in
     let moved : IsPermutation (touching_numbers (map (edge_box at) edges) around) near =
     rw c.into_iter-number-iterator.ensures.into_iter_gives there in
