@@ -14,7 +14,8 @@ def read(name):
             if words[:1] == ["v"]:
                 points.append(tuple(Fraction(word) for word in words[1:]))
             elif words[:1] == ["f"]:
-                triangles.append(tuple(points[int(word) - 1] for word in words[1:]))
+                at = [points[int(word.split("/")[0]) - 1] for word in words[1:]]
+                triangles += [(at[0], at[k], at[k + 1]) for k in range(1, len(at) - 1)]
     return triangles
 
 
