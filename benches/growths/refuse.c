@@ -1,4 +1,5 @@
-// Stands before the allocator of a program, by LD_PRELOAD: the growth of memory whose number is in REFUSE is refused, which is told on standard output at once.
+// Stands before the allocator of a program, by LD_PRELOAD: the growth of memory whose number is in REFUSE is refused, which is told on standard output at once, and so is
+// the next, since a collection that is refused what it expects to need asks for one place.
 #define _GNU_SOURCE
 #include <dlfcn.h>
 #include <stdlib.h>
@@ -16,9 +17,10 @@ __attribute__((constructor)) static void begin(void) {
 }
 
 static int is_refused(void) {
-    if (++count != refused) return 0;
+    ++count;
+    if (refused == 0 || count < refused || count > refused + 1) return 0;
     static const char line[] = "refused\n";
-    if (write(1, line, sizeof line - 1) < 0) abort();
+    if (count == refused && write(1, line, sizeof line - 1) < 0) abort();
     return 1;
 }
 
