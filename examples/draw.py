@@ -432,4 +432,7 @@ def main(words):
 
 
 if __name__ == "__main__":
-    main(sys.argv[1:])
+    try:
+        main(sys.argv[1:])
+    except (OSError, ValueError, TypeError, IndexError) as error:
+        sys.exit("draw.py: %s" % error)

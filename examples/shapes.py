@@ -8,7 +8,7 @@ Shapes, which stand on z = 0 or round the origin; SIDES is the number of sides o
   revolve SIDES R,Z R,Z ..             an outline beside the axis z, turned round it; R is 0 or more
   extrude HEIGHT X,Y X,Y ..            an outline that does not cross itself, made HEIGHT high
   text WORDS SIZE HEIGHT               block letters, SIZE from foot to head: A to Z, 0 to 9, + - . : and blanks
-  read FILE.obj                        a mesh that is there
+  read FILE.obj                        a mesh that is there, without its groups
 Motions, as many as wanted, each after the one before:
   shift X Y Z      turn AXIS DEGREES (x, y or z)      turn X,Y,Z DEGREES (any axis through the origin)      scale FACTOR or X,Y,Z
 
@@ -239,13 +239,18 @@ def main(words):
         parts[-1].append(word)
     if len(words) < 3:
         sys.exit(__doc__)
+    if words[0].lower().endswith(".stl"):
+        sys.exit("shapes.py: what it writes is OBJ, and a name in .stl would be read as STL; `copy` makes STL of it")
     try:
         shape = made(parts[0][0], parts[0][1:])
         for part in parts[1:]:
             shape = moved(shape, part[0], part[1:])
     except (ValueError, TypeError, IndexError, OSError) as error:
         sys.exit("shapes.py: %s" % error)
-    write(words[0], shape)
+    try:
+        write(words[0], shape)
+    except OSError as error:
+        sys.exit("shapes.py: %s" % error)
 
 
 if __name__ == "__main__":

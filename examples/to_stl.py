@@ -20,9 +20,9 @@ def of_obj(text):
 
 
 def of_stl(data):
+    if len(data) < 84 or len(data) != 84 + 50 * struct.unpack_from("<I", data, 80)[0]:
+        raise ValueError("this is no binary STL file")
     (count,) = struct.unpack_from("<I", data, 80)
-    if len(data) != 84 + 50 * count:
-        sys.exit("to_stl.py: this is no binary STL file")
     for k in range(count):
         numbers = [repr(n) for n in struct.unpack_from("<12f", data, 84 + 50 * k)[3:]]
         yield numbers[0:3], numbers[3:6], numbers[6:9]
@@ -36,7 +36,7 @@ def main(words):
     is_stl = words[0].lower().endswith(".stl")
     triangles = list(of_stl(data) if is_stl else of_obj(data.decode("utf-8", "replace")))
     if not triangles and not is_stl:
-        sys.exit("to_stl.py: this OBJ file has no face; an STL file is named .stl")
+        raise ValueError("this OBJ file has no face; an STL file is named .stl")
     with open(words[1], "w") as out:
         out.write("solid welded\n")
         for corners in triangles:
@@ -47,4 +47,7 @@ def main(words):
 
 
 if __name__ == "__main__":
-    main(sys.argv[1:])
+    try:
+        main(sys.argv[1:])
+    except (OSError, ValueError, TypeError, IndexError) as error:
+        sys.exit("to_stl.py: %s" % error)

@@ -10,9 +10,10 @@ use crate::rows::{Kind, expect_rows};
 use crate::words::{is_filling, parts_of, points_of, vertices_of};
 use face_plane::FacePlane;
 use loop_ring::Ring;
+use mb_base::Point;
 use ring_cutting::{Filled, cut_ring, cut_ring_long_from, some_place_may_be_cut};
 use std::alloc::Global;
-use std::test::Fail;
+use std::process::Abort;
 use table::ROWS;
 
 // Whether neighbouring places have different vertices.
@@ -65,42 +66,42 @@ fn can_be_cut(ring: &[u32], count: usize) -> bool
 }
 
 // The triangles of a ring, cut in the plane of a sign, as a short ring or as a long one.
-fn cut(alloc: Global, sign: &str, points: &str, ring: &str, is_long: bool) -> Result<Filled, Fail> {
-    let points = points_of(alloc, points, 2)?;
-    let places = vertices_of(alloc, ring)?;
-    if !can_be_cut(&places, points.len()) {
-        return Err("a ring".into());
-    }
+fn cut(
+    rt: &impl Abort,
+    alloc: Global,
+    sign: &str,
+    points: &[Point],
+    places: &[u32],
+    is_long: bool,
+) -> Filled {
+    assert!(rt; can_be_cut(places, points.len()));
     let plane = FacePlane { drop: 2 };
     let turned = sign == "~";
-    let ring = Ring::of(alloc, &places)?;
+    let ring = Ring::of(alloc, places).expect(rt, "a ring");
     if is_long {
-        Ok(cut_ring_long_from(alloc, plane, turned, ring, &points, 3)?)
+        cut_ring_long_from(alloc, plane, turned, ring, points, 3).expect(rt, "memory")
     } else {
-        Ok(cut_ring(alloc, plane, turned, ring, &points)?)
+        cut_ring(alloc, plane, turned, ring, points).expect(rt, "memory")
     }
-}
-
-// Whether the triangles of a ring are those of a line.
-fn is_cut(alloc: Global, parts: [&str; 5], is_long: bool) -> Result<bool, Fail> {
-    let [sign, points, ring, triples, forced] = parts;
-    let filled = cut(alloc, sign, points, ring, is_long)?;
-    let wanted = vertices_of(alloc, triples)?;
-    is_filling(alloc, &filled, &wanted, forced.parse::<u32>()? as u64)
 }
 
 /// Whether a ring is cut into the triangles of its line, as a short ring and as a long one.
-pub fn agrees(alloc: Global, line: &str) -> Result<bool, Fail> {
-    let parts = parts_of(alloc, line, " : ")?;
+pub fn agrees(rt: &impl Abort, alloc: Global, line: &str) -> bool {
+    let parts = parts_of(rt, alloc, line, " : ");
     let [sign, points, ring, triples, forced] = parts.as_slice() else {
-        return Err("five parts".into());
+        return false;
     };
-    let parts = [*sign, *points, *ring, *triples, *forced];
-    Ok(is_cut(alloc, parts, false)? && is_cut(alloc, parts, true)?)
+    let points = points_of(rt, alloc, points, 2);
+    let places = vertices_of(rt, alloc, ring);
+    let wanted = vertices_of(rt, alloc, triples);
+    let forced = forced.parse::<u32>().expect(rt, "a number") as u64;
+    let short = cut(rt, alloc, sign, &points, &places, false);
+    let long = cut(rt, alloc, sign, &points, &places, true);
+    is_filling(rt, alloc, &short, &wanted, forced) && is_filling(rt, alloc, &long, &wanted, forced)
 }
 
 #[test]
-fn hard_rings_are_cut_by_the_rule(rt: HostRuntime) -> Result<(), Fail> {
+fn hard_rings_are_cut_by_the_rule(rt: HostRuntime) {
     some_place_may_be_cut();
-    expect_rows(&rt, rt.alloc(), &Kind::Cuts, ROWS, 29)
+    expect_rows(&rt, rt.alloc(), &Kind::Cuts, ROWS, 29);
 }

@@ -16,7 +16,7 @@ use face_loops::Loop;
 use mb_base::{NoMemory, Point};
 use rows::{HARD, RANDOM};
 use std::alloc::Global;
-use std::test::Fail;
+use std::process::Abort;
 use triangulate::{FacePlane, Filled, Ring, cut_ring, fill, join_holes};
 
 // The vertices of all loops, one loop after the other.
@@ -66,11 +66,9 @@ pub(crate) fn can_fill(alloc: Global, loops: &[Loop], points: usize) -> Result<b
 }
 
 // The filling of loops that can be filled.
-fn filled(alloc: Global, drop: u32, loops: &[Loop], points: &[Point]) -> Result<Filled, Fail> {
-    if drop >= 3 || !can_fill(alloc, loops, points.len())? {
-        return Err("loops".into());
-    }
-    Ok(fill(alloc, FacePlane { drop: drop as u8 }, loops, points)?)
+fn filled(rt: &impl Abort, alloc: Global, drop: u32, loops: &[Loop], points: &[Point]) -> Filled {
+    assert!(rt; drop < 3 && can_fill(alloc, loops, points.len()).expect(rt, "memory"));
+    fill(alloc, FacePlane { drop: drop as u8 }, loops, points).expect(rt, "memory")
 }
 
 // The vertex that a letter stands for.
@@ -83,98 +81,97 @@ fn digit(byte: u8) -> i32 {
 }
 
 // The point of three digits, or of three numbers with commas between them.
-fn point_of_word(alloc: Global, word: &str) -> Result<Point, Fail> {
+fn point_of_word(rt: &impl Abort, alloc: Global, word: &str) -> Point {
     if let [x, y, z] = word.as_bytes() {
-        return point_of(&[digit(*x), digit(*y), digit(*z)]);
+        return point_of(rt, &[digit(*x), digit(*y), digit(*z)]);
     }
-    point_of(&numbers_of(alloc, word, ",")?)
+    point_of(rt, &numbers_of(rt, alloc, word, ","))
 }
 
 // The points of a text, with this sign between them.
-pub(crate) fn points_of(alloc: Global, text: &str, between: &str) -> Result<Vec<Point>, Fail> {
+pub(crate) fn points_of(rt: &impl Abort, alloc: Global, text: &str, between: &str) -> Vec<Point> {
     let mut points = Vec::new(alloc);
     for word in text.split(between) {
-        points.push(point_of_word(alloc, word)?)?;
+        points
+            .push(point_of_word(rt, alloc, word))
+            .expect(rt, "room for a point");
     }
-    Ok(points)
+    points
 }
 
 // The vertices that letters stand for.
-fn lettered(alloc: Global, letters: &[u8]) -> Result<Vec<u32>, Fail> {
+fn lettered(rt: &impl Abort, alloc: Global, letters: &[u8]) -> Vec<u32> {
     let mut vertices = Vec::new(alloc);
     for letter in letters {
-        vertices.push(vertex(*letter))?;
+        vertices
+            .push(vertex(*letter))
+            .expect(rt, "room for a vertex");
     }
-    Ok(vertices)
+    vertices
+}
+
+// The vertices of a loop, in letters or in numbers with blanks between them.
+fn loop_of(rt: &impl Abort, alloc: Global, text: &str, is_lettered: bool) -> Loop {
+    Loop::of(if is_lettered {
+        lettered(rt, alloc, text.as_bytes())
+    } else {
+        vertices_of(rt, alloc, text)
+    })
 }
 
 // Loops, with strokes between them, of letters or of numbers with blanks between them.
-pub(crate) fn loops_of(alloc: Global, text: &str, is_lettered: bool) -> Result<Vec<Loop>, Fail> {
+pub(crate) fn loops_of(rt: &impl Abort, alloc: Global, text: &str, is_lettered: bool) -> Vec<Loop> {
     let mut loops = Vec::new(alloc);
     for part in text.split("/") {
-        loops.push(Loop::of(if is_lettered {
-            lettered(alloc, part.as_bytes())?
-        } else {
-            vertices_of(alloc, part)?
-        }))?;
+        loops
+            .push(loop_of(rt, alloc, part, is_lettered))
+            .expect(rt, "room for a loop");
     }
-    Ok(loops)
+    loops
 }
 
 /// Whether the loops of a line are filled as it tells.
-pub fn agrees(alloc: Global, line: &str) -> Result<bool, Fail> {
-    let parts = parts_of(alloc, line, " ")?;
+pub fn agrees(rt: &impl Abort, alloc: Global, line: &str) -> bool {
+    let parts = parts_of(rt, alloc, line, " ");
     let [drop, points, loops, triples, forced] = parts.as_slice() else {
-        return Err("five parts".into());
+        return false;
     };
-    let points = points_of(alloc, points, ";")?;
-    let loops = loops_of(alloc, loops, true)?;
-    let filled = filled(alloc, drop.parse::<u32>()?, &loops, &points)?;
-    let wanted = lettered(alloc, triples.as_bytes())?;
-    is_filling(alloc, &filled, &wanted, forced.parse::<u32>()? as u64)
+    let drop = drop.parse::<u32>().expect(rt, "a number");
+    let forced = forced.parse::<u32>().expect(rt, "a number") as u64;
+    let points = points_of(rt, alloc, points, ";");
+    let loops = loops_of(rt, alloc, loops, true);
+    let wanted = lettered(rt, alloc, triples.as_bytes());
+    let filled = filled(rt, alloc, drop, &loops, &points);
+    is_filling(rt, alloc, &filled, &wanted, forced)
 }
 
 #[test]
-fn hard_loops_are_filled_by_the_rule(rt: HostRuntime) -> Result<(), Fail> {
-    expect_rows(&rt, rt.alloc(), &Kind::Fillings, HARD, 25)
+fn hard_loops_are_filled_by_the_rule(rt: HostRuntime) {
+    expect_rows(&rt, rt.alloc(), &Kind::Fillings, HARD, 25);
 }
 
 #[test]
-fn random_loops_are_filled_by_the_rule(rt: HostRuntime) -> Result<(), Fail> {
-    expect_rows(&rt, rt.alloc(), &Kind::Fillings, RANDOM, 300)
+fn random_loops_are_filled_by_the_rule(rt: HostRuntime) {
+    expect_rows(&rt, rt.alloc(), &Kind::Fillings, RANDOM, 300);
 }
 
 // A triangle with a hole: its loops joined to one ring, and the ring cut.
-fn joined_and_cut(alloc: Global) -> Result<bool, Fail> {
-    let points = points_of(alloc, "0,0,0;10,0,0;10,10,0;520;640;720", ";")?;
-    let loops = loops_of(alloc, "abc/def", true)?;
+fn join_and_cut(rt: &impl Abort, alloc: Global, loops: &[Loop], points: &[Point]) {
+    assert!(rt; can_fill(alloc, loops, points.len()).expect(rt, "memory"));
     let plane = FacePlane { drop: 2 };
-    if !can_fill(alloc, &loops, points.len())? {
-        return Ok(false);
+    let joined = join_holes(alloc, plane, loops, points).expect(rt, "memory");
+    assert!(rt; !joined.turned && joined.rings.len() == 1);
+    for mut ring in joined.rings {
+        assert!(rt; has(&mut ring, &[0, 1, 5, 3, 4, 5, 1, 2]) && ring.len() == 8);
+        let filled = cut_ring(alloc, plane, false, ring, points).expect(rt, "memory");
+        let wanted = lettered(rt, alloc, "abfafdadecaeceffbc".as_bytes());
+        assert!(rt; is_filling(rt, alloc, &filled, &wanted, 0));
     }
-    for mut ring in join_holes(alloc, plane, &loops, &points)?.rings {
-        if !has(&mut ring, &[0, 1, 5, 3, 4, 5, 1, 2]) {
-            return Ok(false);
-        }
-    }
-    let joined = join_holes(alloc, plane, &loops, &points)?;
-    let mut count = 0;
-    for ring in joined.rings {
-        if ring.len() != 8 {
-            return Ok(false);
-        }
-        let filled = cut_ring(alloc, plane, joined.turned, ring, &points)?;
-        let wanted = lettered(alloc, "abfafdadecaeceffbc".as_bytes())?;
-        if !is_filling(alloc, &filled, &wanted, 0)? {
-            return Ok(false);
-        }
-        count = 1;
-    }
-    Ok(count == 1 && !joined.turned)
 }
 
 #[test]
-fn a_hole_is_joined_and_the_ring_is_cut(rt: HostRuntime) -> Result<(), Fail> {
-    assert!(rt; joined_and_cut(rt.alloc())?);
-    Ok(())
+fn a_hole_is_joined_and_the_ring_is_cut(rt: HostRuntime) {
+    let points = points_of(&rt, rt.alloc(), "0,0,0;10,0,0;10,10,0;520;640;720", ";");
+    let loops = loops_of(&rt, rt.alloc(), "abc/def", true);
+    join_and_cut(&rt, rt.alloc(), &loops, &points);
 }

@@ -6,11 +6,11 @@ ghost use Rattle.face_loops.specs.Segments.{edges_of, is_once, IsOneToOne};
 mod table;
 
 use crate::rows::{Kind, expect_rows};
-use crate::words::{parts_of, vertices_of};
+use crate::words::vertices_of;
 use face_loops::loops;
-use mb_base::{NoMemory, Segment};
+use mb_base::Segment;
 use std::alloc::Global;
-use std::test::Fail;
+use std::process::Abort;
 use table::ROWS;
 
 // Whether the vertex starts one of the segments and ends one.
@@ -38,43 +38,43 @@ fn is_one_to_one(segments: &[Segment]) -> bool
 }
 
 // The segments whose ends are the numbers, two by two.
-fn segments_of(alloc: Global, numbers: &[u32]) -> Result<Vec<Segment>, NoMemory> {
+fn segments_of(rt: &impl Abort, alloc: Global, numbers: &[u32]) -> Vec<Segment> {
     let mut segments = Vec::new(alloc);
     for pair in numbers.chunks(2) {
         if let [from, to] = pair {
-            segments.push(Segment {
-                from: *from,
-                to: *to,
-            })?;
+            let (from, to) = (*from, *to);
+            segments
+                .push(Segment { from, to })
+                .expect(rt, "room for a segment");
         }
     }
-    Ok(segments)
+    segments
 }
 
 // The length of each loop and its vertices; nothing for segments that do not form loops.
-fn listed(alloc: Global, segments: &[Segment]) -> Result<Vec<u32>, Fail> {
+fn listed(rt: &impl Abort, alloc: Global, segments: &[Segment]) -> Vec<u32> {
     let mut list = Vec::new(alloc);
     if is_one_to_one(segments) {
-        for found in &loops(alloc, segments)? {
-            list.push(u32::try_from(found.vertices().len())?)?;
-            list.extend_from_slice(found.vertices())?;
+        let all = loops(alloc, segments).expect(rt, "memory");
+        for found in &all {
+            let count = u32::try_from(found.vertices().len()).expect(rt, "few vertices");
+            list.push(count).expect(rt, "room for a number");
+            list.extend_from_slice(found.vertices())
+                .expect(rt, "room for a loop");
         }
     }
-    Ok(list)
+    list
 }
 
 /// Whether the loops of a line are those of its segments.
-pub fn agrees(alloc: Global, line: &str) -> Result<bool, Fail> {
-    let parts = parts_of(alloc, line, ":")?;
-    let [segments, wanted] = parts.as_slice() else {
-        return Err("two parts".into());
-    };
-    let segments = segments_of(alloc, &vertices_of(alloc, segments)?)?;
-    let list = listed(alloc, &segments)?;
-    Ok(list.as_slice() == vertices_of(alloc, wanted)?.as_slice())
+pub fn agrees(rt: &impl Abort, alloc: Global, line: &str) -> bool {
+    let (segments, wanted) = line.split_once(':').expect(rt, "two parts");
+    let segments = segments_of(rt, alloc, &vertices_of(rt, alloc, segments));
+    let list = listed(rt, alloc, &segments);
+    list.as_slice() == vertices_of(rt, alloc, wanted).as_slice()
 }
 
 #[test]
-fn segments_form_the_loops_of_the_table(rt: HostRuntime) -> Result<(), Fail> {
-    expect_rows(&rt, rt.alloc(), &Kind::Loops, ROWS, 72)
+fn segments_form_the_loops_of_the_table(rt: HostRuntime) {
+    expect_rows(&rt, rt.alloc(), &Kind::Loops, ROWS, 72);
 }

@@ -10,7 +10,7 @@ use crate::words::{parts_of, points_of, vertices_of};
 use edge_pairing::{exchange_reverses, segments_of_edge, segments_of_pair};
 use mb_base::{Entry, Point, Segment};
 use std::alloc::Global;
-use std::test::Fail;
+use std::process::Abort;
 use table::{EDGES, PAIRS};
 
 // How many of the entries start a segment.
@@ -36,60 +36,62 @@ fn are_below(entries: &[Entry], points: &[Point]) -> bool
 }
 
 // The entries of a text: of each its vertex, and 1 where it is a start.
-fn entries_of(alloc: Global, text: &str) -> Result<Vec<Entry>, Fail> {
+fn entries_of(rt: &impl Abort, alloc: Global, text: &str) -> Vec<Entry> {
     let mut entries = Vec::new(alloc);
-    for pair in vertices_of(alloc, text)?.chunks(2) {
+    for pair in vertices_of(rt, alloc, text).chunks(2) {
         if let [vertex, start] = pair {
-            entries.push(Entry {
-                vertex: *vertex,
-                start: *start == 1,
-            })?;
+            let (vertex, start) = (*vertex, *start == 1);
+            entries
+                .push(Entry { vertex, start })
+                .expect(rt, "room for an entry");
         }
     }
-    Ok(entries)
+    entries
 }
 
 // The ends of the segments, two by two.
-fn listed(alloc: Global, segments: &[Segment]) -> Result<Vec<u32>, Fail> {
+fn listed(rt: &impl Abort, alloc: Global, segments: &[Segment]) -> Vec<u32> {
     let mut list = Vec::new(alloc);
     for segment in segments {
-        list.push(segment.from)?;
-        list.push(segment.to)?;
+        let ends = [segment.from, segment.to];
+        list.extend_from_slice(&ends).expect(rt, "room for two");
     }
-    Ok(list)
+    list
 }
 
-// The segments of the entries: along an edge where its two ends are given, else across.
+// The ends of the segments of the entries: along an edge where its two ends are given, else across.
 fn found(
+    rt: &impl Abort,
     alloc: Global,
     edge: &[Point],
     entries: &[Entry],
     points: &[Point],
-) -> Result<Vec<u32>, Fail> {
-    if !is_balanced(entries) || !are_below(entries, points) {
-        return Err("not to be paired".into());
-    }
-    if let [a, b] = edge {
-        return listed(alloc, &segments_of_edge(alloc, *a, *b, entries, points)?);
-    }
-    listed(alloc, &segments_of_pair(alloc, entries, points)?)
+) -> Vec<u32> {
+    assert!(rt; is_balanced(entries) && are_below(entries, points));
+    let segments = if let [a, b] = edge {
+        segments_of_edge(alloc, *a, *b, entries, points).expect(rt, "memory")
+    } else {
+        segments_of_pair(alloc, entries, points).expect(rt, "memory")
+    };
+    listed(rt, alloc, &segments)
 }
 
 /// Whether the segments of a line are those of its entries.
-pub fn agrees(alloc: Global, line: &str) -> Result<bool, Fail> {
-    let parts = parts_of(alloc, line, "|")?;
+pub fn agrees(rt: &impl Abort, alloc: Global, line: &str) -> bool {
+    let parts = parts_of(rt, alloc, line, "|");
     let [edge, entries, points, wanted] = parts.as_slice() else {
-        return Err("four parts".into());
+        return false;
     };
-    let edge = points_of(alloc, edge, 3)?;
-    let entries = entries_of(alloc, entries)?;
-    let list = found(alloc, &edge, &entries, &points_of(alloc, points, 3)?)?;
-    Ok(list.as_slice() == vertices_of(alloc, wanted)?.as_slice())
+    let edge = points_of(rt, alloc, edge, 3);
+    let entries = entries_of(rt, alloc, entries);
+    let points = points_of(rt, alloc, points, 3);
+    let list = found(rt, alloc, &edge, &entries, &points);
+    list.as_slice() == vertices_of(rt, alloc, wanted).as_slice()
 }
 
 #[test]
-fn entries_are_paired_as_in_the_table(rt: HostRuntime) -> Result<(), Fail> {
+fn entries_are_paired_as_in_the_table(rt: HostRuntime) {
     exchange_reverses();
-    expect_rows(&rt, rt.alloc(), &Kind::Pairs, EDGES, 41)?;
-    expect_rows(&rt, rt.alloc(), &Kind::Pairs, PAIRS, 42)
+    expect_rows(&rt, rt.alloc(), &Kind::Pairs, EDGES, 41);
+    expect_rows(&rt, rt.alloc(), &Kind::Pairs, PAIRS, 42);
 }

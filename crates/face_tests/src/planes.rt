@@ -1,7 +1,6 @@
 // Planes, turns and distances of given points, at the ends of the grid too; values by hand.
 use face_plane::{FacePlane, FlatPoint};
 use mb_base::Point;
-use std::test::Fail;
 
 // The size of the greatest coordinate.
 const END: i32 = 1 << 30;
@@ -45,14 +44,10 @@ fn is_plane(at: [[i32; 3]; 3], drop: u8, second: [i64; 2]) -> Option<bool> {
 }
 
 #[test]
-fn a_plane_drops_the_greatest_axis(rt: HostRuntime) -> Result<(), Fail> {
+fn a_plane_drops_the_greatest_axis(rt: HostRuntime) {
     for (at, drop, second) in PLANES {
-        assert!(rt;
-            is_plane(at, drop, second).ok_or("points of the grid")?,
-            "at {at:?}"
-        );
+        assert!(rt; is_plane(at, drop, second) == Some(true), "at {at:?}");
     }
-    Ok(())
 }
 
 fn at(place: [i32; 2]) -> Option<FlatPoint> {
@@ -69,17 +64,11 @@ fn agrees(places: [[i32; 2]; 3], turns: [bool; 3], far: u64) -> Option<bool> {
 }
 
 #[test]
-fn turns_are_exact_at_the_ends_of_the_grid(rt: HostRuntime) -> Result<(), Fail> {
+fn turns_are_exact_at_the_ends_of_the_grid(rt: HostRuntime) {
     for (places, turns, far) in TURNS {
-        assert!(rt;
-            agrees(places, turns, far).ok_or("points of the grid")?,
-            "at {places:?}"
-        );
+        assert!(rt; agrees(places, turns, far) == Some(true), "at {places:?}");
     }
-    let (a, b) = (
-        at([END, -END]).ok_or("a corner")?,
-        at([END, END]).ok_or("a corner")?,
-    );
+    let a = at([END, -END]).expect(&rt, "a corner");
+    let b = at([END, END]).expect(&rt, "a corner");
     assert!(rt; FlatPoint::wedge(a, b) == 1 << 61);
-    Ok(())
 }

@@ -2,7 +2,6 @@
 ghost use Rattle.std.specs.Prelude.{◌≡◌};
 
 use loop_ring::Ring;
-use std::test::Fail;
 
 // Whether a list has this value at a place.
 fn is_at(list: &[u32], place: usize, value: u32) -> bool {
@@ -22,29 +21,27 @@ pub fn has(ring: &mut Ring, wanted: &[u32]) -> bool
 }
 
 #[test]
-fn each_call_leaves_the_list_that_it_says(rt: HostRuntime) -> Result<(), Fail> {
+fn each_call_leaves_the_list_that_it_says(rt: HostRuntime) {
     let alloc = rt.alloc();
-    let mut ring = Ring::of(alloc, &[1, 2, 3])?;
+    let mut ring = Ring::of(alloc, &[1, 2, 3]).expect(&rt, "a ring");
     ring.step();
     assert!(rt; has(&mut ring, &[2, 3, 1]));
     ring.cut();
     assert!(rt; has(&mut ring, &[3, 1]));
-    ring.splice(Ring::of(alloc, &[7, 8])?);
+    ring.splice(Ring::of(alloc, &[7, 8]).expect(&rt, "a ring"));
     assert!(rt; has(&mut ring, &[3, 1, 7, 8]));
-    ring.grow(9)?;
+    ring.grow(9).expect(&rt, "one place more");
     assert!(rt; has(&mut ring, &[3, 1, 7, 8, 9]));
     ring.back();
     assert!(rt; has(&mut ring, &[9, 3, 1, 7, 8]));
     assert!(rt; ring.len() == 5 && ring.ahead() == 3 && ring.behind() == 8);
-    Ok(())
 }
 
 #[test]
-fn a_lone_place_is_its_own_neighbour(rt: HostRuntime) -> Result<(), Fail> {
-    let mut ring = Ring::of(rt.alloc(), &[6])?;
+fn a_lone_place_is_its_own_neighbour(rt: HostRuntime) {
+    let mut ring = Ring::of(rt.alloc(), &[6]).expect(&rt, "a ring");
     assert!(rt; ring.len() == 1 && ring.get() == 6 && ring.ahead() == 6 && ring.behind() == 6);
     ring.step();
     ring.back();
     assert!(rt; has(&mut ring, &[6]));
-    Ok(())
 }

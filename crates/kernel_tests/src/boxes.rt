@@ -56,5 +56,5 @@ pub(crate) fn boxes_of(alloc: Global, spans: &[Span]) -> Result<Mesh, Fail> {
 // Their side without marks.
 pub(crate) fn plain_boxes(alloc: Global, spans: &[Span]) -> Result<Side, Fail> {
     let mesh = boxes_of(alloc, spans)?;
-    plain_side(alloc, &mesh)
+    Ok(plain_side(alloc, &mesh)?)
 }

@@ -16,7 +16,7 @@ const POST: Span = [[3, 4, 5], [6, 7, 20]];
 // Boxes as the first mesh of a union, with its marks.
 fn first_side(alloc: Global, spans: &[Span]) -> Result<Side, Fail> {
     let mesh = boxes_of(alloc, spans)?;
-    marked_side(alloc, &mesh, Op::Union)
+    Ok(marked_side(alloc, &mesh, Op::Union)?)
 }
 
 // A hit: edge, face, number and the coordinates of the point.

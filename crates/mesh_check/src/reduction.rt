@@ -6,11 +6,11 @@ ghost use Rattle.mesh_terms.specs.Meshes.{triples_of};
 ghost use Rattle.mesh_check.specs.Reduced.{kept_marks, kept_triples, reduced, NoOpposite, picked};
 
 use crate::cancel::uncancelled;
-use crate::mesh::{Mesh, MeshFault};
+use crate::marks::{marked, mesh_of_used, with_marked_labels};
+use crate::mesh::Mesh;
 use crate::opposites::has_no_opposites;
-use mb_base::{Labels, NoMemory};
+use mb_base::NoMemory;
 use std::alloc::Global;
-use unused_points::without_unused;
 
 /// The mesh without the triangles that cancel: for each three vertices, those of the rarer orientation
 /// are removed, and as many of the other, the first in order. Two triangles on the same vertices have
@@ -69,13 +69,7 @@ fn mesh_of_kept(alloc: Global, mesh: &Mesh, triples: Vec<[u32; 3]>) -> Result<Me
     ensures triples { IfOk result (λ m. m.triples ≡ (reduced mesh.now.points mesh.now.triples mesh.now.labels).triples) }
     ensures labels { IfOk result (λ m. m.labels ≡ no_labels (kept_triples mesh.now.triples)) }
 {
-    let points = mesh.points().to_vec(alloc)?;
-    let soup = without_unused(alloc, points, triples)?;
-    match Mesh::check(alloc, soup) {
-        Ok(reduced) => Ok(reduced),
-        Err(MeshFault::NoMemory) => Err(NoMemory),
-        Err(MeshFault::OpenEdge { .. }) => unreachable!(),
-    }
+    mesh_of_used(alloc, mesh.points(), triples)
 }
 
 // The reduced mesh, which has empty labels, with the labels of the triples that stay.
@@ -93,37 +87,5 @@ fn with_kept_labels(
     ensures triples { IfOk result (λ m. m.triples ≡ kept.triples) }
     ensures labels { IfOk result (λ m. m.labels ≡ picked (kept_marks mesh.now.triples) mesh.now.labels) }
 {
-    match mesh.labels() {
-        Some(labels) => Ok(kept.with_labels(marked_labels(alloc, labels, marks)?)),
-        None => Ok(kept),
-    }
-}
-
-// The triples with a mark.
-fn marked(alloc: Global, triples: &[[u32; 3]], marks: &[bool]) -> Result<Vec<[u32; 3]>, NoMemory>
-    requires { length marks.now ≡ length triples.now }
-    ensures { IfOk result (λ kept. triples_of kept.items ≡ picked marks.now (triples_of triples.now)) }
-{
-    let mut kept = Vec::new(alloc);
-    for (place, triple) in triples.iter().enumerate() {
-        if marks[place] {
-            kept.push(*triple)?;
-        }
-    }
-    Ok(kept)
-}
-
-// The labels with a mark. Those past the end of the list, which are empty, end the new list too.
-fn marked_labels(alloc: Global, labels: &Labels, marks: &[bool]) -> Result<Labels, NoMemory>
-    requires few { length labels.now ≤ length marks.now }
-    requires known { length marks.now ≤ most_triangles }
-    ensures { IfOk result (λ kept. kept ≡ picked marks.now labels.now) }
-{
-    let mut kept = Labels::start(alloc);
-    for place in 0..labels.len() {
-        if marks[place] {
-            kept.push(labels.get(place as u32))?;
-        }
-    }
-    Ok(kept)
+    with_marked_labels(alloc, mesh, marks, kept)
 }

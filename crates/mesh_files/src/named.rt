@@ -1,9 +1,11 @@
 // The files of a command, by name: the bytes of one are read, or the mesh in it, or a mesh is saved to one. What stops at a file carries its name.
-ghost use Rattle.std.specs.Prelude.{◌≡◌, ◌≤◌, false, IfErr};
+ghost use Rattle.std.specs.Prelude.{◌≡◌, ◌≤◌, false, length, IfErr, IsOk, OnErr, OnOk};
 ghost use Rattle.mesh_terms.specs.Limits.{IsLawful};
 ghost use Rattle.play_terms.specs.Commands.{ask_file, ask_mesh, write_mesh};
+ghost use Rattle.play_terms.specs.Formats.{mesh_text};
 ghost use Rattle.mb_outside.specs.Seen.{MeetsOnShelf};
 ghost use Rattle.mesh_files.specs.Reads.{soup_with};
+ghost use Rattle.mesh_files.specs.Pieces.{HasRoom, WritesPart, spare_after};
 ghost use Rattle.mesh_files.specs.Halts.{IsUnreadAt, IsUnwrittenAt, halted, halted_by, is_unsaid};
 
 use crate::files::read_file;
@@ -62,6 +64,11 @@ pub fn write<'a, S: Shelf>(
     requires digits { digits ≤ 6 }
     ensures meets { MeetsOnShelf S.Shelf (write_mesh digits name.now mesh.now.points mesh.now.triples mesh.now.labels) shelf.old shelf.new (halted result) }
     ensures unwritten { IfErr result (IsUnwrittenAt name.now) }
+    ensures spare { OnOk result (S.spare shelf.new ≡
+        spare_after name.now (length (mesh_text digits name.now mesh.now.points mesh.now.triples mesh.now.labels)) (S.spare shelf.old)) }
+    ensures part { OnErr result (WritesPart (S.tells shelf.old) name.now (mesh_text digits name.now mesh.now.points mesh.now.triples mesh.now.labels)
+        (S.files shelf.old) (S.files shelf.new) (S.spare shelf.old) (S.spare shelf.new)) }
+    ensures sure { HasRoom (S.spare shelf.old) name.now (mesh_text digits name.now mesh.now.points mesh.now.triples mesh.now.labels) → IsOk result }
 {
     match save_mesh(mesh, name, digits, shelf) {
         Ok(()) => Ok(()),

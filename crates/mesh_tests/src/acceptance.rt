@@ -4,22 +4,21 @@ mod table;
 use crate::lines::{DOUBLED, consists_of, line_mesh, read_row};
 use mesh_check::{Mesh, MeshFault, is_plainly_reduced, reduce};
 use std::alloc::Global;
-use std::test::Fail;
+use std::process::Abort;
 use table::{BOX_AND_SHEET, ROWS, SHEET_AND_BOX, SHEETS_AND_TETRAHEDRON};
 use test_soups::{BOX, TETRAHEDRON, line_soup};
 
 // Where the mesh of these triangles is open.
-fn fault_of(alloc: Global, count: u8, triples: &[[u32; 3]]) -> Result<Option<MeshFault>, Fail> {
-    let soup = line_soup(alloc, count, triples)?;
-    Ok(Mesh::check(alloc, soup).err())
+fn fault_of(rt: &impl Abort, alloc: Global, count: u8, triples: &[[u32; 3]]) -> Option<MeshFault> {
+    let soup = line_soup(alloc, count, triples).expect(rt, "a soup");
+    Mesh::check(alloc, soup).err()
 }
 
 #[test]
-fn a_closed_mesh_keeps_its_lists(rt: HostRuntime) -> Result<(), Fail> {
-    let mesh = line_mesh(rt.alloc(), 4, &TETRAHEDRON)?;
+fn a_closed_mesh_keeps_its_lists(rt: HostRuntime) {
+    let mesh = line_mesh(&rt, rt.alloc(), 4, &TETRAHEDRON);
     assert!(rt; consists_of(&mesh, &[0, 1, 2, 3], &TETRAHEDRON));
     assert!(rt; mesh.twins().twins() == [9, 6, 3, 2, 8, 10, 1, 11, 4, 0, 5, 7].as_slice());
-    Ok(())
 }
 
 // How many points, the triangles over them, and the open edge that is named. The edges of a missing face are missing, so
@@ -49,18 +48,17 @@ static FAULTS: [(&str, u8, &[[u32; 3]], Option<MeshFault>); 5] = [
 ];
 
 #[test]
-fn the_least_open_edge_is_named(rt: HostRuntime) -> Result<(), Fail> {
+fn the_least_open_edge_is_named(rt: HostRuntime) {
     for (name, count, triples, wanted) in &FAULTS {
-        let found = fault_of(rt.alloc(), *count, triples)?;
+        let found = fault_of(&rt, rt.alloc(), *count, triples);
         assert!(rt; found == *wanted, "{name}");
     }
-    Ok(())
 }
 
 // What reduction leaves of the mesh of these triangles over so many points on a line.
-fn reduced(alloc: Global, count: u8, triples: &[[u32; 3]]) -> Result<Mesh, Fail> {
-    let mesh = line_mesh(alloc, count, triples)?;
-    Ok(reduce(alloc, &mesh)?)
+fn reduced(rt: &impl Abort, alloc: Global, count: u8, triples: &[[u32; 3]]) -> Mesh {
+    let mesh = line_mesh(rt, alloc, count, triples);
+    reduce(alloc, &mesh).expect(rt, "memory")
 }
 
 // How many points, the triangles, the points that stay and the triangles that stay. In the last row there are more
@@ -90,12 +88,11 @@ static SHEETS: [(&str, u8, &[[u32; 3]], &[u32], &[[u32; 3]]); 3] = [
 ];
 
 #[test]
-fn two_sided_triangles_go_with_their_points(rt: HostRuntime) -> Result<(), Fail> {
+fn two_sided_triangles_go_with_their_points(rt: HostRuntime) {
     for (name, count, triples, stay, left) in &SHEETS {
-        let mesh = reduced(rt.alloc(), *count, triples)?;
+        let mesh = reduced(&rt, rt.alloc(), *count, triples);
         assert!(rt; consists_of(&mesh, stay, left), "{name}");
     }
-    Ok(())
 }
 
 // How many points, the triangles, and whether their mesh is plainly reduced. Of the last nothing goes, but that is not
@@ -107,28 +104,26 @@ static PLAIN: [(&str, u8, &[[u32; 3]], bool); 3] = [
 ];
 
 #[test]
-fn a_box_is_plainly_reduced(rt: HostRuntime) -> Result<(), Fail> {
+fn a_box_is_plainly_reduced(rt: HostRuntime) {
     for (name, count, triples, wanted) in &PLAIN {
-        let mesh = line_mesh(rt.alloc(), *count, triples)?;
+        let mesh = line_mesh(&rt, rt.alloc(), *count, triples);
         assert!(rt; is_plainly_reduced(&mesh) == *wanted, "{name}");
     }
-    Ok(())
 }
 
 // Whether the mesh of a line is reduced as the line says.
-fn agrees(alloc: Global, line: &str) -> Result<bool, Fail> {
-    let row = read_row(alloc, line, ':', b'0')?;
-    let mesh = reduced(alloc, row.count, row.triples())?;
-    Ok(consists_of(&mesh, &row.places, row.left()))
+fn agrees(rt: &impl Abort, alloc: Global, line: &str) -> bool {
+    let row = read_row(rt, alloc, line, ':', b'0');
+    let mesh = reduced(rt, alloc, row.count, row.triples());
+    consists_of(&mesh, &row.places, row.left())
 }
 
 #[test]
-fn three_hundred_meshes_are_reduced(rt: HostRuntime) -> Result<(), Fail> {
+fn three_hundred_meshes_are_reduced(rt: HostRuntime) {
     let mut count = 0u32;
     for line in ROWS.lines() {
-        assert!(rt; agrees(rt.alloc(), line)?, "{line}");
+        assert!(rt; agrees(&rt, rt.alloc(), line), "{line}");
         count = count.saturating_add(1);
     }
     assert!(rt; count == 300);
-    Ok(())
 }

@@ -1,8 +1,8 @@
 // Meshes over points on a line, and lines of text that tell of them.
 use mb_base::{Point, Soup};
 use mesh_check::Mesh;
-use std::alloc::Global;
-use std::test::Fail;
+use std::alloc::{AllocError, Global};
+use std::process::Abort;
 use test_soups::line_soup;
 
 // A tetrahedron whose triangles come twice: two half-edges run the same way along each edge.
@@ -18,13 +18,17 @@ pub(crate) const DOUBLED: [[u32; 3]; 8] = [
 ];
 
 // The mesh of a soup.
-pub(crate) fn accepted(alloc: Global, soup: Soup) -> Result<Mesh, Fail> {
-    Ok(Mesh::check(alloc, soup)?)
+pub(crate) fn accepted(rt: &impl Abort, alloc: Global, soup: Soup) -> Mesh {
+    Mesh::check(alloc, soup).expect(rt, "closed triangles")
 }
 
 // The mesh of these triangles over so many points on a line.
-pub(crate) fn line_mesh(alloc: Global, count: u8, triples: &[[u32; 3]]) -> Result<Mesh, Fail> {
-    accepted(alloc, line_soup(alloc, count, triples)?)
+pub(crate) fn line_mesh(rt: &impl Abort, alloc: Global, count: u8, triples: &[[u32; 3]]) -> Mesh {
+    accepted(
+        rt,
+        alloc,
+        line_soup(alloc, count, triples).expect(rt, "a soup"),
+    )
 }
 
 // Whether a point lies at this place on the line.
@@ -75,7 +79,7 @@ impl Row {
 }
 
 // The numbers of a word's letters, from the first letter on.
-fn numbers_of(alloc: Global, word: &str, first: u8) -> Result<Vec<u32>, Fail> {
+fn numbers_of(alloc: Global, word: &str, first: u8) -> Result<Vec<u32>, AllocError> {
     let mut numbers = Vec::new(alloc);
     for letter in word.as_bytes() {
         numbers.push(u32::from(letter.wrapping_sub(first)))?;
@@ -92,12 +96,18 @@ fn parts(line: &str, between: char) -> Option<(&str, &str, &str, &str)> {
 }
 
 // The row of a line: the number of points, the triangles, the places that are left and the triangles that are left.
-pub(crate) fn read_row(alloc: Global, line: &str, between: char, first: u8) -> Result<Row, Fail> {
-    let (count, triples, places, left) = parts(line, between).ok_or("four parts")?;
-    Ok(Row {
-        count: count.parse::<u8>()?,
-        triples: numbers_of(alloc, triples, first)?,
-        places: numbers_of(alloc, places, first)?,
-        left: numbers_of(alloc, left, first)?,
-    })
+pub(crate) fn read_row(
+    rt: &impl Abort,
+    alloc: Global,
+    line: &str,
+    between: char,
+    first: u8,
+) -> Row {
+    let (count, triples, places, left) = parts(line, between).expect(rt, "four parts");
+    Row {
+        count: count.parse::<u8>().expect(rt, "a number"),
+        triples: numbers_of(alloc, triples, first).expect(rt, "numbers"),
+        places: numbers_of(alloc, places, first).expect(rt, "numbers"),
+        left: numbers_of(alloc, left, first).expect(rt, "numbers"),
+    }
 }

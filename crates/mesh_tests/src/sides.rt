@@ -5,18 +5,26 @@ use mb_base::{Box3, Corner, Op, UNIT};
 use mesh_check::Mesh;
 use std::alloc::Global;
 use std::process::Abort;
-use std::test::Fail;
 use test_soups::{box_soup, soup_of};
 
 // The box from the origin to (10, 10, 10).
-fn box_mesh(alloc: Global) -> Result<Mesh, Fail> {
-    accepted(alloc, box_soup(alloc, [0; 3], [10; 3])?)
+fn box_mesh(rt: &impl Abort, alloc: Global) -> Mesh {
+    accepted(
+        rt,
+        alloc,
+        box_soup(alloc, [0; 3], [10; 3]).expect(rt, "a soup"),
+    )
 }
 
-// Its marks.
-fn box_leans(alloc: Global, op: Op) -> Result<Vec<[bool; 3]>, Fail> {
-    let mesh = box_mesh(alloc)?;
-    Ok(leans(alloc, &mesh, op)?)
+// The marks of a mesh.
+fn leans_of(rt: &impl Abort, alloc: Global, mesh: &Mesh, op: Op) -> Vec<[bool; 3]> {
+    leans(alloc, mesh, op).expect(rt, "memory")
+}
+
+// Those of the box.
+fn box_leans(rt: &impl Abort, alloc: Global, op: Op) -> Vec<[bool; 3]> {
+    let mesh = box_mesh(rt, alloc);
+    leans_of(rt, alloc, &mesh, op)
 }
 
 // The sums at a box's corners point away from it on each axis.
@@ -43,49 +51,57 @@ const INWARD: [[bool; 3]; 8] = [
     [false, false, false],
 ];
 
+// The marks that an operation gives the box.
+static MARKS: [(Op, &[[bool; 3]; 8]); 3] = [
+    (Op::Union, &OUTWARD),
+    (Op::Intersect, &INWARD),
+    (Op::Subtract, &INWARD),
+];
+
 #[test]
-fn a_box_grows_in_a_union_and_shrinks_in_the_others(rt: HostRuntime) -> Result<(), Fail> {
-    assert!(rt; box_leans(rt.alloc(), Op::Union)?.as_slice() == OUTWARD.as_slice());
-    assert!(rt; box_leans(rt.alloc(), Op::Intersect)?.as_slice() == INWARD.as_slice());
-    assert!(rt; box_leans(rt.alloc(), Op::Subtract)?.as_slice() == INWARD.as_slice());
-    Ok(())
+fn a_box_grows_in_a_union_and_shrinks_in_the_others(rt: HostRuntime) {
+    for (op, wanted) in &MARKS {
+        let marks = box_leans(&rt, rt.alloc(), *op);
+        assert!(rt; marks.as_slice() == wanted.as_slice());
+    }
 }
 
 // Two triangles back to back.
 const SHEET: [[u32; 3]; 2] = [[0, 1, 2], [2, 1, 0]];
 
 // Their mesh over these points.
-fn sheet_mesh(alloc: Global, points: &[[i32; 3]]) -> Result<Mesh, Fail> {
-    accepted(alloc, soup_of(alloc, points, &SHEET)?)
+fn sheet_mesh(rt: &impl Abort, alloc: Global, points: &[[i32; 3]]) -> Mesh {
+    accepted(
+        rt,
+        alloc,
+        soup_of(alloc, points, &SHEET).expect(rt, "a soup"),
+    )
 }
 
 #[test]
-fn a_sum_of_nothing_is_no_mark(rt: HostRuntime) -> Result<(), Fail> {
+fn a_sum_of_nothing_is_no_mark(rt: HostRuntime) {
     // Corners at the bounds of the grid.
     let end = 1 << 30;
     let points = [[-end, -end, end], [end, -end, end], [-end, end, -end]];
-    let mesh = sheet_mesh(rt.alloc(), &points)?;
+    let mesh = sheet_mesh(&rt, rt.alloc(), &points);
     for op in &[Op::Union, Op::Intersect, Op::Subtract] {
-        assert!(rt; leans(rt.alloc(), &mesh, *op)?.as_slice() == [[false; 3]; 3].as_slice());
+        let marks = leans_of(&rt, rt.alloc(), &mesh, *op);
+        assert!(rt; marks.as_slice() == [[false; 3]; 3].as_slice());
     }
-    Ok(())
 }
 
 // The side of a mesh with three points.
-fn side_of(alloc: Global, mesh: &Mesh, ups: [[bool; 3]; 3]) -> Result<Side, Fail> {
-    if mesh.points().len() != 3 {
-        return Err("three marks for three points".into());
-    }
-    Ok(Side::of(alloc, mesh, Vec::from_array(alloc, ups)?)?)
+fn side_of(rt: &impl Abort, alloc: Global, mesh: &Mesh, ups: [[bool; 3]; 3]) -> Side {
+    assert!(rt; mesh.points().len() == 3);
+    let ups = Vec::from_array(alloc, ups).expect(rt, "three marks");
+    Side::of(alloc, mesh, ups).expect(rt, "memory")
 }
 
-fn sheet(alloc: Global) -> Result<Side, Fail> {
-    let mesh = sheet_mesh(alloc, &[[0, 0, 0], [1 << 30, -5, 7], [3, -(1 << 30), 2]])?;
-    side_of(
-        alloc,
-        &mesh,
-        [[false; 3], [true, false, true], [false, true, false]],
-    )
+fn sheet(rt: &impl Abort, alloc: Global) -> Side {
+    let points = [[0, 0, 0], [1 << 30, -5, 7], [3, -(1 << 30), 2]];
+    let mesh = sheet_mesh(rt, alloc, &points);
+    let ups = [[false; 3], [true, false, true], [false, true, false]];
+    side_of(rt, alloc, &mesh, ups)
 }
 
 // The sheet's corners.
@@ -120,27 +136,26 @@ fn expect_faces(rt: &impl Abort, side: &Side) {
 }
 
 #[test]
-fn corners_are_points_in_fine_steps(rt: HostRuntime) -> Result<(), Fail> {
-    let side = sheet(rt.alloc())?;
+fn corners_are_points_in_fine_steps(rt: HostRuntime) {
+    let side = sheet(&rt, rt.alloc());
     expect_lists(&rt, &side);
     expect_faces(&rt, &side);
-    Ok(())
 }
 
 // The box with its marks in a union.
-fn box_side(alloc: Global) -> Result<Side, Fail> {
-    let mesh = box_mesh(alloc)?;
-    let ups = leans(alloc, &mesh, Op::Union)?;
-    Ok(Side::of(alloc, &mesh, ups)?)
+fn box_side(rt: &impl Abort, alloc: Global) -> Side {
+    let mesh = box_mesh(rt, alloc);
+    let ups = leans(alloc, &mesh, Op::Union).expect(rt, "memory");
+    Side::of(alloc, &mesh, ups).expect(rt, "memory")
 }
 
 // The faces of a side whose boxes touch an area, in any order.
-fn faces_near(alloc: Global, side: &Side, area: Box3) -> Result<Vec<u32>, Fail> {
+fn faces_near(rt: &impl Abort, alloc: Global, side: &Side, area: Box3) -> Vec<u32> {
     let mut found = Vec::new(alloc);
     for face in side.tree().touching(area) {
-        found.push(face)?;
+        found.push(face).expect(rt, "room for a face");
     }
-    Ok(found)
+    found
 }
 
 // Whether none or two faces are the wanted ones, in either order.
@@ -178,11 +193,10 @@ static AREAS: [(Box3, &[u32]); 3] = [
 ];
 
 #[test]
-fn faces_are_found_by_their_boxes(rt: HostRuntime) -> Result<(), Fail> {
-    let side = box_side(rt.alloc())?;
+fn faces_are_found_by_their_boxes(rt: HostRuntime) {
+    let side = box_side(&rt, rt.alloc());
     for (area, wanted) in &AREAS {
-        let found = faces_near(rt.alloc(), &side, *area)?;
+        let found = faces_near(&rt, rt.alloc(), &side, *area);
         assert!(rt; are_faces(&found, wanted));
     }
-    Ok(())
 }

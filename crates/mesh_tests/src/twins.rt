@@ -2,21 +2,19 @@
 use crate::lines::DOUBLED;
 use halfedge::{Fans, TwinFault, Twins};
 use std::alloc::Global;
-use std::test::Fail;
+use std::process::Abort;
 use test_soups::{TETRAHEDRON, line_soup, two_boxes};
 
 // The twins of triangles over so many points on a line.
-fn line_twins(alloc: Global, count: u8, triples: &[[u32; 3]]) -> Result<Twins, Fail> {
-    let soup = line_soup(alloc, count, triples)?;
-    Ok(Twins::of(alloc, soup.triples())?)
+fn line_twins(rt: &impl Abort, alloc: Global, count: u8, triples: &[[u32; 3]]) -> Twins {
+    let soup = line_soup(alloc, count, triples).expect(rt, "a soup");
+    Twins::of(alloc, soup.triples()).expect(rt, "closed triangles")
 }
 
 // The twin of a half-edge, and the half-edge after it.
-fn beside(twins: &Twins, half_edge: u32) -> Result<[u32; 2], Fail> {
-    if half_edge as usize >= 3 * twins.triples().len() {
-        return Err("no half-edge".into());
-    }
-    Ok([twins.twin(half_edge), twins.next(half_edge)])
+fn beside(rt: &impl Abort, twins: &Twins, half_edge: u32) -> [u32; 2] {
+    assert!(rt; (half_edge as usize) < 3 * twins.triples().len());
+    [twins.twin(half_edge), twins.next(half_edge)]
 }
 
 // The twin of each half-edge of a tetrahedron.
@@ -27,39 +25,31 @@ fn are_of_tetrahedron(twins: &Twins) -> bool {
 }
 
 #[test]
-fn the_tetrahedron_has_its_twins(rt: HostRuntime) -> Result<(), Fail> {
-    let twins = line_twins(rt.alloc(), 4, &TETRAHEDRON)?;
+fn the_tetrahedron_has_its_twins(rt: HostRuntime) {
+    let twins = line_twins(&rt, rt.alloc(), 4, &TETRAHEDRON);
     assert!(rt; are_of_tetrahedron(&twins));
-    assert!(rt; beside(&twins, 0)? == [9, 1]);
-    assert!(rt; beside(&twins, 2)? == [3, 0]);
-    Ok(())
-}
-
-// A copy of a tetrahedron's twins.
-fn copied(alloc: Global) -> Result<Twins, Fail> {
-    let twins = line_twins(alloc, 4, &TETRAHEDRON)?;
-    Ok(twins.clone()?)
+    assert!(rt; beside(&rt, &twins, 0) == [9, 1]);
+    assert!(rt; beside(&rt, &twins, 2) == [3, 0]);
 }
 
 #[test]
-fn a_copy_has_the_same_lists(rt: HostRuntime) -> Result<(), Fail> {
-    let copy = copied(rt.alloc())?;
+fn a_copy_has_the_same_lists(rt: HostRuntime) {
+    let twins = line_twins(&rt, rt.alloc(), 4, &TETRAHEDRON);
+    let copy = twins.clone().expect(&rt, "a copy");
     assert!(rt; are_of_tetrahedron(&copy));
-    Ok(())
 }
 
 // The fans at the vertices of a mesh over so many points on a line.
-fn line_fans(alloc: Global, count: u8, triples: &[[u32; 3]]) -> Result<Fans, Fail> {
-    let twins = line_twins(alloc, count, triples)?;
-    Ok(twins.fans(alloc)?)
+fn line_fans(rt: &impl Abort, alloc: Global, count: u8, triples: &[[u32; 3]]) -> Fans {
+    let twins = line_twins(rt, alloc, count, triples);
+    twins.fans(alloc).expect(rt, "memory")
 }
 
 #[test]
-fn the_tetrahedron_has_one_fan_at_each_vertex(rt: HostRuntime) -> Result<(), Fail> {
-    let fans = line_fans(rt.alloc(), 4, &TETRAHEDRON)?;
+fn the_tetrahedron_has_one_fan_at_each_vertex(rt: HostRuntime) {
+    let fans = line_fans(&rt, rt.alloc(), 4, &TETRAHEDRON);
     assert!(rt; fans.first.as_slice() == [0, 2, 1, 5].as_slice());
     assert!(rt; fans.of.as_slice() == [0, 2, 1, 0, 1, 3, 1, 2, 3, 2, 0, 3].as_slice());
-    Ok(())
 }
 
 // A tetrahedron whose vertices all lie in one of the five buckets.
@@ -71,50 +61,48 @@ const FAR: [[u32; 3]; 4] = [
 ];
 
 #[test]
-fn vertex_numbers_may_be_far_above_the_number_of_triangles(rt: HostRuntime) -> Result<(), Fail> {
-    let twins = Twins::of(rt.alloc(), &FAR)?;
+fn vertex_numbers_may_be_far_above_the_number_of_triangles(rt: HostRuntime) {
+    let twins = Twins::of(rt.alloc(), &FAR).expect(&rt, "closed triangles");
     assert!(rt; twins.twins() == ACROSS.as_slice());
-    Ok(())
 }
 
 #[test]
-fn an_edge_that_is_used_four_times_is_paired_in_order(rt: HostRuntime) -> Result<(), Fail> {
-    let twins = line_twins(rt.alloc(), 4, &DOUBLED)?;
-    assert!(rt; beside(&twins, 0)? == [9, 1]);
-    assert!(rt; beside(&twins, 12)? == [21, 13]);
-    let fans = line_fans(rt.alloc(), 4, &DOUBLED)?;
+fn an_edge_that_is_used_four_times_is_paired_in_order(rt: HostRuntime) {
+    let twins = line_twins(&rt, rt.alloc(), 4, &DOUBLED);
+    assert!(rt; beside(&rt, &twins, 0) == [9, 1]);
+    assert!(rt; beside(&rt, &twins, 12) == [21, 13]);
+    let fans = line_fans(&rt, rt.alloc(), 4, &DOUBLED);
     assert!(rt; fans.first.len() == 8);
-    Ok(())
 }
 
 #[test]
-fn a_shared_vertex_has_two_fans(rt: HostRuntime) -> Result<(), Fail> {
-    let fans = line_fans(rt.alloc(), 15, &two_boxes(7))?;
+fn a_shared_vertex_has_two_fans(rt: HostRuntime) {
+    let fans = line_fans(&rt, rt.alloc(), 15, &two_boxes(7));
     assert!(rt; fans.first.len() == 16);
     // The first box's half-edges at vertex 7 begin with 8, the second's with 36.
     assert!(rt; fans.first[7] == 8);
     assert!(rt; fans.first[8] == 36);
-    Ok(())
 }
 
 // Whether each of so many vertices has one fan.
-fn is_clean(alloc: Global, count: u8, triples: &[[u32; 3]]) -> Result<bool, Fail> {
-    let soup = line_soup(alloc, count, triples)?;
-    let twins = Twins::of(alloc, soup.triples())?;
-    Ok(twins.are_clean(alloc, soup.points().len())?)
+fn is_clean(rt: &impl Abort, alloc: Global, count: u8, triples: &[[u32; 3]]) -> bool {
+    let soup = line_soup(alloc, count, triples).expect(rt, "a soup");
+    let twins = Twins::of(alloc, soup.triples()).expect(rt, "closed triangles");
+    twins
+        .are_clean(alloc, soup.points().len())
+        .expect(rt, "memory")
 }
 
 #[test]
-fn a_shared_vertex_is_found(rt: HostRuntime) -> Result<(), Fail> {
-    assert!(rt; is_clean(rt.alloc(), 4, &TETRAHEDRON)?);
-    assert!(rt; !is_clean(rt.alloc(), 15, &two_boxes(7))?);
-    Ok(())
+fn a_shared_vertex_is_found(rt: HostRuntime) {
+    assert!(rt; is_clean(&rt, rt.alloc(), 4, &TETRAHEDRON));
+    assert!(rt; !is_clean(&rt, rt.alloc(), 15, &two_boxes(7)));
 }
 
 // Where these triangles over so many points on a line are open.
-fn fault_of(alloc: Global, count: u8, triples: &[[u32; 3]]) -> Result<Option<TwinFault>, Fail> {
-    let soup = line_soup(alloc, count, triples)?;
-    Ok(Twins::of(alloc, soup.triples()).err())
+fn fault_of(rt: &impl Abort, alloc: Global, count: u8, triples: &[[u32; 3]]) -> Option<TwinFault> {
+    let soup = line_soup(alloc, count, triples).expect(rt, "a soup");
+    Twins::of(alloc, soup.triples()).err()
 }
 
 // Open triangles over so many points, and the open edge that is named.
@@ -134,10 +122,9 @@ static OPEN: [(&str, u8, &[[u32; 3]], TwinFault); 2] = [
 ];
 
 #[test]
-fn the_least_open_edge_is_named(rt: HostRuntime) -> Result<(), Fail> {
+fn the_least_open_edge_is_named(rt: HostRuntime) {
     for (name, count, triples, fault) in &OPEN {
-        let found = fault_of(rt.alloc(), *count, triples)?;
+        let found = fault_of(&rt, rt.alloc(), *count, triples);
         assert!(rt; found == Some(*fault), "{name}");
     }
-    Ok(())
 }

@@ -12,7 +12,6 @@ pub mod Finished
 pub mod Follow
 pub mod Known
 pub mod Left
-pub mod LeftLabels
 pub mod Meeting
 pub mod NewStars
 pub mod NewSurface

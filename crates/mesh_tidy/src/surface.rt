@@ -17,11 +17,10 @@ mod kept;
 
 use crate::halves::{end, previous, start};
 use crate::stars::Stars;
-use mb_base::{Labels, NoMemory, Point};
-use mesh_check::{Mesh, MeshFault};
+use mb_base::NoMemory;
+use mesh_check::{Mesh, marked, mesh_of_used, with_marked_labels};
 use std::alloc::Global;
 use std::marker::Model;
-use unused_points::without_unused;
 
 /// Triangles of which some are gone. Half-edges keep the numbers that they had in the mesh, and vertices too: where an edge
 /// is collapsed, its start is put for its end in the triangles that are left.
@@ -121,74 +120,7 @@ impl Surface {
         ensures labels { IfOk result (λ m. m.labels ≡ (soup_of mesh.now.points (left_of self) (labels_of self mesh.now.labels)).labels) }
     {
         let triples = marked(alloc, &self.triples, &self.left)?;
-        let kept = mesh_of(alloc, mesh.points(), triples)?;
+        let kept = mesh_of_used(alloc, mesh.points(), triples)?;
         with_marked_labels(alloc, mesh, &self.left, kept)
     }
-}
-
-// The mesh of these points and triples, with empty labels: the points that no triple uses are dropped.
-fn mesh_of(alloc: Global, points: &[Point], triples: Vec<[u32; 3]>) -> Result<Mesh, NoMemory>
-    requires sound { IsSound (length points.now) (triples_of triples.items) }
-    requires closed { IsClosed (all_edges (triples_of triples.items)) }
-    ensures points { IfOk result (λ m. m.points ≡ used_from (triples_of triples.items) 0 points.now) }
-    ensures triples { IfOk result (λ m. m.triples ≡ renumbered (triples_of triples.items)) }
-    ensures labels { IfOk result (λ m. m.labels ≡ no_labels (triples_of triples.items)) }
-{
-    let points = points.to_vec(alloc)?;
-    let soup = without_unused(alloc, points, triples)?;
-    match Mesh::check(alloc, soup) {
-        Ok(mesh) => Ok(mesh),
-        Err(MeshFault::NoMemory) => Err(NoMemory),
-        Err(MeshFault::OpenEdge { .. }) => unreachable!(),
-    }
-}
-
-// The mesh of the triangles with a mark, which has empty labels, with the labels that they have in the whole mesh.
-fn with_marked_labels(
-    alloc: Global,
-    whole: &Mesh,
-    marks: &[bool],
-    kept: Mesh,
-) -> Result<Mesh, NoMemory>
-    requires marks { length marks.now ≡ length whole.now.triples }
-    requires known { length marks.now ≤ most_triangles }
-    requires count { length kept.triples ≡ length (picked marks.now whole.now.triples) }
-    requires empty { kept.labels ≡ no_labels (picked marks.now whole.now.triples) }
-    ensures points { IfOk result (λ m. m.points ≡ kept.points) }
-    ensures triples { IfOk result (λ m. m.triples ≡ kept.triples) }
-    ensures labels { IfOk result (λ m. m.labels ≡ picked marks.now whole.now.labels) }
-{
-    match whole.labels() {
-        Some(labels) => Ok(kept.with_labels(marked_labels(alloc, labels, marks)?)),
-        None => Ok(kept),
-    }
-}
-
-// The triples with a mark.
-fn marked(alloc: Global, triples: &[[u32; 3]], marks: &[bool]) -> Result<Vec<[u32; 3]>, NoMemory>
-    requires { length marks.now ≡ length triples.now }
-    ensures { IfOk result (λ kept. triples_of kept.items ≡ picked marks.now (triples_of triples.now)) }
-{
-    let mut kept = Vec::new(alloc);
-    for (place, triple) in triples.iter().enumerate() {
-        if marks[place] {
-            kept.push(*triple)?;
-        }
-    }
-    Ok(kept)
-}
-
-// The labels with a mark. Those past the end of the list, which are empty, end the new list too.
-fn marked_labels(alloc: Global, labels: &Labels, marks: &[bool]) -> Result<Labels, NoMemory>
-    requires few { length labels.now ≤ length marks.now }
-    requires known { length marks.now ≤ most_triangles }
-    ensures { IfOk result (λ kept. kept ≡ picked marks.now labels.now) }
-{
-    let mut kept = Labels::start(alloc);
-    for place in 0..labels.len() {
-        if marks[place] {
-            kept.push(labels.get(place as u32))?;
-        }
-    }
-    Ok(kept)
 }

@@ -15,7 +15,6 @@ use std::alloc::Global;
 use std::marker::Brand;
 use std::process::Abort;
 use std::sync::ledger::{Blank, Ledger};
-use std::test::Fail;
 use steps::Steps;
 use table::PAIRS;
 use test_tables::{read_meshes, read_pair};
@@ -55,29 +54,27 @@ fn expect_pair<R: Rounding + Copy>(
     meshes: &str,
     rounding: R,
     expected: &str,
-) -> Result<(), Fail> {
-    let (op, p, q) = read_pair(alloc, meshes)?;
-    let outcome = exactly(alloc, op, &p, &q, rounding)?;
-    let text = text_of(alloc, &outcome)?;
+) {
+    let (op, p, q) = read_pair(alloc, meshes).expect(rt, "a pair");
+    let outcome = exactly(alloc, op, &p, &q, rounding).expect(rt, "few half-edges");
+    let text = text_of(alloc, &outcome).expect(rt, "a text");
     assert_eq!(rt; text.as_str(), expected, "{meshes}");
-    Ok(())
 }
 
 #[test]
-fn agrees_with_the_table(rt: HostRuntime) -> Result<(), Fail> {
+fn agrees_with_the_table(rt: HostRuntime) {
     let mut lines = PAIRS.lines();
     let mut found: u64 = 0;
     while let Some(meshes) = lines.next() {
-        let nearest = lines.next().ok_or("no second line")?;
-        let low = lines.next().ok_or("no third line")?;
-        let high = lines.next().ok_or("no fourth line")?;
-        expect_pair(&rt, rt.alloc(), meshes, Nearest, nearest)?;
-        expect_pair(&rt, rt.alloc(), meshes, Low, low)?;
-        expect_pair(&rt, rt.alloc(), meshes, High, high)?;
+        let nearest = lines.next().expect(&rt, "a second line");
+        let low = lines.next().expect(&rt, "a third line");
+        let high = lines.next().expect(&rt, "a fourth line");
+        expect_pair(&rt, rt.alloc(), meshes, Nearest, nearest);
+        expect_pair(&rt, rt.alloc(), meshes, Low, low);
+        expect_pair(&rt, rt.alloc(), meshes, High, high);
         found = found.wrapping_add(1);
     }
-    assert_eq!(rt; found, 64);
-    Ok(())
+    assert!(rt; found == 64, "{found} rows");
 }
 
 // A cube twice: as if it were moved towards one corner, all but that corner of the one is outside the other.
@@ -85,10 +82,9 @@ const CUBE_TWICE: &str =
     "000a000a0aa000aa0a0aaaaa 031023457476014154137175326367046062 000a000a0aa000aa0a0aaaaa 031023457476014154137175326367046062";
 
 #[test]
-fn a_cube_is_united_with_itself_as_if_moved(rt: HostRuntime) -> Result<(), Fail> {
-    let (p, q) = read_meshes(rt.alloc(), CUBE_TWICE)?;
-    let outcome = exactly(rt.alloc(), Op::Union, &p, &q, Nearest)?;
+fn a_cube_is_united_with_itself_as_if_moved(rt: HostRuntime) {
+    let (p, q) = read_meshes(rt.alloc(), CUBE_TWICE).expect(&rt, "two meshes");
+    let outcome = exactly(rt.alloc(), Op::Union, &p, &q, Nearest).expect(&rt, "few half-edges");
     let all = &outcome.prescribed;
     assert!(rt; all.kept == [7, 7] && all.crossings == 14 && all.halfedges == 104);
-    Ok(())
 }

@@ -16,39 +16,37 @@ use mesh_check::{Mesh, reduce};
 use retained_verts::prescribe;
 use std::alloc::Global;
 use std::process::Abort;
-use std::test::Fail;
 use table::PAIRS;
-use test_tables::{marked_side, plain_side, read_numbers, read_pair};
+use test_tables::{NoRow, marked_side, plain_side, read_numbers, read_pair};
 use text::push_prescribed;
 use words::push_faces;
 
 // What the numbers of two sides give, as the table writes it.
 fn written(
+    rt: &impl Abort,
     alloc: Global,
     op: Op,
     p: &Side,
     q: &Side,
     windings: &Windings,
     hits: &Hits,
-) -> Result<String, Fail>
+) -> String
     requires p_apart { NoOpposite p.now.triples }
     requires q_apart { NoOpposite q.now.triples }
 {
-    if !are_numbers(p, q, windings, hits) {
-        return Err("other numbers".into());
-    }
-    let prescribed = prescribe(alloc, op, p, q, windings, hits, &Limits::program())?;
-    if prescribed.halfedges > 60_000_000 {
-        return Err("many half-edges".into());
-    }
+    assert!(rt; are_numbers(p, q, windings, hits));
+    let prescribed = prescribe(alloc, op, p, q, windings, hits, &Limits::program());
+    let prescribed = prescribed.expect(rt, "few half-edges");
+    assert!(rt; prescribed.halfedges <= 60_000_000);
     let mut text = String::new(alloc);
-    push_prescribed(&mut text, &prescribed)?;
-    push_faces(alloc, &mut text, op, p, q, windings, hits, &prescribed)?;
-    Ok(text)
+    push_prescribed(&mut text, &prescribed).expect(rt, "the vertices");
+    let pushed = push_faces(alloc, &mut text, op, p, q, windings, hits, &prescribed);
+    pushed.expect(rt, "the faces");
+    text
 }
 
 // The first side of an operation: its mesh reduced, with the marks for the operation.
-fn first_side(alloc: Global, mesh: &Mesh, op: Op) -> Result<Side, Fail>
+fn first_side(alloc: Global, mesh: &Mesh, op: Op) -> Result<Side, NoRow>
     ensures { IfOk result (λ side. NoOpposite side.triples) }
 {
     let reduced = reduce(alloc, mesh)?;
@@ -57,7 +55,7 @@ fn first_side(alloc: Global, mesh: &Mesh, op: Op) -> Result<Side, Fail>
 }
 
 // The second side: its mesh reduced, without marks.
-fn second_side(alloc: Global, mesh: &Mesh) -> Result<Side, Fail>
+fn second_side(alloc: Global, mesh: &Mesh) -> Result<Side, NoRow>
     ensures { IfOk result (λ side. NoOpposite side.triples) }
 {
     let reduced = reduce(alloc, mesh)?;
@@ -66,39 +64,21 @@ fn second_side(alloc: Global, mesh: &Mesh) -> Result<Side, Fail>
 }
 
 // What two meshes and the numbers of a line give.
-fn answer_of_meshes(
-    alloc: Global,
-    op: Op,
-    p: &Mesh,
-    q: &Mesh,
-    numbers: &str,
-) -> Result<String, Fail> {
-    let p = first_side(alloc, p, op)?;
-    let q = second_side(alloc, q)?;
-    let (windings, hits) = read_numbers(alloc, numbers)?;
-    written(alloc, op, &p, &q, &windings, &hits)
+fn answer(rt: &impl Abort, alloc: Global, op: Op, p: &Mesh, q: &Mesh, numbers: &str) -> String {
+    let p = first_side(alloc, p, op).expect(rt, "the first side");
+    let q = second_side(alloc, q).expect(rt, "the second side");
+    let (windings, hits) = read_numbers(alloc, numbers).expect(rt, "numbers");
+    written(rt, alloc, op, &p, &q, &windings, &hits)
 }
 
-// What the meshes of a line and the numbers of the next give.
-fn answer(alloc: Global, meshes: &str, numbers: &str) -> Result<String, Fail> {
-    let (op, p, q) = read_pair(alloc, meshes)?;
-    answer_of_meshes(alloc, op, &p, &q, numbers)
-}
-
-/// Compares that with the line of the table.
-pub fn expect_line(
-    rt: &impl Abort,
-    alloc: Global,
-    meshes: &str,
-    numbers: &str,
-    expected: &str,
-) -> Result<(), Fail> {
-    let text = answer(alloc, meshes, numbers)?;
+/// Compares what the meshes of a line and the numbers of the next give with the third line.
+pub fn expect_line(rt: &impl Abort, alloc: Global, meshes: &str, numbers: &str, expected: &str) {
+    let (op, p, q) = read_pair(alloc, meshes).expect(rt, "a pair");
+    let text = answer(rt, alloc, op, &p, &q, numbers);
     assert_eq!(rt; text.as_str(), expected, "{meshes}");
-    Ok(())
 }
 
 #[test]
-fn agrees_with_the_table(rt: HostRuntime) -> Result<(), Fail> {
-    expect_rows(&rt, rt.alloc(), &Kind::Faces, PAIRS, 100)
+fn agrees_with_the_table(rt: HostRuntime) {
+    expect_rows(&rt, rt.alloc(), &Kind::Faces, PAIRS, 100);
 }

@@ -1,14 +1,11 @@
 // Labels of triangles, through reduction, motions and operations. What is expected was found by a reference program.
-use crate::results::operated;
+use crate::results::to_the_nearest;
 use mb_base::{Limits, Op};
 use mesh_check::{Mesh, reduce};
 use mesh_make::{mirror, quarter_turn, scale, shift};
 use obj_text::read_obj;
-use rounding::Nearest;
-use shadow_kernels::Grid;
-use std::alloc::Global;
+use std::alloc::{AllocError, Global};
 use std::process::Abort;
-use std::test::Fail;
 use test_tables::{POST_IN_BOX, read_meshes};
 
 // The box from (0,0,0) to (10,10,10) with a sheet of two triangles between three of its corners, each triangle with its own
@@ -29,13 +26,13 @@ const BODY: &[u8] =
 g body\nf 1 4 2\nf 1 3 4\nf 5 6 8\nf 5 8 7\nf 1 2 5\nf 2 6 5\n\
 f 2 4 8\nf 2 8 6\nf 4 3 7\nf 4 7 8\nf 1 5 7\nf 1 7 3\n";
 
-fn read(alloc: Global, text: &[u8]) -> Result<Mesh, Fail> {
-    let soup = read_obj(alloc, text, 0, &Limits::program())?;
-    Ok(Mesh::check(alloc, soup)?)
+fn read(rt: &impl Abort, alloc: Global, text: &[u8]) -> Mesh {
+    let soup = read_obj(alloc, text, 0, &Limits::program()).expect(rt, "a soup");
+    Mesh::check(alloc, soup).expect(rt, "closed triangles")
 }
 
 // The labels of all triangles, one behind the other.
-fn labels_of(alloc: Global, mesh: &Mesh) -> Result<String, Fail> {
+fn labels_of(alloc: Global, mesh: &Mesh) -> Result<String, AllocError> {
     let mut text = String::new(alloc);
     for triangle in 0..mesh.triples().len() {
         for byte in mesh.label(triangle as u32) {
@@ -45,23 +42,27 @@ fn labels_of(alloc: Global, mesh: &Mesh) -> Result<String, Fail> {
     Ok(text)
 }
 
-// The labels of what an operation gives of the box and the post.
-fn labels_after(alloc: Global, op: Op) -> Result<String, Fail> {
-    let (p, q) = (read(alloc, BOX_WITH_SHEET)?, read(alloc, POST)?);
-    let kernels = Grid { rounding: Nearest };
-    let outcome = operated(alloc, op, &p, &q, &kernels, &Limits::program())?;
-    labels_of(alloc, &outcome.mesh)
+// Compares the labels of all triangles with a text.
+fn expect_labels(rt: &impl Abort, alloc: Global, mesh: &Mesh, expected: &str) {
+    let labels = labels_of(alloc, mesh).expect(rt, "a text");
+    assert_eq!(rt; labels.as_str(), expected);
 }
 
+// Operations on the box and the post, and the labels of what they give.
+const OPERATIONS: [(Op, &str); 3] = [
+    (Op::Union, "abccccccddddddddefghijklCDEEFFGGHHIJJKKL"),
+    (Op::Intersect, "cccdddddABEEEFGGGHIIJKLL"),
+    (Op::Subtract, "abccccccddddddddefghijklABEEEFGGGHIIJKLL"),
+];
+
 #[test]
-fn a_triangle_has_the_label_of_its_source_face(rt: HostRuntime) -> Result<(), Fail> {
-    let united = labels_after(rt.alloc(), Op::Union)?;
-    assert_eq!(rt; united.as_str(), "abccccccddddddddefghijklCDEEFFGGHHIJJKKL");
-    let common = labels_after(rt.alloc(), Op::Intersect)?;
-    assert_eq!(rt; common.as_str(), "cccdddddABEEEFGGGHIIJKLL");
-    let rest = labels_after(rt.alloc(), Op::Subtract)?;
-    assert_eq!(rt; rest.as_str(), "abccccccddddddddefghijklABEEEFGGGHIIJKLL");
-    Ok(())
+fn a_triangle_has_the_label_of_its_source_face(rt: HostRuntime) {
+    let p = read(&rt, rt.alloc(), BOX_WITH_SHEET);
+    let q = read(&rt, rt.alloc(), POST);
+    for (op, labels) in OPERATIONS {
+        let outcome = to_the_nearest(&rt, rt.alloc(), op, &p, &q);
+        expect_labels(&rt, rt.alloc(), &outcome.mesh, labels);
+    }
 }
 
 // How many triangles have this label.
@@ -76,33 +77,25 @@ fn count_of(mesh: &Mesh, label: &[u8]) -> usize {
 }
 
 #[test]
-fn faces_of_a_mesh_without_labels_stay_without(rt: HostRuntime) -> Result<(), Fail> {
-    let body = read(rt.alloc(), BODY)?;
-    let (_, post) = read_meshes(rt.alloc(), POST_IN_BOX)?;
-    let kernels = Grid { rounding: Nearest };
-    let limits = Limits::program();
-    let rest = operated(rt.alloc(), Op::Subtract, &body, &post, &kernels, &limits)?;
+fn faces_of_a_mesh_without_labels_stay_without(rt: HostRuntime) {
+    let body = read(&rt, rt.alloc(), BODY);
+    let (_, post) = read_meshes(rt.alloc(), POST_IN_BOX).expect(&rt, "two meshes");
+    let rest = to_the_nearest(&rt, rt.alloc(), Op::Subtract, &body, &post);
     assert!(rt; count_of(&rest.mesh, b"body") == 24);
     assert!(rt; count_of(&rest.mesh, b"") == 16);
-    Ok(())
-}
-
-// Compares the labels of all triangles with a text.
-fn expect_labels(rt: &impl Abort, alloc: Global, mesh: &Mesh, expected: &str) -> Result<(), Fail> {
-    let labels = labels_of(alloc, mesh)?;
-    assert_eq!(rt; labels.as_str(), expected);
-    Ok(())
 }
 
 #[test]
-fn reduction_and_motions_keep_labels(rt: HostRuntime) -> Result<(), Fail> {
-    let mesh = read(rt.alloc(), BOX_WITH_SHEET)?;
-    let all = "xabcdefyghijkl";
-    expect_labels(&rt, rt.alloc(), &mesh, all)?;
-    expect_labels(&rt, rt.alloc(), &mesh.clone()?, all)?;
-    expect_labels(&rt, rt.alloc(), &shift(rt.alloc(), &mesh, [1, 2, 3])?, all)?;
-    expect_labels(&rt, rt.alloc(), &scale(rt.alloc(), &mesh, 3)?, all)?;
-    expect_labels(&rt, rt.alloc(), &mirror(rt.alloc(), &mesh, 1)?, all)?;
-    expect_labels(&rt, rt.alloc(), &quarter_turn(rt.alloc(), &mesh, 2)?, all)?;
-    expect_labels(&rt, rt.alloc(), &reduce(rt.alloc(), &mesh)?, "abcdefghijkl")
+fn reduction_and_motions_keep_labels(rt: HostRuntime) {
+    let mesh = read(&rt, rt.alloc(), BOX_WITH_SHEET);
+    let copy = mesh.clone().expect(&rt, "a copy");
+    let shifted = shift(rt.alloc(), &mesh, [1, 2, 3]).expect(&rt, "it stays on the grid");
+    let scaled = scale(rt.alloc(), &mesh, 3).expect(&rt, "it stays on the grid");
+    let mirrored = mirror(rt.alloc(), &mesh, 1).expect(&rt, "it stays on the grid");
+    let turned = quarter_turn(rt.alloc(), &mesh, 2).expect(&rt, "it stays on the grid");
+    let reduced = reduce(rt.alloc(), &mesh).expect(&rt, "memory");
+    for mesh in &[&mesh, &copy, &shifted, &scaled, &mirrored, &turned] {
+        expect_labels(&rt, rt.alloc(), mesh, "xabcdefyghijkl");
+    }
+    expect_labels(&rt, rt.alloc(), &reduced, "abcdefghijkl");
 }

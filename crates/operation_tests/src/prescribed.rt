@@ -10,59 +10,38 @@ use mesh_check::Mesh;
 use retained_verts::{PrescribeFault, Prescribed, prescribe};
 use std::alloc::Global;
 use std::process::Abort;
-use std::test::Fail;
 use table::PAIRS;
 use test_tables::{POST_IN_BOX, plain_side, read_meshes, read_numbers, read_pair};
 use text::text_of;
 
-// What the numbers of a line prescribe for two sides.
-fn answer_of_sides(
-    alloc: Global,
-    op: Op,
-    p: &Side,
-    q: &Side,
-    numbers: &str,
-    limits: &Limits,
-) -> Result<Result<Prescribed, PrescribeFault>, Fail> {
-    let (windings, hits) = read_numbers(alloc, numbers)?;
-    if !are_of_sides(p, q, &windings, &hits) {
-        return Err("other numbers".into());
-    }
-    Ok(prescribe(alloc, op, p, q, &windings, &hits, limits))
-}
-
-// What they prescribe for two meshes without marks.
+// What the numbers of a line prescribe for two meshes without marks.
 fn answer(
+    rt: &impl Abort,
     alloc: Global,
     op: Op,
     p: &Mesh,
     q: &Mesh,
     numbers: &str,
     limits: &Limits,
-) -> Result<Result<Prescribed, PrescribeFault>, Fail> {
-    let p = plain_side(alloc, p)?;
-    let q = plain_side(alloc, q)?;
-    answer_of_sides(alloc, op, &p, &q, numbers, limits)
+) -> Result<Prescribed, PrescribeFault> {
+    let p = plain_side(alloc, p).expect(rt, "the first side");
+    let q = plain_side(alloc, q).expect(rt, "the second side");
+    let (windings, hits) = read_numbers(alloc, numbers).expect(rt, "numbers");
+    assert!(rt; are_of_sides(&p, &q, &windings, &hits));
+    prescribe(alloc, op, &p, &q, &windings, &hits, limits)
 }
 
 /// Compares what a pair prescribes with the line of a table.
-pub fn expect_line(
-    rt: &impl Abort,
-    alloc: Global,
-    meshes: &str,
-    numbers: &str,
-    expected: &str,
-) -> Result<(), Fail> {
-    let (op, p, q) = read_pair(alloc, meshes)?;
-    let all = answer(alloc, op, &p, &q, numbers, &Limits::program())??;
-    let text = text_of(alloc, &all)?;
+pub fn expect_line(rt: &impl Abort, alloc: Global, meshes: &str, numbers: &str, expected: &str) {
+    let (op, p, q) = read_pair(alloc, meshes).expect(rt, "a pair");
+    let all = answer(rt, alloc, op, &p, &q, numbers, &Limits::program());
+    let text = text_of(alloc, &all.expect(rt, "few half-edges")).expect(rt, "a text");
     assert_eq!(rt; text.as_str(), expected, "{meshes}");
-    Ok(())
 }
 
 #[test]
-fn agrees_with_the_table(rt: HostRuntime) -> Result<(), Fail> {
-    expect_rows(&rt, rt.alloc(), &Kind::Prescribed, PAIRS, 60)
+fn agrees_with_the_table(rt: HostRuntime) {
+    expect_rows(&rt, rt.alloc(), &Kind::Prescribed, PAIRS, 60);
 }
 
 // The numbers of the box and the post.
@@ -70,23 +49,22 @@ const NUMBERS: &str =
     "00000000 11110000 84144a 86-166a | d2154a e3-134a f2164a j3167a k2-165a p3137a q3-157a w3-135a";
 
 // Whether what is prescribed is within its limits, and the counts, or the half-edges alone where they are too many.
-fn counts_of(all: &Result<Prescribed, PrescribeFault>) -> Result<(bool, [u64; 4]), Fail> {
+fn counts_of(all: &Result<Prescribed, PrescribeFault>) -> (bool, [u64; 4]) {
     match all {
-        Ok(all) => Ok((
+        Ok(all) => (
             true,
             [all.kept[0], all.kept[1], all.crossings, all.halfedges],
-        )),
-        Err(PrescribeFault::TooLarge { seen }) => Ok((false, [0, 0, 0, *seen])),
-        Err(PrescribeFault::NoMemory) => Err("no memory".into()),
+        ),
+        Err(PrescribeFault::TooLarge { seen }) => (false, [0, 0, 0, *seen]),
+        Err(PrescribeFault::NoMemory) => (false, [0; 4]),
     }
 }
 
 // That of the boxes for an operation, with as many half-edges at most.
-fn boxes(alloc: Global, op: Op, halfedges: u32) -> Result<(bool, [u64; 4]), Fail> {
-    let limits = Limits::of(1 << 31, 15_000_000, 10_000_000, halfedges).ok_or("no limits")?;
-    let (p, q) = read_meshes(alloc, POST_IN_BOX)?;
-    let all = answer(alloc, op, &p, &q, NUMBERS, &limits)?;
-    counts_of(&all)
+fn boxes(rt: &impl Abort, alloc: Global, op: Op, halfedges: u32) -> (bool, [u64; 4]) {
+    let limits = Limits::of(1 << 31, 15_000_000, 10_000_000, halfedges).expect(rt, "limits");
+    let (p, q) = read_meshes(alloc, POST_IN_BOX).expect(rt, "two meshes");
+    counts_of(&answer(rt, alloc, op, &p, &q, NUMBERS, &limits))
 }
 
 // The counts at limits that are just enough, and the half-edges below them.
@@ -100,12 +78,11 @@ const COUNTS: [(Op, u32, bool, [u64; 4]); 6] = [
 ];
 
 #[test]
-fn a_post_in_a_box_is_counted(rt: HostRuntime) -> Result<(), Fail> {
+fn a_post_in_a_box_is_counted(rt: HostRuntime) {
     for (op, halfedges, is_within, wanted) in COUNTS {
-        let (within, counts) = boxes(rt.alloc(), op, halfedges)?;
+        let (within, counts) = boxes(&rt, rt.alloc(), op, halfedges);
         assert!(rt; within == is_within && counts == wanted, "at {halfedges}");
     }
-    Ok(())
 }
 
 // All vertices of both boxes once, then the crossing.
@@ -113,8 +90,8 @@ const TWICE: &str =
     "8 8 2 78 p0000 p1a00 p20a0 p3aa0 p400a p5a0a p60aa p7aaa q0345 q1645 q2375 q3675 q434k q564k q637k q767k e00123 e00123";
 
 #[test]
-fn a_crossing_of_number_2_is_listed_twice(rt: HostRuntime) -> Result<(), Fail> {
-    let meshes = format!(in rt.alloc(); "union {POST_IN_BOX}")?;
+fn a_crossing_of_number_2_is_listed_twice(rt: HostRuntime) {
+    let meshes = format!(in rt.alloc(); "union {POST_IN_BOX}").expect(&rt, "a line");
     let numbers = "00000000 00000000 002123 |";
-    expect_line(&rt, rt.alloc(), meshes.as_str(), numbers, TWICE)
+    expect_line(&rt, rt.alloc(), meshes.as_str(), numbers, TWICE);
 }

@@ -2,7 +2,6 @@
 use crate::{faces, prescribed, results};
 use std::alloc::Global;
 use std::process::Abort;
-use std::test::Fail;
 
 /// What the rows of a table tell.
 #[derive(Drop)]
@@ -21,7 +20,7 @@ fn expect_row(
     meshes: &str,
     second: &str,
     third: &str,
-) -> Result<(), Fail> {
+) {
     match kind {
         Kind::Faces => faces::expect_line(rt, alloc, meshes, second, third),
         Kind::Prescribed => prescribed::expect_line(rt, alloc, meshes, second, third),
@@ -31,21 +30,14 @@ fn expect_row(
 }
 
 /// Compares what each row of a table gives with it, and how many there are.
-pub fn expect_rows(
-    rt: &impl Abort,
-    alloc: Global,
-    kind: &Kind,
-    table: &str,
-    count: u64,
-) -> Result<(), Fail> {
+pub fn expect_rows(rt: &impl Abort, alloc: Global, kind: &Kind, table: &str, count: u64) {
     let mut lines = table.lines();
     let mut found: u64 = 0;
     while let Some(meshes) = lines.next() {
-        let second = lines.next().ok_or("no second line")?;
-        let third = lines.next().ok_or("no third line")?;
-        expect_row(rt, alloc, kind, meshes, second, third)?;
+        let second = lines.next().expect(rt, "a second line");
+        let third = lines.next().expect(rt, "a third line");
+        expect_row(rt, alloc, kind, meshes, second, third);
         found = found.wrapping_add(1);
     }
-    assert_eq!(rt; found, count);
-    Ok(())
+    assert!(rt; found == count, "{found} rows");
 }

@@ -1,3 +1,4 @@
+mod Joined
 pub mod Puts
 pub mod Said
 pub mod ScriptLines

@@ -1,3 +1,4 @@
 pub mod Counts
 pub mod Measures
 pub mod Reports
+pub mod Taken

@@ -1,8 +1,8 @@
 // Numbers in one digit each.
 ghost use Rattle.std.specs.Prelude.{◌≤◌, IfSome};
 
+use crate::NoRow;
 use std::alloc::Global;
-use std::test::Fail;
 
 const DIGITS: &[u8; 62] = b"0123456789abcdefghijklmnopqrstuvwxyzABCDEFGHIJKLMNOPQRSTUVWXYZ";
 
@@ -19,14 +19,14 @@ fn value_of(digit: u8) -> Option<u8>
 }
 
 /// The numbers of a word, from -61 to 61, a digit each, with a sign before those below 0; a point stands for none.
-pub fn numbers_of(alloc: Global, word: &str) -> Result<Vec<i8>, Fail> {
+pub fn numbers_of(alloc: Global, word: &str) -> Result<Vec<i8>, NoRow> {
     let mut numbers = Vec::new(alloc);
     let mut sign = 1;
     for byte in word.as_bytes() {
         if *byte == b'-' {
             sign = -1;
         } else if *byte != b'.' {
-            let value = value_of(*byte).ok_or("no digit")?;
+            let value = value_of(*byte).ok_or(NoRow::NoDigit)?;
             numbers.push(if sign < 0 {
                 -(value as i8)
             } else {
@@ -39,19 +39,19 @@ pub fn numbers_of(alloc: Global, word: &str) -> Result<Vec<i8>, Fail> {
 }
 
 /// Adds a number of at most 61 in one digit.
-pub fn push_digit(text: &mut String, number: u32) -> Result<(), Fail> {
-    let digit = DIGITS.get(number as usize).ok_or("no digit")?;
+pub fn push_digit(text: &mut String, number: u32) -> Result<(), NoRow> {
+    let digit = DIGITS.get(number as usize).ok_or(NoRow::NoDigit)?;
     Ok(text.push(char::from(*digit))?)
 }
 
 /// Adds a number from -61 to 61 in one digit, after a sign where it is below 0.
-pub fn push_signed(text: &mut String, number: i64) -> Result<(), Fail> {
+pub fn push_signed(text: &mut String, number: i64) -> Result<(), NoRow> {
     if number < 0 {
         text.push('-')?;
     }
     let size = number.unsigned_abs();
     if size > 61 {
-        return Err("no digit".into());
+        return Err(NoRow::NoDigit);
     }
     push_digit(text, size as u32)
 }

@@ -4,11 +4,13 @@
 mod digits;
 mod handed;
 mod meshes;
+mod no_row;
 mod numbers;
 mod vertices;
 
 pub use digits::push_digit;
 pub use handed::{are_hits, are_windings};
 pub use meshes::{POST_IN_BOX, marked_side, plain_side, read_meshes, read_pair};
+pub use no_row::NoRow;
 pub use numbers::{read_numbers, write_numbers};
 pub use vertices::push_vertex;

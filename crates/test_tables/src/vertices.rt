@@ -1,11 +1,11 @@
 // Where vertices come from.
+use crate::NoRow;
 use crate::digits::push_digit;
 use mb_base::{Origin, Point};
-use std::test::Fail;
 
 /// Adds the word of a vertex: where it comes from, `p` and a vertex of the first mesh or `q` and one of the second, `e` and an edge of the first with a face of the
 /// second or `f` the other way round; then its point. Each number is one digit.
-pub fn push_vertex(text: &mut String, origin: &Origin, point: &Point) -> Result<(), Fail> {
+pub fn push_vertex(text: &mut String, origin: &Origin, point: &Point) -> Result<(), NoRow> {
     push_origin(text, origin)?;
     for coordinate in point.at() {
         push_digit(text, coordinate.unsigned_abs())?;
@@ -13,7 +13,7 @@ pub fn push_vertex(text: &mut String, origin: &Origin, point: &Point) -> Result<
     Ok(())
 }
 
-fn push_origin(text: &mut String, origin: &Origin) -> Result<(), Fail> {
+fn push_origin(text: &mut String, origin: &Origin) -> Result<(), NoRow> {
     match origin {
         Origin::PVertex { vertex } => push_word(text, 'p', *vertex, None),
         Origin::QVertex { vertex } => push_word(text, 'q', *vertex, None),
@@ -22,7 +22,7 @@ fn push_origin(text: &mut String, origin: &Origin) -> Result<(), Fail> {
     }
 }
 
-fn push_word(text: &mut String, kind: char, number: u32, face: Option<u32>) -> Result<(), Fail> {
+fn push_word(text: &mut String, kind: char, number: u32, face: Option<u32>) -> Result<(), NoRow> {
     text.push(kind)?;
     push_digit(text, number)?;
     if let Some(face) = face {

@@ -4,7 +4,6 @@ use command_words::{Command, read_command};
 use mb_base::NoMemory;
 use std::alloc::Global;
 use std::process::Abort;
-use std::test::Fail;
 
 // The word of a command, its digits, its one or two names, and its point.
 type Parts<'a> = (&'a str, u8, &'a str, &'a str, [i32; 3]);
@@ -38,32 +37,26 @@ fn are_parts(found: &Parts<'_>, wanted: &Parts<'_>) -> bool {
 }
 
 // Whether the words are this command.
-fn reads_as(alloc: Global, words: &[&str], wanted: &Parts<'_>) -> Result<bool, NoMemory> {
-    let list = listed(alloc, words)?;
+fn reads_as(rt: &impl Abort, alloc: Global, words: &[&str], wanted: &Parts<'_>) -> bool {
+    let list = listed(alloc, words).expect(rt, "a list");
     match read_command(alloc, &list) {
-        Ok(found) => Ok(are_parts(&parts_of(&found), wanted)),
-        Err(NoMemory) => Err(NoMemory),
+        Ok(found) => are_parts(&parts_of(&found), wanted),
+        Err(NoMemory) => false,
     }
 }
 
 // Each row of words is no command.
-fn assert_none(rt: &impl Abort, alloc: Global, rows: &[&[&str]]) -> Result<(), Fail> {
+fn assert_none(rt: &impl Abort, alloc: Global, rows: &[&[&str]]) {
     for words in rows {
-        assert!(rt; reads_as(alloc, words, &NOTHING)?, "at {words:?}");
+        assert!(rt; reads_as(rt, alloc, words, &NOTHING), "at {words:?}");
     }
-    Ok(())
 }
 
 // Each row of words is this command.
-fn assert_commands(
-    rt: &impl Abort,
-    alloc: Global,
-    rows: &[(&[&str], Parts<'static>)],
-) -> Result<(), Fail> {
+fn assert_commands(rt: &impl Abort, alloc: Global, rows: &[(&[&str], Parts<'static>)]) {
     for (words, wanted) in rows {
-        assert!(rt; reads_as(alloc, words, wanted)?, "at {words:?}");
+        assert!(rt; reads_as(rt, alloc, words, wanted), "at {words:?}");
     }
-    Ok(())
 }
 
 static OTHER_WORDS: [&[&str]; 21] = [
@@ -91,8 +84,8 @@ static OTHER_WORDS: [&[&str]; 21] = [
 ];
 
 #[test]
-fn other_words_are_no_command(rt: HostRuntime) -> Result<(), Fail> {
-    assert_none(&rt, rt.alloc(), &OTHER_WORDS)
+fn other_words_are_no_command(rt: HostRuntime) {
+    assert_none(&rt, rt.alloc(), &OTHER_WORDS);
 }
 
 static OTHER_DIGITS: [&[&str]; 16] = [
@@ -123,8 +116,8 @@ static OTHER_DIGITS: [&[&str]; 16] = [
 ];
 
 #[test]
-fn other_digits_are_no_command(rt: HostRuntime) -> Result<(), Fail> {
-    assert_none(&rt, rt.alloc(), &OTHER_DIGITS)
+fn other_digits_are_no_command(rt: HostRuntime) {
+    assert_none(&rt, rt.alloc(), &OTHER_DIGITS);
 }
 
 static OTHER_POINTS: [&[&str]; 9] = [
@@ -140,8 +133,8 @@ static OTHER_POINTS: [&[&str]; 9] = [
 ];
 
 #[test]
-fn a_point_has_three_numbers_on_the_grid(rt: HostRuntime) -> Result<(), Fail> {
-    assert_none(&rt, rt.alloc(), &OTHER_POINTS)
+fn a_point_has_three_numbers_on_the_grid(rt: HostRuntime) {
+    assert_none(&rt, rt.alloc(), &OTHER_POINTS);
 }
 
 static NAMED: [(&[&str], Parts<'static>); 4] = [
@@ -164,8 +157,8 @@ static NAMED: [(&[&str], Parts<'static>); 4] = [
 ];
 
 #[test]
-fn names_of_both_formats_are_taken(rt: HostRuntime) -> Result<(), Fail> {
-    assert_commands(&rt, rt.alloc(), &NAMED)
+fn names_of_both_formats_are_taken(rt: HostRuntime) {
+    assert_commands(&rt, rt.alloc(), &NAMED);
 }
 
 static POINTS: [(&[&str], Parts<'static>); 8] = [
@@ -204,8 +197,8 @@ static POINTS: [(&[&str], Parts<'static>); 8] = [
 ];
 
 #[test]
-fn a_point_is_read_as_the_digits_say(rt: HostRuntime) -> Result<(), Fail> {
-    assert_commands(&rt, rt.alloc(), &POINTS)
+fn a_point_is_read_as_the_digits_say(rt: HostRuntime) {
+    assert_commands(&rt, rt.alloc(), &POINTS);
 }
 
 static DIGITS: [(&[&str], Parts<'static>); 8] = [
@@ -244,8 +237,8 @@ static DIGITS: [(&[&str], Parts<'static>); 8] = [
 ];
 
 #[test]
-fn digits_stand_anywhere_before_the_end_of_options(rt: HostRuntime) -> Result<(), Fail> {
-    assert_commands(&rt, rt.alloc(), &DIGITS)
+fn digits_stand_anywhere_before_the_end_of_options(rt: HostRuntime) {
+    assert_commands(&rt, rt.alloc(), &DIGITS);
 }
 
 static SCRIPTS: [(&[&str], Parts<'static>); 5] = [
@@ -263,6 +256,6 @@ static SCRIPTS: [(&[&str], Parts<'static>); 5] = [
 ];
 
 #[test]
-fn a_script_has_any_name(rt: HostRuntime) -> Result<(), Fail> {
-    assert_commands(&rt, rt.alloc(), &SCRIPTS)
+fn a_script_has_any_name(rt: HostRuntime) {
+    assert_commands(&rt, rt.alloc(), &SCRIPTS);
 }

@@ -1,12 +1,12 @@
 // The groups of faces: what is read of a `g` line, and what is written of it.
 use crate::lists::joined;
-use mb_base::{Labels, Limits, NoMemory, Soup};
+use mb_base::{Labels, Limits, Soup};
 use mb_outside::MemorySink;
 use mesh_check::Mesh;
 use mesh_writer::write_obj;
 use obj_text::read_obj;
 use std::alloc::Global;
-use std::test::Fail;
+use std::process::Abort;
 
 // A triangle and its reverse, and between them the line of a group.
 const FRONT: &[u8] = b"v 0 0 0\nv 1 0 0\nv 0 1 0\nf 1 2 3\n";
@@ -46,43 +46,44 @@ static GROUPS: [(&[u8], &[u8]); 14] = [
 ];
 
 // What is read where this line stands between the triangles, under limits that allow no more.
-fn read_between(alloc: Global, line: &[u8], limits: &Limits) -> Result<Option<Soup>, NoMemory> {
-    let bytes = joined(alloc, FRONT, line, AFTER)?;
-    Ok(read_obj(alloc, &bytes, 0, limits).ok())
+fn read_between(rt: &impl Abort, alloc: Global, line: &[u8], limits: &Limits) -> Option<Soup> {
+    let bytes = joined(alloc, FRONT, line, AFTER).expect(rt, "a text");
+    read_obj(alloc, &bytes, 0, limits).ok()
+}
+
+// The mesh of that.
+fn mesh_between(rt: &impl Abort, alloc: Global, line: &[u8], limits: &Limits) -> Option<Mesh> {
+    Mesh::check(alloc, read_between(rt, alloc, line, limits)?).ok()
+}
+
+// Whether this is written of a mesh between the triangles.
+fn is_text(rt: &impl Abort, alloc: Global, mesh: &Mesh, wanted: &[u8]) -> bool {
+    let text = joined(alloc, FRONT, wanted, AFTER).expect(rt, "a text");
+    let mut sink = MemorySink::of(alloc, 1000, 1000, Vec::new(alloc)).expect(rt, "a sink");
+    write_obj(mesh, 0, &mut sink).is_ok() && sink.bytes() == text.as_slice()
 }
 
 // Whether this is written where that stands between the triangles.
-fn is_written(
-    alloc: Global,
-    line: &[u8],
-    wanted: &[u8],
-    limits: &Limits,
-) -> Result<bool, NoMemory> {
-    let Some(soup) = read_between(alloc, line, limits)? else {
-        return Ok(false);
-    };
-    let text = joined(alloc, FRONT, wanted, AFTER)?;
-    let Some(mesh) = Mesh::check(alloc, soup).ok() else {
-        return Ok(false);
-    };
-    let mut sink = MemorySink::of(alloc, 1000, 1000, Vec::new(alloc))?;
-    Ok(write_obj(&mesh, 0, &mut sink).is_ok() && sink.bytes() == text.as_slice())
+fn is_written(rt: &impl Abort, alloc: Global, line: &[u8], wanted: &[u8], limits: &Limits) -> bool {
+    match mesh_between(rt, alloc, line, limits) {
+        Some(mesh) => is_text(rt, alloc, &mesh, wanted),
+        None => false,
+    }
 }
 
 #[test]
-fn groups_are_written_as_they_were_read(rt: HostRuntime) -> Result<(), Fail> {
-    let limits = Limits::of(321, 3, 2, 0).ok_or("these limits are lawful")?;
+fn groups_are_written_as_they_were_read(rt: HostRuntime) {
+    let limits = Limits::of(321, 3, 2, 0).expect(&rt, "these limits are lawful");
     for (line, wanted) in &GROUPS {
         assert!(rt;
-            is_written(rt.alloc(), line, wanted, &limits)?,
+            is_written(&rt, rt.alloc(), line, wanted, &limits),
             "at {line:?}"
         );
         assert!(rt;
-            is_written(rt.alloc(), wanted, wanted, &limits)?,
+            is_written(&rt, rt.alloc(), wanted, wanted, &limits),
             "again at {line:?}"
         );
     }
-    Ok(())
 }
 
 // Whether these are an empty label and this one, and past their end an empty one.
@@ -94,14 +95,14 @@ fn are_two(labels: &Labels, second: &[u8]) -> bool {
 }
 
 #[test]
-fn labels_stand_by_their_triangles(rt: HostRuntime) -> Result<(), Fail> {
-    let limits = Limits::of(321, 3, 2, 0).ok_or("these limits are lawful")?;
-    let plain = read_between(rt.alloc(), b"g\n", &limits)?.ok_or("this is read")?;
+fn labels_stand_by_their_triangles(rt: HostRuntime) {
+    let limits = Limits::of(321, 3, 2, 0).expect(&rt, "these limits are lawful");
+    let plain = read_between(&rt, rt.alloc(), b"g\n", &limits).expect(&rt, "this is read");
     assert!(rt; plain.labels().is_none());
-    let grouped = read_between(rt.alloc(), b"g red  blue\n", &limits)?.ok_or("this is read")?;
-    let labels = grouped.labels().ok_or("one has a label")?;
+    let grouped = read_between(&rt, rt.alloc(), b"g red  blue\n", &limits);
+    let grouped = grouped.expect(&rt, "this is read");
+    let labels = grouped.labels().expect(&rt, "one has a label");
     assert!(rt; are_two(labels, b"red blue"));
-    let copy = labels.copy(rt.alloc())?;
+    let copy = labels.copy(rt.alloc()).expect(&rt, "a copy");
     assert!(rt; are_two(&copy, b"red blue"));
-    Ok(())
 }

@@ -6,7 +6,7 @@ use mesh_check::Mesh;
 use mesh_writer::write_stl;
 use obj_text::read_obj;
 use std::alloc::Global;
-use std::test::Fail;
+use std::process::Abort;
 use stl_text::read_stl;
 
 const EMPTY: &[u8] = b"";
@@ -23,13 +23,18 @@ fn push_all(labels: &mut Labels, source: &Labels, triangles: &[u32]) -> Result<(
     Ok(())
 }
 
+// The soup of the source.
+fn source(rt: &impl Abort, alloc: Global) -> Soup {
+    read_obj(alloc, SOURCE, 0, &Limits::program()).expect(rt, "the source is read")
+}
+
 // The labels of these triangles of the source.
-fn labels_of(alloc: Global, triangles: &[u32]) -> Result<Labels, Fail> {
-    let soup = read_obj(alloc, SOURCE, 0, &Limits::program())?;
-    let source = soup.labels().ok_or("the source has labels")?;
+fn labels_of(rt: &impl Abort, alloc: Global, triangles: &[u32]) -> Labels {
+    let soup = source(rt, alloc);
+    let source = soup.labels().expect(rt, "the source has labels");
     let mut labels = Labels::start(alloc);
-    push_all(&mut labels, source, triangles)?;
-    Ok(labels)
+    push_all(&mut labels, source, triangles).expect(rt, "labels are added");
+    labels
 }
 
 // Whether these are the labels, with an empty one past their end.
@@ -63,30 +68,27 @@ const SHARED: [(u32, u32, bool); 7] = [
 ];
 
 #[test]
-fn labels_are_added_at_the_end(rt: HostRuntime) -> Result<(), Fail> {
-    let labels = labels_of(rt.alloc(), &[])?;
-    assert!(rt; are(&labels, &[]) && labels.shares(0, 1));
-    let labels = labels_of(rt.alloc(), &[0, 1, 1, 2])?;
+fn labels_are_added_at_the_end(rt: HostRuntime) {
+    let none = labels_of(&rt, rt.alloc(), &[]);
+    assert!(rt; are(&none, &[]) && none.shares(0, 1));
+    let labels = labels_of(&rt, rt.alloc(), &[0, 1, 1, 2]);
     assert!(rt; are(&labels, &FOUR));
     for (t, other, shared) in &SHARED {
         assert!(rt; labels.shares(*t, *other) == *shared, "{t} and {other}");
     }
-    Ok(())
 }
 
 #[test]
-fn a_copy_and_its_original_grow_apart(rt: HostRuntime) -> Result<(), Fail> {
-    let soup = read_obj(rt.alloc(), SOURCE, 0, &Limits::program())?;
-    let source = soup.labels().ok_or("the source has labels")?;
-    let mut labels = Labels::start(rt.alloc());
-    push_all(&mut labels, source, &[0, 1, 1, 2])?;
-    let mut copy = labels.copy(rt.alloc())?;
+fn a_copy_and_its_original_grow_apart(rt: HostRuntime) {
+    let soup = source(&rt, rt.alloc());
+    let source = soup.labels().expect(&rt, "the source has labels");
+    let mut labels = labels_of(&rt, rt.alloc(), &[0, 1, 1, 2]);
+    let mut copy = labels.copy(rt.alloc()).expect(&rt, "a copy");
     assert!(rt; are(&copy, &FOUR));
-    push_all(&mut copy, source, &[3])?;
+    push_all(&mut copy, source, &[3]).expect(&rt, "one more");
     assert!(rt; are(&copy, &FOUR_AND_C) && are(&labels, &FOUR));
-    push_all(&mut labels, source, &[2])?;
+    push_all(&mut labels, source, &[2]).expect(&rt, "another one");
     assert!(rt; are(&copy, &FOUR_AND_C) && are(&labels, &FOUR_AND_B));
-    Ok(())
 }
 
 // Faces of two lists, the first of three faces with one label, the second with three labels.
@@ -97,14 +99,13 @@ const THEIRS: [&[u8]; 12] = [
 ];
 
 #[test]
-fn faces_of_two_lists_have_their_labels(rt: HostRuntime) -> Result<(), Fail> {
-    let first = labels_of(rt.alloc(), &[1])?;
-    let second = labels_of(rt.alloc(), &[2, 0, 3])?;
-    let labels = Labels::of_faces(rt.alloc(), &first, &second, 3, &FACES)?;
+fn faces_of_two_lists_have_their_labels(rt: HostRuntime) {
+    let first = labels_of(&rt, rt.alloc(), &[1]);
+    let second = labels_of(&rt, rt.alloc(), &[2, 0, 3]);
+    let labels = Labels::of_faces(rt.alloc(), &first, &second, 3, &FACES).expect(&rt, "labels");
     assert!(rt; are(&labels, &THEIRS));
     // A run keeps its place; the two past the end of the first list are one.
     assert!(rt; labels.shares(9, 10) && labels.shares(4, 5) && !labels.shares(8, 9));
-    Ok(())
 }
 
 // A triangle and its reverse, twice, with these labels.
@@ -139,19 +140,20 @@ fn has(mesh: &Mesh, wanted: &[&[u8]]) -> bool {
 }
 
 #[test]
-fn triangles_past_the_labels_have_empty_ones(rt: HostRuntime) -> Result<(), Fail> {
-    let two = labels_of(rt.alloc(), &[1, 2])?;
-    let soup = labelled(rt.alloc(), two)?.ok_or("these are a soup")?;
-    let given = soup.labels().ok_or("it has labels")?;
+fn triangles_past_the_labels_have_empty_ones(rt: HostRuntime) {
+    let two = labels_of(&rt, rt.alloc(), &[1, 2]);
+    let soup = labelled(rt.alloc(), two)
+        .expect(&rt, "lists")
+        .expect(&rt, "these are a soup");
+    let given = soup.labels().expect(&rt, "it has labels");
     assert!(rt; are(given, &[b"a", b"b"]));
-    let mesh = Mesh::check(rt.alloc(), soup)?;
+    let mesh = Mesh::check(rt.alloc(), soup).expect(&rt, "a triangle and its reverse are closed");
     assert!(rt; has(&mesh, &[b"a", b"b", b"", b""]));
-    let others = labels_of(rt.alloc(), &[3, 0, 1])?;
-    let mesh = relabelled(mesh, others).ok_or("it has four triangles")?;
+    let others = labels_of(&rt, rt.alloc(), &[3, 0, 1]);
+    let mesh = relabelled(mesh, others).expect(&rt, "it has four triangles");
     assert!(rt; has(&mesh, &[b"c", b"", b"a", b""]));
-    let mesh = relabelled(mesh, Labels::start(rt.alloc())).ok_or("it has four triangles")?;
+    let mesh = relabelled(mesh, Labels::start(rt.alloc())).expect(&rt, "it has four triangles");
     assert!(rt; has(&mesh, &[EMPTY; 4]));
-    Ok(())
 }
 
 // Squares, two of them in groups.
@@ -161,21 +163,18 @@ const SQUARES: &[u8] =
 const HALVES: [&[u8]; 8] = [b"", b"", b"red", b"red", b"", b"", b"blue", b"blue"];
 
 // What is read of a mesh that was written as STL.
-fn through_stl(alloc: Global, mesh: &Mesh) -> Result<Option<Soup>, NoMemory> {
-    let mut sink = MemorySink::of(alloc, 10_000, 10_000, Vec::new(alloc))?;
-    if write_stl(mesh, 0, &mut sink).is_err() {
-        return Ok(None);
-    }
-    Ok(read_stl(alloc, sink.bytes(), 0, &Limits::program()).ok())
+fn through_stl(rt: &impl Abort, alloc: Global, mesh: &Mesh) -> Soup {
+    let mut sink = MemorySink::of(alloc, 10_000, 10_000, Vec::new(alloc)).expect(rt, "a sink");
+    write_stl(mesh, 0, &mut sink).expect(rt, "it is written");
+    read_stl(alloc, sink.bytes(), 0, &Limits::program()).expect(rt, "it is read")
 }
 
 #[test]
-fn both_halves_of_a_square_have_its_label_until_it_is_stl(rt: HostRuntime) -> Result<(), Fail> {
-    let soup = read_obj(rt.alloc(), SQUARES, 0, &Limits::program())?;
-    let mesh = Mesh::check(rt.alloc(), soup)?;
+fn both_halves_of_a_square_have_its_label_until_it_is_stl(rt: HostRuntime) {
+    let soup = read_obj(rt.alloc(), SQUARES, 0, &Limits::program()).expect(&rt, "it is read");
+    let mesh = Mesh::check(rt.alloc(), soup).expect(&rt, "the squares are closed");
     assert!(rt; has(&mesh, &HALVES));
-    let soup = through_stl(rt.alloc(), &mesh)?.ok_or("this is written and read")?;
-    let again = Mesh::check(rt.alloc(), soup)?;
+    let soup = through_stl(&rt, rt.alloc(), &mesh);
+    let again = Mesh::check(rt.alloc(), soup).expect(&rt, "they still are");
     assert!(rt; has(&again, &[EMPTY; 8]));
-    Ok(())
 }

@@ -3,10 +3,9 @@ ghost use Rattle.std.specs.Prelude.{◌≤◌};
 
 use crate::lists::joined;
 use crate::texts::{Lists, Refused, is_over, is_read, is_refused_at, refuses};
-use mb_base::{Counted, Limits, NoMemory, TextKind};
+use mb_base::{Counted, Limits, TextKind};
 use std::alloc::Global;
 use std::process::Abort;
-use std::test::Fail;
 
 pub const TETRAHEDRON: &[u8] =
     b"v 0 0 0\nv 1 0 0\nv 0 1 0\nv 0 0 1\nf 1 3 2\nf 1 2 4\nf 2 3 4\nf 3 1 4\n";
@@ -82,27 +81,27 @@ static READ: [(&[u8], &[u8], u8, Lists<'static>); 6] = [
 
 // Whether a file of two parts gives these lists.
 fn gives(
+    rt: &impl Abort,
     alloc: Global,
     front: &[u8],
     after: &[u8],
     digits: u8,
     wanted: &Lists<'_>,
-) -> Result<bool, NoMemory>
+) -> bool
     requires { digits ≤ 6 }
 {
-    let bytes = joined(alloc, front, after, b"")?;
-    Ok(is_read(alloc, false, &bytes, digits, &Limits::program(), wanted))
+    let bytes = joined(alloc, front, after, b"").expect(rt, "a text");
+    is_read(alloc, false, &bytes, digits, &Limits::program(), wanted)
 }
 
 #[test]
-fn reads_meshes(rt: HostRuntime) -> Result<(), Fail> {
+fn reads_meshes(rt: HostRuntime) {
     for (front, after, digits, wanted) in &READ {
         assert!(rt;
-            *digits <= 6 && gives(rt.alloc(), front, after, *digits, wanted)?,
+            *digits <= 6 && gives(&rt, rt.alloc(), front, after, *digits, wanted),
             "at {front:?}"
         );
     }
-    Ok(())
 }
 
 // Files, with the line and the fault that refuse them.
@@ -144,14 +143,14 @@ static REFUSED: [Refused; 22] = [
 ];
 
 #[test]
-fn refuses_the_first_faulty_line(rt: HostRuntime) -> Result<(), Fail> {
-    refuses(&rt, rt.alloc(), false, b"", &REFUSED)
+fn refuses_the_first_faulty_line(rt: HostRuntime) {
+    refuses(&rt, rt.alloc(), false, b"", &REFUSED);
 }
 
 #[test]
-fn finds_a_repeat_among_many_vertices(rt: HostRuntime) -> Result<(), Fail> {
+fn finds_a_repeat_among_many_vertices(rt: HostRuntime) {
     let faces = b"f 7 1 14 2 13 3 12 4 11 5 10 6 9 8\nf 7 1 14 2 13 3 12 4 11 5 10 6 9 8 4\n";
-    let bytes = joined(rt.alloc(), MANY_POINTS, faces, b"")?;
+    let bytes = joined(rt.alloc(), MANY_POINTS, faces, b"").expect(&rt, "a text");
     assert!(rt;
         is_refused_at(
             rt.alloc(),
@@ -162,24 +161,22 @@ fn finds_a_repeat_among_many_vertices(rt: HostRuntime) -> Result<(), Fail> {
             TextKind::FaceRepeatsVertex
         )
     );
-    Ok(())
 }
 
 const SQUARE: &[u8] = b"v 0 0 0\nv 1 0 0\nv 1 1 0\nf 1 2 3\nv 0 1 0\nf 1 2 3 4\n";
 
 #[test]
-fn counts_to_the_limits(rt: HostRuntime) -> Result<(), Fail> {
+fn counts_to_the_limits(rt: HostRuntime) {
     let alloc = rt.alloc();
-    let three = Limits::of(1000, 3, 2, 1).ok_or("limits")?;
+    let three = Limits::of(1000, 3, 2, 1).expect(&rt, "limits");
     assert!(rt; is_over(alloc, false, TETRAHEDRON, &three, Counted::Points, 4));
-    let four = Limits::of(1000, 4, 2, 1).ok_or("limits")?;
+    let four = Limits::of(1000, 4, 2, 1).expect(&rt, "limits");
     for bytes in &[TETRAHEDRON, SQUARE] {
         assert!(rt;
             is_over(alloc, false, bytes, &four, Counted::Triangles, 3),
             "at {bytes:?}"
         );
     }
-    Ok(())
 }
 
 // Three points and a triangle in plain lines.
@@ -239,23 +236,17 @@ static MIXED_LINES: [&[u8]; 2] = [
 ];
 
 // Each text after FRONT gives these lists.
-fn assert_given(
-    rt: &impl Abort,
-    alloc: Global,
-    rows: &[&[u8]],
-    wanted: &Lists<'_>,
-) -> Result<(), Fail> {
+fn assert_given(rt: &impl Abort, alloc: Global, rows: &[&[u8]], wanted: &Lists<'_>) {
     for after in rows {
-        assert!(rt; gives(alloc, FRONT, after, 4, wanted)?, "at {after:?}");
+        assert!(rt; gives(rt, alloc, FRONT, after, 4, wanted), "at {after:?}");
     }
-    Ok(())
 }
 
 #[test]
-fn reads_plain_lines_among_others(rt: HostRuntime) -> Result<(), Fail> {
-    assert_given(&rt, rt.alloc(), &PLAIN, &(&THREE, 0, &BOTH))?;
-    assert_given(&rt, rt.alloc(), &PLAIN_BESIDE, &(&THREE, 1, &BOTH))?;
-    assert_given(&rt, rt.alloc(), &MIXED_LINES, &(&FOUR, 0, &MIXED))
+fn reads_plain_lines_among_others(rt: HostRuntime) {
+    assert_given(&rt, rt.alloc(), &PLAIN, &(&THREE, 0, &BOTH));
+    assert_given(&rt, rt.alloc(), &PLAIN_BESIDE, &(&THREE, 1, &BOTH));
+    assert_given(&rt, rt.alloc(), &MIXED_LINES, &(&FOUR, 0, &MIXED));
 }
 
 // What stands after FRONT, with the line and the fault that refuse the file.
@@ -292,8 +283,8 @@ static REFUSED_LATER: [Refused; 29] = [
 ];
 
 #[test]
-fn refuses_faults_after_plain_lines(rt: HostRuntime) -> Result<(), Fail> {
-    refuses(&rt, rt.alloc(), false, FRONT, &REFUSED_LATER)
+fn refuses_faults_after_plain_lines(rt: HostRuntime) {
+    refuses(&rt, rt.alloc(), false, FRONT, &REFUSED_LATER);
 }
 
 // Numbers, and what they are in hundredths by an independent reference program.
@@ -325,33 +316,32 @@ static NUMBERS: [(&str, i32); 22] = [
 const ONE: [[u32; 3]; 1] = [[0, 1, 2]];
 
 // Whether a number is read as so many steps, of which one has so many.
-fn is_in_steps(
-    alloc: Global,
-    word: &str,
-    digits: u8,
-    steps: i32,
-    one: i32,
-) -> Result<bool, NoMemory>
+fn is_in_steps(rt: &impl Abort, alloc: Global, word: &str, digits: u8, steps: i32, one: i32) -> bool
     requires { digits ≤ 6 }
 {
     let after = b" 1 1\nv 0 0 0\nv 0 1 0\nf 1 2 3\n";
-    let bytes = joined(alloc, b"v ", word.as_bytes(), after)?;
     let places = [[steps, one, one], [0, 0, 0], [0, one, 0]];
-    Ok(is_read(
+    let bytes = joined(alloc, b"v ", word.as_bytes(), after).expect(rt, "a text");
+    is_read(
         alloc,
         false,
         &bytes,
         digits,
         &Limits::program(),
         &(&places, 0, &ONE),
-    ))
+    )
 }
 
 #[test]
-fn reads_the_numbers_of_plain_lines(rt: HostRuntime) -> Result<(), Fail> {
+fn reads_the_numbers_of_plain_lines(rt: HostRuntime) {
     for (word, value) in &NUMBERS {
-        assert!(rt; is_in_steps(rt.alloc(), word, 2, *value, 100)?, "at {word}");
+        assert!(rt;
+            is_in_steps(&rt, rt.alloc(), word, 2, *value, 100),
+            "at {word}"
+        );
     }
-    assert!(rt; is_in_steps(rt.alloc(), "0.5", 0, 1, 1)?, "at no digits");
-    Ok(())
+    assert!(rt;
+        is_in_steps(&rt, rt.alloc(), "0.5", 0, 1, 1),
+        "at no digits"
+    );
 }

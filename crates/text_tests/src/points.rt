@@ -4,7 +4,6 @@ ghost use Rattle.std.specs.Prelude.{◌<◌, length};
 use crate::lists::{listed, point_at, points_at, stand_at};
 use crate::texts::has;
 use mb_base::{ArgList, Corner, Limits, Op, Point, Soup, box_of, cross};
-use std::test::Fail;
 
 const GRID_END: i32 = 1 << 30;
 
@@ -16,13 +15,12 @@ const BEYOND: [[i32; 3]; 4] = [
 ];
 
 #[test]
-fn points_end_with_the_grid(rt: HostRuntime) -> Result<(), Fail> {
-    let corner = Point::of(GRID_END, -GRID_END, 0).ok_or("a corner of the grid")?;
+fn points_end_with_the_grid(rt: HostRuntime) {
+    let corner = Point::of(GRID_END, -GRID_END, 0).expect(&rt, "a corner of the grid");
     assert!(rt; corner.at() == [GRID_END, -GRID_END, 0]);
     for at in &BEYOND {
         assert!(rt; point_at(*at).is_none(), "{at:?}");
     }
-    Ok(())
 }
 
 // The bytes, points, triangles and half-edges of some limits.
@@ -36,12 +34,12 @@ fn numbers_of(limits: &Limits) -> [u64; 4] {
 }
 
 #[test]
-fn limits_have_their_numbers(rt: HostRuntime) -> Result<(), Fail> {
-    let most = Limits::of(1 << 40, 150_000_000, 100_000_000, 60_000_000).ok_or("the greatest")?;
+fn limits_have_their_numbers(rt: HostRuntime) {
+    let most = Limits::of(1 << 40, 150_000_000, 100_000_000, 60_000_000);
+    let most = most.expect(&rt, "the greatest");
     assert!(rt; numbers_of(&most) == [1 << 40, 150_000_000, 100_000_000, 60_000_000]);
     let usual = Limits::program();
     assert!(rt; numbers_of(&usual) == [2_147_483_648, 15_000_000, 10_000_000, 6_000_000]);
-    Ok(())
 }
 
 // Limits of which one number is beyond what the others allow. 5 * 3 half-edges need 5 triangles, these 8 points, and
@@ -72,8 +70,8 @@ const TETRAHEDRON: [[i32; 3]; 4] = [[0, 0, 0], [2, 0, 0], [0, 2, 0], [0, 0, 2]];
 const SIDES: [[u32; 3]; 4] = [[0, 2, 1], [0, 1, 3], [1, 2, 3], [2, 0, 3]];
 
 #[test]
-fn lists_fit_where_each_point_is_used(rt: HostRuntime) -> Result<(), Fail> {
-    let points = points_at(rt.alloc(), &TETRAHEDRON)?;
+fn lists_fit_where_each_point_is_used(rt: HostRuntime) {
+    let points = points_at(rt.alloc(), &TETRAHEDRON).expect(&rt, "points");
     assert!(rt; points.len() == 4);
     assert!(rt; !Soup::fits(&points[..3], &SIDES), "there is no last point");
     assert!(rt;
@@ -84,13 +82,12 @@ fn lists_fit_where_each_point_is_used(rt: HostRuntime) -> Result<(), Fail> {
         !Soup::fits(&points, &[[0, 1, 2]]),
         "the last point is unused"
     );
-    Ok(())
 }
 
 #[test]
-fn a_soup_keeps_its_lists(rt: HostRuntime) -> Result<(), Fail> {
-    let points = points_at(rt.alloc(), &TETRAHEDRON)?;
-    let triples = Vec::from_array(rt.alloc(), SIDES)?;
+fn a_soup_keeps_its_lists(rt: HostRuntime) {
+    let points = points_at(rt.alloc(), &TETRAHEDRON).expect(&rt, "points");
+    let triples = Vec::from_array(rt.alloc(), SIDES).expect(&rt, "triangles");
     assert!(rt; Soup::fits(&points, &triples));
     let soup = Soup::of(points, triples, 5);
     assert!(rt; has(&soup, &(&TETRAHEDRON, 5, &SIDES)));
@@ -98,7 +95,6 @@ fn a_soup_keeps_its_lists(rt: HostRuntime) -> Result<(), Fail> {
     assert!(rt;
         stand_at(&points, &TETRAHEDRON) && triples.as_slice() == &SIDES[..] && labels.is_none()
     );
-    Ok(())
 }
 
 const WORDS: [&str; 3] = ["union", "", "β.obj"];
@@ -112,11 +108,10 @@ fn gives_the_words(list: &ArgList) -> bool {
 }
 
 #[test]
-fn a_list_gives_its_words(rt: HostRuntime) -> Result<(), Fail> {
+fn a_list_gives_its_words(rt: HostRuntime) {
     assert!(rt; ArgList::start(rt.alloc()).is_empty());
-    let list = listed(rt.alloc(), &WORDS)?;
+    let list = listed(rt.alloc(), &WORDS).expect(&rt, "a list");
     assert!(rt; gives_the_words(&list));
-    Ok(())
 }
 
 // J. M. Smith's table of the three operations.

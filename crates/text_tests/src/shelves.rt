@@ -8,7 +8,7 @@ use mb_outside::{
 use std::alloc::Global;
 use std::fs;
 use std::io::{self, Write};
-use std::test::Fail;
+use std::process::Abort;
 
 // A call of a shelf.
 #[derive(Clone, Copy, Drop)]
@@ -66,6 +66,7 @@ fn takes<K: Sink>(sink: &mut K, rows: &[(&[u8], Answer)]) -> bool {
 
 // A shelf with one file, and free places for so many bytes each, which takes and gives so many bytes at a time.
 pub fn shelf_with(
+    rt: &impl Abort,
     alloc: Global,
     places: usize,
     room: usize,
@@ -73,12 +74,12 @@ pub fn shelf_with(
     fails: Vec<u64>,
     name: &str,
     bytes: &[u8],
-) -> Result<MemoryShelf, NoMemory>
+) -> MemoryShelf
     requires { 0 < most }
 {
-    let mut shelf = MemoryShelf::of(alloc, places, room, most, fails)?;
-    shelf.put(name, bytes)?;
-    Ok(shelf)
+    let mut shelf = MemoryShelf::of(alloc, places, room, most, fails).expect(rt, "a shelf");
+    shelf.put(name, bytes).expect(rt, "a file");
+    shelf
 }
 
 static FRONT: [(Call, Answer); 3] = [
@@ -94,13 +95,12 @@ static END: [(Call, Answer); 3] = [
 ];
 
 #[test]
-fn a_file_in_memory_is_read_in_pieces(rt: HostRuntime) -> Result<(), Fail> {
+fn a_file_in_memory_is_read_in_pieces(rt: HostRuntime) {
     let fails = Vec::new(rt.alloc());
-    let mut shelf = shelf_with(rt.alloc(), 2, 100, 4, fails, "cube.obj", b"v 0 0 0\n")?;
+    let mut shelf = shelf_with(&rt, rt.alloc(), 2, 100, 4, fails, "cube.obj", b"v 0 0 0\n");
     let mut into = *b"......";
     assert!(rt; answers(&mut shelf, &FRONT, &mut into, b"v 0 .."));
     assert!(rt; answers(&mut shelf, &END, &mut into, b" 0\n .."));
-    Ok(())
 }
 
 static IN_PIECES: [(Call, Answer); 10] = [
@@ -129,21 +129,15 @@ pub fn holds(shelf: &MemoryShelf, name: &str, wanted: &[u8]) -> bool {
     is_text(shelf.get(name), wanted)
 }
 
-// Whether a shelf holds these bytes under a name once they are put there.
-fn is_put(shelf: &mut MemoryShelf, name: &str, bytes: &[u8]) -> Result<bool, NoMemory> {
-    shelf.put(name, bytes)?;
-    Ok(holds(shelf, name, bytes))
-}
-
 #[test]
-fn a_file_in_memory_is_written_in_pieces(rt: HostRuntime) -> Result<(), Fail> {
-    let fails = vec![in rt.alloc(); 3]?;
-    let mut shelf = shelf_with(rt.alloc(), 1, 6, 4, fails, "old", b"12345678")?;
+fn a_file_in_memory_is_written_in_pieces(rt: HostRuntime) {
+    let fails = vec![in rt.alloc(); 3].expect(&rt, "one number");
+    let mut shelf = shelf_with(&rt, rt.alloc(), 1, 6, 4, fails, "old", b"12345678");
     assert!(rt; answers(&mut shelf, &IN_PIECES, &mut [], b""));
     assert!(rt; holds(&shelf, "new", b"abcdef"));
     assert!(rt; shelf.get("third").is_none());
-    assert!(rt; is_put(&mut shelf, "old", b"now")?);
-    Ok(())
+    shelf.put("old", b"now").expect(&rt, "it is put");
+    assert!(rt; holds(&shelf, "old", b"now"));
 }
 
 static SURE: [(Call, Answer); 10] = [
@@ -167,13 +161,13 @@ static SURE_AGAIN: [(Call, Answer); 4] = [
 ];
 
 #[test]
-fn a_sure_shelf_takes_what_its_spare_has_room_for(rt: HostRuntime) -> Result<(), Fail> {
-    let mut shelf = SureShelf::of(rt.alloc(), "old", b"12345678", "new", 6)?;
+fn a_sure_shelf_takes_what_its_spare_has_room_for(rt: HostRuntime) {
+    let shelf = SureShelf::of(rt.alloc(), "old", b"12345678", "new", 6);
+    let mut shelf = shelf.expect(&rt, "a shelf");
     let mut into = *b"....";
     assert!(rt; answers(&mut shelf, &SURE, &mut into, b"78.."));
     assert!(rt; is_text(shelf.get("new"), b"abcdef"));
     assert!(rt; answers(&mut shelf, &SURE_AGAIN, &mut into, b"78.."));
-    Ok(())
 }
 
 static TAKEN: [(&[u8], Answer); 4] = [
@@ -184,12 +178,11 @@ static TAKEN: [(&[u8], Answer); 4] = [
 ];
 
 #[test]
-fn a_sink_in_memory_takes_what_fits(rt: HostRuntime) -> Result<(), Fail> {
-    let fails = vec![in rt.alloc(); 2]?;
-    let mut sink = MemorySink::of(rt.alloc(), 5, 3, fails)?;
+fn a_sink_in_memory_takes_what_fits(rt: HostRuntime) {
+    let fails = vec![in rt.alloc(); 2].expect(&rt, "one number");
+    let mut sink = MemorySink::of(rt.alloc(), 5, 3, fails).expect(&rt, "a sink");
     assert!(rt; takes(&mut sink, &TAKEN));
     assert!(rt; sink.bytes() == b"abcde".as_slice());
-    Ok(())
 }
 
 static KEPT: [(Call, Answer); 6] = [
@@ -229,16 +222,15 @@ static NO_PLACE: [(Call, Answer); 8] = [
 ];
 
 #[test]
-fn the_folder_keeps_what_was_written_where_it_has_a_place(rt: HostRuntime) -> Result<(), Fail> {
+fn the_folder_keeps_what_was_written_where_it_has_a_place(rt: HostRuntime) {
     let mut shelf = FolderShelf::of(&rt);
     let mut into = *b"...............";
     assert!(rt; answers(&mut shelf, &KEPT, &mut into, b"hello, folder.."));
     assert!(rt; answers(&mut shelf, &KEPT_AGAIN, &mut into, b"xyzder folder.."));
     assert!(rt; answers(&mut shelf, &NO_PLACE, &mut into, b"xyzder folder.."));
     for name in &["kept.txt", "made.txt", "plain.txt"] {
-        fs::remove_file(&rt, name)?;
+        fs::remove_file(&rt, name).expect(&rt, "the file is there");
     }
-    Ok(())
 }
 
 static SAID: [(&[u8], Answer); 3] = [
@@ -250,8 +242,8 @@ static SAID: [(&[u8], Answer); 3] = [
 static READ_BACK: [(Call, Answer); 1] = [(Call::Read("out.txt", 0), Ok(Some(11)))];
 
 #[test]
-fn a_writer_of_std_gets_what_was_written(rt: HostRuntime) -> Result<(), Fail> {
-    let mut sink = StdSink::over(fs::create(&rt, "out.txt")?);
+fn a_writer_of_std_gets_what_was_written(rt: HostRuntime) {
+    let mut sink = StdSink::over(fs::create(&rt, "out.txt").expect(&rt, "a file is made"));
     assert!(rt; takes(&mut sink, &SAID));
     let mut into = *b"............";
     assert!(rt;
@@ -262,10 +254,9 @@ fn a_writer_of_std_gets_what_was_written(rt: HostRuntime) -> Result<(), Fail> {
             b"said, done\n."
         )
     );
-    let mut closed = StdSink::over(fs::open(&rt, "out.txt")?);
+    let mut closed = StdSink::over(fs::open(&rt, "out.txt").expect(&rt, "the file is there"));
     assert!(rt; closed.write(b"more").is_err());
-    fs::remove_file(&rt, "out.txt")?;
-    Ok(())
+    fs::remove_file(&rt, "out.txt").expect(&rt, "the file is there");
 }
 
 // 200,000 bytes, of which each part differs from those near it.
@@ -303,8 +294,8 @@ fn reads_back<S: Shelf>(shelf: &mut S, name: &str, text: &[u8]) -> bool {
 }
 
 #[test]
-fn a_long_file_of_the_folder_is_read_back(rt: HostRuntime) -> Result<(), Fail> {
-    let text = long_text(rt.alloc())?;
+fn a_long_file_of_the_folder_is_read_back(rt: HostRuntime) {
+    let text = long_text(rt.alloc()).expect(&rt, "a text");
     let mut shelf = FolderShelf::of(&rt);
     assert!(rt; shelf.begin("long.txt").is_ok());
     assert!(rt; appends(&mut shelf, "long.txt", &text));
@@ -314,8 +305,7 @@ fn a_long_file_of_the_folder_is_read_back(rt: HostRuntime) -> Result<(), Fail> {
     assert!(rt; shelf.size("long.txt") == Ok(Some(0)));
     // A folder has a size.
     assert!(rt; matches!(shelf.size("."), Ok(Some(_))));
-    fs::remove_file(&rt, "long.txt")?;
-    Ok(())
+    fs::remove_file(&rt, "long.txt").expect(&rt, "the file is there");
 }
 
 // A writer that takes 7 bytes, then one, then all, and so on.
@@ -344,8 +334,8 @@ impl<'a> Write for FitfulWriter<'a> {
 }
 
 // Whether a writer of std that takes parts gets all of a text.
-fn goes_out(alloc: Global, text: &[u8]) -> Result<bool, NoMemory> {
-    let mut taken = Vec::with_capacity(alloc, text.len())?;
+fn goes_out(rt: &impl Abort, alloc: Global, text: &[u8]) -> bool {
+    let mut taken = Vec::with_capacity(alloc, text.len()).expect(rt, "room for the text");
     let is_written = {
         let mut sink = StdSink::over(FitfulWriter {
             taken: &mut taken,
@@ -353,12 +343,11 @@ fn goes_out(alloc: Global, text: &[u8]) -> Result<bool, NoMemory> {
         });
         write_all(&mut sink, text).is_ok()
     };
-    Ok(is_written && taken.as_slice() == text)
+    is_written && taken.as_slice() == text
 }
 
 #[test]
-fn a_writer_of_std_may_take_parts(rt: HostRuntime) -> Result<(), Fail> {
-    let text = long_text(rt.alloc())?;
-    assert!(rt; goes_out(rt.alloc(), &text)?);
-    Ok(())
+fn a_writer_of_std_may_take_parts(rt: HostRuntime) {
+    let text = long_text(rt.alloc()).expect(&rt, "a text");
+    assert!(rt; goes_out(&rt, rt.alloc(), &text));
 }

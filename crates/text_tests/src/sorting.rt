@@ -2,7 +2,6 @@
 use counting_sort::Buckets;
 use mb_base::NoMemory;
 use std::alloc::Global;
-use std::test::Fail;
 
 // Whether bucket k has these places; no, where there are more than ten keys, or k or a key is not below the count. So
 // few keys are plainly below 2^32, as `Buckets::of` requires.
@@ -34,14 +33,11 @@ static TABLE: [(&[u32], &[&[u32]]); 6] = [
 ];
 
 #[test]
-fn places_are_gathered_by_key(rt: HostRuntime) -> Result<(), Fail> {
+fn places_are_gathered_by_key(rt: HostRuntime) {
     for (keys, wanted) in &TABLE {
         for k in 0..wanted.len() {
-            assert!(rt;
-                is_bucket(rt.alloc(), keys, wanted.len(), k, wanted[k])?,
-                "{k} of {keys:?}"
-            );
+            let is = is_bucket(rt.alloc(), keys, wanted.len(), k, wanted[k]);
+            assert!(rt; is.expect(&rt, "memory"), "{k} of {keys:?}");
         }
     }
-    Ok(())
 }

@@ -1,7 +1,6 @@
 // What ASCII STL texts are read as, and what refuses them.
 use crate::texts::{Lists, Refused, is_over, is_read, is_refused_at, refuses};
 use mb_base::{Counted, Limits, TextKind};
-use std::test::Fail;
 
 // A facet of 3 corners, before and after other text.
 const TETRAHEDRON: &[u8] = b"solid t
@@ -121,8 +120,8 @@ static REFUSED: [Refused; 18] = [
 ];
 
 #[test]
-fn refuses_the_first_fault(rt: HostRuntime) -> Result<(), Fail> {
-    refuses(&rt, rt.alloc(), true, b"", &REFUSED)
+fn refuses_the_first_fault(rt: HostRuntime) {
+    refuses(&rt, rt.alloc(), true, b"", &REFUSED);
 }
 
 #[test]
@@ -145,11 +144,11 @@ fn a_text_cut_after_any_line_ends_too_early(rt: HostRuntime) {
 }
 
 #[test]
-fn counts_to_the_limits(rt: HostRuntime) -> Result<(), Fail> {
+fn counts_to_the_limits(rt: HostRuntime) {
     let alloc = rt.alloc();
-    let three_points = Limits::of(1000, 3, 2, 1).ok_or("limits")?;
+    let three_points = Limits::of(1000, 3, 2, 1).expect(&rt, "limits");
     assert!(rt; is_over(alloc, true, TETRAHEDRON, &three_points, Counted::Points, 4));
-    let three_triangles = Limits::of(1000, 5, 3, 1).ok_or("limits")?;
+    let three_triangles = Limits::of(1000, 5, 3, 1).expect(&rt, "limits");
     assert!(rt;
         is_over(
             alloc,
@@ -160,7 +159,7 @@ fn counts_to_the_limits(rt: HostRuntime) -> Result<(), Fail> {
             4
         )
     );
-    let four_triangles = Limits::of(1000, 6, 4, 1).ok_or("limits")?;
+    let four_triangles = Limits::of(1000, 6, 4, 1).expect(&rt, "limits");
     assert!(rt;
         is_read(
             alloc,
@@ -171,5 +170,4 @@ fn counts_to_the_limits(rt: HostRuntime) -> Result<(), Fail> {
             &(&CORNERS, 0, &SIDES)
         )
     );
-    Ok(())
 }

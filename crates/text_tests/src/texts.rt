@@ -2,11 +2,10 @@
 ghost use Rattle.std.specs.Prelude.{◌≤◌};
 
 use crate::lists::{joined, stand_at};
-use mb_base::{Counted, Limits, NoMemory, Soup, TextFault, TextKind};
+use mb_base::{Counted, Limits, Soup, TextFault, TextKind};
 use obj_text::read_obj;
 use std::alloc::Global;
 use std::process::Abort;
-use std::test::Fail;
 use stl_text::read_stl;
 
 // Where the points of a mesh are, how many were left out, and its triangles.
@@ -106,27 +105,19 @@ pub fn is_over(
 }
 
 // Whether a text after this front is refused so.
-fn refuses_after(
-    alloc: Global,
-    solid: bool,
-    front: &[u8],
-    row: &Refused,
-) -> Result<bool, NoMemory> {
+fn refuses_after(rt: &impl Abort, alloc: Global, solid: bool, front: &[u8], row: &Refused) -> bool {
     let (after, line, kind) = row;
-    let bytes = joined(alloc, front, after, b"")?;
-    Ok(is_refused_at(alloc, solid, &bytes, 4, *line, *kind))
+    let bytes = joined(alloc, front, after, b"").expect(rt, "a text");
+    is_refused_at(alloc, solid, &bytes, 4, *line, *kind)
 }
 
 // Each text after this front is refused at its line, with its fault.
-pub fn refuses(
-    rt: &impl Abort,
-    alloc: Global,
-    solid: bool,
-    front: &[u8],
-    rows: &[Refused],
-) -> Result<(), Fail> {
+pub fn refuses(rt: &impl Abort, alloc: Global, solid: bool, front: &[u8], rows: &[Refused]) {
     for row in rows {
-        assert!(rt; refuses_after(alloc, solid, front, row)?, "at {:?}", row.0);
+        assert!(rt;
+            refuses_after(rt, alloc, solid, front, row),
+            "at {:?}",
+            row.0
+        );
     }
-    Ok(())
 }

@@ -8,7 +8,7 @@ use mb_outside::{Failed, MemoryShelf, MemorySink, Shelf, Sink};
 use mesh_check::Mesh;
 use mesh_writer::{PageSink, write_obj, write_stl};
 use std::alloc::Global;
-use std::test::Fail;
+use std::process::Abort;
 
 const TEXT: &[u8] =
     b"v 0 0 0\nv 1.5 0 0\nv 0 -0.0001 0\nv 0 0 107374.1824\nf 1 3 2\nf 1 2 4\nf 2 3 4\nf 3 1 4\n";
@@ -28,9 +28,11 @@ fn mesh_of(alloc: Global, points: Vec<Point>, triples: Vec<[u32; 3]>) -> Option<
 const FOUR: [[i32; 3]; 4] = [[0, 0, 0], [15_000, 0, 0], [0, -1, 0], [0, 0, 1_073_741_824]];
 
 // A tetrahedron there.
-fn tetrahedron(alloc: Global) -> Result<Option<Mesh>, NoMemory> {
-    let triples = Vec::from_array(alloc, [[0, 2, 1], [0, 1, 3], [1, 2, 3], [2, 0, 3]])?;
-    Ok(mesh_of(alloc, points_at(alloc, &FOUR)?, triples))
+fn tetrahedron(rt: &impl Abort, alloc: Global) -> Mesh {
+    let points = points_at(alloc, &FOUR).expect(rt, "points");
+    let triples = [[0, 2, 1], [0, 1, 3], [1, 2, 3], [2, 0, 3]];
+    let triples = Vec::from_array(alloc, triples).expect(rt, "triangles");
+    mesh_of(alloc, points, triples).expect(rt, "the tetrahedron is closed")
 }
 
 // Writes a mesh as a solid of STL, or as OBJ.
@@ -45,37 +47,34 @@ fn write<K: Sink>(mesh: &Mesh, solid: bool, digits: u8, sink: &mut K) -> Result<
 }
 
 // Whether a sink gets this text of a mesh.
-fn goes_to_a_sink(alloc: Global, mesh: &Mesh, solid: bool, text: &[u8]) -> Result<bool, NoMemory> {
-    let mut sink = MemorySink::of(alloc, 1000, 7, Vec::new(alloc))?;
-    Ok(write(mesh, solid, 4, &mut sink).is_ok() && sink.bytes() == text)
+fn goes_to_a_sink(rt: &impl Abort, alloc: Global, mesh: &Mesh, solid: bool, text: &[u8]) -> bool {
+    let mut sink = MemorySink::of(alloc, 1000, 7, Vec::new(alloc)).expect(rt, "a sink");
+    write(mesh, solid, 4, &mut sink).is_ok() && sink.bytes() == text
 }
 
 // Whether a file of a shelf gets this text of a mesh.
-fn goes_to_a_file(alloc: Global, mesh: &Mesh, solid: bool, text: &[u8]) -> Result<bool, NoMemory> {
-    let mut shelf = MemoryShelf::of(alloc, 1, 1000, 1000, Vec::new(alloc))?;
-    if shelf.begin("t").is_err() {
-        return Ok(false);
-    }
+fn goes_to_a_file(rt: &impl Abort, alloc: Global, mesh: &Mesh, solid: bool, text: &[u8]) -> bool {
+    let mut shelf = MemoryShelf::of(alloc, 1, 1000, 1000, Vec::new(alloc)).expect(rt, "a shelf");
+    shelf.begin("t").expect(rt, "a file is begun");
     let written = write(mesh, solid, 4, &mut PageSink::of(&mut shelf, "t")).is_ok();
-    Ok(written && holds(&shelf, "t", text))
+    written && holds(&shelf, "t", text)
 }
 
 static TEXTS: [(bool, &[u8]); 2] = [(false, TEXT), (true, SOLID)];
 
 #[test]
-fn the_text_goes_to_a_sink_and_to_a_file(rt: HostRuntime) -> Result<(), Fail> {
-    let mesh = tetrahedron(rt.alloc())?.ok_or("the tetrahedron is closed")?;
+fn the_text_goes_to_a_sink_and_to_a_file(rt: HostRuntime) {
+    let mesh = tetrahedron(&rt, rt.alloc());
     for (solid, text) in &TEXTS {
         assert!(rt;
-            goes_to_a_sink(rt.alloc(), &mesh, *solid, text)?,
+            goes_to_a_sink(&rt, rt.alloc(), &mesh, *solid, text),
             "solid {solid}"
         );
         assert!(rt;
-            goes_to_a_file(rt.alloc(), &mesh, *solid, text)?,
+            goes_to_a_file(&rt, rt.alloc(), &mesh, *solid, text),
             "solid {solid}"
         );
     }
-    Ok(())
 }
 
 // Points whose lines have 16 bytes each, the first `wide` of them 17.
@@ -101,25 +100,27 @@ fn flat_triples(alloc: Global) -> Result<Vec<[u32; 3]>, NoMemory> {
 }
 
 // These triangles on 300 points.
-fn flat_triangles(alloc: Global, wide: i32) -> Result<Option<Mesh>, NoMemory> {
-    let triples = flat_triples(alloc)?;
-    Ok(mesh_of(alloc, many_points(alloc, wide)?, triples))
+fn flat_triangles(rt: &impl Abort, alloc: Global, wide: i32) -> Mesh {
+    let points = many_points(alloc, wide).expect(rt, "points");
+    let triples = flat_triples(alloc).expect(rt, "triangles");
+    mesh_of(alloc, points, triples).expect(rt, "each triangle has its reverse")
 }
 
 // How many bytes a sink gets whose second write fails; None where no write fails.
 fn taken_at_once(
+    rt: &impl Abort,
     alloc: Global,
     mesh: &Mesh,
     solid: bool,
     digits: u8,
-) -> Result<Option<usize>, NoMemory>
+) -> Option<usize>
     requires { digits ≤ 6 }
 {
-    let fails = vec![in alloc; 2]?;
-    let mut sink = MemorySink::of(alloc, 10_000, 10_000, fails)?;
+    let fails = vec![in alloc; 2].expect(rt, "one number");
+    let mut sink = MemorySink::of(alloc, 10_000, 10_000, fails).expect(rt, "a sink");
     match write(mesh, solid, digits, &mut sink) {
-        Ok(()) => Ok(None),
-        Err(_) => Ok(Some(sink.bytes().len())),
+        Ok(()) => None,
+        Err(_) => Some(sink.bytes().len()),
     }
 }
 
@@ -127,23 +128,25 @@ fn taken_at_once(
 static PAGES: [(bool, i32, usize); 3] = [(false, 0, 3984), (false, 1, 3969), (true, 0, 3975)];
 
 #[test]
-fn a_page_goes_out_where_fewer_than_128_bytes_are_free(rt: HostRuntime) -> Result<(), Fail> {
+fn a_page_goes_out_where_fewer_than_128_bytes_are_free(rt: HostRuntime) {
     // After 248 lines of OBJ 128 bytes are free, or 127 where one line is longer. Of a solid with so many bytes fewer than 128 are
     // free for the first time after a line.
     for (solid, wide, length) in &PAGES {
-        let mesh = flat_triangles(rt.alloc(), *wide)?.ok_or("each triangle has its reverse")?;
+        let mesh = flat_triangles(&rt, rt.alloc(), *wide);
         assert!(rt;
-            taken_at_once(rt.alloc(), &mesh, *solid, 0)? == Some(*length),
+            taken_at_once(&rt, rt.alloc(), &mesh, *solid, 0) == Some(*length),
             "at {length}"
         );
     }
-    Ok(())
 }
 
 #[test]
-fn a_text_that_fits_a_page_goes_out_in_one_write(rt: HostRuntime) -> Result<(), Fail> {
-    let mesh = tetrahedron(rt.alloc())?.ok_or("the tetrahedron is closed")?;
-    assert!(rt; taken_at_once(rt.alloc(), &mesh, false, 4)?.is_none());
-    assert!(rt; taken_at_once(rt.alloc(), &mesh, true, 4)?.is_none());
-    Ok(())
+fn a_text_that_fits_a_page_goes_out_in_one_write(rt: HostRuntime) {
+    let mesh = tetrahedron(&rt, rt.alloc());
+    for solid in &[false, true] {
+        assert!(rt;
+            taken_at_once(&rt, rt.alloc(), &mesh, *solid, 4).is_none(),
+            "solid {solid}"
+        );
+    }
 }

@@ -7,15 +7,13 @@ use crate::words::parts_of;
 use face_loops::Loop;
 use mb_base::Point;
 use std::alloc::Global;
-use std::test::Fail;
+use std::process::Abort;
 use triangulate::{FacePlane, Joined, Ring, join_holes};
 
 // Loops that can be filled, joined.
-fn joined(alloc: Global, drop: u32, loops: &[Loop], points: &[Point]) -> Result<Joined, Fail> {
-    if drop >= 3 || !can_fill(alloc, loops, points.len())? {
-        return Err("loops".into());
-    }
-    Ok(join_holes(alloc, FacePlane { drop: drop as u8 }, loops, points)?)
+fn joined(rt: &impl Abort, alloc: Global, drop: u32, loops: &[Loop], points: &[Point]) -> Joined {
+    assert!(rt; drop < 3 && can_fill(alloc, loops, points.len()).expect(rt, "memory"));
+    join_holes(alloc, FacePlane { drop: drop as u8 }, loops, points).expect(rt, "memory")
 }
 
 // Whether the rings are these, in this order.
@@ -30,30 +28,31 @@ fn are_rings(rings: Vec<Ring>, wanted: &[Loop]) -> bool {
 }
 
 /// Whether joining gives the rings of a line, in the plane of its sign.
-pub fn agrees(alloc: Global, line: &str) -> Result<bool, Fail> {
-    let parts = parts_of(alloc, line, " : ")?;
+pub fn agrees(rt: &impl Abort, alloc: Global, line: &str) -> bool {
+    let parts = parts_of(rt, alloc, line, " : ");
     let [drop, points, loops, rings] = parts.as_slice() else {
-        return Err("four parts".into());
+        return false;
     };
-    let (sign, rings) = rings.split_once(" ").ok_or("a sign")?;
-    let points = points_of(alloc, points, " ")?;
-    let loops = loops_of(alloc, loops, false)?;
-    let wanted = loops_of(alloc, rings, false)?;
-    let joined = joined(alloc, drop.parse::<u32>()?, &loops, &points)?;
-    Ok(joined.turned == (sign == "~") && are_rings(joined.rings, &wanted))
+    let (sign, rings) = rings.split_once(" ").expect(rt, "a sign");
+    let drop = drop.parse::<u32>().expect(rt, "a number");
+    let points = points_of(rt, alloc, points, " ");
+    let loops = loops_of(rt, alloc, loops, false);
+    let wanted = loops_of(rt, alloc, rings, false);
+    let joined = joined(rt, alloc, drop, &loops, &points);
+    joined.turned == (sign == "~") && are_rings(joined.rings, &wanted)
 }
 
 #[test]
-fn holes_are_joined_to_the_rings_of_the_table(rt: HostRuntime) -> Result<(), Fail> {
-    expect_rows(&rt, rt.alloc(), &Kind::Rings, ROWS, 21)
+fn holes_are_joined_to_the_rings_of_the_table(rt: HostRuntime) {
+    expect_rows(&rt, rt.alloc(), &Kind::Rings, ROWS, 21);
 }
 
 #[test]
-fn random_holes_are_joined_as_in_the_table(rt: HostRuntime) -> Result<(), Fail> {
-    expect_rows(&rt, rt.alloc(), &Kind::Rings, RANDOM_ROWS, 150)
+fn random_holes_are_joined_as_in_the_table(rt: HostRuntime) {
+    expect_rows(&rt, rt.alloc(), &Kind::Rings, RANDOM_ROWS, 150);
 }
 
 #[test]
-fn many_holes_are_joined_as_in_the_table(rt: HostRuntime) -> Result<(), Fail> {
-    expect_rows(&rt, rt.alloc(), &Kind::Rings, MANY_HOLES, 3)
+fn many_holes_are_joined_as_in_the_table(rt: HostRuntime) {
+    expect_rows(&rt, rt.alloc(), &Kind::Rings, MANY_HOLES, 3);
 }

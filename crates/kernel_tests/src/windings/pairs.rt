@@ -22,7 +22,7 @@ fn answers_of<R: Rounding + Copy>(
 ) -> Result<String, Fail> {
     let kernels = Grid { rounding };
     let (hits, windings) = numbers_of::<Grid<R>, Brand>(alloc, p, q, &kernels, Blank::new(1))?;
-    write_numbers(alloc, &windings, &hits)
+    Ok(write_numbers(alloc, &windings, &hits)?)
 }
 
 // Whether two sides have these answers under a rounding.

@@ -12,8 +12,7 @@ use mb_base::{Hits, Op, Point, Windings};
 use retained_verts::{Operand, Prescribed};
 use source_faces::given::given_have_parts;
 use std::alloc::Global;
-use std::test::Fail;
-use test_tables::push_digit;
+use test_tables::{NoRow, push_digit};
 
 /// Adds a word for each face, those of the first side before those of the second.
 pub fn push_faces(
@@ -25,7 +24,7 @@ pub fn push_faces(
     windings: &Windings,
     hits: &Hits,
     prescribed: &Prescribed,
-) -> Result<(), Fail>
+) -> Result<(), NoRow>
     requires { AreGiven op p.now q.now windings.now hits.now prescribed.now }
 {
     given_have_parts(op, p, q, windings, hits, prescribed);
@@ -55,7 +54,7 @@ fn push_both(
     q_runs: &[CopyRange],
     stands: &[Stand],
     points: &[Point],
-) -> Result<(), Fail>
+) -> Result<(), NoRow>
     requires p_parts { HaveParts p.now p_runs.now points.now 0 stands.now }
     requires q_parts { HaveParts q.now q_runs.now points.now (length p.now.triples) stands.now }
 {
@@ -76,7 +75,7 @@ fn push_side(
     stands: &[Stand],
     begin: usize,
     points: &[Point],
-) -> Result<usize, Fail>
+) -> Result<usize, NoRow>
     requires first { first ≤ 100000000 }
     requires parts { HaveParts side.now runs.now points.now first stands.now }
     requires begin { begin ≡ earlier stands.now first }
@@ -101,7 +100,7 @@ fn push_face(
     face: u32,
     stands: &[Stand],
     points: &[Point],
-) -> Result<(), Fail>
+) -> Result<(), NoRow>
     requires face { face < length side.now.triples }
     requires runs { AreRuns side.now (length points.now) runs.now }
     requires part { CanBePart side.now runs.now points.now face stands.now }
@@ -119,7 +118,7 @@ fn push_face(
     Ok(())
 }
 
-fn push_digits(text: &mut String, numbers: &[u32]) -> Result<(), Fail> {
+fn push_digits(text: &mut String, numbers: &[u32]) -> Result<(), NoRow> {
     for number in numbers {
         push_digit(text, *number)?;
     }

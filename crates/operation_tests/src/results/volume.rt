@@ -1,7 +1,6 @@
 // How much a mesh encloses.
 use mb_base::Point;
 use mesh_check::Mesh;
-use std::test::Fail;
 
 // The difference of two products.
 fn minor(a: i64, b: i64, c: i64, d: i64) -> Option<i64> {
@@ -20,15 +19,14 @@ fn part(a: Point, b: Point, c: Point) -> Option<i64> {
 }
 
 /// Six times the volume of a small mesh.
-pub fn volume6(mesh: &Mesh) -> Result<i64, Fail> {
+pub fn volume6(mesh: &Mesh) -> Option<i64> {
     let points = mesh.points();
     let mut volume: i64 = 0;
     for [a, b, c] in mesh.triples() {
-        let a = points.get(*a as usize).ok_or("no point")?;
-        let b = points.get(*b as usize).ok_or("no point")?;
-        let c = points.get(*c as usize).ok_or("no point")?;
-        let part = part(*a, *b, *c).ok_or("a great part")?;
-        volume = volume.checked_add(part).ok_or("a great volume")?;
+        let a = points.get(*a as usize)?;
+        let b = points.get(*b as usize)?;
+        let c = points.get(*c as usize)?;
+        volume = volume.checked_add(part(*a, *b, *c)?)?;
     }
-    Ok(volume)
+    Some(volume)
 }

@@ -1,49 +1,40 @@
-use Rattle.std.proofs.Common.{rules, ◌≡◌, inl, inr, ℤ, List, length, sym, ◌∙◌, ap, subst}
-use Rattle.std.proofs.lemmas.Bool.{false≢true}
+use Rattle.std.proofs.Common.{◌≡◌, ℤ, List, length, sym, ◌∙◌, ap, subst}
+use Rattle.std.proofs.lemmas.Result.{IfOk-weaker}
 use Rattle.chain_terms.specs.Chains.{all_edges, IsClosed}
 use Rattle.mesh_terms.specs.Labels.{no_labels}
-use Rattle.mesh_terms.specs.Meshes.{Triple, Soup, triples_of, soup_of}
+use Rattle.mesh_terms.specs.Meshes.{Triple, renumbered, triples_of, used_from}
 use Rattle.unused_points.specs.Used.{IsSound}
 use Rattle.mesh_check.specs.Reduced.{kept_triples}
-use Rattle.mesh_check.proofs.ReducedMesh.{kept_sound, reduced_closed}
+use Rattle.mesh_check.proofs.Kept.{kept_closed}
+use Rattle.mesh_check.proofs.ReducedMesh.{kept_sound, mesh_triangles}
 use Rattle.mesh_check.proofs.reduction.mesh_of_kept.Goals as goal
 
--- the soup that was made is that of the kept triples
-soup_is : (points read : List (List ℤ)) (ts kept : List Triple) (soup : Soup) → soup ≡ soup_of read kept (no_labels kept) → read ≡ points → kept ≡ kept_triples ts
-    → soup ≡ soup_of points (kept_triples ts) (no_labels (kept_triples ts))
-soup_is points read ts kept soup made same is = made ∙ (λ i. soup_of (same i) (is i) (no_labels (is i)))
+-- the points that the kept triples use, from what was read
+used_is : (read points : List (List ℤ)) (ts us : List Triple) → read ≡ points → ts ≡ us → used_from ts 0 read ≡ used_from us 0 points
+used_is read points ts us same is = λ i. used_from (is i) 0 (same i)
 
-pub without_unused-requires : goal.without_unused-requires
-without_unused-requires c =
-    let points = c.args.mesh.now.points in
-    let same : c.in_ok-points.points.items ≡ points = search rules in
-    subst (λ l. IsSound (length l) (triples_of c.args.triples.items)) (sym same) (subst (IsSound (length points)) (sym c.requires) (kept_sound (length points) c.args.mesh.now.triples c.points.ensures.accepted.mesh))
-
-pub returns-in-Ok-clause-points : goal.returns-in-Ok-clause-points
-returns-in-Ok-clause-points c =
-    let same : c.in_ok-points.points.items ≡ c.args.mesh.now.points = search rules in
-    c.in-Ok.ensures.points ∙ ap (λ (s : Soup). s.points) (soup_is c.args.mesh.now.points c.in_ok-points.points.items c.args.mesh.now.triples (triples_of c.args.triples.items) c.in_ok-soup.soup c.in_ok-soup.ensures same c.requires)
-
-pub returns-in-Ok-clause-triples : goal.returns-in-Ok-clause-triples
-returns-in-Ok-clause-triples c =
-    let same : c.in_ok-points.points.items ≡ c.args.mesh.now.points = search rules in
-    c.in-Ok.ensures.triples ∙ ap (λ (s : Soup). s.triples) (soup_is c.args.mesh.now.points c.in_ok-points.points.items c.args.mesh.now.triples (triples_of c.args.triples.items) c.in_ok-soup.soup c.in_ok-soup.ensures same c.requires)
-
-pub returns-in-Ok-clause-labels : goal.returns-in-Ok-clause-labels
-returns-in-Ok-clause-labels c =
-    let same : c.in_ok-points.points.items ≡ c.args.mesh.now.points = search rules in
-    c.in-Ok.ensures.labels ∙ ap (λ (s : Soup). s.labels) (soup_is c.args.mesh.now.points c.in_ok-points.points.items c.args.mesh.now.triples (triples_of c.args.triples.items) c.in_ok-soup.soup c.in_ok-soup.ensures same c.requires)
-
-pub unreachable-requires : goal.unreachable-requires
-unreachable-requires c =
-    let points = c.args.mesh.now.points in
+pub mesh_of_used-requires-clause-sound : goal.mesh_of_used-requires-clause-sound
+mesh_of_used-requires-clause-sound c =
+    let n = length c.args.mesh.now.points in
     let ts = c.args.mesh.now.triples in
-    let same : c.in_ok-points.points.items ≡ points = search rules in
-    let soup = soup_is points c.in_ok-points.points.items ts (triples_of c.args.triples.items) c.in_ok-soup.soup c.in_ok-soup.ensures same c.requires in
-    let closed : IsClosed (all_edges c.in_ok-soup.soup.triples) =
-    subst (λ (s : Soup). IsClosed (all_edges s.triples)) (sym soup) (reduced_closed points ts c.args.mesh.now.labels c.points.ensures.accepted.mesh c.points.ensures.accepted.closed) in
-    let is = c.in-Err-OpenEdge.field-0-is in
-    elim (c.in-Err-OpenEdge.ensures.accepts closed) [
-      | inl wrong ↦ absurd (false≢true wrong)
-      | inr other ↦ absurd (cc)
-    ]
+    let sound = subst (IsSound n) (sym c.requires) (kept_sound n ts c.points.ensures.accepted.mesh) in
+    subst (λ l. IsSound (length l) (triples_of c.args.triples.items)) (sym c.points.ensures.value) sound
+
+pub mesh_of_used-requires-clause-closed : goal.mesh_of_used-requires-clause-closed
+mesh_of_used-requires-clause-closed c =
+    let m = c.args.mesh.now in
+    let triangles = mesh_triangles (length m.points) m.triples c.points.ensures.accepted.mesh in
+    subst (λ l. IsClosed (all_edges l)) (sym c.requires) (kept_closed m.triples triangles c.points.ensures.accepted.closed)
+
+pub returns-clause-points : goal.returns-clause-points
+returns-clause-points c =
+    let ts = triples_of c.args.triples.items in
+    IfOk-weaker c.mesh_of_used.result _ _
+    (λ m is. is ∙ used_is c.points.result.now c.args.mesh.now.points ts (kept_triples c.args.mesh.now.triples) c.points.ensures.value c.requires)
+    c.mesh_of_used.ensures.points
+
+pub returns-clause-triples : goal.returns-clause-triples
+returns-clause-triples c = IfOk-weaker c.mesh_of_used.result _ _ (λ m is. is ∙ ap renumbered c.requires) c.mesh_of_used.ensures.triples
+
+pub returns-clause-labels : goal.returns-clause-labels
+returns-clause-labels c = IfOk-weaker c.mesh_of_used.result _ _ (λ m is. is ∙ ap no_labels c.requires) c.mesh_of_used.ensures.labels

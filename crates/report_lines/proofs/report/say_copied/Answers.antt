@@ -1,9 +1,9 @@
-use Rattle.std.proofs.Common.{◌≡◌, ◌++◌, ◌∙◌, ap, codes, length, sym}
+use Rattle.std.proofs.Common.{◌≡◌, ◌++◌, ◌∙◌, [], ap, codes, length, sym}
 use Rattle.std.proofs.lemmas.List.{length-map}
 use Rattle.mesh_terms.specs.Meshes.{Soup, triple_of}
 use Rattle.run_terms.specs.Files.{Bytes}
 use Rattle.play_terms.specs.Lines.{copied_line, counts_text}
-use Rattle.report_lines.proofs.Said.{met_as, copied_parts}
+use Rattle.report_lines.proofs.Said.{copied_parts, meets_by, takes_as}
 use Rattle.report_lines.proofs.report.say_copied.Goals as goal
 
 pub returns : goal.returns
@@ -15,5 +15,6 @@ returns g c =
     let tail : Bytes = c.as_slice.result.now in
     let is : tail ≡ counts_text (length m.points) (length m.triples) m.unused ++ codes "\n" =
     c.as_slice.ensures.value ∙ (rw (points, triples, c.from.ensures) at c.copied_tail-tail.ensures) in
-    let line = ap (λ name. codes "copied " ++ (name ++ tail)) c.as_bytes.ensures.value ∙ copied_parts to tail m is in
-    record { meets = met_as (copied_line to m) _ _ _ c.say.result line c.say.ensures.added c.say.ensures.part c.say.ensures.count }
+    let line = ap (λ name. codes "copied " ++ (name ++ (tail ++ []))) c.as_bytes.ensures.value ∙ copied_parts to tail m is in
+    let takes = takes_as g.K.Sink (copied_line to m) _ _ _ c.say.result line c.say.ensures in
+    record { meets = meets_by g.K.Sink (copied_line to m) _ _ c.say.result takes; takes = takes }

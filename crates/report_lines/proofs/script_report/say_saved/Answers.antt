@@ -1,10 +1,10 @@
-use Rattle.std.proofs.Common.{◌≡◌, ◌++◌, ◌∙◌, ap, codes, length, sym}
+use Rattle.std.proofs.Common.{◌≡◌, ◌++◌, ◌∙◌, [], ap, codes, length, sym}
 use Rattle.std.proofs.lemmas.List.{length-map}
 use Rattle.mesh_terms.specs.Meshes.{triple_of}
 use Rattle.text_terms.specs.Written.{line_of}
 use Rattle.run_terms.specs.Files.{Bytes}
 use Rattle.play_terms.specs.ScriptLines.{save_line, size_text}
-use Rattle.report_lines.proofs.Said.{met_as}
+use Rattle.report_lines.proofs.Said.{meets_by, takes_as}
 use Rattle.report_lines.proofs.ScriptLines.{four_before}
 use Rattle.report_lines.proofs.script_report.say_saved.Goals as goal
 
@@ -17,6 +17,7 @@ returns g c =
     let triples : length c.triples.result.now ≡ length m.triples = sym (length-map c.triples.result.now triple_of) ∙ ap length c.triples.ensures.value in
     let text = size_text m in
     let is : c.as_slice.result.now ≡ line_of text = c.as_slice.ensures.value ∙ (rw (points, triples) at c.saved_tail-tail.ensures) in
-    let parts : Bytes → Bytes → Bytes = λ a b. codes "save " ++ (a ++ (codes " " ++ (b ++ c.as_slice.result.now))) in
+    let parts : Bytes → Bytes → Bytes = λ a b. codes "save " ++ (a ++ (codes " " ++ (b ++ (c.as_slice.result.now ++ [])))) in
     let line = (λ i. parts (c.as_bytes-name.ensures.value i) (c.as_bytes-file.ensures.value i)) ∙ four_before (codes "save ") name (codes " ") file text c.as_slice.result.now is in
-    record { meets = met_as (save_line name file m) _ _ _ c.say_five.result line c.say_five.ensures.added c.say_five.ensures.part c.say_five.ensures.count }
+    let takes = takes_as g.K.Sink (save_line name file m) _ _ _ c.say.result line c.say.ensures in
+    record { meets = meets_by g.K.Sink (save_line name file m) _ _ c.say.result takes; takes = takes }

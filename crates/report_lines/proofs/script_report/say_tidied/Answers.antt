@@ -2,7 +2,7 @@ use Rattle.std.proofs.Common.{◌≡◌, ◌++◌, ◌∙◌, [], codes}
 use Rattle.text_terms.specs.Written.{line_of}
 use Rattle.run_terms.specs.Files.{Bytes}
 use Rattle.play_terms.specs.ScriptLines.{collapsed_text, tidy_line}
-use Rattle.report_lines.proofs.Said.{met_as}
+use Rattle.report_lines.proofs.Said.{meets_by, takes_as}
 use Rattle.report_lines.proofs.ScriptLines.{four_before}
 use Rattle.report_lines.proofs.script_report.say_tidied.Goals as goal
 
@@ -13,6 +13,7 @@ returns g c =
     let text = collapsed_text c.args.collapsed in
     let tail = c.as_slice.result.now in
     let is : tail ≡ line_of text = c.as_slice.ensures.value ∙ c.tidied_tail-tail.ensures in
-    let parts : Bytes → Bytes → Bytes = λ a b. a ++ (codes " = tidy " ++ (b ++ tail)) in
+    let parts : Bytes → Bytes → Bytes = λ a b. a ++ (codes " = tidy " ++ (b ++ (tail ++ []))) in
     let line = (λ i. parts (c.as_bytes-name.ensures.value i) (c.as_bytes-source.ensures.value i)) ∙ four_before [] name (codes " = tidy ") source text tail is in
-    record { meets = met_as (tidy_line name source c.args.collapsed) _ _ _ c.say_five.result line c.say_five.ensures.added c.say_five.ensures.part c.say_five.ensures.count }
+    let takes = takes_as g.K.Sink (tidy_line name source c.args.collapsed) _ _ _ c.say.result line c.say.ensures in
+    record { meets = meets_by g.K.Sink (tidy_line name source c.args.collapsed) _ _ c.say.result takes; takes = takes }

@@ -2,26 +2,26 @@ use Rattle.std.proofs.Common.{◌≡◌, Bool, ℕ, ℤ, List, length, sym, ◌�
 use Rattle.std.proofs.lemmas.Result.{IfOk-weaker}
 use Rattle.chain_terms.specs.Chains.{all_edges, IsClosed}
 use Rattle.mesh_check.specs.Reduced.{picked}
+use Rattle.mesh_check.proofs.MarkedLabels.{made_count, made_empty}
 use Rattle.mesh_terms.specs.Labels.{no_labels}
 use Rattle.mesh_terms.specs.Meshes.{Triple, renumbered, triples_of, used_from}
 use Rattle.unused_points.specs.Used.{IsSound}
 use Rattle.mesh_tidy.specs.Surface.{Surface, left_of}
-use Rattle.mesh_tidy.proofs.LeftLabels.{made_count, made_empty}
 use Rattle.mesh_tidy.proofs.surface.Surface.into_mesh.Goals as goal
 
 -- the marked triples, from what was read
 picked_is : (ts : List Triple) (read items : List (List ℕ)) (marks left : List Bool) → ts ≡ picked marks (triples_of read) → marks ≡ left → read ≡ items → ts ≡ picked left (triples_of items)
 picked_is ts read items marks left is m r = is ∙ (λ i. picked (m i) (triples_of (r i)))
 
-pub mesh_of-requires-clause-sound : goal.mesh_of-requires-clause-sound
-mesh_of-requires-clause-sound c =
+pub mesh_of_used-requires-clause-sound : goal.mesh_of_used-requires-clause-sound
+mesh_of_used-requires-clause-sound c =
     let ts = triples_of c.in_ok-triples.triples.items in
     let is : ts ≡ left_of c.args.self =
     picked_is ts c.deref.result.now c.self.inside.triples.items c.deref-2.result.now c.self.inside.left.items c.in_ok-triples.ensures c.deref-2.ensures.value c.deref.ensures.value ∙ ap left_of c.self.view_is in
     subst (λ l. IsSound (length l) ts) (sym c.points.ensures.value) (subst (IsSound (length c.args.mesh.now.points)) (sym is) c.requires.sound)
 
-pub mesh_of-requires-clause-closed : goal.mesh_of-requires-clause-closed
-mesh_of-requires-clause-closed c =
+pub mesh_of_used-requires-clause-closed : goal.mesh_of_used-requires-clause-closed
+mesh_of_used-requires-clause-closed c =
     let ts = triples_of c.in_ok-triples.triples.items in
     let is = picked_is ts c.deref.result.now c.self.inside.triples.items c.deref-2.result.now c.self.inside.left.items c.in_ok-triples.ensures c.deref-2.ensures.value c.deref.ensures.value in
     subst (λ l. IsClosed (all_edges l)) (sym is) c.self.invariant.closed

@@ -2,8 +2,8 @@ use Rattle.std.proofs.Common.{◌++◌, ◌≤◌, ℕ, Bool, false, cond, List,
 use Rattle.std.proofs.lemmas.List.{append-nil, take_all}
 use Rattle.mesh_check.specs.Reduced.{picked}
 use Rattle.mesh_check.proofs.KeptMarks.{picked_more, picked-take}
-use Rattle.mesh_tidy.proofs.surface.marked_labels.Goals as goal
-use Rattle.mesh_tidy.proofs.surface.marked_labels.Goals.{then-marks-place+in_ok-push, else-marks-place}
+use Rattle.mesh_check.proofs.marks.marked_labels.Goals as goal
+use Rattle.mesh_check.proofs.marks.marked_labels.Goals.{then-marks-place+in_ok-push, else-marks-place}
 
 pub loop-place-preserved : goal.loop-place-preserved
 loop-place-preserved c =

@@ -5,7 +5,7 @@ use Rattle.chain_laws.specs.Triples.{closed-renamed_triples}
 use Rattle.mesh_terms.specs.Labels.{no_labels}
 use Rattle.mesh_terms.specs.Meshes.{Soup, Triple, new_number, soup_of, triples_of}
 use Rattle.unused_points.specs.Used.{IsSound}
-use Rattle.mesh_tidy.proofs.surface.mesh_of.Goals as goal
+use Rattle.mesh_check.proofs.marks.mesh_of_used.Goals as goal
 
 -- the soup that was made is that of these points
 soup_is : (points read : List (List ℤ)) (ts : List Triple) (soup : Soup) → soup ≡ soup_of read ts (no_labels ts) → read ≡ points → soup ≡ soup_of points ts (no_labels ts)

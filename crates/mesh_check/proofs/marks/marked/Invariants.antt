@@ -1,6 +1,6 @@
 use Rattle.std.proofs.Common.{◌≡◌, take}
 use Rattle.mesh_check.specs.Reduced.{picked}
-use Rattle.mesh_tidy.proofs.surface.marked.Given as goal
+use Rattle.mesh_check.proofs.marks.marked.Given as goal
 
 -- the triples so far
 abbrev pub invariant-loop-place : goal.invariant-loop-place

@@ -1,6 +1,6 @@
 use Rattle.std.proofs.Common.{◌≡◌, take}
 use Rattle.mesh_check.specs.Reduced.{picked}
-use Rattle.mesh_tidy.proofs.surface.marked_labels.Given as goal
+use Rattle.mesh_check.proofs.marks.marked_labels.Given as goal
 
 -- the labels so far
 abbrev pub invariant-loop-place : goal.invariant-loop-place

@@ -3,8 +3,8 @@ use Rattle.std.proofs.lemmas.List.{append-nil, take_all}
 use Rattle.mesh_terms.specs.Meshes.{triple_of, triples_of}
 use Rattle.mesh_check.specs.Reduced.{picked}
 use Rattle.mesh_check.proofs.KeptMarks.{picked_more, map-picked}
-use Rattle.mesh_tidy.proofs.surface.marked.Goals as goal
-use Rattle.mesh_tidy.proofs.surface.marked.Goals.{then-marks-place+in_ok-push, else-marks-place}
+use Rattle.mesh_check.proofs.marks.marked.Goals as goal
+use Rattle.mesh_check.proofs.marks.marked.Goals.{then-marks-place+in_ok-push, else-marks-place}
 
 pub loop-place-preserved : goal.loop-place-preserved
 loop-place-preserved c =
