@@ -4,7 +4,7 @@ use Rattle.std.specs.Prelude.{length, get_or, take, drop}
 use Rattle.std.specs.List.{All, flat_map}
 use Rattle.chain_terms.specs.Chains.{all_edges}
 use Rattle.chain_terms.specs.Ranks.{start, finish}
-use Rattle.mesh_terms.specs.Limits.{most_halfedges}
+use Rattle.mesh_terms.specs.Limits.{most_points}
 use Rattle.mb_base.specs.declared.results.Entry.{Entry}
 use Rattle.side_terms.specs.Sides.{Side}
 use Rattle.edge_pairing.specs.Entries.{ends_of, place_in, starts_of}
@@ -83,8 +83,8 @@ pub record CanBeSegments (side : Side) (runs : List CopyRange) (points : List (L
   pub third : CanBePaired points (half_entries side runs (3 * f + 2) (half_part 2 ss))
   pub pairs : All (λ g. CanBePaired points (map entry_of g)) (groups (after 3 ss))
 
--- a run for each vertex, with numbers below that of the points
+-- a run for each vertex, with numbers below that of the points, which are no more than those of a mesh
 pub record AreRuns (side : Side) (points : ℕ) (runs : List CopyRange) : Type 0 where
   pub each : length runs ≡ length side.corners
   pub below : All (λ r. r.first + r.count ≤ points) runs
-  pub few : points ≤ most_halfedges
+  pub few : points ≤ most_points

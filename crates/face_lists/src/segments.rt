@@ -2,7 +2,7 @@
 ghost use Rattle.std.specs.Prelude.{◌≡◌, ◌+◌, ◌*◌, ◌<◌, ◌^◌, ◌++◌, IfOk, OnOk, length, map};
 ghost use Rattle.std.specs.List.{All};
 ghost use Rattle.chain_terms.specs.Chains.{all_edges};
-ghost use Rattle.mesh_terms.specs.Limits.{most_halfedges};
+ghost use Rattle.mesh_terms.specs.Limits.{most_points};
 ghost use Rattle.edge_pairing.specs.Entries.{edge_of};
 ghost use Rattle.face_lists.specs.Entries.{entry_of};
 ghost use Rattle.face_lists.specs.Parts.{AreRuns, CanBePaired, CanBeSegments, front, groups, rest};
@@ -91,7 +91,7 @@ fn half_entries(
     stands: &[Stand],
 ) -> Result<Vec<Entry>, NoMemory>
     requires half { half < 3 * length side.now.triples }
-    requires runs { AreRuns side.now most_halfedges runs.now }
+    requires runs { AreRuns side.now most_points runs.now }
     ensures { IfOk result (λ entries. entries.items ≡ half_entries side.now runs.now half stands.now) }
 {
     let a = side.start(half);

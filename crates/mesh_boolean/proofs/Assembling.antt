@@ -18,7 +18,7 @@ use Rattle.filling_terms.specs.Filled.{all_filled, all_triples, forced_of, sourc
 use Rattle.filling_laws.specs.Laws.{FacesAreFilled, FillingsAreAccepted, FillingsAreFew}
 use Rattle.source_faces.specs.declared.triangles.SourceTriangles.{SourceTriangles}
 use Rattle.mesh_boolean.specs.Assembly.{AreNumbers, IsAssembled}
-use Rattle.mesh_boolean.specs.Results.{ArePrescribed}
+use Rattle.retained_verts.specs.Listed.{ArePrescribed}
 
 -- two sides without opposite triangles, with their numbers
 pub record AreReady (p q : Side) (windings : Windings) (hits : Hits) : Type 0 where

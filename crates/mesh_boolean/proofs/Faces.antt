@@ -15,7 +15,8 @@ use Rattle.segment_terms.specs.Segments.{source_count}
 use Rattle.filling_terms.specs.Filled.{all_filled, all_triples, face_segments, filled_face, sources_of}
 use Rattle.pinch_split.specs.Back.{named_by}
 use Rattle.mesh_boolean.specs.Assembly.{AreFillings}
-use Rattle.mesh_boolean.specs.Results.{AreBounded, face_triples, triples_of_face}
+use Rattle.source_boundaries.specs.Picked.{triples_of_face}
+use Rattle.mesh_boolean.specs.Results.{AreBounded, face_triples}
 use Rattle.mesh_boolean.proofs.Parts.{length-sources, named_at, no_part, part_at, sources_below}
 
 -- as many fillings as source faces

@@ -1,8 +1,11 @@
 pub mod Assembling
+pub mod Audited
+pub mod AuditedSides
 pub mod Costs
 pub mod Faces
 pub mod Finished
 pub mod Labelled
+pub mod Marks
 pub mod Pairs
 pub mod Parts
 pub mod Reduced

@@ -8,7 +8,7 @@ use Rattle.mesh_terms.specs.Meshes.{Triple}
 use Rattle.pinch_split.specs.Back.{named_by}
 use Rattle.ring_cutting.specs.Cuts.{Cut}
 use Rattle.filling_terms.specs.Filled.{all_triples, sources_of}
-use Rattle.mesh_boolean.specs.Results.{triples_of_face}
+use Rattle.source_boundaries.specs.Picked.{triples_of_face}
 
 -- the filling of no face
 abbrev pub no_part : Cut

@@ -18,7 +18,8 @@ use Rattle.filling_terms.specs.Assembling.{FillFace}
 use Rattle.filling_terms.specs.Filled.{all_filled, all_triples, filled_face, forced_of, sources_of}
 use Rattle.source_faces.specs.declared.triangles.SourceTriangles.{SourceTriangles}
 use Rattle.mesh_boolean.specs.Operation.{Tests, first_side, second_side}
-use Rattle.mesh_boolean.specs.Results.{ArePrescribed, numbers_in}
+use Rattle.retained_verts.specs.Listed.{ArePrescribed}
+use Rattle.mesh_boolean.specs.Results.{numbers_in}
 
 -- a winding number for each corner, hits of the edges of each side with the faces of the other, all conserved
 pub record AreNumbers (p q : Side) (windings : Windings) (hits : Hits) : Type 0 where

@@ -1,4 +1,5 @@
 pub mod Assembly
+pub mod Audited
 pub mod Faults
 pub mod Labels
 pub mod Operation

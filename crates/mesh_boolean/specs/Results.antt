@@ -1,7 +1,7 @@
 -- What the result of an operation is: the prescribed vertices and numbers, where the vertices and the triangles of the mesh come
 -- from, that each source face's triangles are bounded by its segments, that the mesh is clean, and which triangles and labels it has.
-use Rattle.std.specs.Prelude.{◌≡◌, ◌≢◌, ℕ, ◌<◌, ◌==◌, List, [], ◌∷◌, map, length, filter}
-use Rattle.std.specs.List.{All, zip}
+use Rattle.std.specs.Prelude.{◌≡◌, ◌≢◌, ℕ, ◌<◌, List, map, length}
+use Rattle.std.specs.List.{All}
 use Rattle.chain_terms.specs.Chains.{IsClosed, all_edges, boundary}
 use Rattle.chain_terms.specs.Ranks.{finish, start, twin}
 use Rattle.mesh_terms.specs.Labels.{label_at}
@@ -11,27 +11,16 @@ use Rattle.halfedge.specs.Clean.{IsClean}
 use Rattle.side_terms.specs.Sides.{Side}
 use Rattle.assembly_terms.specs.Lists.{Copy}
 use Rattle.mb_base.specs.declared.op.Op.{Op}
-use Rattle.assembly_terms.specs.Prescribed.{Numbers, crossing_count, p_kept, prescribed as copies_of_numbers, prescribed_halfedges, q_kept}
+use Rattle.assembly_terms.specs.Prescribed.{Numbers, prescribed as copies_of_numbers, prescribed_halfedges}
 use Rattle.assembly_terms.specs.Standing.{AreConserved}
 use Rattle.segment_terms.specs.Segments.{source_count}
 use Rattle.filling_terms.specs.Filled.{all_filled, all_triples, face_segments, forced_of, points_of_copies, sources_of}
 use Rattle.pinch_split.specs.Back.{ComeFrom, named_by}
 use Rattle.pinch_split.specs.Split.{split_from, split_points, split_triples}
-use Rattle.retained_verts.specs.declared.list.Prescribed.{Prescribed}
+use Rattle.retained_verts.specs.Listed.{ArePrescribed}
+use Rattle.source_boundaries.specs.Picked.{triples_of_face}
 use Rattle.mesh_boolean.specs.Operation.{Tests, face_labels, first_side, numbers_of, second_side}
 use Rattle.mesh_boolean.specs.declared.outcome.Outcome.{Outcome}
-
--- the prescribed vertices and their counts are those of the numbers
-pub record ArePrescribed (op : Op) (p q : Side) (n : Numbers) (r : Prescribed) : Type 0 where
-  pub origins : r.origins.items ≡ map (λ c. c.origin) (copies_of_numbers op p q n)
-  pub points : r.points.items ≡ map (λ c. c.point) (copies_of_numbers op p q n)
-  pub kept : r.kept ≡ p_kept op n ∷ q_kept op n ∷ []
-  pub crossings : r.crossings ≡ crossing_count op n
-  pub halfedges : r.halfedges ≡ prescribed_halfedges op p q n
-
--- the triangles of a source face
-abbrev pub triples_of_face : ℕ → List ℕ → List Triple → List Triple
-triples_of_face x source ts = map (λ m. m.1) (filter (λ m. m.0 == x) (zip source ts))
 
 -- those over prescribed vertices
 abbrev pub face_triples : List ℕ → List ℕ → List Triple → ℕ → List Triple

@@ -1,7 +1,8 @@
 // The labels of source faces, and of the mesh that is made of these.
-ghost use Rattle.std.specs.Prelude.{◌≡◌, ℕ, IfOk, IsTrue, length, map};
-ghost use Rattle.mesh_boolean.specs.Labels.{any_face_label, with_labels};
+ghost use Rattle.std.specs.Prelude.{◌≡◌, ◌↔◌, ℕ, IfOk, IsTrue, length, map};
+ghost use Rattle.mesh_boolean.specs.Labels.{any_face_label, face_label, with_labels};
 ghost use Rattle.mesh_boolean.specs.Operation.{face_labels, reduced_mesh};
+ghost use Rattle.mesh_boolean.specs.Results.{IsLabelled};
 ghost use Rattle.mesh_terms.specs.Labels.{label_at, no_labels};
 
 use crate::outcome::Outcome;
@@ -15,6 +16,19 @@ pub struct FaceLabels {
     first: Labels,
     second: Labels,
     faces: u32,
+}
+
+impl FaceLabels {
+    // The label of a source face.
+    fn get(&self, face: u32) -> &[u8]
+        ensures { result.now ≡ face_label self.now face }
+    {
+        if face < self.faces {
+            self.first.get(face)
+        } else {
+            self.second.get(face - self.faces)
+        }
+    }
 }
 
 /// The labels of the source faces of an operation on two meshes. None where neither mesh has a list of labels, which takes
@@ -61,6 +75,45 @@ pub fn labelled(
         source: outcome.source,
         forced: outcome.forced,
     })
+}
+
+/// Whether each triangle of an outcome's mesh has the label of its source face in an operation on two meshes. It takes no
+/// time where none of the three meshes has a list of labels.
+pub fn is_labelled(alloc: Global, p: &Mesh, q: &Mesh, outcome: &Outcome) -> Result<bool, NoMemory>
+    requires { length outcome.now.source.items ≡ length outcome.now.mesh.triples }
+    ensures { IfOk result (λ yes. IsTrue yes ↔ IsLabelled p.now q.now outcome.now) }
+{
+    let faces = face_labels(alloc, p, q)?;
+    Ok(have_labels(&outcome.mesh, &outcome.source, &faces))
+}
+
+// Whether each triangle of a mesh has the label of its source face.
+fn have_labels(mesh: &Mesh, source: &[u32], faces: &Option<FaceLabels>) -> bool
+    requires { length source.now ≡ length mesh.now.triples }
+    ensures { IsTrue result ↔ mesh.now.labels ≡ map (any_face_label faces.now) source.now }
+{
+    if faces.is_none() && has_none(mesh) {
+        return true;
+    }
+    // Read so that what a mesh keeps is known here: so few triangles, and a label for each.
+    let _ = mesh.triples();
+    let _ = mesh.labels();
+    for (triangle, face) in source.iter().enumerate() {
+        if mesh.label(triangle as u32) != label_of(faces, *face) {
+            return false;
+        }
+    }
+    true
+}
+
+// The label of a source face, which is empty where there are none.
+fn label_of(faces: &Option<FaceLabels>, face: u32) -> &[u8]
+    ensures { result.now ≡ any_face_label faces.now face }
+{
+    match faces {
+        Some(labels) => labels.get(face),
+        None => &[],
+    }
 }
 
 // Whether a mesh has no list of labels.

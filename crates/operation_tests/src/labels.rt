@@ -1,9 +1,12 @@
 // Labels of triangles, through reduction, motions and operations. What is expected was found by a reference program.
 use crate::results::to_the_nearest;
 use mb_base::{Limits, Op};
+use mesh_boolean::audit;
 use mesh_check::{Mesh, reduce};
 use mesh_make::{mirror, quarter_turn, scale, shift};
 use obj_text::read_obj;
+use rounding::Nearest;
+use shadow_kernels::Grid;
 use std::alloc::{AllocError, Global};
 use std::process::Abort;
 use test_tables::{POST_IN_BOX, read_meshes};
@@ -63,6 +66,32 @@ fn a_triangle_has_the_label_of_its_source_face(rt: HostRuntime) {
         let outcome = to_the_nearest(&rt, rt.alloc(), op, &p, &q);
         expect_labels(&rt, rt.alloc(), &outcome.mesh, labels);
     }
+}
+
+// Whether an audit says yes of what the union of two meshes gives, as one of two others.
+fn is_union_of(
+    rt: &impl Abort,
+    alloc: Global,
+    made: (&Mesh, &Mesh),
+    asked: (&Mesh, &Mesh),
+) -> bool {
+    let (p, q) = made;
+    let outcome = to_the_nearest(rt, alloc, Op::Union, p, q);
+    let (p, q) = asked;
+    let kernels = Grid { rounding: Nearest };
+    audit(alloc, Op::Union, p, q, &kernels, &outcome).expect(rt, "memory")
+}
+
+#[test]
+fn an_audit_asks_for_labels(rt: HostRuntime) {
+    let body = read(&rt, rt.alloc(), BODY);
+    let post = read(&rt, rt.alloc(), POST);
+    let plain = read_meshes(rt.alloc(), POST_IN_BOX).expect(&rt, "two meshes");
+    let labelled = (&body, &post);
+    assert!(rt; is_union_of(&rt, rt.alloc(), labelled, labelled));
+    assert!(rt; !is_union_of(&rt, rt.alloc(), labelled, (&plain.0, &post)));
+    assert!(rt; !is_union_of(&rt, rt.alloc(), labelled, (&body, &plain.1)));
+    assert!(rt; !is_union_of(&rt, rt.alloc(), (&plain.0, &plain.1), labelled));
 }
 
 // How many triangles have this label.

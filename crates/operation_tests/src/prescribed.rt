@@ -85,13 +85,16 @@ fn a_post_in_a_box_is_counted(rt: HostRuntime) {
     }
 }
 
-// All vertices of both boxes once, then the crossing.
-const TWICE: &str =
-    "8 8 2 78 p0000 p1a00 p20a0 p3aa0 p400a p5a0a p60aa p7aaa q0345 q1645 q2375 q3675 q434k q564k q637k q767k e00123 e00123";
+// The union of two boxes apart.
+const APART: &str = "union 000a000a0aa000aa0a0aaaaa 031023457476014154137175326367046062 \
+k00u00ka0ua0k0au0akaauaa 031023457476014154137175326367046062";
+
+// All vertices of both once, then the crossing.
+const TWICE: &str = "8 8 2 78 p0000 p1a00 p20a0 p3aa0 p400a p5a0a p60aa p7aaa \
+q0k00 q1u00 q2ka0 q3ua0 q4k0a q5u0a q6kaa q7uaa e00123 e00123";
 
 #[test]
 fn a_crossing_of_number_2_is_listed_twice(rt: HostRuntime) {
-    let meshes = format!(in rt.alloc(); "union {POST_IN_BOX}").expect(&rt, "a line");
     let numbers = "00000000 00000000 002123 |";
-    expect_line(&rt, rt.alloc(), meshes.as_str(), numbers, TWICE);
+    expect_line(&rt, rt.alloc(), APART, numbers, TWICE);
 }

@@ -23,6 +23,12 @@ use test_tables::{POST_IN_BOX, read_meshes, read_pair};
 use text::text_of;
 use volume::volume6;
 
+/// The tables of solids and of loose parts.
+pub const PAIRS: [&str; 2] = [SOLIDS, LOOSE];
+
+/// The pairs that are worked out by hand, of whose results an audit has to say yes.
+pub const SOUND: &str = WORKED;
+
 // What an operation gives under any kernels.
 fn answer<K: Kernels, L: Ledger>(
     alloc: Global,

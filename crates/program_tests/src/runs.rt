@@ -1,6 +1,7 @@
 // Whole runs over memory, with what users and scripts see of them: status, output, error line, files.
 mod faults;
 mod files;
+mod hostile;
 mod made;
 mod scripts;
 mod solids;

@@ -1,6 +1,7 @@
 pub mod AllStarts
 pub mod Balance
 pub mod Bounds
+pub mod Compared
 pub mod Corners
 pub mod Faces
 pub mod Fits

@@ -1,4 +1,6 @@
+pub mod Counted
 pub mod Faults
 pub mod Handed
+pub mod Listed
 pub mod Parts
 pub mod Small

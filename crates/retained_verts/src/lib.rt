@@ -5,12 +5,14 @@
 //! "Towards robust inexact geometric computation" and the Manifold library.
 #![tactic(auto)]
 
+mod checked;
 mod copies;
 mod counts;
 mod list;
 mod operand;
 mod points;
 
+pub use checked::are_prescribed;
 pub use list::{PrescribeFault, Prescribed, prescribe};
 pub use operand::{Operand, hit_number};
 pub use points::point_of;

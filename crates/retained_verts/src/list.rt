@@ -4,12 +4,14 @@ ghost use Rattle.assembly_terms.specs.Prescribed.{crossing_count, p_kept, prescr
 ghost use Rattle.assembly_terms.specs.Standing.{AreConserved, StandInLists, count_all_starts};
 ghost use Rattle.chain_terms.specs.Chains.{all_edges};
 ghost use Rattle.retained_verts.specs.Faults.{IsFaultAt};
+ghost use Rattle.retained_verts.specs.Counted.{AreCounts};
 ghost use Rattle.retained_verts.specs.Handed.{AreBalanced, copies, numbers};
+ghost use Rattle.retained_verts.specs.Listed.{ArePrescribed};
 ghost use Rattle.retained_verts.specs.Small.{AreSmallWindings};
 ghost use Rattle.side_terms.specs.Hits.{AreHits};
 
 use crate::copies::Copies;
-use crate::counts::count;
+use crate::counts::{Counts, count};
 use crate::operand::Operand;
 use lean::Side;
 use mb_base::{Hits, Limits, NoMemory, Op, Origin, Point, Windings};
@@ -95,6 +97,31 @@ pub fn prescribe(
             seen: counts.halfedges,
         });
     }
+    // Read so that what sides keep is known here.
+    let _ = p.corners();
+    let _ = q.corners();
+    Ok(listed(alloc, op, p, q, windings, hits, counts)?)
+}
+
+/// The same vertices whatever their number, where these are their counts.
+pub fn listed(
+    alloc: Global,
+    op: Op,
+    p: &Side,
+    q: &Side,
+    windings: &Windings,
+    hits: &Hits,
+    counts: Counts,
+) -> Result<Prescribed, NoMemory>
+    requires w03 { length windings.now.w03.items ≡ length p.now.corners }
+    requires w30 { length windings.now.w30.items ≡ length q.now.corners }
+    requires w03_small { AreSmallWindings windings.now.w03.items }
+    requires w30_small { AreSmallWindings windings.now.w30.items }
+    requires x12 { AreHits (all_edges p.now.triples) (length q.now.triples) hits.now.x12.items }
+    requires x21 { AreHits (all_edges q.now.triples) (length p.now.triples) hits.now.x21.items }
+    requires counts { AreCounts op p.now q.now (numbers windings.now hits.now) counts }
+    ensures { IfOk result (ArePrescribed op p.now q.now (numbers windings.now hits.now)) }
+{
     let [p_kept, q_kept] = counts.kept;
     let mut copies = Copies::with_capacity(alloc, (p_kept + q_kept + counts.crossings) as usize)?;
     copies.push_vertices(op, Operand::P, p.corners(), &windings.w03)?;

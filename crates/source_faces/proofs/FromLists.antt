@@ -5,6 +5,7 @@ use Rattle.chain_terms.specs.Cycles.{cycles}
 use Rattle.mb_base.specs.declared.results.Origin.{Origin}
 use Rattle.face_loops.specs.Segments.{IsOneToOne}
 use Rattle.hole_joining.specs.Laws.{AreFillable}
+use Rattle.mesh_terms.specs.Limits.{most_points}
 use Rattle.side_terms.specs.Sides.{Side}
 use Rattle.assembly_terms.specs.Lists.{Copy, no_copy}
 use Rattle.segment_terms.specs.Planes.{plane_drop_of}
@@ -25,7 +26,7 @@ many_points cs = length-map cs (λ c. c.point)
 
 -- runs of copies have their numbers
 in_numbers : (side : Side) (runs : List CopyRange) (cs : List Copy) (origin : ℕ → Origin) → AreRunsOf cs origin side runs →
-    length cs ≤ 60000000 → AreRuns side (length (points_of_copies cs)) runs
+    length cs ≤ most_points → AreRuns side (length (points_of_copies cs)) runs
 in_numbers side runs cs origin h few = record {
   each = h.long;
   below = λ v d below.
@@ -49,7 +50,7 @@ at_vertices side runs cs origin h = record {
 
 -- so a side has its copies
 pub have_copies : (side : Side) (runs : List CopyRange) (cs : List Copy) (origin : ℕ → Origin) (k : ℕ) → AreRunsOf cs origin side runs →
-    AreInOrder k runs → length cs ≤ 60000000 → HaveCopies side runs (points_of_copies cs)
+    AreInOrder k runs → length cs ≤ most_points → HaveCopies side runs (points_of_copies cs)
 have_copies side runs cs origin k h order few =
     record { are = in_numbers side runs cs origin h few; last = k; order = order; lie = at_vertices side runs cs origin h }
 

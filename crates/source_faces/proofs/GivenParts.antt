@@ -9,6 +9,7 @@ use Rattle.mb_base.specs.declared.op.Op.{Op}
 use Rattle.mb_base.specs.declared.results.Hits.{Hits}
 use Rattle.mb_base.specs.declared.results.Windings.{Windings}
 use Rattle.mb_base.specs.declared.results.Origin.TheVariants.{PVertex, QVertex}
+use Rattle.mesh_terms.specs.Limits.{most_points}
 use Rattle.side_terms.specs.Sides.{IsSide, Side}
 use Rattle.assembly_terms.specs.Lists.{Copy}
 use Rattle.assembly_terms.specs.Prescribed.{p_kept, q_kept}
@@ -75,7 +76,7 @@ drop_of_q p q g =
 
 -- runs and records that tell all copies, which can be assembled
 pub all_parts : (laws : HaveLaws) (p q : Side) (cs : List Copy) (k : ℕ) (p_runs q_runs : List CopyRange) (stands : List Stand) →
-    HaveLists p q cs k p_runs q_runs stands → CanBeAssembled p q cs → length cs ≤ 60000000 → HaveAllParts p q cs p_runs q_runs stands
+    HaveLists p q cs k p_runs q_runs stands → CanBeAssembled p q cs → length cs ≤ most_points → HaveAllParts p q cs p_runs q_runs stands
 all_parts laws p q cs k p_runs q_runs stands lists can few =
     let points = points_of_copies cs in
     let m = length p.triples in
@@ -127,5 +128,5 @@ given_parts laws op p q windings hits r p_side q_side h =
       named = laws.named op p q n h.x12 h.x21;
       few = h.few;
     } in
-    let few : length cs ≤ 60000000 = omega (arith, all_copies_counted op p q n h.w03 h.w30, few_given op p q windings hits r p_side q_side h) in
+    let few : length cs ≤ most_points = omega (arith, all_copies_counted op p q n h.w03 h.w30, few_given op p q windings hits r p_side q_side h) in
     all_parts laws p q cs (p_kept op n + q_kept op n) (given_p_runs op n) (given_q_runs op n) (given_stands op p q n) lists can few

@@ -1,14 +1,14 @@
-mod Copies
 mod Flat
-mod Halves
-mod PlainFaces
-mod Rings
 pub mod Added
+pub mod Copies
 pub mod Faces
 pub mod Forced
 pub mod FromGiven
 pub mod FromLists
 pub mod GivenParts
 pub mod Groups
+pub mod Halves
 pub mod Joined
 pub mod Outcomes
+pub mod PlainFaces
+pub mod Rings

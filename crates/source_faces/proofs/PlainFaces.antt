@@ -41,7 +41,7 @@ pub record IsPlain (side : Side) (runs : List CopyRange) (points : List (List �
   pub three_one : AreApart (run_of runs t.2).first (run_of runs t.0).first n
 
 -- the segments of a face with these vertices
-segments : (side : Side) (runs : List CopyRange) (points : List (List ℤ)) (f n : ℕ) (negative : Bool) → f < length side.triples →
+pub segments : (side : Side) (runs : List CopyRange) (points : List (List ℤ)) (f n : ℕ) (negative : Bool) → f < length side.triples →
     IsPlain side runs points n negative (face side f) →
     segments_by side runs points f []
     ≡ joined_as negative (run_of runs (face side f).0).first (run_of runs (face side f).1).first n
@@ -99,7 +99,7 @@ all_numbered a b c n =
     ∙ ap (λ z. loop_triples a b z n) three
 
 -- the copies of three vertices as triangles, turned over where the number is below 0
-all_copies : (negative : Bool) (r s u : CopyRange) (n : ℕ) → r.negative ≡ negative →
+pub all_copies : (negative : Bool) (r s u : CopyRange) (n : ℕ) → r.negative ≡ negative →
     map (copy_triple r s u) (upto n) ≡ cond negative (loop_triples s.first r.first u.first n) (loop_triples r.first s.first u.first n)
 all_copies negative r s u n e =
     ap (λ t. map (λ i. cond t (s.first + i, r.first + i, u.first + i) (r.first + i, s.first + i, u.first + i)) (upto n)) e ∙ by_sign negative

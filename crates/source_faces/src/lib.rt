@@ -10,4 +10,5 @@ mod plain;
 mod triangles;
 
 pub use all::triangles_of;
+pub use plain::{are_equal, copy_triple};
 pub use triangles::SourceTriangles;

@@ -1,5 +1,6 @@
 // Faces that no edge crosses, and that cross none: their triangles are copies of them.
 ghost use Rattle.std.specs.Prelude.{◌≡◌, ◌+◌, ◌<◌, ◌^◌, true, cond, OnOk, length, get_or};
+ghost use Rattle.mesh_terms.specs.Limits.{most_points};
 ghost use Rattle.mesh_terms.specs.Meshes.{IsBelow, triple_of};
 ghost use Rattle.face_lists.specs.Parts.{AreRuns};
 ghost use Rattle.side_terms.specs.Sides.{IsSide};
@@ -38,8 +39,8 @@ pub fn push_copies(
     source: u32,
 ) -> Result<(), NoMemory>
     requires face { face < length side.now.triples }
-    requires runs { AreRuns side.now 60000000 runs.now }
-    requires few { all.old.forced + 60000000 < 2 ^ 64 }
+    requires runs { AreRuns side.now most_points runs.now }
+    requires few { all.old.forced + most_points < 2 ^ 64 }
     requires equal { are_equal_runs runs.now (get_or side.now.triples face (0, 0, 0)) ≡ true }
     ensures { OnOk result (IsAdded source (face_copies side.now runs.now face) all.old all.new) }
 {
@@ -52,8 +53,8 @@ pub fn push_copies(
     Ok(())
 }
 
-// The triangle of copies number i of three vertices, turned over where the number of the first one is below 0.
-fn copy_triple(a: CopyRange, b: CopyRange, c: CopyRange, i: u32) -> [u32; 3]
+/// The triangle of copies number i of three vertices, turned over where the number of the first one is below 0.
+pub fn copy_triple(a: CopyRange, b: CopyRange, c: CopyRange, i: u32) -> [u32; 3]
     requires a { a.first + i < 2 ^ 32 }
     requires b { b.first + i < 2 ^ 32 }
     requires c { c.first + i < 2 ^ 32 }

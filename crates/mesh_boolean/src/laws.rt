@@ -1,0 +1,28 @@
+//! A law of results, as the contract of a function that puts an operation and its audit together.
+ghost use Rattle.std.specs.Prelude.{IfOk, IsTrue};
+
+use crate::auditing::audit;
+use crate::operate::boolean;
+use edge_face::Kernels;
+use mb_base::{Limits, Op};
+use mesh_check::Mesh;
+use retained_verts::PrescribeFault;
+use std::alloc::Global;
+use std::sync::ledger::Ledger;
+use steps::Steps;
+
+/// What an audit says of what an operation gives, on the same meshes and kernels: yes, whenever it answers.
+pub fn audit_of_result<K: Kernels, L: Ledger>(
+    alloc: Global,
+    op: Op,
+    p: &Mesh,
+    q: &Mesh,
+    kernels: &K,
+    limits: &Limits,
+    steps: &mut Steps<L>,
+) -> Result<bool, PrescribeFault>
+    ensures { IfOk result IsTrue }
+{
+    let outcome = boolean(alloc, op, p, q, kernels, limits, steps)?;
+    Ok(audit(alloc, op, p, q, kernels, &outcome)?)
+}

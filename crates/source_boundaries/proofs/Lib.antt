@@ -1,0 +1,4 @@
+pub mod Chosen
+pub mod Copied
+pub mod Faces
+pub mod GivenSegments

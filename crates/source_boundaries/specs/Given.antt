@@ -1,0 +1,48 @@
+-- What triangles are compared with: numbers, and the vertices that these prescribe.
+use Rattle.std.specs.Prelude.{◌≡◌, ℕ, ◌+◌, ◌<◌, ◌≤◌, List, ◌∷◌, [], map, length}
+use Rattle.chain_terms.specs.Chains.{all_edges}
+use Rattle.mb_base.specs.declared.op.Op.{Op}
+use Rattle.mb_base.specs.declared.results.Hits.{Hits}
+use Rattle.mb_base.specs.declared.results.Windings.{Windings}
+use Rattle.mesh_terms.specs.Limits.{most_points}
+use Rattle.side_terms.specs.Hits.{AreHits}
+use Rattle.side_terms.specs.Sides.{Side}
+use Rattle.assembly_terms.specs.Lists.{Copy}
+use Rattle.assembly_terms.specs.Prescribed.{p_kept, q_kept}
+use Rattle.face_lists.specs.declared.runs.CopyRange.{CopyRange}
+use Rattle.face_lists.specs.declared.stands.Stand.{Stand}
+use Rattle.face_lists.specs.Agreement.{records_of}
+use Rattle.face_lists.specs.Parts.{segments_by}
+use Rattle.filling_terms.specs.Filled.{face_segments, points_of_copies}
+use Rattle.retained_verts.specs.Handed.{AreBalanced, copies, numbers}
+use Rattle.retained_verts.specs.Small.{AreSmallWindings}
+use Rattle.retained_verts.specs.declared.list.Prescribed.{Prescribed}
+use Rattle.source_faces.specs.Given.{given_p_runs, given_q_runs, given_stands}
+use Rattle.source_boundaries.specs.Faces.{HaveSegments}
+
+-- windings and hits of two sides, and the vertices that they prescribe, which balance every list and are no more than the points of
+-- a mesh
+pub record AreGiven (op : Op) (p q : Side) (windings : Windings) (hits : Hits) (r : Prescribed) : Type 0 where
+  pub w03 : length windings.w03.items ≡ length p.corners
+  pub w30 : length windings.w30.items ≡ length q.corners
+  pub w03_small : AreSmallWindings windings.w03.items
+  pub w30_small : AreSmallWindings windings.w30.items
+  pub x12 : AreHits (all_edges p.triples) (length q.triples) hits.x12.items
+  pub x21 : AreHits (all_edges q.triples) (length p.triples) hits.x21.items
+  pub points : r.points.items ≡ map (λ c. c.point) (copies op p q windings hits)
+  pub kept : r.kept ≡ p_kept op (numbers windings hits) ∷ q_kept op (numbers windings hits) ∷ []
+  pub balance : AreBalanced op p q windings hits
+  pub few : length (copies op p q windings hits) ≤ most_points
+
+-- the faces of both sides have their segments from runs and records, P's first
+pub record HaveAllSegments (p q : Side) (cs : List Copy) (p_runs q_runs : List CopyRange) (stands : List Stand) : Type 0 where
+  pub p_faces : HaveSegments p p_runs (points_of_copies cs) 0 stands
+  pub q_faces : HaveSegments q q_runs (points_of_copies cs) (length p.triples) stands
+  pub p_same : (f : ℕ) → f < length p.triples → segments_by p p_runs (points_of_copies cs) f (records_of stands (0 + f)) ≡ face_segments p q cs f
+  pub q_same : (g : ℕ) → g < length q.triples →
+      segments_by q q_runs (points_of_copies cs) g (records_of stands (length p.triples + g)) ≡ face_segments p q cs (length p.triples + g)
+
+-- so they have them from the runs and records of what is given
+abbrev pub GivenHaveSegments : Op → Side → Side → Windings → Hits → Type 0
+GivenHaveSegments op p q windings hits =
+    let n = numbers windings hits in HaveAllSegments p q (copies op p q windings hits) (given_p_runs op n) (given_q_runs op n) (given_stands op p q n)

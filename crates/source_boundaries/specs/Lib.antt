@@ -1,0 +1,4 @@
+pub mod Bounded
+pub mod Faces
+pub mod Given
+pub mod Picked
