@@ -30,13 +30,13 @@ fine_negative shift a =
     ap (λ n. neg_ℤ (pos n)) whole
 
 -- a whole number of steps, shifted down, is that number
-fine_shifted : (shift : ℕ) (m : ℤ) → int_shr (fine shift m) shift ≡ m
+pub fine_shifted : (shift : ℕ) (m : ℤ) → int_shr (fine shift m) shift ≡ m
 fine_shifted shift (pos a) = ap pos (shl-shr a shift)
 fine_shifted shift (negsuc a) =
     ap (λ z. int_shr z shift) (fine_negative shift a) ∙ ap negsuc (shr_high a shift (2 ^ shift - 1) (omega (arith, pow_pos shift)))
 
 -- steps to the other side
-fine_turned : (shift : ℕ) (m : ℤ) → fine shift (neg_ℤ m) ≡ neg_ℤ (fine shift m)
+pub fine_turned : (shift : ℕ) (m : ℤ) → fine shift (neg_ℤ m) ≡ neg_ℤ (fine shift m)
 fine_turned shift (pos zero) = omega (arith, ints)
 fine_turned shift (pos (suc a)) = refl
 fine_turned shift (negsuc a) = omega (arith, ints)

@@ -29,13 +29,17 @@ fn step_below(at: i64, shift: u32) -> i32
     (at >> shift).clamp(-0x8000_0000, 0x7fff_ffff) as i32
 }
 
-// A coordinate in coarse steps of 2^shift fine steps, rounded up.
+// A coordinate in coarse steps of 2^shift fine steps, rounded up: its opposite rounded down, on the other side. The least i64 has no
+// opposite, and is a whole number of any steps.
 #[inline]
-fn rounded_up(at: i64, shift: u32) -> i128
+fn rounded_up(at: i64, shift: u32) -> i64
     requires { shift < 64 }
     ensures { result ≡ neg_ℤ (int_shr (neg_ℤ at) shift) }
 {
-    -(-i128::from(at) >> shift)
+    match at.checked_neg() {
+        Some(opposite) => -(opposite >> shift),
+        None => at >> shift,
+    }
 }
 
 // The same, cut off at the ends of an i32.
@@ -138,13 +142,13 @@ impl Bounds {
         self.x.meets(other.x) && self.y.meets(other.y) && self.z.meets(other.z)
     }
 
-    /// Half of their surface, where each step has a width.
+    /// Half of their surface, where each step has a width, or 2^64 - 1 where it is more.
     #[inline]
-    pub fn surface(self) -> u128 {
+    pub fn surface(self) -> u64 {
         let (x, y, z) = (self.x.reach() + 1, self.y.reach() + 1, self.z.reach() + 1);
-        u128::from(x.saturating_mul(y))
-            + u128::from(y.saturating_mul(z))
-            + u128::from(z.saturating_mul(x))
+        x.saturating_mul(y)
+            .saturating_add(y.saturating_mul(z))
+            .saturating_add(z.saturating_mul(x))
     }
 
     /// Bounds that take in both.

@@ -81,8 +81,8 @@ fn shift_over(most: u64) -> u32
     (64 - most.leading_zeros()).saturating_sub(31)
 }
 
-/// The coarse steps over boxes.
-pub fn steps_over<B: Boxes>(boxes: &B) -> Steps
+// The coarse steps that the coordinates of the boxes have in common.
+fn common_steps<B: Boxes>(boxes: &B) -> Steps
     ensures small { result.shift < 64 }
     ensures exact { IsTrue result.exact → All (IsExact result.shift) (B.boxes boxes.now) }
 {
@@ -91,4 +91,15 @@ pub fn steps_over<B: Boxes>(boxes: &B) -> Steps
         extent = extent.with_box(&boxes.box_at(number));
     }
     extent.steps()
+}
+
+/// The coarse steps over boxes: those that are known of them, or else those that they are found to have in common.
+pub fn steps_over<B: Boxes>(boxes: &B) -> Steps
+    ensures small { result.shift < 64 }
+    ensures exact { IsTrue result.exact → All (IsExact result.shift) (B.boxes boxes.now) }
+{
+    match boxes.whole_steps() {
+        Some(shift) => Steps { shift, exact: true },
+        None => common_steps(boxes),
+    }
 }

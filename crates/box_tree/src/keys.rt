@@ -53,10 +53,10 @@ fn bounds_of_run<B: Boxes>(boxes: &B, shift: u32, first: usize, end: usize) -> O
     if end - first != BLOCK {
         return None;
     }
-    let mut bounds = Bounds::around(&boxes.box_at(first), shift);
+    let mut bounds = boxes.bounds_at(first, shift);
     let mut alone = [bounds.surface(); BLOCK];
     for number in first + 1..end {
-        let one = Bounds::around(&boxes.box_at(number), shift);
+        let one = boxes.bounds_at(number, shift);
         alone[number - first] = one.surface();
         bounds = bounds.joined(one);
     }
@@ -68,11 +68,9 @@ fn bounds_of_run<B: Boxes>(boxes: &B, shift: u32, first: usize, end: usize) -> O
 }
 
 // Whether all but four of the surfaces of a run's boxes are each a sixty-fourth of the surface round the run or more.
-fn share_surface(alone: &[u128; BLOCK], around: u128) -> bool {
-    let close = alone
-        .iter()
-        .filter(|one| around <= one.saturating_mul(64))
-        .count();
+fn share_surface(alone: &[u64; BLOCK], around: u64) -> bool {
+    let part = around.div_ceil(64);
+    let close = alone.iter().filter(|one| part <= **one).count();
     close >= BLOCK - 4
 }
 
@@ -92,7 +90,7 @@ fn push_singles<B: Boxes>(
         numbers_of_runs (length (B.boxes boxes.now)) 1 singles.old.items ++ up_from first (end - first)) }
 {
     for number in first..end {
-        singles.push(key_of(Bounds::around(&boxes.box_at(number), shift), number))?;
+        singles.push(key_of(boxes.bounds_at(number, shift), number))?;
     }
     Ok(())
 }

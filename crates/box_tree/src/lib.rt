@@ -14,6 +14,7 @@ mod touching;
 mod tree;
 mod walk;
 
+pub use bounds::{Bounds, Range};
 pub use boxes::Boxes;
 pub use common_point::touch;
 pub use touching::Touching;

@@ -13,7 +13,7 @@ use crate::places::edge_ends;
 use crate::runs::CopyRange;
 use crate::stands::Stand;
 use edge_pairing::{segments_of_edge, segments_of_pair};
-use lean::Side;
+use lean::Surface;
 use mb_base::{Entry, NoMemory, Point, Segment};
 use std::alloc::Global;
 
@@ -22,7 +22,7 @@ use std::alloc::Global;
 /// lie. `NoMemory` may come for any. The cost is that of sorting the face's copies.
 pub fn segments_of_face(
     alloc: Global,
-    side: &Side,
+    side: &Surface,
     runs: &[CopyRange],
     face: u32,
     stands: &[Stand],
@@ -49,7 +49,7 @@ pub fn segments_of_face(
 }
 
 // The first half-edge of a face.
-fn first_half(side: &Side, face: u32) -> u32
+fn first_half(side: &Surface, face: u32) -> u32
     requires { face < length side.now.triples }
     ensures value { result ≡ 3 * face }
     ensures below { result + 2 < 3 * length side.now.triples }
@@ -64,7 +64,7 @@ fn first_half(side: &Side, face: u32) -> u32
 fn push_half(
     alloc: Global,
     segments: &mut Vec<Segment>,
-    side: &Side,
+    side: &Surface,
     runs: &[CopyRange],
     half: u32,
     stands: &[Stand],
@@ -85,7 +85,7 @@ fn push_half(
 // The entries of a half-edge's list, by their numbers.
 fn half_entries(
     alloc: Global,
-    side: &Side,
+    side: &Surface,
     runs: &[CopyRange],
     half: u32,
     stands: &[Stand],

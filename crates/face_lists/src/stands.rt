@@ -8,7 +8,7 @@ ghost use Rattle.retained_verts.specs.Handed.{numbers};
 ghost use Rattle.side_terms.specs.Hits.{AreHits};
 
 use halfedge::Twins;
-use lean::Side;
+use lean::Surface;
 use mb_base::{Hit, Hits, NoMemory, Op};
 use retained_verts::hit_number;
 use std::alloc::Global;
@@ -61,8 +61,8 @@ struct Crossing {
 pub fn stands_of(
     alloc: Global,
     op: Op,
-    p: &Side,
-    q: &Side,
+    p: &Surface,
+    q: &Surface,
     hits: &Hits,
     first: u32,
 ) -> Result<Vec<Stand>, NoMemory>

@@ -101,8 +101,21 @@ impl Twins {
         ensures open { (a b : ℕ) → IsErrOf result (TwinFault.Open a b) → open_pair (all_edges (triples_of triples.now)) ≡ Some (a, b) }
         ensures accepts { IsClosed (all_edges (triples_of triples.now)) → IsOk result ⊎ IsErrOf result TwinFault.NoMemory }
     {
-        let (twins, single) = listed_twins(alloc, triples)?;
         let triples = copied(alloc, triples)?;
+        Twins::over(alloc, triples)
+    }
+
+    /// The same of triangles that it takes over, of which it makes no copy.
+    pub fn over(alloc: Global, triples: Vec<[u32; 3]>) -> Result<Twins, TwinFault>
+        requires three { All HasThree (triples_of triples.items) }
+        requires few { length triples.items ≤ most_triangles }
+        ensures triples { IfOk result (λ t. t.triples ≡ triples_of triples.items) }
+        ensures twins { IfOk result (λ t. t.twins ≡ map (twin (all_edges (triples_of triples.items))) (upto (length (all_edges (triples_of triples.items))))) }
+        ensures closed { IfOk result (λ _. IsClosed (all_edges (triples_of triples.items))) }
+        ensures open { (a b : ℕ) → IsErrOf result (TwinFault.Open a b) → open_pair (all_edges (triples_of triples.items)) ≡ Some (a, b) }
+        ensures accepts { IsClosed (all_edges (triples_of triples.items)) → IsOk result ⊎ IsErrOf result TwinFault.NoMemory }
+    {
+        let (twins, single) = listed_twins(alloc, &triples)?;
         Ok(Twins {
             triples: Rc::new(alloc, triples)?,
             twins: Rc::new(alloc, twins)?,

@@ -12,7 +12,7 @@ use crate::barred::{any_bars, edge_bars};
 use crate::edges::push_edges;
 use crate::flat::{BridgeLine, FlatPoints, greater, lesser};
 use crate::places::Places;
-use box_tree::{Boxes, MOST_BOXES, Tree};
+use box_tree::{Bounds, Boxes, MOST_BOXES, Tree};
 use face_plane::FlatPoint;
 use mb_base::{Box3, NoMemory};
 use std::alloc::Global;
@@ -81,6 +81,16 @@ impl Boxes for EdgeBoxes<'_> {
     #[inline]
     fn box_at(&self, number: usize) -> Box3 {
         box_of(&self.flat, self.edges[number])
+    }
+
+    #[inline]
+    fn whole_steps(&self) -> Option<u32> {
+        None
+    }
+
+    #[inline]
+    fn bounds_at(&self, number: usize, shift: u32) -> Bounds {
+        Bounds::around(&box_of(&self.flat, self.edges[number]), shift)
     }
 }
 

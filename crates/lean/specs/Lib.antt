@@ -1,3 +1,4 @@
+pub mod Grid
 pub mod Leans
 pub mod Trees
 pub mod Vectors

@@ -22,8 +22,9 @@ pub fn corner_of(point: Point, up: [bool; 3]) -> Corner
     }
 }
 
-// A coordinate in fine steps, so many of which make a grid step.
-fn fine_steps(coordinate: i32, unit: i64) -> i64
+/// A coordinate in fine steps, so many of which make a grid step.
+#[inline]
+pub fn fine_steps(coordinate: i32, unit: i64) -> i64
     requires { unsigned_abs unit ≤ 256 }
     ensures { result ≡ unit *ℤ coordinate }
 {

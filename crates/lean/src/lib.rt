@@ -4,10 +4,14 @@
 
 mod corner;
 mod faces;
+mod grid;
 mod marks;
+mod short;
 mod side;
+mod surface;
 
 pub use corner::corner_of;
 pub use faces::face_of;
 pub use marks::leans;
-pub use side::{Side, corners_of};
+pub use side::Side;
+pub use surface::{Surface, corners_of};

@@ -4,6 +4,7 @@ ghost use Rattle.mesh_terms.specs.Meshes.{IsBelow, triple_of};
 ghost use Rattle.lean.specs.Leans.{face_normal, is_up, leans_of, normals_of};
 ghost use Rattle.lean.specs.Vectors.{AllSmall, AreSmall, added, added_at, added_at_corners};
 
+use crate::short::{short_marks, short_normals_of};
 use mb_base::{NoMemory, Op, Point, cross};
 use mesh_check::Mesh;
 use std::alloc::Global;
@@ -16,6 +17,9 @@ pub fn leans(alloc: Global, mesh: &Mesh, op: Op) -> Result<Vec<[bool; 3]>, NoMem
     ensures value { IfOk result (λ ups. ups.items ≡ leans_of op mesh.now) }
     ensures length { IfOk result (λ ups. length ups.items ≡ length mesh.now.points) }
 {
+    if let Some(normals) = short_normals_of(alloc, mesh)? {
+        return short_marks(alloc, &normals, op);
+    }
     let normals = normals_of(alloc, mesh)?;
     let mut ups = Vec::with_capacity(alloc, normals.len())?;
     for normal in &normals {
@@ -63,8 +67,8 @@ fn add_normals(normals: &mut [[i128; 3]], mesh: &Mesh)
     }
 }
 
-// The cross product of a triangle's sides.
-fn face_normal(points: &[Point], triple: &[u32; 3]) -> [i128; 3]
+/// The cross product of a triangle's sides.
+pub fn face_normal(points: &[Point], triple: &[u32; 3]) -> [i128; 3]
     requires { IsBelow (length points.now) (triple_of triple.now) }
     ensures value { result ≡ face_normal points.now (triple_of triple.now) }
     ensures small { AreSmall (2 ^ 63) result }

@@ -1,16 +1,16 @@
 // The lists of a side.
-ghost use Rattle.std.specs.Prelude.{◌≡◌, ◌<◌, ◌*◌, IfOk, length, map};
+ghost use Rattle.std.specs.Prelude.{◌≡◌, ◌<◌, ◌*◌, IfOk, length};
 ghost use Rattle.chain_terms.specs.Chains.{all_edges};
 ghost use Rattle.chain_terms.specs.Ranks.{start};
 ghost use Rattle.mesh_terms.specs.Meshes.{triples_of};
-ghost use Rattle.side_terms.specs.Corners.{corner_at, AllFine, AllWhole, IsFineCorner};
-ghost use Rattle.side_terms.specs.Sides.{IsSide, side_of, corners_of, face_at, face_boxes, edge_at};
+ghost use Rattle.side_terms.specs.Corners.{AllFine};
+ghost use Rattle.side_terms.specs.Sides.{IsSide, side_of, face_at, face_boxes, edge_at};
 
-use crate::corner::corner_of;
-use crate::faces::{face_of, tree_over};
+use crate::faces::tree_over;
+use crate::surface::Surface;
 use box_tree::Tree;
 use halfedge::Twins;
-use mb_base::{Corner, NoMemory, Point};
+use mb_base::{Corner, NoMemory};
 use mesh_check::Mesh;
 use std::alloc::Global;
 use std::marker::Model;
@@ -20,8 +20,7 @@ use std::marker::Model;
 /// boxes of the triangles, numbered as they are.
 #[derive(Drop)]
 pub struct Side {
-    corners: Vec<Corner>,
-    twins: Twins,
+    surface: Surface,
     tree: Tree,
 }
 
@@ -31,9 +30,9 @@ impl Model for Side {
 
     ghost Value = { TheSide };
 
-    ghost view = { λ s. record { corners = s.corners.items; triples = s.twins.triples; twins = s.twins.twins } };
+    ghost view = { λ s. s.surface };
 
-    ghost invariant = { λ s. IsSideWith s.tree (record { corners = s.corners.items; triples = s.twins.triples; twins = s.twins.twins }) };
+    ghost invariant = { λ s. IsSideWith s.tree s.surface };
 }
 
 impl Side {
@@ -43,14 +42,24 @@ impl Side {
         requires { length ups.items ≡ length mesh.now.points }
         ensures { IfOk result (λ side. side ≡ side_of mesh.now ups.items) }
     {
-        let corners = corners_of(alloc, mesh.points(), &ups)?;
-        let tree = tree_over(alloc, &corners, mesh.triples())?;
-        let twins = mesh.twins().clone()?;
-        Ok(Side {
-            corners,
-            twins,
-            tree,
-        })
+        let surface = Surface::of(alloc, mesh, &ups)?;
+        let tree = tree_over(alloc, mesh.points(), surface.triples())?;
+        Ok(Side { surface, tree })
+    }
+
+    /// The side without its tree.
+    pub fn surface(&self) -> &Surface
+        ensures { result.now ≡ self.now }
+    {
+        &self.surface
+    }
+
+    /// The side without its tree, which is let go.
+    pub fn into_surface(self) -> Surface
+        ensures { result ≡ self }
+    {
+        let Side { surface, tree: _ } = self;
+        surface
     }
 
     /// The corners.
@@ -58,7 +67,7 @@ impl Side {
         ensures value { result.now ≡ self.now.corners }
         ensures side { IsSide self.now }
     {
-        &self.corners
+        self.surface.corners()
     }
 
     /// The triangles, each as three corner numbers from 0.
@@ -66,7 +75,7 @@ impl Side {
         ensures value { triples_of result.now ≡ self.now.triples }
         ensures side { IsSide self.now }
     {
-        self.twins.triples()
+        self.surface.triples()
     }
 
     /// The twins of the half-edges, with the triangles.
@@ -75,7 +84,7 @@ impl Side {
         ensures twins { result.now.twins ≡ self.now.twins }
         ensures side { IsSide self.now }
     {
-        &self.twins
+        self.surface.twins()
     }
 
     /// The tree over the boxes of the triangles, numbered as they are.
@@ -92,7 +101,7 @@ impl Side {
         ensures value { result ≡ face_at self.now face }
         ensures fine { AllFine result }
     {
-        face_of(self.corners(), &self.triples()[face as usize])
+        self.surface.face(face)
     }
 
     /// The corners at the start and the end of a half-edge.
@@ -101,9 +110,7 @@ impl Side {
         ensures value { result ≡ edge_at self.now half }
         ensures fine { AllFine result }
     {
-        let from = self.start(half);
-        let to = self.start(self.twins.next(half));
-        [self.corner(from), self.corner(to)]
+        self.surface.edge(half)
     }
 
     /// The vertex at which a half-edge starts.
@@ -112,35 +119,6 @@ impl Side {
         ensures value { result ≡ start (all_edges self.now.triples) half }
         ensures below { result < length self.now.corners }
     {
-        let half = half as usize;
-        self.triples()[half / 3][half % 3]
+        self.surface.start(half)
     }
-
-    // The corner of a vertex.
-    fn corner(&self, vertex: u32) -> Corner
-        requires { vertex < length self.now.corners }
-        ensures value { result ≡ corner_at self.now.corners vertex }
-        ensures fine { IsFineCorner result }
-    {
-        self.corners[vertex as usize]
-    }
-}
-
-/// The corners of points with their marks, in order. `NoMemory` may come for any points.
-pub fn corners_of(
-    alloc: Global,
-    points: &[Point],
-    ups: &[[bool; 3]],
-) -> Result<Vec<Corner>, NoMemory>
-    requires { length ups.now ≡ length points.now }
-    ensures value { IfOk result (λ corners. corners.items ≡ corners_of points.now ups.now) }
-    ensures fine { IfOk result (λ corners. AllFine corners.items) }
-    ensures whole { IfOk result (λ corners. AllWhole corners.items) }
-    ensures length { IfOk result (λ corners. length corners.items ≡ length points.now) }
-{
-    let mut corners = Vec::with_capacity(alloc, points.len())?;
-    for (point, up) in points.iter().zip(ups) {
-        corners.push(corner_of(*point, *up))?;
-    }
-    Ok(corners)
 }

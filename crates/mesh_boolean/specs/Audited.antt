@@ -21,6 +21,11 @@ pub record IsSound (t : Tests) (op : Op) (p q : Mesh) (r : Outcome) : Type 0 whe
   pub clean : IsCleanOver r.from.items r.mesh.triples
   pub labels : IsLabelled p q r
 
+-- a law: what an operation promises of its outcome makes the outcome sound
+abbrev pub ResultsAreSound : Type 0
+ResultsAreSound = (t : Tests) (op : Op) (p q : Mesh) (r : Outcome) → IsPrescribed t op p q r → HasOrigins r → IsBounded t op p q r
+    → IsCleanOver r.from.items r.mesh.triples → IsLabelled p q r → IsSound t op p q r
+
 -- what of that depends on the numbers of two sides, where us are the triangles over prescribed vertices
 pub record AgreesWithSides (op : Op) (p q : Side) (n : Numbers) (r : Outcome) (us : List Triple) : Type 0 where
   pub prescribed : ArePrescribed op p q n r.prescribed

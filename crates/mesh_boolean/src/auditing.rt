@@ -142,8 +142,8 @@ fn agrees_with_sides(
     are_bounded(
         alloc,
         op,
-        p,
-        q,
+        p.surface(),
+        q.surface(),
         windings,
         hits,
         prescribed,

@@ -1,5 +1,6 @@
-//! A law of results, as the contract of a function that puts an operation and its audit together.
+//! Laws of results: as the contract of a function that does nothing, and of one that puts an operation and its audit together.
 ghost use Rattle.std.specs.Prelude.{IfOk, IsTrue};
+ghost use Rattle.mesh_boolean.specs.Audited.{ResultsAreSound};
 
 use crate::auditing::audit;
 use crate::operate::boolean;
@@ -26,3 +27,9 @@ pub fn audit_of_result<K: Kernels, L: Ledger>(
     let outcome = boolean(alloc, op, p, q, kernels, limits, steps)?;
     Ok(audit(alloc, op, p, q, kernels, &outcome)?)
 }
+
+/// What is a result of an operation on two meshes is sound, whatever made it: its vertices are those prescribed, its triangles
+/// are bounded by the segments of their source faces and have their labels, and its mesh is clean. So an audit says yes of it.
+pub fn results_are_sound()
+    ensures sound { ResultsAreSound }
+{}

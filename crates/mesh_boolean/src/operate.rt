@@ -28,7 +28,7 @@ use crate::tested::Tested;
 use edge_face::Kernels;
 use mb_base::{Limits, NoMemory, Op};
 use mesh_check::Mesh;
-use pinch_split::split;
+use pinch_split::split_over;
 use retained_verts::{PrescribeFault, Prescribed};
 use source_faces::SourceTriangles;
 use std::alloc::Global;
@@ -106,7 +106,7 @@ fn assemble_meshes<K: Kernels, L: Ledger>(
     let p = first_side(alloc, op, p)?;
     let q = second_side(alloc, q)?;
     let (windings, hits) = all_numbers(alloc, &p, &q, kernels, steps)?;
-    assemble(alloc, op, &p, &q, &windings, &hits, limits)
+    assemble(alloc, op, p, q, &windings, &hits, limits)
 }
 
 // The mesh of these vertices and triangles, one vertex for each fan, with empty labels.
@@ -124,14 +124,19 @@ fn outcome(alloc: Global, prescribed: Prescribed, all: SourceTriangles) -> Resul
     ensures forced { IfOk result (λ r. r.forced ≡ all.forced) }
     ensures empty { IfOk result (λ r. r.mesh.labels ≡ no_labels r.mesh.triples) }
 {
-    let split = split(alloc, &prescribed.points, &all.triples)?;
+    let SourceTriangles {
+        triples,
+        source,
+        forced,
+    } = all;
+    let split = split_over(alloc, &prescribed.points, triples)?;
     // Read so that what a mesh keeps is known here.
     let _ = split.mesh.triples();
     Ok(Outcome {
         mesh: split.mesh,
         prescribed,
         from: split.from,
-        source: all.source,
-        forced: all.forced,
+        source,
+        forced,
     })
 }

@@ -85,15 +85,13 @@ impl Mesh {
         ensures open { (a b : ℕ) → IsErrOf result (MeshFault.OpenEdge a b) → open_pair (all_edges soup.triples) ≡ Some (a, b) }
         ensures accepts { IsClosed (all_edges soup.triples) → IsOk result ⊎ IsErrOf result MeshFault.NoMemory }
     {
-        match Twins::of(alloc, soup.triples()) {
-            Ok(twins) => {
-                let (points, _, labels) = soup.into_parts();
-                Ok(Mesh {
-                    points,
-                    twins,
-                    labels,
-                })
-            }
+        let (points, triples, labels) = soup.into_parts();
+        match Twins::over(alloc, triples) {
+            Ok(twins) => Ok(Mesh {
+                points,
+                twins,
+                labels,
+            }),
             Err(TwinFault::Open { from, to }) => Err(MeshFault::OpenEdge { from, to }),
             Err(TwinFault::NoMemory) => Err(MeshFault::NoMemory),
         }

@@ -1,7 +1,5 @@
 // Whether a mesh plainly has no two opposite triangles.
 ghost use Rattle.std.specs.Prelude.{◌≡◌, ◌<◌, ◌*◌, IsTrue, length};
-ghost use Rattle.chain_terms.specs.Chains.{all_edges};
-ghost use Rattle.chain_terms.specs.Ranks.{start};
 ghost use Rattle.mesh_check.specs.Opposites.{third_vertex};
 ghost use Rattle.mesh_check.specs.Reduced.{NoOpposite};
 
@@ -30,13 +28,10 @@ fn third_vertex(twins: &Twins, h: u32) -> u32
     requires { h < 3 * length twins.now.triples }
     ensures { result ≡ third_vertex twins.now.triples h }
 {
-    start(twins, twins.next(twins.next(h)))
-}
-
-// The vertex that half-edge h starts from.
-fn start(twins: &Twins, h: u32) -> u32
-    requires { h < 3 * length twins.now.triples }
-    ensures { result ≡ start (all_edges twins.now.triples) h }
-{
-    twins.triples()[h as usize / 3][h as usize % 3]
+    let [a, b, c] = twins.triples()[h as usize / 3];
+    match h % 3 {
+        0 => c,
+        1 => a,
+        _ => b,
+    }
 }

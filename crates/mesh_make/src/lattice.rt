@@ -59,7 +59,7 @@ fn lattice_of(alloc: Global, n: u32, seed: u32) -> Result<Mesh, NoMemory>
 {
     let points = lattice_points(alloc, n, seed)?;
     let triples = boxes_triples(alloc, cube(n))?;
-    mesh_of(alloc, points, &triples)
+    mesh_of(alloc, points, triples)
 }
 
 // How many boxes there are.

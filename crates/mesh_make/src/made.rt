@@ -44,7 +44,15 @@ fn solid_of(alloc: Global, rows: &[[i64; 3]], triples: &[[u32; 3]]) -> Result<Me
 {
     let mut points = Vec::with_capacity(alloc, rows.len())?;
     push_points(&mut points, rows)?;
+    let triples = copied(alloc, triples)?;
     mesh_of(alloc, points, triples)
+}
+
+// A copy of triangles.
+fn copied(alloc: Global, triples: &[[u32; 3]]) -> Result<Vec<[u32; 3]>, NoMemory>
+    ensures { IfOk result (λ copy. copy.items ≡ triples.now) }
+{
+    Ok(triples.to_vec(alloc)?)
 }
 
 // Why these rows as points and so many triangles make no solid, which may be flat.
@@ -79,13 +87,13 @@ pub fn excess(limits: &Limits, points: u64, triangles: u64) -> Option<MakeFault>
 }
 
 /// The mesh of these points and triangles, which are closed.
-pub fn mesh_of(alloc: Global, points: Vec<Point>, triples: &[[u32; 3]]) -> Result<Mesh, NoMemory>
-    requires { IsAccepted (length points.items) (triples_of triples.now) }
+pub fn mesh_of(alloc: Global, points: Vec<Point>, triples: Vec<[u32; 3]>) -> Result<Mesh, NoMemory>
+    requires { IsAccepted (length points.items) (triples_of triples.items) }
     ensures points { IfOk result (λ m. m.points ≡ points.items) }
-    ensures triples { IfOk result (λ m. m.triples ≡ triples_of triples.now) }
-    ensures labels { IfOk result (λ m. m.labels ≡ no_labels (triples_of triples.now)) }
+    ensures triples { IfOk result (λ m. m.triples ≡ triples_of triples.items) }
+    ensures labels { IfOk result (λ m. m.labels ≡ no_labels (triples_of triples.items)) }
 {
-    match Twins::of(alloc, triples) {
+    match Twins::over(alloc, triples) {
         Ok(twins) => Ok(Mesh::of_twins(points, twins)),
         Err(TwinFault::NoMemory) => Err(NoMemory),
         // The triangles are closed.

@@ -61,7 +61,7 @@ pub fn mirror(alloc: Global, mesh: &Mesh, axis: u8) -> Result<Mesh, NoMemory>
 {
     let points = mirrored_points(alloc, mesh.points(), axis)?;
     let triples = turned_triples(alloc, mesh.triples())?;
-    with_labels_of(alloc, mesh, mesh_of(alloc, points, &triples)?)
+    with_labels_of(alloc, mesh, mesh_of(alloc, points, triples)?)
 }
 
 /// The mesh after a quarter turn about the axis x, y or z, 0 to 2: of (x, y, z) these make (x, -z, y), (z, y, -x) and

@@ -18,7 +18,7 @@ fn roots_of(rt: &impl Abort, alloc: Global, mesh: &Mesh) -> Vec<u32> {
     roots
 }
 
-// Half-edges 0, 3 and 10 lead from the first vertex to the others.
+// Half-edges 0 and 1 of the first triangle lead from the first vertex to two others, and half-edge 4 of the second to the last.
 #[test]
 fn a_tetrahedron_is_entered_from_its_first_vertex(rt: HostRuntime) {
     let mesh = line_mesh(&rt, rt.alloc(), 4, &TETRAHEDRON);
@@ -27,8 +27,8 @@ fn a_tetrahedron_is_entered_from_its_first_vertex(rt: HostRuntime) {
     let wanted = [
         Entrance::Root(0),
         Entrance::Along(0),
-        Entrance::Along(3),
-        Entrance::Along(10),
+        Entrance::Along(1),
+        Entrance::Along(4),
     ];
     assert!(rt; entrances.as_slice() == wanted.as_slice());
 }

@@ -40,6 +40,7 @@ fn written(
     assert!(rt; prescribed.halfedges <= 60_000_000);
     let mut text = String::new(alloc);
     push_prescribed(&mut text, &prescribed).expect(rt, "the vertices");
+    let (p, q) = (p.surface(), q.surface());
     let pushed = push_faces(alloc, &mut text, op, p, q, windings, hits, &prescribed);
     pushed.expect(rt, "the faces");
     text

@@ -8,4 +8,4 @@ mod result;
 mod splitting;
 
 pub use result::Split;
-pub use splitting::split;
+pub use splitting::{split, split_over};

@@ -39,6 +39,34 @@ pub fn split(alloc: Global, points: &[Point], triples: &[[u32; 3]]) -> Result<Sp
     ensures few { IfOk result (λ s. 2 * length s.mesh.points ≤ 3 * length s.mesh.triples) }
     ensures labels { IfOk result (λ s. s.mesh.labels ≡ no_labels s.mesh.triples) }
 {
+    let triples = copied(alloc, triples)?;
+    split_over(alloc, points, triples)
+}
+
+// A copy of triangles.
+fn copied(alloc: Global, triples: &[[u32; 3]]) -> Result<Vec<[u32; 3]>, NoMemory>
+    ensures { IfOk result (λ copy. copy.items ≡ triples.now) }
+{
+    Ok(triples.to_vec(alloc)?)
+}
+
+/// The same of triangles that it takes over, of which it makes no copy.
+pub fn split_over(
+    alloc: Global,
+    points: &[Point],
+    triples: Vec<[u32; 3]>,
+) -> Result<Split, NoMemory>
+    requires { IsAccepted (length points.now) (triples_of triples.items) }
+    ensures points { IfOk result (λ s. s.mesh.points ≡ split_points points.now (triples_of triples.items)) }
+    ensures triples { IfOk result (λ s. s.mesh.triples ≡ split_triples (length points.now) (triples_of triples.items)) }
+    ensures from { IfOk result (λ s. s.from.items ≡ split_from (length points.now) (triples_of triples.items)) }
+    ensures there { IfOk result (λ s. ComeFrom s.mesh.points points.now s.from.items) }
+    ensures back { IfOk result (λ s. map (named_by s.from.items) s.mesh.triples ≡ triples_of triples.items) }
+    ensures clean { IfOk result (λ s. IsClean (all_edges s.mesh.triples)) }
+    ensures twins { IfOk result (λ s. twins_of s.mesh.triples ≡ twins_of (triples_of triples.items)) }
+    ensures few { IfOk result (λ s. 2 * length s.mesh.points ≤ 3 * length s.mesh.triples) }
+    ensures labels { IfOk result (λ s. s.mesh.labels ≡ no_labels s.mesh.triples) }
+{
     let twins = closed_twins(alloc, triples)?;
     if twins.are_clean(alloc, points.len())? {
         return whole(alloc, points, twins);
@@ -48,13 +76,13 @@ pub fn split(alloc: Global, points: &[Point], triples: &[[u32; 3]]) -> Result<Sp
 }
 
 // The twins of closed triangles.
-fn closed_twins(alloc: Global, triples: &[[u32; 3]]) -> Result<Twins, NoMemory>
-    requires three { All HasThree (triples_of triples.now) }
-    requires few { length triples.now ≤ most_triangles }
-    requires closed { IsClosed (all_edges (triples_of triples.now)) }
-    ensures { IfOk result (λ twins. twins.triples ≡ triples_of triples.now) }
+fn closed_twins(alloc: Global, triples: Vec<[u32; 3]>) -> Result<Twins, NoMemory>
+    requires three { All HasThree (triples_of triples.items) }
+    requires few { length triples.items ≤ most_triangles }
+    requires closed { IsClosed (all_edges (triples_of triples.items)) }
+    ensures { IfOk result (λ twins. twins.triples ≡ triples_of triples.items) }
 {
-    match Twins::of(alloc, triples) {
+    match Twins::over(alloc, triples) {
         Ok(twins) => Ok(twins),
         Err(TwinFault::NoMemory) => Err(NoMemory),
         Err(TwinFault::Open { .. }) => unreachable!(),

@@ -13,7 +13,7 @@ use mb_base::ArgList;
 use mb_outside::{FolderShelf, Sink};
 use mesh_commands::Status;
 use mesh_files::Stop;
-use std::alloc::Global;
+use std::alloc::{AllocError, Global};
 use std::rt::Files;
 use std::sync::ledger::{Blank, Ledger};
 use steps::Steps;
@@ -40,7 +40,22 @@ pub fn start_here<R: Files, O: Sink, E: Sink, L: Ledger>(
     ensures report { IfErr words (λ stop. IsReported (why_line (why_of [] stop)) (on_output E.Sink err.old) (on_output E.Sink err.new)) }
     ensures alone { IfErr words (λ _. out.new ≡ out.old) }
 {
+    keep_freed(alloc);
     let mut shelf = FolderShelf::of(rt);
     let mut steps = Steps::<L>::over(blank);
     start(alloc, words, &mut shelf, out, err, &mut steps)
+}
+
+// How many bytes are asked for and given back: a little less than 2^25, up to which the C library of Linux learns from what
+// it is given back.
+const ROOM: usize = 33_546_000;
+
+// Asks for a block and gives it back untouched. The C library of Linux hands a large block to the system as soon as it is
+// freed, and a new one then costs a fault for each page; those up to the size of the largest block that was freed it keeps.
+fn keep_freed(alloc: Global) {
+    let block: Result<Vec<u8>, AllocError> = Vec::with_capacity(alloc, ROOM);
+    match block {
+        Ok(_) => (),
+        Err(_) => (),
+    }
 }

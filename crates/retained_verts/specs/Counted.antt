@@ -6,7 +6,7 @@ use Rattle.assembly_terms.specs.Prescribed.{Numbers, crossing_count, p_kept, pre
 use Rattle.retained_verts.specs.declared.counts.Counts.{Counts}
 use Rattle.retained_verts.specs.declared.list.Prescribed.{Prescribed}
 
--- what is kept of each mesh, the crossings and the half-edges; as many vertices as a number of 64 bits can tell
+-- what is kept of each mesh, the crossings and the half-edges; no more vertices than a number of 64 bits can tell
 pub record AreCounts (op : Op) (p q : Side) (n : Numbers) (c : Counts) : Type 0 where
   pub kept : c.kept ≡ p_kept op n ∷ q_kept op n ∷ []
   pub crossings : c.crossings ≡ crossing_count op n

@@ -103,7 +103,9 @@ pub fn prescribe(
     Ok(listed(alloc, op, p, q, windings, hits, counts)?)
 }
 
-/// The same vertices whatever their number, where these are their counts.
+/// The same vertices whatever their number, where these are their counts: no half-edge is counted again, and no limit is asked.
+/// Linear in the corners of both sides, the crossings and the vertices that they prescribe; each list is made at its final length.
+/// The one fault is want of memory.
 pub fn listed(
     alloc: Global,
     op: Op,

@@ -14,7 +14,7 @@ use crate::face::is_bounded;
 use crate::given::given_have_segments;
 use counting_sort::Buckets;
 use face_lists::{CopyRange, Stand, group_end, runs_of, stands_of};
-use lean::Side;
+use lean::Surface;
 use mb_base::{Hits, NoMemory, Op, Point, Windings};
 use retained_verts::{Operand, Prescribed};
 use std::alloc::Global;
@@ -26,8 +26,8 @@ use std::alloc::Global;
 pub fn are_bounded(
     alloc: Global,
     op: Op,
-    p: &Side,
-    q: &Side,
+    p: &Surface,
+    q: &Surface,
     windings: &Windings,
     hits: &Hits,
     prescribed: &Prescribed,
@@ -63,8 +63,8 @@ pub fn are_bounded(
 // The same, from the runs of vertices and all records, where the places of each source face's triangles are known.
 fn both_are_bounded(
     alloc: Global,
-    p: &Side,
-    q: &Side,
+    p: &Surface,
+    q: &Surface,
     p_runs: &[CopyRange],
     q_runs: &[CopyRange],
     stands: &[Stand],
@@ -95,7 +95,7 @@ fn both_are_bounded(
 // first face is the source face with this number and has its records from this place on.
 fn end_of_bounded(
     alloc: Global,
-    side: &Side,
+    side: &Surface,
     runs: &[CopyRange],
     first: u32,
     stands: &[Stand],

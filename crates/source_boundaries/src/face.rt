@@ -10,7 +10,7 @@ ghost use Rattle.source_faces.specs.Parts.{HaveCopies};
 use crate::plain::are_copies;
 use chain_boundary::have_one_boundary;
 use face_lists::{CopyRange, Stand, segments_of_face};
-use lean::Side;
+use lean::Surface;
 use mb_base::{NoMemory, Point, Segment};
 use std::alloc::Global;
 
@@ -18,7 +18,7 @@ use std::alloc::Global;
 /// the copies of the face, no segment is looked at.
 pub fn is_bounded(
     alloc: Global,
-    side: &Side,
+    side: &Surface,
     runs: &[CopyRange],
     face: u32,
     stands: &[Stand],

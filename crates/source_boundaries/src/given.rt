@@ -2,15 +2,15 @@
 ghost use Rattle.source_boundaries.specs.Given.{AreGiven, GivenHaveSegments};
 
 use face_lists::laws::{copies_have_lists, lists_give_segments};
-use lean::Side;
+use lean::Surface;
 use mb_base::{Hits, Op, Windings};
 use retained_verts::Prescribed;
 
 /// The runs and the records of what is given give each face of both sides its segments. It does nothing.
 pub fn given_have_segments(
     op: Op,
-    p: &Side,
-    q: &Side,
+    p: &Surface,
+    q: &Surface,
     windings: &Windings,
     hits: &Hits,
     prescribed: &Prescribed,

@@ -7,11 +7,11 @@ ghost use Rattle.mesh_terms.specs.Meshes.{triples_of};
 ghost use Rattle.source_faces.specs.Adding.{are_equal_runs, copy_triple, face_copies};
 
 use face_lists::CopyRange;
-use lean::Side;
+use lean::Surface;
 use source_faces::{are_equal, copy_triple};
 
 /// Whether the vertices of a face are included one number of times, and triangles are just its copies, in their order.
-pub fn are_copies(side: &Side, runs: &[CopyRange], face: u32, part: &[[u32; 3]]) -> bool
+pub fn are_copies(side: &Surface, runs: &[CopyRange], face: u32, part: &[[u32; 3]]) -> bool
     requires face { face < length side.now.triples }
     requires runs { AreRuns side.now most_points runs.now }
     ensures equal { IsTrue result → are_equal_runs runs.now (get_or side.now.triples face (0, 0, 0)) ≡ true }

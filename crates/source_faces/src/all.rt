@@ -11,7 +11,7 @@ use crate::face::push_face;
 use crate::given::given_have_parts;
 use crate::triangles::SourceTriangles;
 use face_lists::{CopyRange, Stand, group_end, runs_of, stands_of};
-use lean::Side;
+use lean::Surface;
 use mb_base::{Hits, NoMemory, Op, Point, Windings};
 use retained_verts::{Operand, Prescribed};
 use std::alloc::Global;
@@ -22,8 +22,8 @@ use std::alloc::Global;
 pub fn triangles_of(
     alloc: Global,
     op: Op,
-    p: &Side,
-    q: &Side,
+    p: &Surface,
+    q: &Surface,
     windings: &Windings,
     hits: &Hits,
     prescribed: &Prescribed,
@@ -39,14 +39,26 @@ pub fn triangles_of(
     let p_runs = runs_of(alloc, op, Operand::P, &windings.w03, 0)?;
     let q_runs = runs_of(alloc, op, Operand::Q, &windings.w30, p_kept as u32)?;
     let stands = stands_of(alloc, op, p, q, hits, (p_kept + q_kept) as u32)?;
-    filled_of(alloc, p, q, &p_runs, &q_runs, &stands, &prescribed.points)
+    // Room for a triangle to two half-edges: as a rule there are fewer.
+    let room = prescribed.halfedges as usize / 2;
+    filled_of(
+        alloc,
+        room,
+        p,
+        q,
+        &p_runs,
+        &q_runs,
+        &stands,
+        &prescribed.points,
+    )
 }
 
-// The triangles of both sides' faces, from the runs of their vertices and all records.
+// The triangles of both sides' faces, from the runs of their vertices and all records. Room for so many is taken at the start.
 fn filled_of(
     alloc: Global,
-    p: &Side,
-    q: &Side,
+    room: usize,
+    p: &Surface,
+    q: &Surface,
     p_runs: &[CopyRange],
     q_runs: &[CopyRange],
     stands: &[Stand],
@@ -57,7 +69,7 @@ fn filled_of(
     ensures { IfOk result (AreAll (both_parts p.now q.now p_runs.now q_runs.now points.now stands.now)) }
 {
     let first = p.triples().len() as u32;
-    let mut all = SourceTriangles::new(alloc);
+    let mut all = SourceTriangles::with_capacity(alloc, room)?;
     let begin = push_faces(alloc, &mut all, p, p_runs, 0, stands, 0, points)?;
     push_faces(alloc, &mut all, q, q_runs, first, stands, begin, points)?;
     Ok(all)
@@ -68,7 +80,7 @@ fn filled_of(
 fn push_faces(
     alloc: Global,
     all: &mut SourceTriangles,
-    side: &Side,
+    side: &Surface,
     runs: &[CopyRange],
     first: u32,
     stands: &[Stand],

@@ -8,7 +8,7 @@ use crate::plain::{are_equal, push_copies};
 use crate::triangles::SourceTriangles;
 use face_lists::{CopyRange, Stand, plane_of, segments_of_face};
 use face_loops::loops;
-use lean::Side;
+use lean::Surface;
 use mb_base::{NoMemory, Point};
 use ring_cutting::Filled;
 use std::alloc::Global;
@@ -19,7 +19,7 @@ use triangulate::fill;
 pub fn push_face(
     alloc: Global,
     all: &mut SourceTriangles,
-    side: &Side,
+    side: &Surface,
     runs: &[CopyRange],
     face: u32,
     source: u32,
@@ -43,7 +43,7 @@ pub fn push_face(
 // The filling of the loops of a face.
 fn filled_face(
     alloc: Global,
-    side: &Side,
+    side: &Surface,
     runs: &[CopyRange],
     face: u32,
     stands: &[Stand],

@@ -3,7 +3,7 @@ ghost use Rattle.source_faces.specs.Given.{AreFewGiven, AreGiven, GivenHaveParts
 
 use face_lists::laws::{copies_have_lists, lists_give_segments};
 use filling_laws::laws::faces_form_loops;
-use lean::Side;
+use lean::Surface;
 use mb_base::{Hits, Op, Windings};
 use retained_verts::Prescribed;
 use segment_laws::laws::loops_are_long;
@@ -12,8 +12,8 @@ use segment_laws::laws::loops_are_long;
 /// nothing.
 pub fn given_have_parts(
     op: Op,
-    p: &Side,
-    q: &Side,
+    p: &Surface,
+    q: &Surface,
     windings: &Windings,
     hits: &Hits,
     prescribed: &Prescribed,

@@ -8,7 +8,7 @@ ghost use Rattle.source_faces.specs.Adding.{IsAdded, are_equal_runs, copy_triple
 
 use crate::triangles::SourceTriangles;
 use face_lists::CopyRange;
-use lean::Side;
+use lean::Surface;
 use mb_base::{NoMemory, cross};
 use retained_verts::point_of;
 
@@ -33,7 +33,7 @@ fn are_alike(one: CopyRange, other: CopyRange) -> bool
 /// and so on. It is turned over where the number is below 0, and forced where the face is flat.
 pub fn push_copies(
     all: &mut SourceTriangles,
-    side: &Side,
+    side: &Surface,
     runs: &[CopyRange],
     face: u32,
     source: u32,
@@ -68,7 +68,7 @@ pub fn copy_triple(a: CopyRange, b: CopyRange, c: CopyRange, i: u32) -> [u32; 3]
 }
 
 // How many of so many copies of a face are forced.
-fn forced_copies(side: &Side, face: u32, count: u32) -> u32
+fn forced_copies(side: &Surface, face: u32, count: u32) -> u32
     requires side { IsSide side.now }
     requires face { face < length side.now.triples }
     ensures { result ≡ cond (is_flat side.now face) count 0 }
@@ -81,7 +81,7 @@ fn forced_copies(side: &Side, face: u32, count: u32) -> u32
 }
 
 // Whether the corners of a face lie on a line.
-fn is_flat(side: &Side, face: u32) -> bool
+fn is_flat(side: &Surface, face: u32) -> bool
     requires side { IsSide side.now }
     requires face { face < length side.now.triples }
     ensures { result ≡ is_flat side.now face }

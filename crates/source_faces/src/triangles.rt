@@ -1,5 +1,5 @@
 // Triangles with their source faces.
-ghost use Rattle.std.specs.Prelude.{◌≡◌, ◌+◌, ◌<◌, ◌^◌, ◌++◌, ◌∷◌, [], OnOk};
+ghost use Rattle.std.specs.Prelude.{◌≡◌, ◌+◌, ◌<◌, ◌^◌, ◌++◌, ◌∷◌, [], IfOk, OnOk};
 ghost use Rattle.mesh_terms.specs.Meshes.{triple_of, triples_of};
 ghost use Rattle.source_faces.specs.Adding.{IsAdded};
 
@@ -16,17 +16,17 @@ pub struct SourceTriangles {
 }
 
 impl SourceTriangles {
-    /// No triangles yet.
-    pub fn new(alloc: Global) -> SourceTriangles
-        ensures triples { result.triples.items ≡ [] }
-        ensures source { result.source.items ≡ [] }
-        ensures forced { result.forced ≡ 0 }
+    /// No triangles yet, with room for so many.
+    pub fn with_capacity(alloc: Global, capacity: usize) -> Result<SourceTriangles, NoMemory>
+        ensures triples { IfOk result (λ all. all.triples.items ≡ []) }
+        ensures source { IfOk result (λ all. all.source.items ≡ []) }
+        ensures forced { IfOk result (λ all. all.forced ≡ 0) }
     {
-        SourceTriangles {
-            triples: Vec::new(alloc),
-            source: Vec::new(alloc),
+        Ok(SourceTriangles {
+            triples: Vec::with_capacity(alloc, capacity)?,
+            source: Vec::with_capacity(alloc, capacity)?,
             forced: 0,
-        }
+        })
     }
 
     /// Adds a triangle of a source face, which was not forced.

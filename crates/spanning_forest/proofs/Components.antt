@@ -8,7 +8,7 @@ use Rattle.chain_terms.specs.Chains.{IsClosed}
 use Rattle.chain_terms.specs.Ranks.{start, finish}
 use Rattle.chain_laws.specs.Ascending.{Ascends}
 use Rattle.chain_laws.proofs.Ascending.{contains_later}
-use Rattle.chain_laws.specs.Chains.{dir_some}
+use Rattle.chain_laws.specs.Chains.{dir_contains, dir_some}
 use Rattle.chain_laws.specs.Counts.{one_if-true}
 use Rattle.component_laws.specs.Laws.{AreBelow}
 use Rattle.component_laws.proofs.Counted.{only}
@@ -16,10 +16,10 @@ use Rattle.component_terms.specs.Components.{IsJoined, Here, Along as Joins, IsL
 use Rattle.spanning_forest.specs.declared.entrance.Entrance.{Entrance}
 use Rattle.spanning_forest.specs.declared.entrance.Entrance.TheVariants.{Root, Along}
 use Rattle.spanning_forest.specs.Forests.{entered, vertices_of, roots_of, Follows, IsSpanningForest}
-use Rattle.spanning_forest.specs.Walks.{IsMarked, IsUnmarked, AreWhole, AreEntered, IsComponentEntered}
+use Rattle.spanning_forest.specs.Walks.{IsMarked, IsUnmarked, AreAllEntered, AreBegun, AreEntered, AreWhole, IsComponentEntered}
 use Rattle.spanning_forest.proofs.Entering.{entered_marked, entered_none, marked_entered, place_of}
 use Rattle.spanning_forest.proofs.Growing.{vertex_at}
-use Rattle.spanning_forest.proofs.Marks.{marked_within}
+use Rattle.spanning_forest.proofs.Marks.{all_marked, marked_within}
 
 -- the vertices before v were looked at: they are entered, with all that are joined to them
 pub record AreWalked (es : List (ℕ × ℕ)) (n v : ℕ) (seen : List Bool) (entrances : List Entrance) : Type 0 where
@@ -107,6 +107,38 @@ walked_component es n v seen entrances new later closed w free m = record {
   least = All-same (IsLeast es) (roots_of later) (roots_of entrances ++ v ∷ []) m.roots
       (All-push (IsLeast es) (roots_of entrances) v w.least (is_least es n v seen entrances closed w free));
 }
+
+-- the first vertex alone is a root
+pub walked_first : (es : List (ℕ × ℕ)) (n : ℕ) (old : List Bool) (before : List Entrance) (new : List Bool) (later : List Entrance) → AreBegun es n old before →
+    AreAllEntered es old before new later → AreWalked es n 1 new later
+walked_first es n old before new later b a = record {
+  entered = a.entered;
+  full = a.full ∙ b.full;
+  whole = a.whole;
+  done = done_more (IsMarked new) 0 (λ w low. absurd (omega (arith, low))) (a.kept 0 b.first);
+  ascending = one_ascends (roots_of later) (a.roots ∙ b.roots);
+  before = All-same (λ r. r < 1) (roots_of later) (0 ∷ []) (a.roots ∙ b.roots) (All-push (λ r. r < 1) [] 0 (All-nil (λ r. r < 1)) (omega arith));
+  least = All-same (IsLeast es) (roots_of later) (0 ∷ []) (a.roots ∙ b.roots) (All-push (IsLeast es) [] 0 (All-nil (IsLeast es)) (λ w joined. omega arith));
+}
+  where
+    one_ascends : (xs : List ℕ) → xs ≡ 0 ∷ [] → Ascends xs
+    one_ascends xs e = subst Ascends (sym e) (ascends_push [] 0 (λ i j less low. absurd (omega (arith, low))) (All-nil (λ r. r < 0)))
+
+-- where as many were entered as there are vertices, all were
+pub walked_at_once : (es : List (ℕ × ℕ)) (n : ℕ) (seen : List Bool) (entrances : List Entrance) → AreBelow n es → 0 < n → n ≤ length entrances →
+    AreBegun es n seen entrances → AreWalked es n n seen entrances
+walked_at_once es n seen entrances below some all b = record {
+  entered = b.entered;
+  full = b.full;
+  whole = λ u w m led. let (h, low, at) = dir_contains es u w led in marked w (subst (λ (e : ℕ × ℕ). e.1 < n) at (below h (u, w) low).1);
+  done = marked;
+  ascending = subst Ascends (sym b.roots) (ascends_push [] 0 (λ i j less low. absurd (omega (arith, low))) (All-nil (λ r. r < 0)));
+  before = All-same (λ r. r < n) (roots_of entrances) (0 ∷ []) b.roots (All-push (λ r. r < n) [] 0 (All-nil (λ r. r < n)) some);
+  least = All-same (IsLeast es) (roots_of entrances) (0 ∷ []) b.roots (All-push (IsLeast es) [] 0 (All-nil (IsLeast es)) (λ w joined. omega arith));
+}
+  where
+    marked : (w : ℕ) → w < n → IsMarked seen w
+    marked w low = all_marked seen w (omega (arith, b.entered.as_many, b.full, all)) (omega (arith, low, b.full))
 
 -- the same where the lists are known otherwise
 pub walked_same : (es : List (ℕ × ℕ)) (n v : ℕ) (seen marks : List Bool) (entrances others : List Entrance) → seen ≡ marks → entrances ≡ others →

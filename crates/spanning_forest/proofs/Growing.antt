@@ -1,4 +1,4 @@
--- The walk from a root: what was entered while it goes on.
+-- The walk: what was entered while it goes on.
 use Rattle.std.proofs.Common.{◌≡◌, ◌<◌, ◌≤◌, ◌+◌, ℕ, Bool, true, List, [], ◌∷◌, ◌++◌, length, get_or, map, set, refl, sym, ◌∙◌, ap, subst, inl, inr, arith, length-append}
 use Rattle.std.specs.List.{All, Contains}
 use Rattle.std.proofs.lemmas.Bool.{cases_lt}
@@ -11,8 +11,8 @@ use Rattle.counting_sort.specs.Buckets.{places_of}
 use Rattle.spanning_forest.specs.declared.entrance.Entrance.{Entrance}
 use Rattle.spanning_forest.specs.declared.entrance.Entrance.TheVariants.{Root}
 use Rattle.spanning_forest.specs.Forests.{entered, vertices_of, roots_of}
-use Rattle.spanning_forest.specs.Walks.{starts_of, IsMarked, IsUnmarked, AreWhole, AreEntered, AreReached, IsComponentEntered}
-use Rattle.spanning_forest.proofs.Entering.{entered_at, entered_marked, entered_push, marked_entered, place_of, roots_push}
+use Rattle.spanning_forest.specs.Walks.{starts_of, IsMarked, AreAllEntered, AreEntered, AreLeft, AreReached, AreWhole, IsComponentEntered}
+use Rattle.spanning_forest.proofs.Entering.{entered_at, entered_marked, marked_entered, place_of, roots_push}
 use Rattle.spanning_forest.proofs.Marks.{marked_here, marked_kept, marked_within}
 use Rattle.spanning_forest.proofs.Spokes.{IsSpoke, all_spokes, read_spokes, spoke_to}
 
@@ -20,45 +20,47 @@ use Rattle.spanning_forest.proofs.Spokes.{IsSpoke, all_spokes, read_spokes, spok
 abbrev pub vertex_at : List (ℕ × ℕ) → List Entrance → ℕ → ℕ
 vertex_at es entrances i = entered es (get_or entrances i (Root 0))
 
--- v is the only new root, and the edges from the vertices that were entered at the first places end at marked ones
-pub record IsGrowing (es : List (ℕ × ℕ)) (v : ℕ) (old : List Bool) (before : List Entrance) (seen : List Bool) (entrances : List Entrance) (next : ℕ) : Type 0 where
+-- no new root, and the edges from the vertices that were entered at the first places end at marked ones
+pub record IsGrowing (es : List (ℕ × ℕ)) (old : List Bool) (before : List Entrance) (seen : List Bool) (entrances : List Entrance) (next : ℕ) : Type 0 where
   pub entered : AreEntered es seen entrances
   pub full : length seen ≡ length old
   pub kept : (w : ℕ) → IsMarked old w → IsMarked seen w
-  pub here : IsMarked seen v
   pub within : next ≤ length entrances
-  pub left : (i b : ℕ) → i < next → 0 < dir es (vertex_at es entrances i) b → IsMarked seen b
-  pub roots : roots_of entrances ≡ roots_of before ++ v ∷ []
+  pub left : AreLeft es seen entrances next
+  pub roots : roots_of entrances ≡ roots_of before
 
 -- earlier places keep their vertices
 vertex_kept : (es : List (ℕ × ℕ)) (before more : List Entrance) (i : ℕ) → i < length before → vertex_at es (before ++ more) i ≡ vertex_at es before i
 vertex_kept es before more i low = ap (entered es) (get_or_append_left before more (Root 0) i low)
 
--- the walk begins at v
-pub growing_begins : (es : List (ℕ × ℕ)) (v : ℕ) (old : List Bool) (before : List Entrance) → AreEntered es old before → v < length old → IsUnmarked old v →
-    AreWhole es old → IsGrowing es v old before (set old v true) (before ++ Root v ∷ []) (length before)
-growing_begins es v old before are low free whole = record {
-  entered = entered_push es old before (Root v) v are free low refl tt;
-  full = length-set old v true;
-  kept = λ w m. marked_kept old v w m;
-  here = marked_here old v low;
-  within = omega (arith, length-append before (Root v ∷ []));
-  left = λ i b l some.
-      let a = vertex_at es before i in
-      let some_before : 0 < dir es a b = subst (λ n. 0 < dir es n b) (vertex_kept es before (Root v ∷ []) i l) some in
-      marked_kept old v b (whole a b (entered_marked es old before a are (entered_at es before i l)) some_before);
-  roots = roots_push before v;
+-- the walk begins
+pub growing_begins : (es : List (ℕ × ℕ)) (old : List Bool) (before : List Entrance) (next : ℕ) → AreEntered es old before → next ≤ length before →
+    AreLeft es old before next → IsGrowing es old before old before next
+growing_begins es old before next are low left = record {
+  entered = are;
+  full = refl;
+  kept = λ w m. m;
+  within = low;
+  left = left;
+  roots = refl;
 }
 
+-- with a root behind whole components, all before it are left
+pub left_before : (es : List (ℕ × ℕ)) (v : ℕ) (old : List Bool) (before : List Entrance) → AreEntered es old before → AreWhole es old →
+    AreLeft es (set old v true) (before ++ Root v ∷ []) (length before)
+left_before es v old before are whole i b l some =
+    let a = vertex_at es before i in
+    let some_before : 0 < dir es a b = subst (λ n. 0 < dir es n b) (vertex_kept es before (Root v ∷ []) i l) some in
+    marked_kept old v b (whole a b (entered_marked es old before a are (entered_at es before i l)) some_before)
+
 -- the vertex that comes next is left by all its edges
-pub growing_goes_on : (es : List (ℕ × ℕ)) (v x : ℕ) (old : List Bool) (before : List Entrance) (seen : List Bool) (entrances : List Entrance) (next : ℕ)
-    (new : List Bool) (later : List Entrance) → IsGrowing es v old before seen entrances next → next < length entrances → x ≡ vertex_at es entrances next →
-    AreReached es (places_of (starts_of es) x) seen entrances new later → IsGrowing es v old before new later (next + 1)
-growing_goes_on es v x old before seen entrances next new later g low is r = record {
+pub growing_goes_on : (es : List (ℕ × ℕ)) (x : ℕ) (old : List Bool) (before : List Entrance) (seen : List Bool) (entrances : List Entrance) (next : ℕ)
+    (new : List Bool) (later : List Entrance) → IsGrowing es old before seen entrances next → next < length entrances → x ≡ vertex_at es entrances next →
+    AreReached es (places_of (starts_of es) x) seen entrances new later → IsGrowing es old before new later (next + 1)
+growing_goes_on es x old before seen entrances next new later g low is r = record {
   entered = r.entered;
   full = r.full ∙ g.full;
   kept = λ w m. r.kept w (g.kept w m);
-  here = r.kept v g.here;
   within = omega (arith, low, ap length r.grown, length-append entrances r.more);
   left = λ i b l some. elim (cases_lt i next) as (λ _. IsMarked new b) [
     | inl before_next ↦ r.kept b (g.left i b before_next (subst (λ n. 0 < dir es n b) (kept_at i (omega (arith, before_next, low))) some))
@@ -78,24 +80,35 @@ growing_goes_on es v x old before seen entrances next new later g low is r = rec
         let (h, inside, at) = spoke_to es x b some in
         subst (IsMarked new) at (All-contains (λ k. IsMarked new (finish es k)) (places_of (starts_of es) x) h r.ends inside)
 
--- with all of them left the component is entered
-pub growing_ends : (es : List (ℕ × ℕ)) (v : ℕ) (old : List Bool) (before : List Entrance) (seen : List Bool) (entrances : List Entrance) (next : ℕ) →
-    IsGrowing es v old before seen entrances next → length entrances ≤ next → IsComponentEntered es v old before seen entrances
-growing_ends es v old before seen entrances next g all = record {
+-- with all of them left all is entered that edges lead to
+pub growing_ends : (es : List (ℕ × ℕ)) (old : List Bool) (before : List Entrance) (seen : List Bool) (entrances : List Entrance) (next : ℕ) →
+    IsGrowing es old before seen entrances next → length entrances ≤ next → AreAllEntered es old before seen entrances
+growing_ends es old before seen entrances next g all = record {
   entered = g.entered;
   full = g.full;
   kept = g.kept;
-  here = g.here;
   whole = λ a b m some.
       let (i, low, at) = place_of es entrances a (marked_entered es seen entrances a g.entered m) in
       g.left i b (omega (arith, low, all)) (subst (λ n. 0 < dir es n b) (sym at) some);
   roots = g.roots;
 }
 
+-- so from a root its component is entered
+pub component_entered : (es : List (ℕ × ℕ)) (v : ℕ) (old : List Bool) (before : List Entrance) (new : List Bool) (entrances : List Entrance) → v < length old →
+    AreAllEntered es (set old v true) (before ++ Root v ∷ []) new entrances → IsComponentEntered es v old before new entrances
+component_entered es v old before new entrances low a = record {
+  entered = a.entered;
+  full = a.full ∙ length-set old v true;
+  kept = λ w m. a.kept w (marked_kept old v w m);
+  here = a.kept v (marked_here old v low);
+  whole = a.whole;
+  roots = a.roots ∙ roots_push before v;
+}
+
 -- the vertex of the next entrance has a place
-pub next_below : (es : List (ℕ × ℕ)) (v : ℕ) (old : List Bool) (before : List Entrance) (seen : List Bool) (entrances : List Entrance) (next : ℕ) →
-    IsGrowing es v old before seen entrances next → next < length entrances → vertex_at es entrances next < length old
-next_below es v old before seen entrances next g low =
+pub next_below : (es : List (ℕ × ℕ)) (old : List Bool) (before : List Entrance) (seen : List Bool) (entrances : List Entrance) (next : ℕ) →
+    IsGrowing es old before seen entrances next → next < length entrances → vertex_at es entrances next < length old
+next_below es old before seen entrances next g low =
     let a = vertex_at es entrances next in
     omega (arith, marked_within seen a (entered_marked es seen entrances a g.entered (entered_at es entrances next low)), g.full)
 
@@ -113,8 +126,8 @@ pub next_read : (es : List (ℕ × ℕ)) (entrances : List Entrance) (next x : �
 next_read es entrances next x read low there is = is ∙ ap (entered es) (there ∙ get_or_default entrances next read (Root 0) low)
 
 -- what is read as its bucket are its spokes
-pub next_spokes : (es : List (ℕ × ℕ)) (v x : ℕ) (old : List Bool) (before : List Entrance) (seen : List Bool) (entrances : List Entrance) (next : ℕ)
-    (spokes : List (List ℕ)) (bucket : List ℕ) → IsGrowing es v old before seen entrances next → next < length entrances → x ≡ vertex_at es entrances next →
+pub next_spokes : (es : List (ℕ × ℕ)) (x : ℕ) (old : List Bool) (before : List Entrance) (seen : List Bool) (entrances : List Entrance) (next : ℕ)
+    (spokes : List (List ℕ)) (bucket : List ℕ) → IsGrowing es old before seen entrances next → next < length entrances → x ≡ vertex_at es entrances next →
     spokes ≡ map (places_of (starts_of es)) (upto (length old)) → bucket ≡ get_or spokes x [] → bucket ≡ places_of (starts_of es) x
-next_spokes es v x old before seen entrances next spokes bucket g low is gathered read =
-    read_spokes es (length old) x spokes bucket (omega (arith, is, next_below es v old before seen entrances next g low)) gathered read
+next_spokes es x old before seen entrances next spokes bucket g low is gathered read =
+    read_spokes es (length old) x spokes bucket (omega (arith, is, next_below es old before seen entrances next g low)) gathered read

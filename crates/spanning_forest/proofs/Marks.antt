@@ -29,3 +29,10 @@ fewer [] v below free = absurd (omega (arith, below))
 fewer (true ∷ seen) zero below free = cc
 fewer (false ∷ seen) zero below free = omega (arith, count_by-cons not true seen, count_by-cons not false seen)
 fewer (b ∷ seen) (suc v) below free = omega (arith, count_by-cons not b seen, count_by-cons not b (set seen v true), fewer seen v (omega (arith, below)) free)
+
+-- where none has none, each vertex has a mark
+pub all_marked : (seen : List Bool) (w : ℕ) → unmarked seen ≡ 0 → w < length seen → IsMarked seen w
+all_marked [] w none low = absurd (omega (arith, low))
+all_marked (true ∷ seen) zero none low = refl
+all_marked (false ∷ seen) zero none low = absurd (omega (arith, none, count_by-cons not false seen))
+all_marked (b ∷ seen) (suc w) none low = all_marked seen w (omega (arith, none, count_by-cons not b seen)) (omega (arith, low))

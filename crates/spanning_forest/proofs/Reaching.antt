@@ -7,7 +7,7 @@ use Rattle.chain_terms.specs.Ranks.{start, finish}
 use Rattle.spanning_forest.specs.declared.entrance.Entrance.{Entrance}
 use Rattle.spanning_forest.specs.declared.entrance.Entrance.TheVariants.{Along}
 use Rattle.spanning_forest.specs.Forests.{vertices_of}
-use Rattle.spanning_forest.specs.Walks.{IsMarked, IsUnmarked, AreEntered, AreReached}
+use Rattle.spanning_forest.specs.Walks.{IsMarked, IsUnmarked, AreEntered, AreMore, AreReached}
 use Rattle.spanning_forest.proofs.Marks.{marked_here, marked_kept}
 use Rattle.spanning_forest.proofs.Entering.{entered_push, roots_along, still_entered}
 
@@ -61,3 +61,16 @@ pub reached_same : (es : List (ℕ × ℕ)) (hs gs : List ℕ) (old : List Bool)
 reached_same es hs gs old before seen marks entrances others e f g r =
     subst (λ l. AreReached es l old before seen entrances) (sym e)
     (subst (λ l. AreReached es gs old before l entrances) (sym f) (subst (λ l. AreReached es gs old before marks l) (sym g) r))
+
+-- what was entered first and then
+pub reached_on : (es : List (ℕ × ℕ)) (hs gs : List ℕ) (old : List Bool) (before : List Entrance) (seen : List Bool) (entrances : List Entrance) (new : List Bool)
+    (later : List Entrance) → AreReached es hs old before seen entrances → AreReached es gs seen entrances new later → AreMore es old before new later
+reached_on es hs gs old before seen entrances new later r q = record {
+  entered = q.entered;
+  full = q.full ∙ r.full;
+  kept = λ w m. q.kept w (r.kept w m);
+  ends = All-nil (λ h. IsMarked new (finish es h));
+  more = r.more ++ q.more;
+  grown = q.grown ∙ ap (λ l. l ++ q.more) r.grown ∙ append_assoc before r.more q.more;
+  roots = q.roots ∙ r.roots;
+}

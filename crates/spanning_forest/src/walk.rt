@@ -1,5 +1,5 @@
-// The walk from a vertex to all that are joined to it.
-ghost use Rattle.std.specs.Prelude.{◌≡◌, ◌<◌, ◌*◌, OnOk, length, map};
+// The walk from vertices to all that are joined to them.
+ghost use Rattle.std.specs.Prelude.{◌≡◌, ◌<◌, ◌≤◌, ◌*◌, OnOk, length, map};
 ghost use Rattle.std.specs.List.{All, Contains};
 ghost use Rattle.chain_terms.specs.Chains.{all_edges};
 ghost use Rattle.chain_terms.specs.Ranks.{start, finish};
@@ -7,15 +7,14 @@ ghost use Rattle.chain_terms.specs.Sums.{upto};
 ghost use Rattle.counting_sort.specs.Buckets.{places_of};
 ghost use Rattle.mesh_terms.specs.Meshes.{triples_of, IsBelow};
 ghost use Rattle.spanning_forest.specs.Forests.{entered, vertices_of};
-ghost use Rattle.spanning_forest.specs.Walks.{starts_of, AreEntered, AreReached, AreWhole, IsComponentEntered, IsUnmarked, Lies};
+ghost use Rattle.spanning_forest.specs.Walks.{starts_of, AreAllEntered, AreEntered, AreLeft, AreReached, AreWhole, IsComponentEntered, IsUnmarked, Lies};
 
 use crate::entrance::Entrance;
 use counting_sort::Buckets;
 use mb_base::NoMemory;
 
 /// Enters the vertex, which has no mark, as a root, and after it all that are joined to it. The half-edges are given by
-/// the vertices at which they start. The entrances are the queue: those before `next` have been left by all their
-/// half-edges.
+/// the vertices at which they start.
 pub fn enter_component(
     triples: &[[u32; 3]],
     spokes: &Buckets,
@@ -31,9 +30,29 @@ pub fn enter_component(
     requires entered { AreEntered (all_edges (triples_of triples.now)) seen.old entrances.old.items }
     ensures { OnOk result (IsComponentEntered (all_edges (triples_of triples.now)) root seen.old entrances.old.items seen.new entrances.new.items) }
 {
-    let mut next = entrances.len();
+    let next = entrances.len();
     seen[root as usize] = true;
     entrances.push(Entrance::Root(root))?;
+    leave_all(triples, spokes, seen, entrances, next)
+}
+
+/// Enters all that edges lead to from what was entered. The entrances are the queue: those before `next` have been left
+/// by all their half-edges.
+pub fn leave_all(
+    triples: &[[u32; 3]],
+    spokes: &Buckets,
+    seen: &mut [bool],
+    entrances: &mut Vec<Entrance>,
+    next: usize,
+) -> Result<(), NoMemory>
+    requires spokes { spokes.now ≡ map (places_of (starts_of (all_edges (triples_of triples.now)))) (upto (length seen.old)) }
+    requires below { All (IsBelow (length seen.old)) (triples_of triples.now) }
+    requires next { next ≤ length entrances.old.items }
+    requires left { AreLeft (all_edges (triples_of triples.now)) seen.old entrances.old.items next }
+    requires entered { AreEntered (all_edges (triples_of triples.now)) seen.old entrances.old.items }
+    ensures { OnOk result (AreAllEntered (all_edges (triples_of triples.now)) seen.old entrances.old.items seen.new entrances.new.items) }
+{
+    let mut next = next;
     while next < entrances.len() {
         let vertex = entered(triples, entrances[next]);
         enter_ends(triples, spokes.bucket(vertex as usize), seen, entrances)?;

@@ -29,7 +29,7 @@ impl Twins {
                 single: true,
             });
         }
-        match Twins::of(alloc, &triples) {
+        match Twins::over(alloc, triples) {
             Ok(twins) => Ok(twins),
             Err(TwinFault::NoMemory) => Err(NoMemory),
             // The triangles are closed.

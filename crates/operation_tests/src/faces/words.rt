@@ -7,7 +7,7 @@ ghost use Rattle.source_faces.specs.Parts.{CanBePart, HaveParts};
 
 use face_lists::{CopyRange, Stand, group_end, runs_of, segments_of_face, stands_of};
 use face_loops::loops;
-use lean::Side;
+use lean::Surface;
 use mb_base::{Hits, Op, Point, Windings};
 use retained_verts::{Operand, Prescribed};
 use source_faces::given::given_have_parts;
@@ -19,8 +19,8 @@ pub fn push_faces(
     alloc: Global,
     text: &mut String,
     op: Op,
-    p: &Side,
-    q: &Side,
+    p: &Surface,
+    q: &Surface,
     windings: &Windings,
     hits: &Hits,
     prescribed: &Prescribed,
@@ -48,8 +48,8 @@ pub fn push_faces(
 fn push_both(
     alloc: Global,
     text: &mut String,
-    p: &Side,
-    q: &Side,
+    p: &Surface,
+    q: &Surface,
     p_runs: &[CopyRange],
     q_runs: &[CopyRange],
     stands: &[Stand],
@@ -69,7 +69,7 @@ fn push_both(
 fn push_side(
     alloc: Global,
     text: &mut String,
-    side: &Side,
+    side: &Surface,
     runs: &[CopyRange],
     first: u32,
     stands: &[Stand],
@@ -95,7 +95,7 @@ fn push_side(
 fn push_face(
     alloc: Global,
     text: &mut String,
-    side: &Side,
+    side: &Surface,
     runs: &[CopyRange],
     face: u32,
     stands: &[Stand],

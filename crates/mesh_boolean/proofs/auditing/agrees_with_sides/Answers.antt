@@ -9,6 +9,7 @@ use Rattle.side_terms.specs.Sides.{Side}
 use Rattle.retained_verts.specs.Handed.{copies, numbers}
 use Rattle.segment_terms.specs.Segments.{source_count}
 use Rattle.source_boundaries.specs.Bounded.{HaveBoundaries}
+use Rattle.source_boundaries.specs.Given.{AreGiven}
 use Rattle.mesh_boolean.specs.Audited.{AgreesWithSides}
 use Rattle.mesh_boolean.proofs.Audited.{no}
 use Rattle.mesh_boolean.proofs.AuditedSides.{given}
@@ -33,18 +34,25 @@ returns-then-not-are_below c =
     no (λ s. false≢true (sym c.if-not-are_below.true ∙ c.are_below.ensures.1
     (all_below (source_count p q) (length c.triples.result.now + length c.triples-2.result.now) c.args.outcome.now.source.items c.deref.result.now (sym count) (sym c.deref.ensures.value) s.faces)))
 
+-- what is so of two sides is so of the same two
+same_sides : (P : Side → Side → Type 0) (p q s t : Side) → s ≡ p → t ≡ q → P p q → P s t
+same_sides P p q s t first second there = subst (λ x. P x t) (sym first) (subst (P p) (sym second) there)
+
 pub are_bounded-requires-clause-given : goal.are_bounded-requires-clause-given
 are_bounded-requires-clause-given c =
-    given c.args.op c.args.p.now c.args.q.now c.args.windings.now c.args.hits.now c.args.outcome.now c.triples.ensures.side c.triples-2.ensures.side
-    c.requires.known c.requires.origins c.points.ensures.accepted.mesh.few_points (c.in_ok-are_prescribed.ensures.0 c.if-not-branch.false)
+    same_sides (λ x y. AreGiven c.args.op x y c.args.windings.now c.args.hits.now c.args.outcome.now.prescribed) c.args.p.now c.args.q.now c.surface.result.now
+    c.surface-2.result.now c.surface.ensures c.surface-2.ensures
+    (given c.args.op c.args.p.now c.args.q.now c.args.windings.now c.args.hits.now c.args.outcome.now c.triples.ensures.side c.triples-2.ensures.side
+    c.requires.known c.requires.origins c.points.ensures.accepted.mesh.few_points (c.in_ok-are_prescribed.ensures.0 c.if-not-branch.false))
 
 pub are_bounded-requires-clause-faces : goal.are_bounded-requires-clause-faces
 are_bounded-requires-clause-faces c =
     let p = c.args.p.now in
     let q = c.args.q.now in
     let count = counted p q c.triples.result.now c.triples-2.result.now c.triples.ensures.value c.triples-2.ensures.value in
-    all_below (length c.triples.result.now + length c.triples-2.result.now) (source_count p q) c.deref.result.now c.deref-2.result.now count
-    (c.deref.ensures.value ∙ sym c.deref-2.ensures.value) (c.are_below.ensures.0 c.if-not-are_below.false)
+    same_sides (λ x y. All (λ k. k < source_count x y) c.deref-2.result.now) p q c.surface.result.now c.surface-2.result.now c.surface.ensures c.surface-2.ensures
+    (all_below (length c.triples.result.now + length c.triples-2.result.now) (source_count p q) c.deref.result.now c.deref-2.result.now count
+    (c.deref.ensures.value ∙ sym c.deref-2.ensures.value) (c.are_below.ensures.0 c.if-not-are_below.false))
 
 pub returns : goal.returns
 returns c =
@@ -59,8 +67,11 @@ returns c =
     let below : All (λ x. x < source_count p q) r.source.items =
     all_below (length c.triples.result.now + length c.triples-2.result.now) (source_count p q) c.deref.result.now r.source.items count c.deref.ensures.value
     (c.are_below.ensures.0 c.if-not-are_below.false) in
+    let of_sides : IfOk c.are_bounded.result (λ b. IsTrue b ↔ HaveBoundaries p q cs c.deref-2.result.now us) =
+    same_sides (λ x y. IfOk c.are_bounded.result (λ b. IsTrue b ↔ HaveBoundaries x y (copies op x y c.args.windings.now c.args.hits.now) c.deref-2.result.now us))
+    c.surface.result.now c.surface-2.result.now p q (sym c.surface.ensures) (sym c.surface-2.ensures) c.are_bounded.ensures in
     let bounded : IfOk c.are_bounded.result (λ b. IsTrue b ↔ HaveBoundaries p q cs r.source.items us) =
-    subst (λ source. IfOk c.are_bounded.result (λ b. IsTrue b ↔ HaveBoundaries p q cs source us)) c.deref-2.ensures.value c.are_bounded.ensures in
+    subst (λ source. IfOk c.are_bounded.result (λ b. IsTrue b ↔ HaveBoundaries p q cs source us)) c.deref-2.ensures.value of_sides in
     IfOk-weaker c.are_bounded.result (λ b. IsTrue b ↔ HaveBoundaries p q cs r.source.items us) (λ b. IsTrue b ↔ AgreesWithSides op p q n r us)
     (λ b iff. (
       (λ e. record { prescribed = c.in_ok-are_prescribed.ensures.0 c.if-not-branch.false; faces = below; bounded = iff.0 e }),

@@ -4,18 +4,15 @@ use Rattle.mesh_boolean.proofs.Pairs.{is_clean_over}
 use Rattle.mesh_boolean.proofs.operate.outcome.Goals as goal
 
 pub returns-clause-points : goal.returns-clause-points
-returns-clause-points c = rw (← c.deref.ensures.value, ← c.deref-2.ensures.value) c.in_ok-split.ensures.points
+returns-clause-points c = rw (← c.deref.ensures.value) c.in_ok-split.ensures.points
 
 pub returns-clause-triples : goal.returns-clause-triples
-returns-clause-triples c = rw (← c.deref.ensures.value, ← c.deref-2.ensures.value) c.in_ok-split.ensures.triples
+returns-clause-triples c = rw (← c.deref.ensures.value) c.in_ok-split.ensures.triples
 
 pub returns-clause-there : goal.returns-clause-there
 returns-clause-there c = rw (← c.deref.ensures.value) c.in_ok-split.ensures.there
 
-pub returns-clause-back : goal.returns-clause-back
-returns-clause-back c = rw (← c.deref-2.ensures.value) c.in_ok-split.ensures.back
-
 pub returns-clause-clean : goal.returns-clause-clean
 returns-clause-clean c =
     let s = c.in_ok-split.split in
-    is_clean_over (length s.mesh.points) s.from.items s.mesh.triples (triples_of c.deref-2.result.now) c.triples.ensures.accepted c.in_ok-split.ensures.clean c.in_ok-split.ensures.twins c.in_ok-split.ensures.back
+    is_clean_over (length s.mesh.points) s.from.items s.mesh.triples (triples_of c.args.all.triples.items) c.triples.ensures.accepted c.in_ok-split.ensures.clean c.in_ok-split.ensures.twins c.in_ok-split.ensures.back

@@ -35,6 +35,6 @@ returns c =
     let second = subst (λ y. AreAdded y (parts_of q c.args.q_runs.now points y stands n) mid last) all c.in_ok-push_faces.ensures.added in
     let long : m ≡ 0 + length ps =
     omega (arith, length-map (upto m) (λ f. filled_by p c.args.p_runs.now points f (records_of stands (0 + f))), length-up_from 0 m) in
-    all_joined (both_parts p q c.args.p_runs.now c.args.q_runs.now points stands) c.new-all.result last c.new-all.ensures.triples
-    c.new-all.ensures.source c.new-all.ensures.forced
-    (joined 0 m ps qs c.new-all.result mid last long c.in_ok-begin.ensures.added second)
+    all_joined (both_parts p q c.args.p_runs.now c.args.q_runs.now points stands) c.in_ok-all.all last c.in_ok-all.ensures.triples
+    c.in_ok-all.ensures.source c.in_ok-all.ensures.forced
+    (joined 0 m ps qs c.in_ok-all.all mid last long c.in_ok-begin.ensures.added second)

@@ -1,86 +1,56 @@
-use Rattle.std.proofs.Common.{arith, ◌≡◌, ◌<◌, ◌≤◌, length, true, set, sym, ap, subst}
-use Rattle.std.specs.List.{All, Contains}
+use Rattle.std.proofs.Common.{arith, ◌≡◌, ◌∷◌, ◌++◌, [], length, map, set, true, refl, sym, ◌∙◌, ap, subst, length-append}
+use Rattle.std.specs.List.{All}
+use Rattle.std.proofs.lemmas.List.{length-set}
+use Rattle.std.proofs.lemmas.Result.{on_ok_weaker}
 use Rattle.chain_terms.specs.Chains.{all_edges}
-use Rattle.chain_terms.specs.Ranks.{start}
-use Rattle.counting_sort.proofs.Upto.{length-map-upto}
+use Rattle.chain_terms.specs.Sums.{upto}
 use Rattle.counting_sort.specs.Buckets.{places_of}
-use Rattle.mesh_terms.specs.Meshes.{triples_of}
-use Rattle.spanning_forest.specs.Forests.{vertices_of}
-use Rattle.spanning_forest.specs.Walks.{starts_of, AreReached}
-use Rattle.spanning_forest.proofs.Growing.{IsGrowing, growing_begins, growing_ends, growing_goes_on, next_below, next_read, next_spokes, next_starts}
-use Rattle.spanning_forest.proofs.Spokes.{spokes_within}
+use Rattle.mesh_terms.specs.Meshes.{IsBelow, triples_of}
+use Rattle.spanning_forest.specs.declared.entrance.Entrance.TheVariants.{Root}
+use Rattle.spanning_forest.specs.Walks.{starts_of, AreAllEntered, AreEntered, AreLeft}
+use Rattle.spanning_forest.proofs.Entering.{entered_push}
+use Rattle.spanning_forest.proofs.Growing.{component_entered, left_before}
 use Rattle.spanning_forest.proofs.walk.enter_component.Goals as goal
 
-pub loop-next-init : goal.loop-next-init
-loop-next-init c =
+pub leave_all-requires-clause-spokes : goal.leave_all-requires-clause-spokes
+leave_all-requires-clause-spokes c =
+    c.requires.spokes ∙ ap (λ n. map (places_of (starts_of (all_edges (triples_of c.args.triples.now)))) (upto n)) (sym (length-set c.args.seen.now c.args.root true))
+
+pub leave_all-requires-clause-below : goal.leave_all-requires-clause-below
+leave_all-requires-clause-below c = subst (λ n. All (IsBelow n) (triples_of c.args.triples.now)) (sym (length-set c.args.seen.now c.args.root true)) c.requires.below
+
+pub leave_all-requires-clause-next : goal.leave_all-requires-clause-next
+leave_all-requires-clause-next c =
+    let before = c.args.entrances.now.items in
+    omega (arith, c.len-next.ensures, c.args.entrances.now.ok.0, ap length c.in_ok-push.ensures.items, length-append before (Root c.args.root ∷ []))
+
+pub leave_all-requires-clause-left : goal.leave_all-requires-clause-left
+leave_all-requires-clause-left c =
     let es = all_edges (triples_of c.args.triples.now) in
     let root = c.args.root in
     let seen = c.args.seen.now in
     let before = c.args.entrances.now.items in
     let at : length before ≡ c.len-next.result = omega (arith, c.len-next.ensures, c.args.entrances.now.ok.0) in
-    subst (IsGrowing es root seen before (set seen root true) c.push.new.self.items) at
-    (subst (λ l. IsGrowing es root seen before (set seen root true) l (length before)) (sym c.in_ok-push.ensures.items)
-    (growing_begins es root seen before c.requires.entered c.requires.root c.requires.unmarked c.requires.whole))
+    subst (λ l. AreLeft es (set seen root true) l c.len-next.result) (sym c.in_ok-push.ensures.items)
+    (subst (AreLeft es (set seen root true) (before ++ Root root ∷ [])) at (left_before es root seen before c.requires.entered c.requires.whole))
 
-pub bucket-requires : goal.bucket-requires
-bucket-requires c =
+pub leave_all-requires-clause-entered : goal.leave_all-requires-clause-entered
+leave_all-requires-clause-entered c =
     let es = all_edges (triples_of c.args.triples.now) in
+    let root = c.args.root in
     let seen = c.args.seen.now in
-    let entrances = c.loop-next.entrances.items in
-    let next = c.loop-next.next in
-    let inside : next < length entrances = omega (arith, c.loop-next-test.true, c.len.ensures, c.loop-next.entrances.ok.0) in
-    let at = next_read es entrances next c.entered-vertex.result c.index.result.now inside c.index.ensures c.entered-vertex.ensures in
-    let low = next_below es c.args.root seen c.args.entrances.now.items c.loop-next.seen entrances next c.loop-next.invariant inside in
-    omega (arith, at, low, ap length c.requires.spokes, length-map-upto (places_of (starts_of es)) (length seen))
-
-pub enter_ends-requires-clause-within : goal.enter_ends-requires-clause-within
-enter_ends-requires-clause-within c =
-    let es = all_edges (triples_of c.args.triples.now) in
-    let old = c.args.seen.now in
     let before = c.args.entrances.now.items in
-    let x = c.entered-vertex.result in
-    let entrances = c.loop-next.entrances.items in
-    let next = c.loop-next.next in
-    let inside : next < length entrances = omega (arith, c.loop-next-test.true, c.len.ensures, c.loop-next.entrances.ok.0) in
-    let at = next_read es entrances next x c.index.result.now inside c.index.ensures c.entered-vertex.ensures in
-    let growing = c.loop-next.invariant in
-    let is = next_spokes es c.args.root x old before c.loop-next.seen entrances next c.args.spokes.now c.bucket.result.now growing inside at c.requires.spokes c.bucket.ensures in
-    spokes_within c.args.triples.now x c.bucket.result.now is
-
-pub enter_ends-requires-clause-starts : goal.enter_ends-requires-clause-starts
-enter_ends-requires-clause-starts c =
-    let es = all_edges (triples_of c.args.triples.now) in
-    let old = c.args.seen.now in
-    let before = c.args.entrances.now.items in
-    let x = c.entered-vertex.result in
-    let entrances = c.loop-next.entrances.items in
-    let next = c.loop-next.next in
-    let inside : next < length entrances = omega (arith, c.loop-next-test.true, c.len.ensures, c.loop-next.entrances.ok.0) in
-    let at = next_read es entrances next x c.index.result.now inside c.index.ensures c.entered-vertex.ensures in
-    let growing = c.loop-next.invariant in
-    let is = next_spokes es c.args.root x old before c.loop-next.seen entrances next c.args.spokes.now c.bucket.result.now growing inside at c.requires.spokes c.bucket.ensures in
-    subst (All (λ h. Contains (vertices_of es entrances) (start es h))) (sym is) (next_starts es entrances next x inside at)
-
-pub loop-next-preserved : goal.loop-next-preserved
-loop-next-preserved c =
-    let es = all_edges (triples_of c.args.triples.now) in
-    let x = c.entered-vertex.result in
-    let old = c.args.seen.now in
-    let before = c.args.entrances.now.items in
-    let seen = c.loop-next.seen in
-    let entrances = c.loop-next.entrances.items in
-    let next = c.loop-next.next in
-    let new = c.enter_ends.new.seen in
-    let later = c.enter_ends.new.entrances.items in
-    let inside : next < length entrances = omega (arith, c.loop-next-test.true, c.len.ensures, c.loop-next.entrances.ok.0) in
-    let at = next_read es entrances next x c.index.result.now inside c.index.ensures c.entered-vertex.ensures in
-    let growing = c.loop-next.invariant in
-    let is = next_spokes es c.args.root x old before seen entrances next c.args.spokes.now c.bucket.result.now growing inside at c.requires.spokes c.bucket.ensures in
-    growing_goes_on es c.args.root x old before seen entrances next new later growing inside at
-    (subst (λ l. AreReached es l seen entrances new later) is c.in_ok-enter_ends.ensures)
+    subst (AreEntered es (set seen root true)) (sym c.in_ok-push.ensures.items)
+    (entered_push es seen before (Root root) root c.requires.entered c.requires.unmarked c.requires.root refl tt)
 
 pub returns : goal.returns
 returns c =
     let es = all_edges (triples_of c.args.triples.now) in
-    let all : length c.loop-next.entrances.items ≤ c.loop-next.next = omega (arith, c.loop-next-test.false, c.len.ensures, c.loop-next.entrances.ok.0) in
-    growing_ends es c.args.root c.args.seen.now c.args.entrances.now.items c.loop-next.seen c.loop-next.entrances.items c.loop-next.next c.loop-next.invariant all
+    let root = c.args.root in
+    let seen = c.args.seen.now in
+    let new = c.leave_all.new.seen in
+    let later = c.leave_all.new.entrances.items in
+    on_ok_weaker c.leave_all.result
+    (λ a. component_entered es root seen c.args.entrances.now.items new later c.requires.root
+    (subst (λ l. AreAllEntered es (set seen root true) l new later) c.in_ok-push.ensures.items a))
+    c.leave_all.ensures

@@ -1,0 +1,11 @@
+pub mod Copied
+pub mod First
+pub mod Given
+pub mod Gives
+pub mod Joined
+pub mod Kept
+pub mod Listed
+pub mod Placed
+pub mod Segmented
+pub mod Sizes
+pub mod Stands

@@ -1,0 +1,21 @@
+//! The numbers of the boxes of a tree that are near an area, ascending.
+#![tactic(auto)]
+
+ghost use Rattle.std.specs.Prelude.{◌≡◌, OnOk};
+ghost use Rattle.box_tree.specs.Touching.{touching_numbers};
+
+use box_tree::Tree;
+use mb_base::{Box3, NoMemory};
+
+/// Makes a list of the numbers of the boxes that touch the area, ascending. What stood in the list before goes, and its memory
+/// is used again.
+pub fn find_near(near: &mut Vec<u32>, tree: &Tree, area: Box3) -> Result<(), NoMemory>
+    ensures { OnOk result (near.new.items ≡ touching_numbers tree.now area) }
+{
+    near.clear();
+    for number in tree.touching(area) {
+        near.push(number)?;
+    }
+    near.sort_unstable();
+    Ok(())
+}

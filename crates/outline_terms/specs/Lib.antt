@@ -1,0 +1,2 @@
+pub mod Extrusion
+pub mod Outlines
