@@ -23,15 +23,18 @@ use Rattle.cross_section.proofs.Joined.{by_places, joined_of, mapped_joined, map
 -- what copies of things have, as often as the things are included
 copied : {Y : Type 0} (g : FlatCopy → Y) (is : List FlatIncluded) → map g (flat_map flat_copies_of is) ≡ repeated (λ (i : FlatIncluded). i.number) (λ i. g (copy_from i)) is
 copied g is =
-    let same : (λ (x : FlatIncluded). map g (flat_copies_of x)) ≡ (λ (x : FlatIncluded). replicate (nat_abs x.number) (g (copy_from x))) = λ i x. mapped_replicate g (nat_abs x.number) (copy_from x) i in
+    let same : (λ (x : FlatIncluded). map g (flat_copies_of x)) ≡ (λ (x : FlatIncluded). replicate (nat_abs x.number) (g (copy_from x)))
+    = λ i x. mapped_replicate g (nat_abs x.number) (copy_from x) i in
     mapped_joined g flat_copies_of is ∙ ap (λ f. flat_map f is) same
 
 -- the same of three lists of things
 copied_three : {Y : Type 0} (g : FlatCopy → Y) (xs ys zs : List FlatIncluded) → map g (flat_map flat_copies_of (xs ++ (ys ++ zs)))
-    ≡ (repeated (λ (i : FlatIncluded). i.number) (λ i. g (copy_from i)) xs ++ repeated (λ (i : FlatIncluded). i.number) (λ i. g (copy_from i)) ys) ++ repeated (λ (i : FlatIncluded). i.number) (λ i. g (copy_from i)) zs
+    ≡ (repeated (λ (i : FlatIncluded). i.number) (λ i. g (copy_from i)) xs ++ repeated (λ (i : FlatIncluded). i.number)
+    (λ i. g (copy_from i)) ys) ++ repeated (λ (i : FlatIncluded). i.number) (λ i. g (copy_from i)) zs
 copied_three {Y} g xs ys zs =
     let f : FlatIncluded → List Y = λ i. replicate (nat_abs i.number) (g (copy_from i)) in
-    copied g (xs ++ (ys ++ zs)) ∙ flat_map-append f xs (ys ++ zs) ∙ ap (λ l. flat_map f xs ++ l) (flat_map-append f ys zs) ∙ sym (append_assoc (flat_map f xs) (flat_map f ys) (flat_map f zs))
+    copied g (xs ++ (ys ++ zs)) ∙ flat_map-append f xs (ys ++ zs) ∙ ap (λ l. flat_map f xs ++ l) (flat_map-append f ys zs)
+    ∙ sym (append_assoc (flat_map f xs) (flat_map f ys) (flat_map f zs))
 
 -- there are as many as are counted
 copies_long : (is : List FlatIncluded) → length (flat_map flat_copies_of is) ≡ copy_count is
@@ -42,7 +45,8 @@ copies_long is =
 -- the sum over a list is that over its places
 pub counted_by_places : (number : ℤ → ℤ) (ws : List ℤ) (m : ℕ) → length ws ≡ m → sum_by (λ w. nat_abs (number w)) ws ≡ sum_by (λ v. nat_abs (number (get_or ws v (pos 0)))) (upto m)
 counted_by_places number ws m long =
-    ap (λ l. sum_by (λ w. nat_abs (number w)) l) (sym (by_places ws (pos 0))) ∙ sum_of (λ w. nat_abs (number w)) (λ v. get_or ws v (pos 0)) (upto (length ws)) ∙ ap (λ k. sum_by (λ v. nat_abs (number (get_or ws v (pos 0)))) (upto k)) long
+    ap (λ l. sum_by (λ w. nat_abs (number w)) l) (sym (by_places ws (pos 0))) ∙ sum_of (λ w. nat_abs (number w)) (λ v. get_or ws v (pos 0)) (upto (length ws))
+    ∙ ap (λ k. sum_by (λ v. nat_abs (number (get_or ws v (pos 0)))) (upto k)) long
 
 module _ (op : Op) (p q : Outline) (n : FlatNumbers) where
   -- how often vertices and hits are included
@@ -76,7 +80,8 @@ module _ (op : Op) (p q : Outline) (n : FlatNumbers) where
   hit_one h = record { origin = OfBoth h.p_edge h.q_edge; number = number_of_hit h; point = h.at }
 
   -- what all copies have, from what those of P's vertices, of Q's and of hits have
-  pub joined_parts : {Y : Type 0} (g : FlatCopy → Y) (ps qs hs : List Y) → ps ≡ repeated p_number (λ v. g (p_copy v)) (upto (length p.points)) → qs ≡ repeated q_number (λ v. g (q_copy v)) (upto (length q.points)) →
+  pub joined_parts : {Y : Type 0} (g : FlatCopy → Y) (ps qs hs : List Y) →
+      ps ≡ repeated p_number (λ v. g (p_copy v)) (upto (length p.points)) → qs ≡ repeated q_number (λ v. g (q_copy v)) (upto (length q.points)) →
       hs ≡ repeated number_of_hit (λ h. g (hit_copy h)) n.hits → (ps ++ qs) ++ hs ≡ map g (flat_copies op p q n)
   joined_parts {Y} g ps qs hs of_p of_q of_hits =
       let f : FlatIncluded → List Y = λ i. replicate (nat_abs i.number) (g (copy_from i)) in
@@ -84,16 +89,19 @@ module _ (op : Op) (p q : Outline) (n : FlatNumbers) where
       ∙ (λ i. (joined_of f p_one (upto (length p.points)) i ++ joined_of f q_one (upto (length q.points)) i) ++ joined_of f hit_one n.hits i))
 
   -- what holds of a copy of each holds of all copies
-  pub each_copy : (P : FlatCopy → Type 0) → ((v : ℕ) → v < length p.points → P (p_copy v)) → ((v : ℕ) → v < length q.points → P (q_copy v)) → All (λ h. P (hit_copy h)) n.hits → All P (flat_copies op p q n)
+  pub each_copy : (P : FlatCopy → Type 0) → ((v : ℕ) → v < length p.points → P (p_copy v)) →
+      ((v : ℕ) → v < length q.points → P (q_copy v)) → All (λ h. P (hit_copy h)) n.hits → All P (flat_copies op p q n)
   each_copy P on_p on_q on_hits =
       let R : FlatIncluded → Type 0 = λ i. P (copy_from i) in
       all_copies P (p_included op p n ++ (q_included op q n ++ hits_included op n))
       (All-append R (p_included op p n) (q_included op q n ++ hits_included op n) (All-map R p_one (upto (length p.points)) (all_upto (λ v. R (p_one v)) (length p.points) on_p))
-      (All-append R (q_included op q n) (hits_included op n) (All-map R q_one (upto (length q.points)) (all_upto (λ v. R (q_one v)) (length q.points) on_q)) (All-map R hit_one n.hits on_hits)))
+      (All-append R (q_included op q n) (hits_included op n)
+      (All-map R q_one (upto (length q.points)) (all_upto (λ v. R (q_one v)) (length q.points) on_q)) (All-map R hit_one n.hits on_hits)))
 
   -- they are copies of vertices and hits
   pub known_copies : AreNumbers p q n → All (λ c. IsOfBoth (outline_edges p) (outline_edges q) (length p.points) (length q.points) c.origin) (flat_copies op p q n)
-  known_copies is = each_copy (λ c. IsOfBoth (outline_edges p) (outline_edges q) (length p.points) (length q.points) c.origin) (λ v low. low) (λ v low. low) (λ k d low. (is.on_p k d low, is.on_q k d low))
+  known_copies is = each_copy (λ c. IsOfBoth (outline_edges p) (outline_edges q) (length p.points) (length q.points) c.origin)
+      (λ v low. low) (λ v low. low) (λ k d low. (is.on_p k d low, is.on_q k d low))
 
   -- and lie at height 0
   pub flat_copies_flat : IsOutline p → IsOutline q → All (λ h. coordinate_of h.at 2 ≡ pos 0) n.hits → All (λ c. coordinate_of c.point 2 ≡ pos 0) (flat_copies op p q n)
@@ -111,10 +119,12 @@ module _ (op : Op) (p q : Outline) (n : FlatNumbers) where
       )
 
   pub count_p : length n.w02 ≡ length p.points → sum_by (λ w. nat_abs (constant op 0 +ℤ constant op 2 *ℤ w)) n.w02 ≡ copy_count (p_included op p n)
-  count_p long = counted_by_places (λ w. constant op 0 +ℤ constant op 2 *ℤ w) n.w02 (length p.points) long ∙ sym (sum_of (λ (i : FlatIncluded). nat_abs i.number) p_one (upto (length p.points)))
+  count_p long = counted_by_places (λ w. constant op 0 +ℤ constant op 2 *ℤ w) n.w02 (length p.points) long
+      ∙ sym (sum_of (λ (i : FlatIncluded). nat_abs i.number) p_one (upto (length p.points)))
 
   pub count_q : length n.w20 ≡ length q.points → sum_by (λ w. nat_abs (constant op 1 +ℤ constant op 2 *ℤ w)) n.w20 ≡ copy_count (q_included op q n)
-  count_q long = counted_by_places (λ w. constant op 1 +ℤ constant op 2 *ℤ w) n.w20 (length q.points) long ∙ sym (sum_of (λ (i : FlatIncluded). nat_abs i.number) q_one (upto (length q.points)))
+  count_q long = counted_by_places (λ w. constant op 1 +ℤ constant op 2 *ℤ w) n.w20 (length q.points) long
+      ∙ sym (sum_of (λ (i : FlatIncluded). nat_abs i.number) q_one (upto (length q.points)))
 
   pub count_hits : sum_by (λ (h : FlatHit). nat_abs (constant op 2 *ℤ h.number)) n.hits ≡ copy_count (hits_included op n)
   count_hits = sym (sum_of (λ (i : FlatIncluded). nat_abs i.number) hit_one n.hits)
@@ -128,10 +138,12 @@ same_by_sign number from to from' to' m starts ends =
 
 -- the parts of vertices and hits, as they were handed in
 pub vertex_points : (op : Op) (o : Operand) (ws ws' : List ℤ) (ps ps' : List (List ℤ)) → ws ≡ ws' → ps ≡ ps' →
-    repeated (λ v. vertex_number op o (get_or ws v (pos 0))) (λ v. get_or ps v []) (upto (length ps)) ≡ repeated (λ v. vertex_number op o (get_or ws' v (pos 0))) (λ v. get_or ps' v []) (upto (length ps'))
+    repeated (λ v. vertex_number op o (get_or ws v (pos 0))) (λ v. get_or ps v []) (upto (length ps))
+    ≡ repeated (λ v. vertex_number op o (get_or ws' v (pos 0))) (λ v. get_or ps' v []) (upto (length ps'))
 vertex_points op o ws ws' ps ps' e f = λ i. repeated (λ v. vertex_number op o (get_or (e i) v (pos 0))) (λ v. get_or (f i) v []) (upto (length (f i)))
 
-pub vertex_lists : (op : Op) (o : Operand) (ws ws' : List ℤ) (n m : ℕ) (from to from' to' : ℕ → ℕ) → ws ≡ ws' → n ≡ m → ((v : ℕ) → v < m → from v ≡ from' v) → ((v : ℕ) → v < m → to v ≡ to' v) →
+pub vertex_lists : (op : Op) (o : Operand) (ws ws' : List ℤ) (n m : ℕ) (from to from' to' : ℕ → ℕ) →
+    ws ≡ ws' → n ≡ m → ((v : ℕ) → v < m → from v ≡ from' v) → ((v : ℕ) → v < m → to v ≡ to' v) →
     repeated (λ v. vertex_number op o (get_or ws v (pos 0))) (λ v. by_sign (vertex_number op o (get_or ws v (pos 0))) (from v) (to v)) (upto n)
     ≡ repeated (λ v. vertex_number op o (get_or ws' v (pos 0))) (λ v. by_sign (vertex_number op o (get_or ws' v (pos 0))) (from' v) (to' v)) (upto m)
 vertex_lists op o ws ws' n m from to from' to' e f starts ends =
@@ -139,9 +151,11 @@ vertex_lists op o ws ws' n m from to from' to' e f starts ends =
     ∙ same_by_sign (λ v. vertex_number op o (get_or ws' v (pos 0))) from to from' to' m starts ends
 
 pub hit_starts : (op : Op) (hs hs' : List FlatHit) (n m : ℕ) → hs ≡ hs' → n ≡ m →
-    repeated (λ (h : FlatHit). hit_number op h.number) (λ h. by_sign (hit_number op h.number) h.p_edge (n + h.q_edge)) hs ≡ repeated (λ (h : FlatHit). hit_number op h.number) (λ h. by_sign (hit_number op h.number) h.p_edge (m + h.q_edge)) hs'
+    repeated (λ (h : FlatHit). hit_number op h.number) (λ h. by_sign (hit_number op h.number) h.p_edge (n + h.q_edge)) hs
+    ≡ repeated (λ (h : FlatHit). hit_number op h.number) (λ h. by_sign (hit_number op h.number) h.p_edge (m + h.q_edge)) hs'
 hit_starts op hs hs' n m e f = λ i. repeated (λ (h : FlatHit). hit_number op h.number) (λ h. by_sign (hit_number op h.number) h.p_edge (f i + h.q_edge)) (e i)
 
 pub hit_ends : (op : Op) (hs hs' : List FlatHit) (n m : ℕ) → hs ≡ hs' → n ≡ m →
-    repeated (λ (h : FlatHit). hit_number op h.number) (λ h. by_sign (hit_number op h.number) (n + h.q_edge) h.p_edge) hs ≡ repeated (λ (h : FlatHit). hit_number op h.number) (λ h. by_sign (hit_number op h.number) (m + h.q_edge) h.p_edge) hs'
+    repeated (λ (h : FlatHit). hit_number op h.number) (λ h. by_sign (hit_number op h.number) (n + h.q_edge) h.p_edge) hs
+    ≡ repeated (λ (h : FlatHit). hit_number op h.number) (λ h. by_sign (hit_number op h.number) (m + h.q_edge) h.p_edge) hs'
 hit_ends op hs hs' n m e f = λ i. repeated (λ (h : FlatHit). hit_number op h.number) (λ h. by_sign (hit_number op h.number) (f i + h.q_edge) h.p_edge) (e i)

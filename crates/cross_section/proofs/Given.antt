@@ -37,17 +37,21 @@ module _ (op : Op) (p q : Outline) (p_is : IsOutline p) (q_is : IsOutline q) (n 
     (points : List (List ℤ)) (starts ends : List ℕ) (given : AreCopies (outline_edges p) (outline_edges q) (flat_copies op p q n) points starts ends) where
   -- their lists are there
   pub given_starts : All (λ l. l < length (outline_edges p) + length (outline_edges q)) starts
-  given_starts = subst (All (λ l. l < length (outline_edges p) + length (outline_edges q))) (sym given.starts) (starts_below p q p_is q_is (flat_copies op p q n) (known_copies op p q n are))
+  given_starts = subst (All (λ l. l < length (outline_edges p) + length (outline_edges q)))
+      (sym given.starts) (starts_below p q p_is q_is (flat_copies op p q n) (known_copies op p q n are))
 
   pub given_ends : All (λ l. l < length (outline_edges p) + length (outline_edges q)) ends
-  given_ends = subst (All (λ l. l < length (outline_edges p) + length (outline_edges q))) (sym given.ends) (ends_below p q p_is q_is (flat_copies op p q n) (known_copies op p q n are))
+  given_ends = subst (All (λ l. l < length (outline_edges p) + length (outline_edges q)))
+      (sym given.ends) (ends_below p q p_is q_is (flat_copies op p q n) (known_copies op p q n are))
 
   -- as many as points
   pub starts_long : length starts ≡ length points
-  starts_long = ap length given.starts ∙ length-map (flat_copies op p q n) (start_list (outline_edges p) (outline_edges q)) ∙ sym (ap length given.points ∙ length-map (flat_copies op p q n) (λ c. c.point))
+  starts_long = ap length given.starts ∙ length-map (flat_copies op p q n) (start_list (outline_edges p) (outline_edges q))
+      ∙ sym (ap length given.points ∙ length-map (flat_copies op p q n) (λ c. c.point))
 
   pub ends_long : length ends ≡ length points
-  ends_long = ap length given.ends ∙ length-map (flat_copies op p q n) (end_list (outline_edges p) (outline_edges q)) ∙ sym (ap length given.points ∙ length-map (flat_copies op p q n) (λ c. c.point))
+  ends_long = ap length given.ends ∙ length-map (flat_copies op p q n) (end_list (outline_edges p) (outline_edges q))
+      ∙ sym (ap length given.points ∙ length-map (flat_copies op p q n) (λ c. c.point))
 
 -- the buckets of the code are those of all lists
 module _ (op : Op) (p q : Outline) (p_is : IsOutline p) (q_is : IsOutline q) (n : FlatNumbers) (are : AreNumbers p q n)
@@ -74,7 +78,8 @@ module _ (op : Op) (p q : Outline) (p_is : IsOutline p) (q_is : IsOutline q) (n 
       ∙ sym (λ i. length (get_or (given_tails i) (length (p_same i) + k) []))
 
   -- and all segments are those of the lists
-  pub given_segments : flat_map (edges_segments p.points p_edges points heads tails 0) (upto (length p_edges)) ++ flat_map (edges_segments q.points q_edges points heads tails (length p_edges)) (upto (length q_edges))
+  pub given_segments : flat_map (edges_segments p.points p_edges points heads tails 0)
+      (upto (length p_edges)) ++ flat_map (edges_segments q.points q_edges points heads tails (length p_edges)) (upto (length q_edges))
       ≡ flat_segments p q (flat_copies op p q n)
   given_segments =
       (λ i. flat_map (edges_segments p.points (p_same i) (given.points i) (given_heads i) (given_tails i) 0) (upto (length (p_same i)))

@@ -42,11 +42,26 @@ module _ (t : FlatTests) (settle : ℤ → ℤ) (op : Op) (p q : Outline) (p_is 
       let ps = p_flat op p in
       let qs = q_flat q in
       let each : (i : ℕ) → length (flat_hits_along t.edge_edge settle ps qs i) ≤ most_vertices =
-      λ i. omega (arith, kept_few (λ j. flat_hit settle i j (t.edge_edge (ends_of ps (edge_at ps i)) (ends_of qs (edge_at qs j)))) (upto (length qs.edges)), length-up_from 0 (length qs.edges), edges_long q q_is, q_is.few) in
-      omega (arith, joined_few (flat_hits_along t.edge_edge settle ps qs) most_vertices (upto (length ps.edges)) (λ k d low. each (get_or (upto (length ps.edges)) k d)), length-up_from 0 (length ps.edges), edges_long p p_is, p_is.few)
+      λ i. omega (
+        arith,
+        kept_few (λ j. flat_hit settle i j (t.edge_edge (ends_of ps (edge_at ps i)) (ends_of qs (edge_at qs j))))
+            (upto (length qs.edges)),
+        length-up_from 0 (length qs.edges),
+        edges_long q q_is,
+        q_is.few,
+      ) in
+      omega (
+        arith,
+        joined_few (flat_hits_along t.edge_edge settle ps qs) most_vertices (upto (length ps.edges))
+            (λ k d low. each (get_or (upto (length ps.edges)) k d)),
+        length-up_from 0 (length ps.edges),
+        edges_long p p_is,
+        p_is.few,
+      )
 
   -- the numbers are of these outlines, where they are small
-  pub numbers_are : All (λ w. nat_abs w ≤ length (outline_edges q)) n.w02 → All (λ w. nat_abs w ≤ length (outline_edges p)) n.w20 → All (λ h. nat_abs h.number ≤ 1) n.hits → AreNumbers p q n
+  pub numbers_are : All (λ w. nat_abs w ≤ length (outline_edges q)) n.w02 →
+      All (λ w. nat_abs w ≤ length (outline_edges p)) n.w20 → All (λ h. nat_abs h.number ≤ 1) n.hits → AreNumbers p q n
   numbers_are p_size q_size small = record {
     conserved = conserved t settle op p q p_is q_is lift;
     w02_long = length-map (p_flat op p).corners (λ c. flat_winding t c (q_flat q)) ∙ p_corners op p;
@@ -68,19 +83,24 @@ module _ (t : FlatTests) (settle : ℤ → ℤ) (op : Op) (p q : Outline) (p_is 
         outline = record {
           each = subst (λ k. IsPermutation (upto k) (concat (cycles (flat_segments p q cs)))) (sym (length-map cs (λ c. c.point))) (each_whole t settle op p q p_is q_is lift);
           long = loops_whole t settle op p q p_is q_is lift;
-          flat = All-map (λ (x : List ℤ). coordinate_of x 2 ≡ pos 0) (λ c. c.point) cs (flat_copies_flat op p q n p_is q_is (All-weaker (IsHit t settle (p_flat op p) (q_flat q)) (λ h. coordinate_of h.at 2 ≡ pos 0) (λ h is. is.flat) n.hits hits_are));
+          flat = All-map (λ (x : List ℤ). coordinate_of x 2 ≡ pos 0) (λ c. c.point) cs
+              (flat_copies_flat op p q n p_is q_is
+              (All-weaker (IsHit t settle (p_flat op p) (q_flat q)) (λ h. coordinate_of h.at 2 ≡ pos 0) (λ h is. is.flat) n.hits hits_are));
           few = omega (arith, few, length-map cs (λ c. c.point));
         };
       }
 
 -- too many vertices are the reason, and otherwise there is none
-pub too_many : (limits : Limits) (o : Outcome) (seen : ℕ) → o.p_kept + o.q_kept + o.crossings ≡ seen → min limits.points most_vertices < seen → outcome_fault limits o ≡ Some (Over Points seen)
+pub too_many : (limits : Limits) (o : Outcome) (seen : ℕ) → o.p_kept + o.q_kept + o.crossings ≡ seen →
+    min limits.points most_vertices < seen → outcome_fault limits o ≡ Some (Over Points seen)
 too_many limits o seen e high =
-    ap (λ k. if nat_lt (min limits.points most_vertices) k then Some (Over Points k) else None) e ∙ ap (λ b. if b then Some (Over Points seen) else None) (lt-ltb (min limits.points most_vertices) seen high)
+    ap (λ k. if nat_lt (min limits.points most_vertices) k then Some (Over Points k) else None) e
+    ∙ ap (λ b. if b then Some (Over Points seen) else None) (lt-ltb (min limits.points most_vertices) seen high)
 
 pub not_too_many : (limits : Limits) (o : Outcome) (seen : ℕ) → o.p_kept + o.q_kept + o.crossings ≡ seen → seen ≤ min limits.points most_vertices → outcome_fault limits o ≡ None
 not_too_many limits o seen e low =
-    ap (λ k. if nat_lt (min limits.points most_vertices) k then Some (Over Points k) else None) e ∙ ap (λ b. if b then Some (Over Points seen) else None) (le-ltb (min limits.points most_vertices) seen low)
+    ap (λ k. if nat_lt (min limits.points most_vertices) k then Some (Over Points k) else None) e
+    ∙ ap (λ b. if b then Some (Over Points seen) else None) (le-ltb (min limits.points most_vertices) seen low)
 
 -- the answer for a reason
 pub refused_by : (X : Type 0) (why : Option OutlineFault) (fault : OutlineFault) → why ≡ Some fault → IsRefusedFor {X = X} why (Err fault)
@@ -103,8 +123,10 @@ pub record AreCounted (o : Outcome) (p_kept q_kept crossings : ℕ) : Type 0 whe
   pub of_hits : crossings ≡ o.crossings
 
 -- the sums over the numbers that were found
-pub counted : (op : Op) (p q : Outline) (n m : FlatNumbers) → n ≡ m → AreNumbers p q n → (ws vs : List ℤ) (hs : List FlatHit) → ws ≡ n.w02 → vs ≡ n.w20 → hs ≡ n.hits → (a b k : ℕ) →
-    a ≡ sum_by (λ w. nat_abs (vertex_number op P w)) ws → b ≡ sum_by (λ w. nat_abs (vertex_number op Q w)) vs → k ≡ sum_by (λ (h : FlatHit). nat_abs (hit_number op h.number)) hs → AreCounted (outcome_of op p q m) a b k
+pub counted : (op : Op) (p q : Outline) (n m : FlatNumbers) → n ≡ m → AreNumbers p q n →
+    (ws vs : List ℤ) (hs : List FlatHit) → ws ≡ n.w02 → vs ≡ n.w20 → hs ≡ n.hits → (a b k : ℕ) →
+    a ≡ sum_by (λ w. nat_abs (vertex_number op P w)) ws → b ≡ sum_by (λ w. nat_abs (vertex_number op Q w)) vs →
+    k ≡ sum_by (λ (h : FlatHit). nat_abs (hit_number op h.number)) hs → AreCounted (outcome_of op p q m) a b k
 counted op p q n m e are ws vs hs w v h a b k sum_p sum_q sum_hits = record {
   of_p = sum_p ∙ ap (λ l. sum_by (λ w. nat_abs (vertex_number op P w)) l) w ∙ count_p op p q n are.w02_long ∙ ap (λ x. copy_count (p_included op p x)) e;
   of_q = sum_q ∙ ap (λ l. sum_by (λ w. nat_abs (vertex_number op Q w)) l) v ∙ count_q op p q n are.w20_long ∙ ap (λ x. copy_count (q_included op q x)) e;

@@ -13,7 +13,8 @@ use Rattle.outlines.proofs.Written.{value_at, values_long}
 same_from : {Y : Type 0} (f g : ℕ → List Y) (k n : ℕ) → ((v : ℕ) → k ≤ v → v < k + n → f v ≡ g v) → flat_map f (up_from k n) ≡ flat_map g (up_from k n)
 same_from f g k zero each = refl
 same_from f g k (suc n) each =
-    ap (λ l. l ++ flat_map f (up_from (suc k) n)) (each k (omega arith) (omega arith)) ∙ ap (λ l. g k ++ l) (same_from f g (suc k) n (λ v low high. each v (omega (arith, low)) (omega (arith, high))))
+    ap (λ l. l ++ flat_map f (up_from (suc k) n)) (each k (omega arith) (omega arith))
+    ∙ ap (λ l. g k ++ l) (same_from f g (suc k) n (λ v low high. each v (omega (arith, low)) (omega (arith, high))))
 
 pub same_joined : {Y : Type 0} (f g : ℕ → List Y) (n : ℕ) → ((v : ℕ) → v < n → f v ≡ g v) → flat_map f (upto n) ≡ flat_map g (upto n)
 same_joined f g n each = same_from f g 0 n (λ v low high. each v (omega (arith, high)))
@@ -64,12 +65,15 @@ pub joined_few : {X Y : Type 0} (f : X → List Y) (m : ℕ) (xs : List X) → A
 joined_few f m xs few = omega (arith, length-flat_map f xs, sum_by-le (λ x. length (f x)) m xs few)
 
 -- a list that has grown by the list of the next number, or of the next of some things
-pub grown : {Y : Type 0} (f : ℕ → List Y) (n : ℕ) (before now new here : List Y) → new ≡ now ++ here → now ≡ before ++ flat_map f (upto n) → here ≡ f n → new ≡ before ++ flat_map f (upto (n + 1))
+pub grown : {Y : Type 0} (f : ℕ → List Y) (n : ℕ) (before now new here : List Y) → new ≡ now ++ here →
+    now ≡ before ++ flat_map f (upto n) → here ≡ f n → new ≡ before ++ flat_map f (upto (n + 1))
 grown f n before now new here e h s = e ∙ (λ i. h i ++ s i) ∙ joined_more f n before
 
-pub grown_by : {X Y : Type 0} (f : X → List Y) (xs : List X) (k : ℕ) (d : X) (before now new here : List Y) → k < length xs → new ≡ now ++ here → now ≡ before ++ flat_map f (take k xs) → here ≡ f (get_or xs k d) →
+pub grown_by : {X Y : Type 0} (f : X → List Y) (xs : List X) (k : ℕ) (d : X) (before now new here : List Y) →
+    k < length xs → new ≡ now ++ here → now ≡ before ++ flat_map f (take k xs) → here ≡ f (get_or xs k d) →
     new ≡ before ++ flat_map f (take (k + 1) xs)
 grown_by f xs k d before now new here low e h s =
     let x = get_or xs k d in
-    let more : flat_map f (take (k + 1) xs) ≡ flat_map f (take k xs) ++ f x = ap (flat_map f) (take_more xs k d low) ∙ flat_map-append f (take k xs) (x ∷ []) ∙ ap (λ l. flat_map f (take k xs) ++ l) (append-nil (f x)) in
+    let more : flat_map f (take (k + 1) xs) ≡ flat_map f (take k xs) ++ f x = ap (flat_map f) (take_more xs k d low)
+    ∙ flat_map-append f (take k xs) (x ∷ []) ∙ ap (λ l. flat_map f (take k xs) ++ l) (append-nil (f x)) in
     e ∙ (λ i. h i ++ s i) ∙ append_assoc before (flat_map f (take k xs)) (f x) ∙ ap (λ l. before ++ l) (sym more)

@@ -14,7 +14,8 @@ entry v start = record { vertex = v; start = start }
 
 -- one more
 added : (side : Bool) (es : List Entry) (e : Entry) → chosen side (es ++ e ∷ []) ≡ chosen side es ++ chosen side (e ∷ [])
-added side es e = ap (map (λ (x : Entry). x.vertex)) (filter-append (is_chosen side) es (e ∷ [])) ∙ map-append (λ (x : Entry). x.vertex) (filter (is_chosen side) es) (filter (is_chosen side) (e ∷ []))
+added side es e = ap (map (λ (x : Entry). x.vertex)) (filter-append (is_chosen side) es (e ∷ []))
+    ∙ map-append (λ (x : Entry). x.vertex) (filter (is_chosen side) es) (filter (is_chosen side) (e ∷ []))
 
 -- a start more, and the ends stay
 pub more_start : (es : List Entry) (v : ℕ) → starts_of (es ++ entry v true ∷ []) ≡ starts_of es ++ v ∷ []

@@ -61,7 +61,8 @@ pub record IsAt (es : List (ℕ × ℕ)) (v : ℕ) : Type 0 where
 -- a number of an edge is v where the edge is at the only place
 told : (number : (ℕ × ℕ) → ℕ) (es : List (ℕ × ℕ)) (v f : ℕ) → IsOnly (λ e. number e == v) es (0, 0) f → (k : ℕ) → k < length es → (number (get_or es k (0, 0)) == v) ≡ (f == k)
 told number es v f is k low =
-    same_test (number (get_or es k (0, 0)) == v) (f == k) (λ h. eq-eqb f k (sym (is.only k low h))) (λ h. ap (λ j. number (get_or es j (0, 0)) == v) (sym (eqb-true f k h)) ∙ is.passes)
+    same_test (number (get_or es k (0, 0)) == v) (f == k) (λ h. eq-eqb f k (sym (is.only k low h)))
+    (λ h. ap (λ j. number (get_or es j (0, 0)) == v) (sym (eqb-true f k h)) ∙ is.passes)
 
 at_places : (es : List (ℕ × ℕ)) (n : ℕ) → IsOnce es n → (v : ℕ) → v < n → IsAt es v
 at_places es n once v low =

@@ -50,33 +50,39 @@ module _ (p q : Outline) (p_is : IsOutline p) (q_is : IsOutline q) (cs : List Fl
 
   p_starts : (k : ℕ) → k < length es → starts_in (flat_standing es fs cs) (length cs) (EdgeP k) ≡ get_or all_starts (0 + k) []
   p_starts k low =
-      starts_are es fs (length p.points) (length q.points) (outline_places p p_is) (outline_places q q_is) cs known (EdgeP k) low ∙ sym (ap (λ j. get_or all_starts j []) (zero_first k) ∙ bucket (map (start_list es fs) cs) k (omega (arith, low)))
+      starts_are es fs (length p.points) (length q.points) (outline_places p p_is) (outline_places q q_is) cs known (EdgeP k) low
+      ∙ sym (ap (λ j. get_or all_starts j []) (zero_first k) ∙ bucket (map (start_list es fs) cs) k (omega (arith, low)))
     where
       zero_first : (j : ℕ) → 0 + j ≡ j
       zero_first j = omega arith
 
   p_ends : (k : ℕ) → k < length es → ends_in (flat_standing es fs cs) (length cs) (EdgeP k) ≡ get_or all_ends (0 + k) []
   p_ends k low =
-      ends_are es fs (length p.points) (length q.points) (outline_places p p_is) (outline_places q q_is) cs known (EdgeP k) low ∙ sym (ap (λ j. get_or all_ends j []) (zero_first k) ∙ bucket (map (end_list es fs) cs) k (omega (arith, low)))
+      ends_are es fs (length p.points) (length q.points) (outline_places p p_is) (outline_places q q_is) cs known (EdgeP k) low
+      ∙ sym (ap (λ j. get_or all_ends j []) (zero_first k) ∙ bucket (map (end_list es fs) cs) k (omega (arith, low)))
     where
       zero_first : (j : ℕ) → 0 + j ≡ j
       zero_first j = omega arith
 
   q_starts : (k : ℕ) → k < length fs → starts_in (flat_standing es fs cs) (length cs) (EdgeQ k) ≡ get_or all_starts (length es + k) []
   q_starts k low =
-      starts_are es fs (length p.points) (length q.points) (outline_places p p_is) (outline_places q q_is) cs known (EdgeQ k) low ∙ sym (bucket (map (start_list es fs) cs) (length es + k) (omega (arith, low)))
+      starts_are es fs (length p.points) (length q.points) (outline_places p p_is) (outline_places q q_is) cs known (EdgeQ k) low
+      ∙ sym (bucket (map (start_list es fs) cs) (length es + k) (omega (arith, low)))
 
   q_ends : (k : ℕ) → k < length fs → ends_in (flat_standing es fs cs) (length cs) (EdgeQ k) ≡ get_or all_ends (length es + k) []
   q_ends k low =
-      ends_are es fs (length p.points) (length q.points) (outline_places p p_is) (outline_places q q_is) cs known (EdgeQ k) low ∙ sym (bucket (map (end_list es fs) cs) (length es + k) (omega (arith, low)))
+      ends_are es fs (length p.points) (length q.points) (outline_places p p_is) (outline_places q q_is) cs known (EdgeQ k) low
+      ∙ sym (bucket (map (end_list es fs) cs) (length es + k) (omega (arith, low)))
 
   -- those of P's edges, and of Q's
-  p_segments : (k : ℕ) → k < length es → segments_in (flat_standing es fs cs) (flat_key p q cs) (length cs) (EdgeP k) ≡ edges_segments p.points es (map (λ c. c.point) cs) all_starts all_ends 0 k
+  p_segments : (k : ℕ) → k < length es → segments_in (flat_standing es fs cs) (flat_key p q cs)
+      (length cs) (EdgeP k) ≡ edges_segments p.points es (map (λ c. c.point) cs) all_starts all_ends 0 k
   p_segments k low =
       let along = step (get_or p.points (start es k) []) (get_or p.points (finish es k) []) in
       λ i. pair_up (λ v. scalar_product along (copy_place cs v i)) (p_starts k low i) (p_ends k low i)
 
-  q_segments : (k : ℕ) → k < length fs → segments_in (flat_standing es fs cs) (flat_key p q cs) (length cs) (EdgeQ k) ≡ edges_segments q.points fs (map (λ c. c.point) cs) all_starts all_ends (length es) k
+  q_segments : (k : ℕ) → k < length fs → segments_in (flat_standing es fs cs) (flat_key p q cs) (length cs)
+      (EdgeQ k) ≡ edges_segments q.points fs (map (λ c. c.point) cs) all_starts all_ends (length es) k
   q_segments k low =
       let along = step (get_or q.points (start fs k) []) (get_or q.points (finish fs k) []) in
       λ i. pair_up (λ v. scalar_product along (copy_place cs v i)) (q_starts k low i) (q_ends k low i)
@@ -106,17 +112,22 @@ module _ (p q : Outline) (p_is : IsOutline p) (q_is : IsOutline q) (cs : List Fl
   q_even_at even k low =
       let ps = map EdgeP (upto (length es)) in
       let qs = map EdgeQ (upto (length fs)) in
-      subst IsEven (get_or-append-add ps qs k (EdgeP 0) ∙ value_at EdgeQ (length fs) k (EdgeP 0) low) (even (length ps + k) (EdgeP 0) (omega (arith, low, length-append ps qs, values_long EdgeQ (length fs))))
+      subst IsEven (get_or-append-add ps qs k (EdgeP 0) ∙ value_at EdgeQ (length fs) k (EdgeP 0) low)
+      (even (length ps + k) (EdgeP 0) (omega (arith, low, length-append ps qs, values_long EdgeQ (length fs))))
 
-  pub p_even : AreEven (flat_standing es fs cs) (length cs) (flat_lists es fs) → (k : ℕ) → k < length es → length (get_or all_starts (0 + k) []) ≡ length (get_or all_ends (0 + k) [])
+  pub p_even : AreEven (flat_standing es fs cs) (length cs) (flat_lists es fs) → (k : ℕ) →
+      k < length es → length (get_or all_starts (0 + k) []) ≡ length (get_or all_ends (0 + k) [])
   p_even even k low = ap length (sym (p_starts k low)) ∙ p_even_at even k low ∙ ap length (p_ends k low)
 
-  pub q_even : AreEven (flat_standing es fs cs) (length cs) (flat_lists es fs) → (k : ℕ) → k < length fs → length (get_or all_starts (length es + k) []) ≡ length (get_or all_ends (length es + k) [])
+  pub q_even : AreEven (flat_standing es fs cs) (length cs) (flat_lists es fs) → (k : ℕ) → k < length fs →
+      length (get_or all_starts (length es + k) []) ≡ length (get_or all_ends (length es + k) [])
   q_even even k low = ap length (sym (q_starts k low)) ∙ q_even_at even k low ∙ ap length (q_ends k low)
 
   -- the lists of copies are there
   pub starts_below : All (λ l. l < length es + length fs) (map (start_list es fs) cs)
-  starts_below = All-map (λ l. l < length es + length fs) (start_list es fs) cs (λ k d low. (list_below es fs (length p.points) (length q.points) (outline_places p p_is) (outline_places q q_is) (get_or cs k d) (known k d low)).0)
+  starts_below = All-map (λ l. l < length es + length fs) (start_list es fs) cs
+      (λ k d low. (list_below es fs (length p.points) (length q.points) (outline_places p p_is) (outline_places q q_is) (get_or cs k d) (known k d low)).0)
 
   pub ends_below : All (λ l. l < length es + length fs) (map (end_list es fs) cs)
-  ends_below = All-map (λ l. l < length es + length fs) (end_list es fs) cs (λ k d low. (list_below es fs (length p.points) (length q.points) (outline_places p p_is) (outline_places q q_is) (get_or cs k d) (known k d low)).1)
+  ends_below = All-map (λ l. l < length es + length fs) (end_list es fs) cs
+      (λ k d low. (list_below es fs (length p.points) (length q.points) (outline_places p p_is) (outline_places q q_is) (get_or cs k d) (known k d low)).1)

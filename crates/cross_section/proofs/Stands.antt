@@ -31,7 +31,8 @@ other_same a b d = ap (λ t. cond t (pos 1) (pos 0)) (ne_eqb a b d)
 -- so many later it is the same
 later_same : (n a b : ℕ) → at_same (n + a) (n + b) ≡ at_same a b
 later_same n a b =
-    ap (λ t. cond t (pos 1) (pos 0)) (same_test (n + a == n + b) (a == b) (λ h. eq-eqb a b (omega (arith, eqb-true (n + a) (n + b) h))) (λ h. eq-eqb (n + a) (n + b) (omega (arith, eqb-true a b h))))
+    ap (λ t. cond t (pos 1) (pos 0))
+    (same_test (n + a == n + b) (a == b) (λ h. eq-eqb a b (omega (arith, eqb-true (n + a) (n + b) h))) (λ h. eq-eqb (n + a) (n + b) (omega (arith, eqb-true a b h))))
 
 -- a number that is 1 at the first of two lists, -1 at the second, with the sign of a copy
 signed_by : (b : Bool) (from to m : ℕ) (z : ℤ) → z ≡ at_same from m -ℤ at_same to m → cond b (neg_ℤ z) z ≡ at_same (cond b to from) m -ℤ at_same (cond b from to) m
@@ -61,7 +62,8 @@ exchanged false f t d e = d e
 
 module _ (p q : List (ℕ × ℕ)) (m n : ℕ) (p_at : (v : ℕ) → v < m → IsAt p v) (q_at : (v : ℕ) → v < n → IsAt q v) where
   -- what a copy is a copy of is a start of one list and an end of another
-  incidence_by : (x : FlatList) (o : FlatOrigin) → IsThere p q x → IsOfBoth p q m n o → flat_incidence p q x o ≡ at_same (list_from p q o) (list_number p x) -ℤ at_same (list_to p q o) (list_number p x)
+  incidence_by : (x : FlatList) (o : FlatOrigin) → IsThere p q x → IsOfBoth p q m n o →
+      flat_incidence p q x o ≡ at_same (list_from p q o) (list_number p x) -ℤ at_same (list_to p q o) (list_number p x)
   incidence_by (EdgeP k) (OfP v) low h = λ i. cond ((p_at v h).from k low i) (pos 1) (pos 0) -ℤ cond ((p_at v h).to k low i) (pos 1) (pos 0)
   incidence_by (EdgeP k) (OfQ v) low h =
       omega (arith, ints, other_same (length p + leaving q v) k (λ e. omega (arith, e, low)), other_same (length p + entering q v) k (λ e. omega (arith, e, low)))
@@ -72,7 +74,8 @@ module _ (p q : List (ℕ × ℕ)) (m n : ℕ) (p_at : (v : ℕ) → v < m → I
       let enters = at.enters in
       omega (arith, ints, other_same (leaving p v) (length p + k) (λ e. omega (arith, e, leaves)), other_same (entering p v) (length p + k) (λ e. omega (arith, e, enters)))
   incidence_by (EdgeQ k) (OfQ v) low h =
-      let here : flat_incidence p q (EdgeQ k) (OfQ v) ≡ at_same (leaving q v) k -ℤ at_same (entering q v) k = λ i. cond ((q_at v h).from k low i) (pos 1) (pos 0) -ℤ cond ((q_at v h).to k low i) (pos 1) (pos 0) in
+      let here : flat_incidence p q (EdgeQ k) (OfQ v) ≡ at_same (leaving q v) k -ℤ at_same (entering q v)
+      k = λ i. cond ((q_at v h).from k low i) (pos 1) (pos 0) -ℤ cond ((q_at v h).to k low i) (pos 1) (pos 0) in
       omega (arith, ints, here, later_same (length p) (leaving q v) k, later_same (length p) (entering q v) k)
   incidence_by (EdgeQ k) (OfBoth i j) low h =
       let on_p = h.0 in
@@ -88,7 +91,8 @@ module _ (p q : List (ℕ × ℕ)) (m n : ℕ) (p_at : (v : ℕ) → v < m → I
   abbrev stands : FlatList → FlatCopy → ℤ
   stands x c = let z = flat_incidence p q x c.origin in cond c.negative (neg_ℤ z) z
 
-  stands_by : (x : FlatList) (c : FlatCopy) → IsThere p q x → IsOfBoth p q m n c.origin → stands x c ≡ at_same (start_list p q c) (list_number p x) -ℤ at_same (end_list p q c) (list_number p x)
+  stands_by : (x : FlatList) (c : FlatCopy) → IsThere p q x → IsOfBoth p q m n c.origin →
+      stands x c ≡ at_same (start_list p q c) (list_number p x) -ℤ at_same (end_list p q c) (list_number p x)
   stands_by x c low h =
       signed_by c.negative (list_from p q c.origin) (list_to p q c.origin) (list_number p x) (flat_incidence p q x c.origin) (incidence_by x c.origin low h)
 
@@ -96,16 +100,19 @@ module _ (p q : List (ℕ × ℕ)) (m n : ℕ) (p_at : (v : ℕ) → v < m → I
   starts_where x c low h =
       let k = list_number p x in
       ap (λ z. int_lt (pos 0) z) (stands_by x c low h)
-      ∙ above_first (start_list p q c == k) (end_list p q c == k) (not_both (start_list p q c) (end_list p q c) k (exchanged c.negative (list_from p q c.origin) (list_to p q c.origin) (lists_differ c.origin h)))
+      ∙ above_first (start_list p q c == k) (end_list p q c == k)
+      (not_both (start_list p q c) (end_list p q c) k (exchanged c.negative (list_from p q c.origin) (list_to p q c.origin) (lists_differ c.origin h)))
 
   ends_where : (x : FlatList) (c : FlatCopy) → IsThere p q x → IsOfBoth p q m n c.origin → int_lt (stands x c) (pos 0) ≡ (end_list p q c == list_number p x)
   ends_where x c low h =
       let k = list_number p x in
       ap (λ z. int_lt z (pos 0)) (stands_by x c low h)
-      ∙ below_second (start_list p q c == k) (end_list p q c == k) (not_both (start_list p q c) (end_list p q c) k (exchanged c.negative (list_from p q c.origin) (list_to p q c.origin) (lists_differ c.origin h)))
+      ∙ below_second (start_list p q c == k) (end_list p q c == k)
+      (not_both (start_list p q c) (end_list p q c) k (exchanged c.negative (list_from p q c.origin) (list_to p q c.origin) (lists_differ c.origin h)))
 
   -- so the starts of a list are the places at which its number stands, and the ends likewise
-  pub starts_are : (cs : List FlatCopy) → All (λ c. IsOfBoth p q m n c.origin) cs → (x : FlatList) → IsThere p q x → starts_in (flat_standing p q cs) (length cs) x ≡ places_of (map (start_list p q) cs) (list_number p x)
+  pub starts_are : (cs : List FlatCopy) → All (λ c. IsOfBoth p q m n c.origin) cs → (x : FlatList) → IsThere p q x →
+      starts_in (flat_standing p q cs) (length cs) x ≡ places_of (map (start_list p q) cs) (list_number p x)
   starts_are cs known x low =
       let keys = map (start_list p q) cs in
       let k = list_number p x in
@@ -113,7 +120,8 @@ module _ (p q : List (ℕ × ℕ)) (m n : ℕ) (p_at : (v : ℕ) → v < m → I
       (λ v below. starts_where x (get_or cs v no_flat_copy) low (known v no_flat_copy below) ∙ ap (λ l. l == k) (sym (get_or-map (start_list p q) cs v no_flat_copy 0 below)))
       ∙ ap (λ l. filter (λ v. get_or keys v 0 == k) (upto l)) (sym (length-map cs (start_list p q)))
 
-  pub ends_are : (cs : List FlatCopy) → All (λ c. IsOfBoth p q m n c.origin) cs → (x : FlatList) → IsThere p q x → ends_in (flat_standing p q cs) (length cs) x ≡ places_of (map (end_list p q) cs) (list_number p x)
+  pub ends_are : (cs : List FlatCopy) → All (λ c. IsOfBoth p q m n c.origin) cs → (x : FlatList) → IsThere p q x →
+      ends_in (flat_standing p q cs) (length cs) x ≡ places_of (map (end_list p q) cs) (list_number p x)
   ends_are cs known x low =
       let keys = map (end_list p q) cs in
       let k = list_number p x in
@@ -124,7 +132,8 @@ module _ (p q : List (ℕ × ℕ)) (m n : ℕ) (p_at : (v : ℕ) → v < m → I
   -- all lists that copies stand in are there
   pub list_below : (c : FlatCopy) → IsOfBoth p q m n c.origin → (start_list p q c < length p + length q) × (end_list p q c < length p + length q)
   list_below c h = by c.negative c.origin h where
-    by : (b : Bool) (o : FlatOrigin) → IsOfBoth p q m n o → (cond b (list_to p q o) (list_from p q o) < length p + length q) × (cond b (list_from p q o) (list_to p q o) < length p + length q)
+    by : (b : Bool) (o : FlatOrigin) → IsOfBoth p q m n o →
+        (cond b (list_to p q o) (list_from p q o) < length p + length q) × (cond b (list_from p q o) (list_to p q o) < length p + length q)
     by true (OfP v) h = let at = p_at v h in let l = at.leaves in let e = at.enters in (omega (arith, l, e), omega (arith, l, e))
     by false (OfP v) h = let at = p_at v h in let l = at.leaves in let e = at.enters in (omega (arith, l, e), omega (arith, l, e))
     by true (OfQ v) h = let at = q_at v h in let l = at.leaves in let e = at.enters in (omega (arith, l, e), omega (arith, l, e))

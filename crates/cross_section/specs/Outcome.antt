@@ -20,7 +20,12 @@ pub record Outcome : Type 0 where
 -- the outcome of an operation with these numbers
 abbrev pub outcome_of : Op → Outline → Outline → FlatNumbers → Outcome
 outcome_of op p q n =
-    record { outline = outline_of p q (flat_copies op p q n); p_kept = copy_count (p_included op p n); q_kept = copy_count (q_included op q n); crossings = copy_count (hits_included op n) }
+    record {
+      outline = outline_of p q (flat_copies op p q n);
+      p_kept = copy_count (p_included op p n);
+      q_kept = copy_count (q_included op q n);
+      crossings = copy_count (hits_included op n);
+    }
 
 -- the segments form loops, and these and the copies' points are an outline
 pub record GivesOutline (op : Op) (p q : Outline) (n : FlatNumbers) : Type 0 where

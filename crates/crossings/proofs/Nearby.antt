@@ -27,7 +27,7 @@ use Rattle.lean.proofs.Apart.{boxes_apart}
 use Rattle.lean.proofs.Corners.{face_fine}
 use Rattle.crossings.specs.Apart.{apart_back}
 use Rattle.crossings.specs.Hits.{CrossTest, hit_of, hits_along}
-use Rattle.crossings.proofs.Rows.{hits_with}
+use Rattle.crossings.specs.Near.{hits_with}
 
 -- no number comes before one that is not greater
 not_less : (x y : ℕ) → y ≤ x → is_lt (nat_cmp x y) ≡ false
@@ -69,7 +69,7 @@ abbrev pub Separates : CrossTest → Type 0
 Separates test = (edge face : List Corner) (i : ℕ) → length edge ≡ 2 → length face ≡ 3 → AllFine edge → AllFine face → i < 3 → AreApart i edge face → test edge face ≡ None
 
 -- an edge has no hit with a face whose box does not touch its own
-none_beyond : (test : CrossTest) (edges faces : Side) → Separates test → IsSide faces → (h f : ℕ) → AllFine (edge_at edges h) → f < length faces.triples →
+pub none_beyond : (test : CrossTest) (edges faces : Side) → Separates test → IsSide faces → (h f : ℕ) → AllFine (edge_at edges h) → f < length faces.triples →
     touches (box_at (face_boxes faces) f) (box_of (edge_at edges h)) ≡ false → test (edge_at edges h) (face_at faces f) ≡ None
 none_beyond test edges faces apart known h f fine below far =
     let edge = edge_at edges h in
@@ -77,19 +77,25 @@ none_beyond test edges faces apart known h f fine below far =
     let a = boxes_apart face edge (omega arith) (omega arith) (subst (λ b. touches b (box_of edge) ≡ false) (face_box faces f below) far) in
     apart edge face a.0 refl refl fine (face_fine faces.corners known.fine (get_or faces.triples f (0, 0, 0))) a.1 (apart_back a.0 face edge a.2)
 
--- so its hits are those with the faces whose boxes do
-pub hits_near : (test : CrossTest) (edges faces : Side) → Separates test → IsSide faces → (h : ℕ) → AllFine (edge_at edges h) →
-    hits_with test edges faces h (touching_numbers (face_boxes faces) (box_of (edge_at edges h))) ≡ hits_along test edges faces h
-hits_near test edges faces apart known h fine =
+-- so its hits are those with the faces whose boxes touch an area, where each box that touches its own does
+pub hits_in : (test : CrossTest) (edges faces : Side) → Separates test → IsSide faces → (h : ℕ) → AllFine (edge_at edges h) → (area : Box3) →
+    ((b : Box3) → touches b area ≡ false → touches b (box_of (edge_at edges h)) ≡ false) →
+    hits_with test edges faces h (touching_numbers (face_boxes faces) area) ≡ hits_along test edges faces h
+hits_in test edges faces apart known h fine area less =
     let n = length faces.triples in
     let f : ℕ → Option Hit = λ g. hit_of h g (test (edge_at edges h) (face_at faces g)) in
-    let p : ℕ → Bool = λ g. touches (box_at (face_boxes faces) g) (box_of (edge_at edges h)) in
+    let p : ℕ → Bool = λ g. touches (box_at (face_boxes faces) g) area in
     let each : All (λ g. p g ≡ false → f g ≡ None) (upto n) =
     λ k d below.
     let inside : k < n = omega (arith, below, length-up_from 0 n) in
     let here : k ≡ get_or (upto n) k d = omega (arith, get_or-up_from 0 n k d inside) in
-    subst (λ g. p g ≡ false → f g ≡ None) here (λ far. ap (hit_of h k) (none_beyond test edges faces apart known h k fine inside far)) in
+    subst (λ g. p g ≡ false → f g ≡ None) here (λ far. ap (hit_of h k) (none_beyond test edges faces apart known h k fine inside (less (box_at (face_boxes faces) k) far))) in
     ap (λ m. filter_map f (filter p (upto m))) (many_boxes faces) ∙ filter_map-filter f p (upto n) each
+
+-- as its own box is
+pub hits_near : (test : CrossTest) (edges faces : Side) → Separates test → IsSide faces → (h : ℕ) → AllFine (edge_at edges h) →
+    hits_with test edges faces h (touching_numbers (face_boxes faces) (box_of (edge_at edges h))) ≡ hits_along test edges faces h
+hits_near test edges faces apart known h fine = hits_in test edges faces apart known h fine (box_of (edge_at edges h)) (λ b far. far)
 
 -- the numbers of the faces whose boxes touch an area ascend
 pub touching_ascends : (boxes : List Box3) (area : Box3) → Ascends (touching_numbers boxes area)

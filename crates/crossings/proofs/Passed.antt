@@ -1,11 +1,10 @@
--- Runs of triangles that are near no face.
-use Rattle.std.proofs.Common.{◌≡◌, ℕ, zero, suc, ◌+◌, ◌-◌, ◌*◌, ◌/◌, ◌<◌, ◌≤◌, ℤ, Bool, true, false, ◌&&◌, cond, List, [], ◌∷◌, ◌++◌, length, get_or, filter, refl, sym, ap, subst, arith, inl, inr, ◌∙◌, append-nil}
+-- Runs of triangles, and the faces that are near them.
+use Rattle.std.proofs.Common.{◌≡◌, ℕ, zero, suc, ◌+◌, ◌-◌, ◌*◌, ◌/◌, ◌<◌, ◌≤◌, ℤ, Bool, true, false, ◌&&◌, List, [], ◌∷◌, ◌++◌, length, get_or, refl, sym, ap, subst, arith, inl, inr, ◌∙◌, append-nil}
 use Rattle.std.specs.Prelude.{◌≤ℤ◌}
 use Rattle.std.specs.List.{All}
-use Rattle.std.proofs.lemmas.Bool.{and_cases, cases_Bool, cases_lt}
+use Rattle.std.proofs.lemmas.Bool.{and_cases, cases_lt}
 use Rattle.std.proofs.lemmas.Int.{ints, clamps}
 use Rattle.chain_terms.specs.Chains.{all_edges}
-use Rattle.chain_terms.specs.Sums.{upto}
 use Rattle.chain_terms.specs.Ranks.{start, finish, twin}
 use Rattle.mesh_terms.specs.Meshes.{Triple}
 use Rattle.mb_base.specs.declared.point.Box3.{Box3}
@@ -13,12 +12,13 @@ use Rattle.mb_base.specs.declared.point.Corner.{Corner}
 use Rattle.mb_base.specs.Boxes.{box_of}
 use Rattle.side_terms.specs.Corners.{blank_corner, corner_at}
 use Rattle.side_terms.specs.Sides.{Side, IsSide, edge_at, face_at, face_boxes}
-use Rattle.box_tree.specs.Touching.{box_at, end_on, overlap, overlap_on, touches, touching_numbers}
+use Rattle.box_tree.specs.Touching.{end_on, overlap, overlap_on, touches, touching_numbers}
 use Rattle.lean.proofs.Corners.{edge_fine}
 use Rattle.crossings.specs.Hits.{CrossTest, hits_along, hits_before}
+use Rattle.crossings.specs.Near.{hits_with}
 use Rattle.crossings.specs.Runs.{IsRound}
-use Rattle.crossings.proofs.Nearby.{Separates, hits_near}
-use Rattle.crossings.proofs.Rows.{hits_lower, hits_upper, hits_with}
+use Rattle.crossings.proofs.Nearby.{Separates, hits_in}
+use Rattle.crossings.proofs.Rows.{hits_lower, hits_upper}
 
 -- on axis i the second box takes in the first
 pub record TakesIn (i : ℕ) (small large : Box3) : Type 0 where
@@ -59,21 +59,6 @@ touches_less b small large within e =
       | inr z ↦ and_right (overlap_on 0 b small && overlap_on 1 b small) (overlap_on 2 b small) (overlap_on_less 2 b small large within.z z)
     ]
 
--- where nothing passes a test, nothing passes a narrower one
-filter_less : {X : Type 0} (p q : X → Bool) → ((x : X) → p x ≡ false → q x ≡ false) → (xs : List X) → length (filter p xs) ≡ 0 → filter q xs ≡ []
-filter_less p q less [] none = refl
-filter_less p q less (x ∷ xs) none = elim (cases_Bool (p x)) as (λ _. filter q (x ∷ xs) ≡ []) [
-  | inl y ↦ absurd (omega (arith, sym (ap (λ b. length (cond b (x ∷ filter p xs) (filter p xs))) y) ∙ none))
-  | inr n ↦
-      let rest = filter_less p q less xs (sym (ap (λ b. length (cond b (x ∷ filter p xs) (filter p xs))) n) ∙ none) in
-      ap (λ b. cond b (x ∷ filter q xs) (filter q xs)) (less x n) ∙ rest
-]
-
--- where no box touches an area, none touches one within it
-touching_less : (boxes : List Box3) (small large : Box3) → IsWithin small large → length (touching_numbers boxes large) ≡ 0 → touching_numbers boxes small ≡ []
-touching_less boxes small large within none =
-    filter_less (λ k. touches (box_at boxes k) large) (λ k. touches (box_at boxes k) small) (λ k e. touches_less (box_at boxes k) small large within e) (upto (length boxes)) none
-
 -- the box of two corners lies in every box that holds both
 edge_within : (c d : Corner) (b : Box3) → IsRound b c → IsRound b d → IsWithin (box_of (c ∷ d ∷ [])) b
 edge_within c d b h k = record {
@@ -102,14 +87,13 @@ half_within side b h below round =
     let ends = ends_of P side.triples h below (λ u e. subst (λ (w : Triple). P w.0 × P w.1 × P w.2) (sym e) three) in
     edge_within (corner_at side.corners (start es h)) (corner_at side.corners (finish es h)) b ends.0 ends.1
 
--- a half-edge whose triangle lies in a box that no face's box touches has no hit
-none_along : (test : CrossTest) (edges faces : Side) → Separates test → IsSide edges → IsSide faces → (b : Box3) (h : ℕ) → h < 3 * length edges.triples →
-    All (IsRound b) (face_at edges (h / 3)) → length (touching_numbers (face_boxes faces) b) ≡ 0 → hits_along test edges faces h ≡ []
-none_along test edges faces apart own known b h below round none =
+-- a half-edge whose triangle lies in a box has its hits with the faces whose boxes touch that one
+hits_within : (test : CrossTest) (edges faces : Side) → Separates test → IsSide edges → IsSide faces → (b : Box3) (h : ℕ) → h < 3 * length edges.triples →
+    All (IsRound b) (face_at edges (h / 3)) → hits_with test edges faces h (touching_numbers (face_boxes faces) b) ≡ hits_along test edges faces h
+hits_within test edges faces apart own known b h below round =
     let es = all_edges edges.triples in
     let fine = edge_fine edges.corners own.fine (start es h) (finish es h) in
-    sym (hits_near test edges faces apart known h fine)
-    ∙ ap (hits_with test edges faces h) (touching_less (face_boxes faces) (box_of (edge_at edges h)) b (half_within edges b h below round) none)
+    hits_in test edges faces apart known h fine b (λ c far. touches_less c (box_of (edge_at edges h)) b (half_within edges b h below round) far)
 
 -- a half-edge without hits adds none
 passed_one : (test : CrossTest) (edges faces : Side) (h : ℕ) → hits_along test edges faces h ≡ [] → hits_before test edges faces (h + 1) ≡ hits_before test edges faces h
@@ -126,12 +110,17 @@ passed test edges faces from (suc n) none =
     ap (hits_before test edges faces) last ∙ passed_one test edges faces (from + n) (none (from + n) (omega arith) (omega arith))
     ∙ passed test edges faces from n (λ h low high. none h low (omega (arith, high)))
 
--- a run of triangles in a box that no face's box touches adds no hits
-pub passed_run : (test : CrossTest) (edges faces : Side) → Separates test → IsSide edges → IsSide faces → (b : Box3) (from to : ℕ) → from ≤ to → to ≤ length edges.triples →
-    ((f : ℕ) → from ≤ f → f < to → All (IsRound b) (face_at edges f)) → length (touching_numbers (face_boxes faces) b) ≡ 0 → hits_before test edges faces (3 * from) ≡ hits_before test edges faces (3 * to)
-passed_run test edges faces apart own known b from to order within round none =
-    let n = 3 * (to - from) in
-    let all : 3 * from + n ≡ 3 * to = omega (arith, order) in
-    let each : (h : ℕ) → 3 * from ≤ h → h < 3 * from + n → hits_along test edges faces h ≡ [] =
-    λ h low high. none_along test edges faces apart own known b h (omega (arith, high, order, within)) (round (h / 3) (omega (arith, low)) (omega (arith, high, order))) none in
-    sym (passed test edges faces (3 * from) n each) ∙ ap (hits_before test edges faces) all
+-- half-edges of a run of triangles that lies in a box
+pub run_within : (test : CrossTest) (edges faces : Side) → Separates test → IsSide edges → IsSide faces → (b : Box3) (from to : ℕ) → to ≤ length edges.triples →
+    ((f : ℕ) → from ≤ f → f < to → All (IsRound b) (face_at edges f)) → (h : ℕ) → 3 * from ≤ h → h < 3 * to →
+    hits_with test edges faces h (touching_numbers (face_boxes faces) b) ≡ hits_along test edges faces h
+run_within test edges faces apart own known b from to within round h low high =
+    hits_within test edges faces apart own known b h (omega (arith, high, within)) (round (h / 3) (omega (arith, low)) (omega (arith, high)))
+
+-- where no half-edge of a run has hits, the run adds none
+pub passed_run : (test : CrossTest) (edges faces : Side) (first end : ℕ) → first ≤ end →
+    ((h : ℕ) → first ≤ h → h < end → hits_along test edges faces h ≡ []) →
+    hits_before test edges faces first ≡ hits_before test edges faces end
+passed_run test edges faces first end order none =
+    let all : first + (end - first) ≡ end = omega (arith, order) in
+    sym (passed test edges faces first (end - first) (λ h low high. none h low (omega (arith, high, order)))) ∙ ap (hits_before test edges faces) all

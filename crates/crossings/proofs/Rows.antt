@@ -1,5 +1,5 @@
 -- The lists of hits, step by step.
-use Rattle.std.proofs.Common.{◌≡◌, ℕ, ◌+◌, ◌<◌, ◌≤◌, List, [], ◌∷◌, ◌++◌, length, get_or, take, Option, Some, None, nat_lt, filter, ap, sym, ◌∙◌, append-nil, append_assoc}
+use Rattle.std.proofs.Common.{◌≡◌, ℕ, ◌+◌, ◌<◌, ◌≤◌, List, [], ◌∷◌, ◌++◌, length, get_or, take, Option, None, nat_lt, filter, ap, sym, ◌∙◌, append-nil, append_assoc}
 use Rattle.std.specs.List.{cons_option, filter_map, flat_map}
 use Rattle.std.proofs.lemmas.Bool.{lt-ltb, le-ltb}
 use Rattle.std.proofs.lemmas.List.{take_more}
@@ -10,16 +10,12 @@ use Rattle.chain_terms.specs.Sums.{upto}
 use Rattle.chain_terms.specs.Ranks.{twin}
 use Rattle.chain_laws.proofs.Ascending.{filter-upto_yes, filter-upto_no}
 use Rattle.mb_base.specs.declared.results.Hit.{Hit}
-use Rattle.edge_face.specs.declared.Cross.{Cross}
 use Rattle.side_terms.specs.Sides.{Side, edge_at, face_at}
 use Rattle.crossings.specs.Hits.{CrossTest, hit_of, hits_along, hits_before}
-
--- the hits of one half-edge with some faces
-abbrev pub hits_with : CrossTest → Side → Side → ℕ → List ℕ → List Hit
-hits_with test edges faces h fs = filter_map (λ f. hit_of h f (test (edge_at edges h) (face_at faces f))) fs
+use Rattle.crossings.specs.Near.{hits_with}
 
 -- one face more
-along_more : (test : CrossTest) (edges faces : Side) (h : ℕ) (fs : List ℕ) (i : ℕ) → i < length fs →
+pub along_more : (test : CrossTest) (edges faces : Side) (h : ℕ) (fs : List ℕ) (i : ℕ) → i < length fs →
     hits_with test edges faces h (take (i + 1) fs) ≡ hits_with test edges faces h (take i fs) ++ cons_option (hit_of h (get_or fs i 0) (test (edge_at edges h) (face_at faces (get_or fs i 0)))) []
 along_more test edges faces h fs i below =
     let f : ℕ → Option Hit = λ g. hit_of h g (test (edge_at edges h) (face_at faces g)) in
@@ -31,15 +27,9 @@ pub along_none : (test : CrossTest) (edges faces : Side) (h : ℕ) (fs : List �
 along_none test edges faces h fs i below e =
     along_more test edges faces h fs i below ∙ ap (λ o. hits_with test edges faces h (take i fs) ++ cons_option (hit_of h (get_or fs i 0) o) []) (sym e) ∙ append-nil (hits_with test edges faces h (take i fs))
 
--- one with an answer
-pub along_some : (test : CrossTest) (edges faces : Side) (h : ℕ) (fs : List ℕ) (i : ℕ) (c : Cross) → i < length fs → Some c ≡ test (edge_at edges h) (face_at faces (get_or fs i 0)) →
-    hits_with test edges faces h (take (i + 1) fs) ≡ hits_with test edges faces h (take i fs) ++ record { edge = h; face = get_or fs i 0; number = c.number; at = c.at } ∷ []
-along_some test edges faces h fs i c below e =
-    along_more test edges faces h fs i below ∙ ap (λ o. hits_with test edges faces h (take i fs) ++ cons_option (hit_of h (get_or fs i 0) o) []) (sym e)
-
--- a push after what stands already
-pub pushed : (new old before row row' : List Hit) (h : Hit) → new ≡ old ++ h ∷ [] → old ≡ before ++ row → row' ≡ row ++ h ∷ [] → new ≡ before ++ row'
-pushed new old before row row' h e f g = let a = append_assoc before row (h ∷ []) in cc
+-- an addition after what stands already
+pub more_added : (new old before row row' part : List Hit) → new ≡ old ++ part → old ≡ before ++ row → row' ≡ row ++ part → new ≡ before ++ row'
+more_added new old before row row' part e f g = let a = append_assoc before row part in cc
 
 -- one more, which is the lower one of its edge
 pub hits_lower : (test : CrossTest) (edges faces : Side) (n : ℕ) → n < twin (all_edges edges.triples) n → hits_before test edges faces (n + 1) ≡ hits_before test edges faces n ++ hits_along test edges faces n

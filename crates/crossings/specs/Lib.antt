@@ -1,4 +1,5 @@
 pub mod Agreement
 pub mod Apart
 pub mod Hits
+pub mod Near
 pub mod Runs

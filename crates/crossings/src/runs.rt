@@ -3,7 +3,7 @@ ghost use Rattle.std.specs.Prelude.{ℕ, ◌<◌, ◌≤◌, length};
 ghost use Rattle.std.specs.List.{All};
 ghost use Rattle.mb_base.specs.declared.point.Corner.{Corner};
 ghost use Rattle.mesh_terms.specs.Meshes.{IsBelow, triple_of};
-ghost use Rattle.side_terms.specs.Sides.{face_at, face_of};
+ghost use Rattle.side_terms.specs.Sides.{IsSide, face_at, face_of};
 ghost use Rattle.crossings.specs.Runs.{IsRound};
 
 use lean::Side;
@@ -18,7 +18,8 @@ const NOWHERE: Box3 = Box3 {
 /// A box that holds the corners of the triangles from a number up to another.
 pub fn box_round(side: &Side, from: u32, to: u32) -> Box3
     requires { to ≤ length side.now.triples }
-    ensures { (f : ℕ) → from ≤ f → f < to → All (IsRound result) (face_at side.now f) }
+    ensures round { (f : ℕ) → from ≤ f → f < to → All (IsRound result) (face_at side.now f) }
+    ensures side { IsSide side.now }
 {
     let corners = side.corners();
     let triples = side.triples();

@@ -69,7 +69,8 @@ points_long low high ps = omega (arith, length-append (map (at_height low) ps) (
 -- the walls over one edge more
 pub walls_more : (n : ℕ) (es : List (ℕ × ℕ)) (i : ℕ) → i < length es → flat_map (walls n) (take (i + 1) es) ≡ flat_map (walls n) (take i es) ++ walls n (get_or es i (0, 0))
 walls_more n es i low =
-    ap (flat_map (walls n)) (take_more es i (0, 0) low) ∙ flat_map-append (walls n) (take i es) (get_or es i (0, 0) ∷ []) ∙ ap (λ l. flat_map (walls n) (take i es) ++ l) (append-nil (walls n (get_or es i (0, 0))))
+    ap (flat_map (walls n)) (take_more es i (0, 0) low) ∙ flat_map-append (walls n) (take i es) (get_or es i (0, 0) ∷ [])
+    ∙ ap (λ l. flat_map (walls n) (take i es) ++ l) (append-nil (walls n (get_or es i (0, 0))))
 
 -- two triangles for each edge
 walls_long : (n : ℕ) (es : List (ℕ × ℕ)) → length (flat_map (walls n) es) ≡ 2 * length es
@@ -79,7 +80,15 @@ walls_long n (e ∷ es) = omega (arith, walls_long n es)
 pub triples_long : (n : ℕ) (ts : List Triple) (es : List (ℕ × ℕ)) → length (extruded_triples n ts es) ≡ 2 * (length ts + length es)
 triples_long n ts es =
     let top = map (renamed_triple (λ v. v + n)) ts in
-    omega (arith, length-append (map opposite_triple ts) (top ++ flat_map (walls n) es), length-append top (flat_map (walls n) es), length-map ts opposite_triple, length-map ts (renamed_triple (λ v. v + n)), walls_long n es)
+    omega (
+      arith,
+      length-append (map opposite_triple ts) (top ++ flat_map (walls n) es),
+      length-append top
+          (flat_map (walls n) es),
+      length-map ts opposite_triple,
+      length-map ts (renamed_triple (λ v. v + n)),
+      walls_long n es,
+    )
 
 -- the solid that they make is accepted where its triangles are few
 pub solid_accepted : (o : Outline) → IsOutline o → (low high : ℤ) (ts : List Triple) → AreOver o ts → 2 * (length ts + length o.points) ≤ most_triangles →
@@ -90,7 +99,13 @@ solid_accepted o is low high ts over few =
     let s = extrusion_solid n ts es over.three over.below (edges_proper o is) (λ v low. omega (arith, (outline_once o is).starts v low)) in
     let twice : n + n ≡ length (extruded_points low high o.points) = omega (arith, points_long low high o.points) in
     subst (λ m. IsAccepted m (extruded_triples n ts es)) twice (record {
-      mesh = record { three = s.three; below = s.below; used = s.used; few_points = omega (arith, is.few); few_triples = omega (arith, few, triples_long n ts es, edges_long o is) };
+      mesh = record {
+        three = s.three;
+        below = s.below;
+        used = s.used;
+        few_points = omega (arith, is.few);
+        few_triples = omega (arith, few, triples_long n ts es, edges_long o is);
+      };
       closed = extrusion_closed n ts o.loops over.chain;
     })
 
@@ -102,7 +117,8 @@ solid_volume o is low high ts over =
     let y_of : ℕ → ℤ = λ v. coordinate_of (point_at o.points v) 1 in
     let edge_area : (ℕ × ℕ) → ℤ = along (area_at x_of y_of) in
     let by_loops : total edge_area (outline_edges o) ≡ doubled_area o =
-    total-flat_map edge_area round_edges o.loops ∙ total-same (λ l. total edge_area (round_edges l)) (area (plane_of 2 (point_at o.points))) (λ l. total-same edge_area (across (plane_of 2 (point_at o.points))) (λ e. refl) (round_edges l)) o.loops in
+    total-flat_map edge_area round_edges o.loops ∙ total-same (λ l. total edge_area (round_edges l)) (area (plane_of 2 (point_at o.points)))
+    (λ l. total-same edge_area (across (plane_of 2 (point_at o.points))) (λ e. refl) (round_edges l)) o.loops in
     extrusion_volume low high o.points ts (outline_edges o) over.below (edges_between o is) over.chain ∙ ap (λ a. pos 3 *ℤ ((high -ℤ low) *ℤ a)) by_loops
 
 -- why there is none
@@ -110,7 +126,8 @@ pub fault_is : (limits : Limits) (o : Outline) → IsOutline o → (low high : �
     over Triangles limits.triangles (2 * (length (filling_of o).triples + length o.points)) ≡ second → extrusion_fault limits o low high ≡ first_reason first second
 fault_is limits o is low high first second f g =
     let ts = (filling_of o).triples in
-    let seen : length (extruded o low high).triples ≡ 2 * (length ts + length o.points) = triples_long (length o.points) ts (outline_edges o) ∙ ap (λ n. 2 * (length ts + n)) (edges_long o is) in
+    let seen : length (extruded o low high).triples ≡ 2 * (length ts + length o.points) = triples_long (length o.points) ts (outline_edges o)
+    ∙ ap (λ n. 2 * (length ts + n)) (edges_long o is) in
     (λ i. first_reason (flat_or_over limits low high (points_long low high o.points i)) (over Triangles limits.triangles (seen i))) ∙ (λ i. first_reason (f i) (g i))
 
 -- want of memory may always be the answer

@@ -24,7 +24,8 @@ filling_of o = fill_of 2 o.points o.loops
 -- the solid from a low height to a high one, with empty labels
 abbrev pub extruded : Outline → ℤ → ℤ → Mesh
 extruded o low high =
-    let ts = extruded_triples (length o.points) (filling_of o).triples (outline_edges o) in record { points = extruded_points low high o.points; triples = ts; labels = no_labels ts }
+    let ts = extruded_triples (length o.points) (filling_of o).triples (outline_edges o) in
+    record { points = extruded_points low high o.points; triples = ts; labels = no_labels ts }
 
 -- the outline's doubled area: that of all loops, of which one that runs to the right counts below 0
 abbrev pub doubled_area : Outline → ℤ

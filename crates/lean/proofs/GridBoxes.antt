@@ -52,12 +52,14 @@ greatest_small : (a b c : ℤ) (n : ℕ) → unsigned_abs a ≤ n → unsigned_a
 greatest_small a b c n h k l = omega (arith, ints, clamps)
 
 -- the least and the greatest of three small numbers of grid steps, in fine steps
-least_whole : (shift : ℕ) → IsGridStep shift → (a b c : ℤ) → unsigned_abs a ≤ 2 ^ 30 → unsigned_abs b ≤ 2 ^ 30 → unsigned_abs c ≤ 2 ^ 30 → IsWhole shift (UNIT *ℤ int_min (int_min a b) c)
+least_whole : (shift : ℕ) → IsGridStep shift → (a b c : ℤ) → unsigned_abs a ≤ 2 ^ 30 →
+    unsigned_abs b ≤ 2 ^ 30 → unsigned_abs c ≤ 2 ^ 30 → IsWhole shift (UNIT *ℤ int_min (int_min a b) c)
 least_whole shift step a b c h k l =
     let m = int_min (int_min a b) c in
     record { steps = m; exact = in_steps shift step m; few = few_steps m (least_small a b c (2 ^ 30) h k l) }
 
-greatest_whole : (shift : ℕ) → IsGridStep shift → (a b c : ℤ) → unsigned_abs a ≤ 2 ^ 30 → unsigned_abs b ≤ 2 ^ 30 → unsigned_abs c ≤ 2 ^ 30 → IsWhole shift (UNIT *ℤ int_max (int_max a b) c)
+greatest_whole : (shift : ℕ) → IsGridStep shift → (a b c : ℤ) → unsigned_abs a ≤ 2 ^ 30 →
+    unsigned_abs b ≤ 2 ^ 30 → unsigned_abs c ≤ 2 ^ 30 → IsWhole shift (UNIT *ℤ int_max (int_max a b) c)
 greatest_whole shift step a b c h k l =
     let m = int_max (int_max a b) c in
     record { steps = m; exact = in_steps shift step m; few = few_steps m (greatest_small a b c (2 ^ 30) h k l) }
@@ -94,7 +96,8 @@ range_kept shift step a b c h k l =
     λ i. record { low = low i; high = high i }
 
 -- so the bounds of a triangle's box in coarse steps are those in steps of the grid
-pub bounds_kept : (shift : ℕ) → IsGridStep shift → (points : List (List ℤ)) → AllSmall (2 ^ 30) points → (t : Triple) → bounds_around shift (face_box points t) ≡ face_bounds points t
+pub bounds_kept : (shift : ℕ) → IsGridStep shift → (points : List (List ℤ)) → AllSmall (2 ^ 30) points →
+    (t : Triple) → bounds_around shift (face_box points t) ≡ face_bounds points t
 bounds_kept shift step points small t =
     let a = small t.0 in
     let b = small t.1 in
@@ -115,7 +118,8 @@ face_box-ordered points t =
     record { x = in_order (at t.0 0) (at t.1 0) (at t.2 0); y = in_order (at t.0 1) (at t.1 1) (at t.2 1); z = in_order (at t.0 2) (at t.1 2) (at t.2 2) }
 
 -- the box at a place is that of the triangle there
-pub box_at-boxes : (points : List (List ℤ)) (xs : List (List ℕ)) (k : ℕ) → k < length (boxes_on points (triples_of xs)) → box_at (boxes_on points (triples_of xs)) k ≡ face_box points (triple_of (get_or xs k []))
+pub box_at-boxes : (points : List (List ℤ)) (xs : List (List ℕ)) (k : ℕ) → k < length (boxes_on points (triples_of xs)) →
+    box_at (boxes_on points (triples_of xs)) k ≡ face_box points (triple_of (get_or xs k []))
 box_at-boxes points xs k h =
     let listed : k < length (triples_of xs) = omega (arith, h, length-map (triples_of xs) (face_box points)) in
     let there : k < length xs = omega (arith, listed, length-map xs triple_of) in
@@ -132,7 +136,8 @@ small_from_fine z fine = omega (arith, ints, fine.low, fine.high)
 pub small_points : (points : List (List ℤ)) (ups : List (List Bool)) → length ups ≡ length points → AllFine (corners_of points ups) → AllSmall (2 ^ 30) points
 small_points points ups long all v = elim (cases_lt v (length points)) as (λ _. AreSmall (2 ^ 30) (get_or points v [])) [
   | inl l ↦
-      let at : IsFineCorner (corner_of (get_or points v []) (get_or ups v [])) = subst IsFineCorner (corners_at points ups v l (omega (arith, l, long))) (corner_fine (corners_of points ups) all v) in
+      let at : IsFineCorner (corner_of (get_or points v []) (get_or ups v [])) = subst IsFineCorner
+      (corners_at points ups v l (omega (arith, l, long))) (corner_fine (corners_of points ups) all v) in
       let p = get_or points v [] in
       record { x = small_from_fine (coordinate_of p 0) at.x; y = small_from_fine (coordinate_of p 1) at.y; z = small_from_fine (coordinate_of p 2) at.z }
   | inr l ↦ rw (get_or_past points v [] l) (record { x = omega arith; y = omega arith; z = omega arith })
@@ -159,13 +164,15 @@ box_of_points p q r u v w =
     λ i. record { low = lx i ∷ ly i ∷ lz i ∷ []; high = hx i ∷ hy i ∷ hz i ∷ [] }
 
 -- the box of a triangle's corners
-box_of_face : (points : List (List ℤ)) (ups : List (List Bool)) (t : Triple) → length ups ≡ length points → IsBelow (length points) t → box_of (face_of (corners_of points ups) t) ≡ face_box points t
+box_of_face : (points : List (List ℤ)) (ups : List (List Bool)) (t : Triple) → length ups ≡ length points →
+    IsBelow (length points) t → box_of (face_of (corners_of points ups) t) ≡ face_box points t
 box_of_face points ups t long below =
     let corner = λ (v : ℕ) (h : v < length points). corners_at points ups v h (omega (arith, h, long)) in
     let a = corner t.0 below.a in
     let b = corner t.1 below.b in
     let c = corner t.2 below.c in
-    (λ i. box_of (a i ∷ b i ∷ c i ∷ [])) ∙ box_of_points (get_or points t.0 []) (get_or points t.1 []) (get_or points t.2 []) (get_or ups t.0 []) (get_or ups t.1 []) (get_or ups t.2 [])
+    (λ i. box_of (a i ∷ b i ∷ c i ∷ [])) ∙ box_of_points (get_or points t.0 []) (get_or points t.1 [])
+    (get_or points t.2 []) (get_or ups t.0 []) (get_or ups t.1 []) (get_or ups t.2 [])
 
 -- the boxes of all
 pub boxes_of_faces : (points : List (List ℤ)) (ups : List (List Bool)) (ts : List Triple) → length ups ≡ length points → All (IsBelow (length points)) ts →

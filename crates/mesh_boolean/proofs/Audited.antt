@@ -103,7 +103,8 @@ sound t op p q r us known agrees = record {
 }
 
 -- a result agrees with the meshes
-pub agrees : (t : Tests) (op : Op) (p q : Mesh) (r : Outcome) (us : List Triple) → us ≡ map (named_by r.from.items) r.mesh.triples → IsSound t op p q r → AgreesWithMeshes t op p q r us
+pub agrees : (t : Tests) (op : Op) (p q : Mesh) (r : Outcome) (us : List Triple) →
+    us ≡ map (named_by r.from.items) r.mesh.triples → IsSound t op p q r → AgreesWithMeshes t op p q r us
 agrees t op p q r us named is = record {
   prescribed = is.prescribed;
   faces = is.faces.faces;

@@ -21,13 +21,15 @@ use Rattle.mesh_boolean.proofs.Audited.{few_old}
 use Rattle.mesh_boolean.proofs.Finished.{AreSidesOf, same_numbers}
 
 -- what agrees with the sides agrees with the meshes whose sides they are
-to_meshes : (t : Tests) (op : Op) (m k : Mesh) (p q : Side) (n : Numbers) (r : Outcome) (us : List Triple) → AreSidesOf t op m k p q n → AgreesWithSides op p q n r us → AgreesWithMeshes t op m k r us
+to_meshes : (t : Tests) (op : Op) (m k : Mesh) (p q : Side) (n : Numbers) (r : Outcome) (us : List Triple) →
+    AreSidesOf t op m k p q n → AgreesWithSides op p q n r us → AgreesWithMeshes t op m k r us
 to_meshes t op m k p q n r us known agrees =
     subst (λ l. AgreesWithSides op (first_side op m) (second_side k) l r us) (same_numbers t op m k p q n known)
     (subst (λ s. AgreesWithSides op (first_side op m) s n r us) known.second (subst (λ s. AgreesWithSides op s q n r us) known.first agrees))
 
 -- and the other way round
-to_sides : (t : Tests) (op : Op) (m k : Mesh) (p q : Side) (n : Numbers) (r : Outcome) (us : List Triple) → AreSidesOf t op m k p q n → AgreesWithMeshes t op m k r us → AgreesWithSides op p q n r us
+to_sides : (t : Tests) (op : Op) (m k : Mesh) (p q : Side) (n : Numbers) (r : Outcome) (us : List Triple) →
+    AreSidesOf t op m k p q n → AgreesWithMeshes t op m k r us → AgreesWithSides op p q n r us
 to_sides t op m k p q n r us known agrees =
     subst (λ s. AgreesWithSides op s q n r us) (sym known.first)
     (subst (λ s. AgreesWithSides op (first_side op m) s n r us) (sym known.second)

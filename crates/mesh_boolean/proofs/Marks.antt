@@ -26,7 +26,8 @@ one_marked seen new count n xs marked low is =
     each : (w : ℕ) → w < count → (get_or (set seen n true) w false ≡ true) ↔ Contains (xs ++ n ∷ []) w
     each w below = elim (cases_eq w n) as (λ _. (get_or (set seen n true) w false ≡ true) ↔ Contains (xs ++ n ∷ []) w) [
       | inl same ↦
-          let here : get_or (set seen n true) w false ≡ true = ap (λ v. get_or (set seen n true) v false) same ∙ get_or-set_same seen n true false (omega (arith, low, marked.long)) in
+          let here : get_or (set seen n true) w false ≡ true = ap (λ v. get_or (set seen n true) v false) same
+          ∙ get_or-set_same seen n true false (omega (arith, low, marked.long)) in
           ((λ e. subst (Contains (xs ++ n ∷ [])) (sym same) (Contains-push xs n)), (λ inside. here))
       | inr differ ↦
           let there : get_or (set seen n true) w false ≡ get_or seen w false = get_or-set_other seen n w true false differ in (

@@ -5,6 +5,8 @@ pub mod GridNumbers
 pub mod HitPoints
 pub mod Made
 pub mod OfSides
+mod OutlinePoints
+mod OutlinesGiven
 pub mod ReducedSides
 pub mod Results
 pub mod SplitMesh

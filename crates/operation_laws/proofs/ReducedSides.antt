@@ -62,7 +62,7 @@ corner_fine p u on = record {
 }
 
 -- so the corners of points of the grid are fine
-corners_fine : (ps : List (List ℤ)) (us : List (List Bool)) → All IsPoint ps → AllFine (corners_of ps us)
+pub corners_fine : (ps : List (List ℤ)) (us : List (List Bool)) → All IsPoint ps → AllFine (corners_of ps us)
 corners_fine [] us on = All-nil IsFineCorner
 corners_fine (p ∷ ps) [] on = All-nil IsFineCorner
 corners_fine (p ∷ ps) (u ∷ us) on =

@@ -1,6 +1,6 @@
 -- Operations under the kernels that a script may choose on accepted meshes give accepted meshes within lawful limits, which are read of their texts, and are results
 -- of these meshes.
-use Rattle.std.proofs.Common.{◌≡◌, ◌≤◌, ℕ, false, [], ◌∷◌, length, replicate, map, refl, ◌∙◌, arith}
+use Rattle.std.proofs.Common.{◌≡◌, ◌≤◌, ℕ, min, false, [], ◌∷◌, length, replicate, map, refl, ◌∙◌, arith}
 use Rattle.std.proofs.lemmas.Bool.{ltb-false}
 use Rattle.std.proofs.lemmas.List.{length-map, length-replicate}
 use Rattle.chain_terms.specs.Sums.{upto}
@@ -11,6 +11,7 @@ use Rattle.mb_base.specs.declared.kernel_kind.KernelKind.TheVariants.{Exact, Gri
 use Rattle.mb_base.specs.declared.op.Op.{Op}
 use Rattle.mesh_terms.specs.Limits.{IsLawful, Limits, most_halfedges}
 use Rattle.mesh_terms.specs.Meshes.{Mesh}
+use Rattle.run_terms.specs.Files.{Bytes}
 use Rattle.lean.specs.Leans.{is_up, leans_of, normals_of, vertex_normal}
 use Rattle.rounding.specs.Lawful.{nearest_within, settle_monotone, settle_units}
 use Rattle.rounding.specs.Nearest.{nearest, settle_nearest}
@@ -19,14 +20,17 @@ use Rattle.shadow_kernels.specs.Lawful.{IsRule, grid_rule}
 use Rattle.edge_face.specs.CrossLaws.{IsSettling}
 use Rattle.filling_laws.specs.Laws.{FacesAreFilled}
 use Rattle.made_laws.specs.Laws.{IsGiven, IsGivenWithin}
-use Rattle.play_laws.specs.ScriptsReadingBack.{MeshReadable}
+use Rattle.play_laws.specs.ScriptsReadingBack.{MeshReadable, MeshesReadable}
 use Rattle.play_laws.proofs.Readable.{readable_within, within_of_readable}
 use Rattle.play_laws.proofs.ScriptsReadingBack.{steps_keep}
-use Rattle.play_terms.specs.Plays.{mesh_at}
+use Rattle.play_terms.specs.Plays.{mesh_at, outline_at, vertex_count}
+use Rattle.extrusion.specs.Extruded.{extruded}
+use Rattle.outline_terms.specs.Outlines.{most_vertices}
+use Rattle.operation_laws.proofs.OutlinesGiven.{outline_made, outline_result, solid_given, solid_result}
 use Rattle.mesh_boolean.specs.Operation.{Outcome, face_labels, first_side, numbers_of, operation, reduced_mesh, second_side}
 use Rattle.operation_laws.specs.Kernels.{meanings_under, rule_under, tests_under, told_of}
 use Rattle.operation_laws.specs.Laws.{OperationsAreAccepted, OperationsAreReadable}
-use Rattle.operation_laws.specs.Results.{OperationsAreResults, ScriptsGiveResults}
+use Rattle.operation_laws.specs.Results.{GivesMeshes, OperationsAreResults, ScriptsGiveResults}
 use Rattle.operation_laws.proofs.OfSides.{result_of_sides}
 use Rattle.operation_laws.proofs.GridNumbers.{are_numbers}
 use Rattle.operation_laws.proofs.Made.{AreFilled, IsMade, is_made}
@@ -104,11 +108,21 @@ operations_are_readable laws k limits few lawful kernels op p q p_given q_given 
     readable_within k limits (told_of o).mesh few lawful (made_within limits o lawful made within)
 
 -- so what a script makes of meshes that are read of their texts is read of its text
-pub results_readable : AreFilled → OperationsAreReadable
-results_readable laws k limits few lawful kernels op p q p_readable q_readable within =
+meshes_readable : AreFilled → (k : ℕ) (limits : Limits) → k ≤ 6 → IsLawful limits → (kernels : KernelKind) → MeshesReadable (meanings_under kernels) k limits
+meshes_readable laws k limits few lawful kernels op p q p_readable q_readable within =
     operations_are_readable laws k limits few lawful kernels op p q (within_of_readable k limits p lawful p_readable).given
     (within_of_readable k limits q lawful q_readable).given
     (ltb-false limits.halfedges (operation (tests_under kernels) op p q).halfedges within)
+
+-- and so are its outlines, and its solids of these
+pub results_readable : AreFilled → OperationsAreReadable
+results_readable laws k limits few lawful kernels = record {
+  meshes = meshes_readable laws k limits few lawful kernels;
+  outlines = λ op p q p_given q_given within.
+      let o = (meanings_under kernels).outlines op p q in
+      outline_made kernels (lawful_under kernels) op p q p_given q_given (omega (arith, ltb-false (min limits.points most_vertices) (vertex_count o) within));
+  solids = λ o low high given low_on high_on none. readable_within k limits (extruded o low high) few lawful (solid_given limits lawful o low high given low_on high_on none);
+}
 
 -- and what an operation gives is a result of its meshes
 pub operations_are_results : AreFilled → FacesAreFilled → OperationsAreResults
@@ -122,11 +136,24 @@ operations_are_results laws filled kernels op p q p_given q_given few =
     record { conserved = known.conserved; prescribed = refl; from = made.from; faces = made.faces; clean = made.clean; labels = refl }
 
 -- so is what a script has of an operation on the meshes of two names
-pub scripts_give_results : AreFilled → FacesAreFilled → ScriptsGiveResults
-scripts_give_results laws filled k limits few lawful script files lines state is op left right within =
+scripts_give_meshes : AreFilled → FacesAreFilled → (k : ℕ) (limits : Limits) → k ≤ 6 → IsLawful limits → (script : Bytes) → GivesMeshes k limits script
+scripts_give_meshes laws filled k limits few lawful script files lines state places is op left right within =
     let kernels = state.kernels in
     let p = mesh_at state.named left in
     let q = mesh_at state.named right in
-    let all = (steps_keep meanings_under k limits few lawful (results_readable laws k limits few lawful) script lines).value files state is in
-    operations_are_results laws filled kernels op p q (within_of_readable k limits p lawful (all left)).given (within_of_readable k limits q lawful (all right)).given
+    let all = (steps_keep meanings_under k limits few lawful (results_readable laws k limits few lawful) script lines places).value files state is in
+    operations_are_results laws filled kernels op p q (within_of_readable k limits p lawful (all.meshes left)).given (within_of_readable k limits q lawful (all.meshes right)).given
     (few_halfedges limits (operation (tests_under kernels) op p q).halfedges lawful within)
+
+-- and of one on the outlines of two names, and of a solid of the outline of one
+pub scripts_give_results : AreFilled → FacesAreFilled → ScriptsGiveResults
+scripts_give_results laws filled k limits few lawful script = record {
+  meshes = scripts_give_meshes laws filled k limits few lawful script;
+  outlines = λ files lines state places is op left right few_vertices.
+      let all = (steps_keep meanings_under k limits few lawful (results_readable laws k limits few lawful) script lines places).value files state is in
+      outline_result state.kernels (lawful_under state.kernels) op (outline_at state.named left) (outline_at state.named right) (all.outlines left) (all.outlines right)
+      (omega (arith, few_vertices));
+  solids = λ files lines state places is old low high low_on high_on none.
+      let all = (steps_keep meanings_under k limits few lawful (results_readable laws k limits few lawful) script lines places).value files state is in
+      solid_result limits lawful (outline_at state.named old) low high (all.outlines old) low_on high_on none;
+}

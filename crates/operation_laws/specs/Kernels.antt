@@ -5,10 +5,15 @@ use Rattle.mb_base.specs.declared.kernel_kind.KernelKind.{KernelKind}
 use Rattle.mb_base.specs.declared.kernel_kind.KernelKind.TheVariants.{Exact, Grid}
 use Rattle.mesh_boolean.specs.Operation.{Outcome, Tests, operation}
 use Rattle.rounding.specs.Nearest.{nearest, settle_nearest}
-use Rattle.play_terms.specs.Combined.{Combined}
+use Rattle.cross_section.specs.Outcome.{Outcome as Flat, outcome_of}
+use Rattle.extrusion.specs.Extruded.{extruded, filling_of}
+use Rattle.outline_pair_terms.specs.Numbers.{FlatNumbers, FlatTests, flat_numbers, p_flat, q_flat}
+use Rattle.outline_terms.specs.Outlines.{Outline}
+use Rattle.mb_base.specs.declared.op.Op.{Op}
+use Rattle.play_terms.specs.Combined.{Combined, Combined2}
 use Rattle.play_terms.specs.Plays.{Meanings}
 use Rattle.shadow_kernels.specs.Rules.{Rule, grid}
-use Rattle.shadow_kernels.specs.Shadows.{face_vertex, vertex_face}
+use Rattle.shadow_kernels.specs.Shadows.{edge_edge, edge_vertex, face_vertex, vertex_edge, vertex_face}
 use Rattle.shadow_kernels.specs.Spots.{Between}
 
 -- the tests under a rule, with a rounding
@@ -38,6 +43,23 @@ told_of o =
       halfedges = o.halfedges;
     }
 
+-- the tests of outlines under a rule, with a rounding
+abbrev pub flat_tests_of : Rule → Between → FlatTests
+flat_tests_of k w = record { vertex_edge = vertex_edge k w; edge_vertex = edge_vertex k w; edge_edge = edge_edge k w }
+
+-- the winding numbers and crossings of two outlines under these kernels, with rounding to the nearest
+abbrev pub flat_numbers_under : KernelKind → Op → Outline → Outline → FlatNumbers
+flat_numbers_under kernels op p q = flat_numbers (flat_tests_of (rule_under kernels) nearest) settle_nearest (p_flat op p) (q_flat q)
+
+-- what an operation on outlines gives, as far as a script tells it
+abbrev pub told2_of : Flat → Combined2
+told2_of f = record { outline = f.outline; p_kept = f.p_kept; q_kept = f.q_kept; crossings = f.crossings }
+
 -- what the steps of a script mean under these kernels
 abbrev pub meanings_under : KernelKind → Meanings
-meanings_under kernels = record { operation = λ op p q. told_of (operation (tests_under kernels) op p q) }
+meanings_under kernels =
+    record {
+      operation = λ op p q. told_of (operation (tests_under kernels) op p q);
+      outlines = λ op p q. told2_of (outcome_of op p q (flat_numbers_under kernels op p q));
+      extrusion = λ o low high. record { mesh = extruded o low high; forced = (filling_of o).forced };
+    }

@@ -1,19 +1,26 @@
--- What an operation gives of two meshes under the kernels that a script may choose: a result of them.
-use Rattle.std.specs.Prelude.{◌≡◌, ◌≤◌, ℕ, List, Ok, map}
+-- What an operation gives of two meshes, or of two outlines, under the kernels that a script may choose, and an extrusion of an outline: a result of them.
+use Rattle.std.specs.Prelude.{◌≡◌, ◌≤◌, ℕ, ℤ, pos, ◌-ℤ◌, ◌*ℤ◌, min, length, List, None, Ok, map}
 use Rattle.mb_base.specs.declared.kernel_kind.KernelKind.{KernelKind}
 use Rattle.mb_base.specs.declared.op.Op.{Op}
 use Rattle.mesh_terms.specs.Labels.{label_at}
 use Rattle.mesh_terms.specs.Limits.{IsLawful, Limits, most_halfedges}
-use Rattle.mesh_terms.specs.Meshes.{Mesh}
+use Rattle.mesh_terms.specs.Meshes.{IsAccepted, Mesh}
+use Rattle.mesh_terms.specs.Points.{IsOnGrid}
+use Rattle.made_terms.specs.Volume.{volume6_of}
+use Rattle.extrusion.specs.Extruded.{doubled_area, extruded}
+use Rattle.outline_pair_terms.specs.Balance.{AreConserved}
+use Rattle.outline_pair_terms.specs.Lists.{flat_copies}
+use Rattle.outline_terms.specs.Outlines.{IsOutline, Outline, most_vertices, outline_edges}
 use Rattle.run_terms.specs.Files.{Bytes, Files}
 use Rattle.filling_terms.specs.Filled.{points_of_copies}
 use Rattle.pinch_split.specs.Back.{ComeFrom}
 use Rattle.made_laws.specs.Laws.{IsGiven}
-use Rattle.play_terms.specs.Plays.{State, at_first, mesh_at, steps_task}
+use Rattle.play_terms.specs.Plays.{State, at_first, extrusion_fault, mesh_at, outline_at, steps_task, vertex_count}
+use Rattle.play_terms.specs.Sound.{HavePlaces}
 use Rattle.play_terms.specs.Steps.{Line}
 use Rattle.mesh_boolean.specs.Operation.{Outcome, face_labels, first_side, operation, second_side}
 use Rattle.mesh_boolean.specs.Results.{AreBounded, ConserveIn, IsCleanOver, copies_in}
-use Rattle.operation_laws.specs.Kernels.{meanings_under, tests_under}
+use Rattle.operation_laws.specs.Kernels.{flat_numbers_under, meanings_under, tests_under}
 
 -- a result of an operation on two meshes: winding numbers change along the half-edges of both, reduced, by their signed crossings; its copies
 -- are the prescribed vertices, each as often; each of its vertices comes from one of these and lies there, and each of these stays; the
@@ -35,12 +42,45 @@ OperationsAreResults =
 
 -- whatever lines of a script were done, over whatever files, an operation on the meshes of two names is a result of these under the kernels that
 -- the lines chose, where its half-edges are within the limit
-abbrev pub GivesResults : ℕ → Limits → Bytes → Type 0
-GivesResults k limits script =
-    (files : Files) (lines : List Line) (state : State) → (steps_task meanings_under k limits script lines at_first files).result ≡ Ok state
+abbrev pub GivesMeshes : ℕ → Limits → Bytes → Type 0
+GivesMeshes k limits script =
+    (files : Files) (lines : List Line) (state : State) → HavePlaces lines → (steps_task meanings_under k limits script lines at_first files).result ≡ Ok state
     → (op : Op) (left right : Bytes) → (operation (tests_under state.kernels) op (mesh_at state.named left) (mesh_at state.named right)).halfedges ≤ limits.halfedges
     → IsResultOf state.kernels op (mesh_at state.named left) (mesh_at state.named right)
     (operation (tests_under state.kernels) op (mesh_at state.named left) (mesh_at state.named right))
+
+-- a result of an operation on two outlines: winding numbers change along the edges of both by their crossings; and it is an outline, of the prescribed vertices
+pub record IsOutlineOf (kernels : KernelKind) (op : Op) (p q o : Outline) : Type 0 where
+  pub conserved : AreConserved (outline_edges p) (outline_edges q) (flat_numbers_under kernels op p q)
+  pub prescribed : o.points ≡ map (λ c. c.point) (flat_copies op p q (flat_numbers_under kernels op p q))
+  pub outline : IsOutline o
+
+-- so what an operation makes of the outlines of two names is, where its vertices are within the limits
+abbrev pub GivesOutlines : ℕ → Limits → Bytes → Type 0
+GivesOutlines k limits script =
+    (files : Files) (lines : List Line) (state : State) → HavePlaces lines → (steps_task meanings_under k limits script lines at_first files).result ≡ Ok state
+    → (op : Op) (left right : Bytes)
+    → vertex_count ((meanings_under state.kernels).outlines op (outline_at state.named left) (outline_at state.named right)) ≤ min limits.points most_vertices
+    → IsOutlineOf state.kernels op (outline_at state.named left) (outline_at state.named right)
+    ((meanings_under state.kernels).outlines op (outline_at state.named left) (outline_at state.named right)).outline
+
+-- a solid of an outline between two heights: it is accepted, and its volume is the height times the outline's area
+pub record IsSolidOf (o : Outline) (low high : ℤ) (m : Mesh) : Type 0 where
+  pub accepted : IsAccepted (length m.points) m.triples
+  pub volume : volume6_of m.points m.triples ≡ pos 3 *ℤ ((high -ℤ low) *ℤ doubled_area o)
+
+-- so the solid of the outline of a name is, where it is not refused
+abbrev pub GivesSolids : ℕ → Limits → Bytes → Type 0
+GivesSolids k limits script =
+    (files : Files) (lines : List Line) (state : State) → HavePlaces lines → (steps_task meanings_under k limits script lines at_first files).result ≡ Ok state
+    → (old : Bytes) (low high : ℤ) → IsOnGrid low → IsOnGrid high → extrusion_fault limits low high (extruded (outline_at state.named old) low high) ≡ None
+    → IsSolidOf (outline_at state.named old) low high (extruded (outline_at state.named old) low high)
+
+-- all three
+pub record GivesResults (k : ℕ) (limits : Limits) (script : Bytes) : Type 0 where
+  pub meshes : GivesMeshes k limits script
+  pub outlines : GivesOutlines k limits script
+  pub solids : GivesSolids k limits script
 
 abbrev pub ScriptsGiveResults : Type 0
 ScriptsGiveResults = (k : ℕ) (limits : Limits) → k ≤ 6 → IsLawful limits → (script : Bytes) → GivesResults k limits script

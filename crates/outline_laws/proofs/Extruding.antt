@@ -25,7 +25,8 @@ walls_sum n f odd (e ∷ es) =
     omega (arith, ints, joined, walls_sum n f odd es, odd.turns (b + n) a, odd.turns (b + n) (a + n), odd.turns (a + n) a)
 
 -- the sums of odd functions over all three parts
-extrusion_sums : (n : ℕ) (ts : List Triple) (loops : List (List ℕ)) → SameChain (all_edges ts) (flat_map round_edges loops) → SameChain (all_edges (extruded_triples n ts (flat_map round_edges loops))) []
+extrusion_sums : (n : ℕ) (ts : List Triple) (loops : List (List ℕ)) → SameChain (all_edges ts) (flat_map round_edges loops) →
+    SameChain (all_edges (extruded_triples n ts (flat_map round_edges loops))) []
 extrusion_sums n ts loops same f odd =
     let es = flat_map round_edges loops in
     let bottom = map opposite_triple ts in
@@ -39,5 +40,6 @@ extrusion_sums n ts loops same f odd =
     ap (total (along f)) (all_edges-renamed r ts) ∙ total-map (along f) (renamed r) (all_edges ts) ∙ same (λ a b. f (a + n) (b + n)) (odd-renamed r f odd) in
     omega (arith, ints, whole, rest, low, high, walls_sum n f odd es, loop_differences (λ v. f v (v + n)) loops)
 
-pub extrusion_closed : (n : ℕ) (ts : List Triple) (loops : List (List ℕ)) → SameChain (all_edges ts) (flat_map round_edges loops) → IsClosed (all_edges (extruded_triples n ts (flat_map round_edges loops)))
+pub extrusion_closed : (n : ℕ) (ts : List Triple) (loops : List (List ℕ)) →
+    SameChain (all_edges ts) (flat_map round_edges loops) → IsClosed (all_edges (extruded_triples n ts (flat_map round_edges loops)))
 extrusion_closed n ts loops same = closed_from_sums (all_edges (extruded_triples n ts (flat_map round_edges loops))) (extrusion_sums n ts loops same)

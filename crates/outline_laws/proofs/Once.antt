@@ -67,7 +67,8 @@ member_below n loops moved i v a = elim (cases_lt v n) as (λ _. v < n) [
 ]
 
 -- so edges run between them
-pub edge_ends : (o : Outline) → IsOutline o → (k : ℕ) → k < length (outline_edges o) → (start (outline_edges o) k < length o.points) × (finish (outline_edges o) k < length o.points)
+pub edge_ends : (o : Outline) → IsOutline o → (k : ℕ) → k < length (outline_edges o) →
+    (start (outline_edges o) k < length o.points) × (finish (outline_edges o) k < length o.points)
 edge_ends o is k low =
     let es = outline_edges o in
     let here : Contains es (start es k, finish es k) = Contains-get_or es k (0, 0) low in

@@ -97,18 +97,20 @@ right_different xs ys differ i j less low e =
 -- and none is in both
 apart_in : (xs ys : List ℕ) → AreDifferent (xs ++ ys) → (i j v : ℕ) → At xs i v → At ys j v → ⊥
 apart_in xs ys differ i j v a b =
-    differ i (length xs + j) (omega (arith, a.low)) (omega (arith, b.low, length-append xs ys)) (get_or_append_left xs ys 0 i a.low ∙ a.is ∙ sym (get_or-append-add xs ys j 0 ∙ b.is))
+    differ i (length xs + j) (omega (arith, a.low)) (omega (arith, b.low, length-append xs ys))
+    (get_or_append_left xs ys 0 i a.low ∙ a.is ∙ sym (get_or-append-add xs ys j 0 ∙ b.is))
 
 -- an edge of some loop starts and ends at vertices of the loops
 pub ends_in : (loops : List (List ℕ)) (u v : ℕ) → Contains (flat_map round_edges loops) (u, v) → ((i : ℕ) × At (concat loops) i u) × ((j : ℕ) × At (concat loops) j v)
 ends_in [] u v (k, low, e) = absurd (omega (arith, low))
-ends_in (l ∷ ls) u v c = elim (Contains-append_cases (round_edges l) (flat_map round_edges ls) (u, v) c) as (λ _. ((i : ℕ) × At (l ++ concat ls) i u) × ((j : ℕ) × At (l ++ concat ls) j v)) [
-  | inl a ↦
-      let p = round_place l u v a in
-      let e = round_end l u v p in
-      ((p.place, here p.place u p.from), (e.0, here e.0 v e.1))
-  | inr b ↦ let r = ends_in ls u v b in ((length l + r.0.0, later r.0.0 u r.0.1), (length l + r.1.0, later r.1.0 v r.1.1))
-]
+ends_in (l ∷ ls) u v c = elim (Contains-append_cases (round_edges l) (flat_map round_edges ls) (u, v) c)
+    as (λ _. ((i : ℕ) × At (l ++ concat ls) i u) × ((j : ℕ) × At (l ++ concat ls) j v)) [
+      | inl a ↦
+          let p = round_place l u v a in
+          let e = round_end l u v p in
+          ((p.place, here p.place u p.from), (e.0, here e.0 v e.1))
+      | inr b ↦ let r = ends_in ls u v b in ((length l + r.0.0, later r.0.0 u r.0.1), (length l + r.1.0, later r.1.0 v r.1.1))
+    ]
   where
     here : (i w : ℕ) → At l i w → At (l ++ concat ls) i w
     here i w a = record { low = omega (arith, a.low, length-append l (concat ls)); is = get_or_append_left l (concat ls) 0 i a.low ∙ a.is }
@@ -120,9 +122,11 @@ pub no_edge_returns : (loops : List (List ℕ)) → AreDifferent (concat loops) 
     (v w : ℕ) → Contains (flat_map round_edges loops) (v, w) → Contains (flat_map round_edges loops) (w, v) → ⊥
 no_edge_returns [] differ long v w (k, low, e) back = omega (arith, low)
 no_edge_returns (l ∷ ls) differ long v w there back =
-    by (Contains-append_cases (round_edges l) (flat_map round_edges ls) (v, w) there) (Contains-append_cases (round_edges l) (flat_map round_edges ls) (w, v) back) (no_edge_returns ls (right_different l (concat ls) differ) (All-tail (λ loop. 3 ≤ length loop) l ls long) v w)
+    by (Contains-append_cases (round_edges l) (flat_map round_edges ls) (v, w) there) (Contains-append_cases (round_edges l) (flat_map round_edges ls) (w, v) back)
+    (no_edge_returns ls (right_different l (concat ls) differ) (All-tail (λ loop. 3 ≤ length loop) l ls long) v w)
   where
-    by : Contains (round_edges l) (v, w) ⊎ Contains (flat_map round_edges ls) (v, w) → Contains (round_edges l) (w, v) ⊎ Contains (flat_map round_edges ls) (w, v) → (Contains (flat_map round_edges ls) (v, w) → Contains (flat_map round_edges ls) (w, v) → ⊥) → ⊥
+    by : Contains (round_edges l) (v, w) ⊎ Contains (flat_map round_edges ls) (v, w) → Contains (round_edges l) (w, v) ⊎ Contains (flat_map round_edges ls) (w, v) →
+        (Contains (flat_map round_edges ls) (v, w) → Contains (flat_map round_edges ls) (w, v) → ⊥) → ⊥
     by (inl a) (inl b) rest = no_return_round l (left_different l (concat ls) differ) (All-head (λ loop. 3 ≤ length loop) l ls long) v w (round_place l v w a) (round_place l w v b)
     by (inr a) (inr b) rest = rest a b
     by (inl a) (inr b) rest = let p = round_place l v w a in let r = ends_in ls w v b in apart_in l (concat ls) differ p.place r.1.0 v p.from r.1.1

@@ -21,4 +21,5 @@ round_differences g (x ∷ r) = omega (arith, ints, total-round_edges (λ e. g e
 -- differences add up to nothing round all loops
 pub loop_differences : (g : ℕ → ℤ) (loops : List (List ℕ)) → total (λ e. g e.1 -ℤ g e.0) (flat_map round_edges loops) ≡ pos 0
 loop_differences g loops =
-    total-flat_map (λ e. g e.1 -ℤ g e.0) round_edges loops ∙ total-same (λ l. total (λ e. g e.1 -ℤ g e.0) (round_edges l)) (λ l. pos 0) (round_differences g) loops ∙ total-zero loops
+    total-flat_map (λ e. g e.1 -ℤ g e.0) round_edges loops
+    ∙ total-same (λ l. total (λ e. g e.1 -ℤ g e.0) (round_edges l)) (λ l. pos 0) (round_differences g) loops ∙ total-zero loops

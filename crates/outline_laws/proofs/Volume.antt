@@ -118,7 +118,8 @@ module _ (low high : ℤ) (points : List (List ℤ)) where
   -- where vertices lie
   low_at : (v : ℕ) → v < n → get_or all_points v [] ≡ x_of v ∷ y_of v ∷ low ∷ []
   low_at v below =
-      get_or_append_left (map (at_height low) points) (map (at_height high) points) [] v (omega (arith, below, length-map points (at_height low))) ∙ get_or-map (at_height low) points v [] [] below
+      get_or_append_left (map (at_height low) points) (map (at_height high) points) [] v
+      (omega (arith, below, length-map points (at_height low))) ∙ get_or-map (at_height low) points v [] [] below
 
   high_at : (v : ℕ) → v < n → get_or all_points (v + n) [] ≡ x_of v ∷ y_of v ∷ high ∷ []
   high_at v below =
@@ -139,10 +140,20 @@ module _ (low high : ℤ) (points : List (List ℤ)) where
       let a0 = x_of t.0 in let b0 = y_of t.0 in let a1 = x_of t.1 in let b1 = y_of t.1 in let a2 = x_of t.2 in let b2 = y_of t.2 in
       let s = area_of (edges t) in
       let here : triangle_determinant all_points (opposite_triple t) ≡ low *ℤ ((a0 *ℤ b2 -ℤ a2 *ℤ b0) +ℤ (a2 *ℤ b1 -ℤ a1 *ℤ b2) +ℤ (a1 *ℤ b0 -ℤ a0 *ℤ b1)) =
-      three (get_or all_points t.0 []) (get_or all_points t.2 []) (get_or all_points t.1 []) (a0 ∷ b0 ∷ low ∷ []) (a2 ∷ b2 ∷ low ∷ []) (a1 ∷ b1 ∷ low ∷ []) (low_at t.0 b.a) (low_at t.2 b.c) (low_at t.1 b.b) ∙ at_one_height low a0 b0 a2 b2 a1 b1 in
+      three (get_or all_points t.0 []) (get_or all_points t.2 []) (get_or all_points t.1 [])
+      (a0 ∷ b0 ∷ low ∷ []) (a2 ∷ b2 ∷ low ∷ []) (a1 ∷ b1 ∷ low ∷ []) (low_at t.0 b.a) (low_at t.2 b.c) (low_at t.1 b.b) ∙ at_one_height low a0 b0 a2 b2 a1 b1 in
       let same : (a0 *ℤ b2 -ℤ a2 *ℤ b0) +ℤ (a2 *ℤ b1 -ℤ a1 *ℤ b2) +ℤ (a1 *ℤ b0 -ℤ a0 *ℤ b1) ≡ neg_ℤ s = omega (arith, ints) in
       let split : area_of (all_edges (t ∷ ts)) ≡ s +ℤ area_of (all_edges ts) = total-append (along (area_at x_of y_of)) (edges t) (all_edges ts) in
-      omega (arith, ints, here, ap (λ k. low *ℤ k) same, mul-neg low s, bottom ts (All-tail (IsBelow n) t ts below), ap (λ k. low *ℤ k) split, mul-add low s (area_of (all_edges ts)))
+      omega (
+        arith,
+        ints,
+        here,
+        ap (λ k. low *ℤ k) same,
+        mul-neg low s,
+        bottom ts (All-tail (IsBelow n) t ts below),
+        ap (λ k. low *ℤ k) split,
+        mul-add low s (area_of (all_edges ts)),
+      )
 
   top : (ts : List Triple) → All (IsBelow n) ts → volume6_of all_points (map (renamed_triple (λ v. v + n)) ts) ≡ high *ℤ area_of (all_edges ts)
   top [] below = omega (arith, ints)
@@ -151,7 +162,8 @@ module _ (low high : ℤ) (points : List (List ℤ)) where
       let a0 = x_of t.0 in let b0 = y_of t.0 in let a1 = x_of t.1 in let b1 = y_of t.1 in let a2 = x_of t.2 in let b2 = y_of t.2 in
       let s = area_of (edges t) in
       let here : triangle_determinant all_points (renamed_triple (λ v. v + n) t) ≡ high *ℤ ((a0 *ℤ b1 -ℤ a1 *ℤ b0) +ℤ (a1 *ℤ b2 -ℤ a2 *ℤ b1) +ℤ (a2 *ℤ b0 -ℤ a0 *ℤ b2)) =
-      three (get_or all_points (t.0 + n) []) (get_or all_points (t.1 + n) []) (get_or all_points (t.2 + n) []) (a0 ∷ b0 ∷ high ∷ []) (a1 ∷ b1 ∷ high ∷ []) (a2 ∷ b2 ∷ high ∷ []) (high_at t.0 b.a) (high_at t.1 b.b) (high_at t.2 b.c)
+      three (get_or all_points (t.0 + n) []) (get_or all_points (t.1 + n) []) (get_or all_points (t.2 + n) [])
+      (a0 ∷ b0 ∷ high ∷ []) (a1 ∷ b1 ∷ high ∷ []) (a2 ∷ b2 ∷ high ∷ []) (high_at t.0 b.a) (high_at t.1 b.b) (high_at t.2 b.c)
       ∙ at_one_height high a0 b0 a1 b1 a2 b2 in
       let same : (a0 *ℤ b1 -ℤ a1 *ℤ b0) +ℤ (a1 *ℤ b2 -ℤ a2 *ℤ b1) +ℤ (a2 *ℤ b0 -ℤ a0 *ℤ b2) ≡ s = omega (arith, ints) in
       let split : area_of (all_edges (t ∷ ts)) ≡ s +ℤ area_of (all_edges ts) = total-append (along (area_at x_of y_of)) (edges t) (all_edges ts) in
@@ -162,8 +174,10 @@ module _ (low high : ℤ) (points : List (List ℤ)) where
   sides (e ∷ es) below =
       let b = All-head (λ (f : ℕ × ℕ). (f.0 < n) × (f.1 < n)) e es below in
       let xa = x_of e.0 in let ya = y_of e.0 in let xb = x_of e.1 in let yb = y_of e.1 in
-      let one = three (get_or all_points e.0 []) (get_or all_points e.1 []) (get_or all_points (e.1 + n) []) (xa ∷ ya ∷ low ∷ []) (xb ∷ yb ∷ low ∷ []) (xb ∷ yb ∷ high ∷ []) (low_at e.0 b.0) (low_at e.1 b.1) (high_at e.1 b.1) ∙ wall_first low high xa ya xb yb in
-      let two = three (get_or all_points e.0 []) (get_or all_points (e.1 + n) []) (get_or all_points (e.0 + n) []) (xa ∷ ya ∷ low ∷ []) (xb ∷ yb ∷ high ∷ []) (xa ∷ ya ∷ high ∷ []) (low_at e.0 b.0) (high_at e.1 b.1) (high_at e.0 b.0) ∙ wall_second low high xa ya xb yb in
+      let one = three (get_or all_points e.0 []) (get_or all_points e.1 []) (get_or all_points (e.1 + n) [])
+      (xa ∷ ya ∷ low ∷ []) (xb ∷ yb ∷ low ∷ []) (xb ∷ yb ∷ high ∷ []) (low_at e.0 b.0) (low_at e.1 b.1) (high_at e.1 b.1) ∙ wall_first low high xa ya xb yb in
+      let two = three (get_or all_points e.0 []) (get_or all_points (e.1 + n) []) (get_or all_points (e.0 + n) [])
+      (xa ∷ ya ∷ low ∷ []) (xb ∷ yb ∷ high ∷ []) (xa ∷ ya ∷ high ∷ []) (low_at e.0 b.0) (high_at e.1 b.1) (high_at e.0 b.0) ∙ wall_second low high xa ya xb yb in
       omega (arith, ints, one, two, sides es (All-tail (λ (f : ℕ × ℕ). (f.0 < n) × (f.1 < n)) e es below), mul-add (high -ℤ low) (xa *ℤ yb -ℤ xb *ℤ ya) (area_of es))
 
   -- three times the height between times the doubled area

@@ -21,16 +21,20 @@ NoEdgeReturns = (loops : List (List ℕ)) → AreDifferent (concat loops) → Al
 
 -- each vertex of an outline starts one edge and ends one
 abbrev pub VerticesAreOnce : Type 0
-VerticesAreOnce = (n : ℕ) (loops : List (List ℕ)) → IsPermutation (upto n) (concat loops) → (v : ℕ) → v < n → (out (flat_map round_edges loops) v ≡ 1) × (into (flat_map round_edges loops) v ≡ 1)
+VerticesAreOnce = (n : ℕ) (loops : List (List ℕ)) → IsPermutation (upto n) (concat loops) → (v : ℕ) →
+    v < n → (out (flat_map round_edges loops) v ≡ 1) × (into (flat_map round_edges loops) v ≡ 1)
 
 -- triangles with the boundary of loops, extruded, are closed
 abbrev pub ExtrusionCloses : Type 0
-ExtrusionCloses = (n : ℕ) (ts : List Triple) (loops : List (List ℕ)) → SameChain (all_edges ts) (flat_map round_edges loops) → IsClosed (all_edges (extruded_triples n ts (flat_map round_edges loops)))
+ExtrusionCloses = (n : ℕ) (ts : List Triple) (loops : List (List ℕ)) → SameChain (all_edges ts) (flat_map round_edges loops) →
+    IsClosed (all_edges (extruded_triples n ts (flat_map round_edges loops)))
 
 -- and these enclose three times the height between times the doubled area
 abbrev pub ExtrusionHasVolume : Type 0
-ExtrusionHasVolume = (low high : ℤ) (points : List (List ℤ)) (ts : List Triple) (es : List (ℕ × ℕ)) → All (IsBelow (length points)) ts → All (λ e. (e.0 < length points) × (e.1 < length points)) es → SameChain (all_edges ts) es →
-    volume6_of (extruded_points low high points) (extruded_triples (length points) ts es) ≡ pos 3 *ℤ ((high -ℤ low) *ℤ total (along (area_at (λ v. coordinate_of (get_or points v []) 0) (λ v. coordinate_of (get_or points v []) 1))) es)
+ExtrusionHasVolume = (low high : ℤ) (points : List (List ℤ)) (ts : List Triple) (es : List (ℕ × ℕ)) →
+    All (IsBelow (length points)) ts → All (λ e. (e.0 < length points) × (e.1 < length points)) es → SameChain (all_edges ts) es →
+    volume6_of (extruded_points low high points) (extruded_triples (length points) ts es) ≡ pos 3 *ℤ
+    ((high -ℤ low) *ℤ total (along (area_at (λ v. coordinate_of (get_or points v []) 0) (λ v. coordinate_of (get_or points v []) 1))) es)
 
 -- where the triangles have three different vertices below n and the edges different ends, and each vertex starts an edge, so have
 -- those of the extrusion, over 2 n points that are all used
@@ -40,4 +44,5 @@ pub record IsSolid (n : ℕ) (ts : List Triple) : Type 0 where
   pub used : (v : ℕ) → v < n → is_used ts v ≡ true
 
 abbrev pub ExtrusionIsSolid : Type 0
-ExtrusionIsSolid = (n : ℕ) (ts : List Triple) (es : List (ℕ × ℕ)) → All HasThree ts → All (IsBelow n) ts → All (λ e. (e.0 < n) × (e.1 < n) × (e.0 ≢ e.1)) es → ((v : ℕ) → v < n → 0 < out es v) → IsSolid (n + n) (extruded_triples n ts es)
+ExtrusionIsSolid = (n : ℕ) (ts : List Triple) (es : List (ℕ × ℕ)) → All HasThree ts → All (IsBelow n) ts →
+    All (λ e. (e.0 < n) × (e.1 < n) × (e.0 ≢ e.1)) es → ((v : ℕ) → v < n → 0 < out es v) → IsSolid (n + n) (extruded_triples n ts es)

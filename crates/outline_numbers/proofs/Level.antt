@@ -12,4 +12,5 @@ pub corners_level : (ps : List (List ℤ)) (us : List (List Bool)) → All (λ p
 corners_level [] us h = All-nil IsLevel
 corners_level (p ∷ ps) [] h = All-nil IsLevel
 corners_level (p ∷ ps) (u ∷ us) h =
-    All-cons IsLevel (corner_of p u) (corners_of ps us) (ap (λ z. UNIT *ℤ z) (All-head (λ q. coordinate_of q 2 ≡ pos 0) p ps h)) (corners_level ps us (All-tail (λ q. coordinate_of q 2 ≡ pos 0) p ps h))
+    All-cons IsLevel (corner_of p u) (corners_of ps us) (ap (λ z. UNIT *ℤ z) (All-head (λ q. coordinate_of q 2 ≡ pos 0) p ps h))
+    (corners_level ps us (All-tail (λ q. coordinate_of q 2 ≡ pos 0) p ps h))

@@ -41,7 +41,8 @@ level_at (c ∷ cs) h (suc i) = level_at cs (All-tail IsLevel c cs h) i
 
 pub ends_level : (side : FlatSide) → IsFlatSide side → (e : ℕ × ℕ) → All IsLevel (ends_of side e)
 ends_level side is e =
-    All-cons IsLevel (corner_at side.corners e.0) (corner_at side.corners e.1 ∷ []) (level_at side.corners is.level e.0) (All-cons IsLevel (corner_at side.corners e.1) [] (level_at side.corners is.level e.1) (All-nil IsLevel))
+    All-cons IsLevel (corner_at side.corners e.0) (corner_at side.corners e.1 ∷ []) (level_at side.corners is.level e.0)
+    (All-cons IsLevel (corner_at side.corners e.1) [] (level_at side.corners is.level e.1) (All-nil IsLevel))
 
 not_apart : (p q : List Corner) → 0 < length p → 0 < length q → All IsLevel p → All IsLevel q → AreApart 2 p q → ⊥
 not_apart p q some others ps qs (inl h) = omega (arith, ints, h.below 0 blank_corner some 0 blank_corner others, ps 0 blank_corner some, qs 0 blank_corner others)
@@ -52,7 +53,8 @@ abbrev pub Separates : {X : Type 0} → X → (List Corner → List Corner → X
 Separates none test = (p q : List Corner) (i : ℕ) → length p ≡ 2 → length q ≡ 2 → AllFine p → AllFine q → i < 2 → AreApart i p q → test p q ≡ none
 
 -- is so with an edge whose box does not touch the other's
-pub none_beyond : {X : Type 0} (none : X) (test : List Corner → List Corner → X) → Separates none test → (side : FlatSide) → IsFlatSide side → (p : List Corner) → length p ≡ 2 → AllFine p → All IsLevel p → (k : ℕ) → k < length side.edges →
+pub none_beyond : {X : Type 0} (none : X) (test : List Corner → List Corner → X) → Separates none test → (side : FlatSide) →
+    IsFlatSide side → (p : List Corner) → length p ≡ 2 → AllFine p → All IsLevel p → (k : ℕ) → k < length side.edges →
     touches (box_at (edge_boxes side) k) (box_of p) ≡ false → test p (ends_of side (edge_at side k)) ≡ none
 none_beyond none test apart side is p two fine level k below far =
     let q = ends_of side (edge_at side k) in
@@ -81,12 +83,14 @@ hits_near test settle p q apart p_is q_is i =
     λ k d below.
     let inside : k < n = omega (arith, below, length-up_from 0 n) in
     let here : k ≡ get_or (upto n) k d = omega (arith, get_or-up_from 0 n k d inside) in
-    subst (λ j. t j ≡ false → f j ≡ None) here (λ far. ap (flat_hit settle i k) (none_beyond None test apart q q_is own refl (ends_fine p p_is (edge_at p i)) (ends_level p p_is (edge_at p i)) k inside far)) in
+    subst (λ j. t j ≡ false → f j ≡ None) here
+    (λ far. ap (flat_hit settle i k) (none_beyond None test apart q q_is own refl (ends_fine p p_is (edge_at p i)) (ends_level p p_is (edge_at p i)) k inside far)) in
     ap (λ m. filter_map f (filter t (upto m))) (many_boxes q) ∙ filter_map-filter f t (upto n) each
 
 -- one edge more
 along_more : (test : ShadowTest) (settle : ℤ → ℤ) (p q : FlatSide) (i : ℕ) (js : List ℕ) (k : ℕ) → k < length js →
-    hits_with test settle p q i (take (k + 1) js) ≡ hits_with test settle p q i (take k js) ++ cons_option (flat_hit settle i (get_or js k 0) (test (ends_of p (edge_at p i)) (ends_of q (edge_at q (get_or js k 0))))) []
+    hits_with test settle p q i (take (k + 1) js) ≡ hits_with test settle p q i
+    (take k js) ++ cons_option (flat_hit settle i (get_or js k 0) (test (ends_of p (edge_at p i)) (ends_of q (edge_at q (get_or js k 0))))) []
 along_more test settle p q i js k below =
     let f : ℕ → Option FlatHit = λ j. flat_hit settle i j (test (ends_of p (edge_at p i)) (ends_of q (edge_at q j))) in
     ap (filter_map f) (take_more js k 0 below) ∙ filter_map-append f (take k js) (get_or js k 0 ∷ [])
@@ -95,20 +99,26 @@ along_more test settle p q i js k below =
 abbrev pub next_hit : ShadowTest → (ℤ → ℤ) → FlatSide → FlatSide → ℕ → List ℕ → ℕ → Option FlatHit
 next_hit test settle p q i js k = flat_hit settle i (get_or js k 0) (test (ends_of p (edge_at p i)) (ends_of q (edge_at q (get_or js k 0))))
 
-pub along_none : (test : ShadowTest) (settle : ℤ → ℤ) (p q : FlatSide) (i : ℕ) (js : List ℕ) (k : ℕ) (before : List FlatHit) → k < length js → None ≡ next_hit test settle p q i js k →
+pub along_none : (test : ShadowTest) (settle : ℤ → ℤ) (p q : FlatSide) (i : ℕ) (js : List ℕ) (k : ℕ) (before : List FlatHit) →
+    k < length js → None ≡ next_hit test settle p q i js k →
     before ++ hits_with test settle p q i (take k js) ≡ before ++ hits_with test settle p q i (take (k + 1) js)
 along_none test settle p q i js k before below e =
-    ap (λ l. before ++ l) (sym (along_more test settle p q i js k below ∙ ap (λ o. hits_with test settle p q i (take k js) ++ cons_option o []) (sym e) ∙ append-nil (hits_with test settle p q i (take k js))))
+    ap (λ l. before ++ l) (sym (along_more test settle p q i js k below
+    ∙ ap (λ o. hits_with test settle p q i (take k js) ++ cons_option o []) (sym e) ∙ append-nil (hits_with test settle p q i (take k js))))
 
-pub along_some : (test : ShadowTest) (settle : ℤ → ℤ) (p q : FlatSide) (i : ℕ) (js : List ℕ) (k : ℕ) (before : List FlatHit) (h : FlatHit) → k < length js → Some h ≡ next_hit test settle p q i js k →
+pub along_some : (test : ShadowTest) (settle : ℤ → ℤ) (p q : FlatSide) (i : ℕ) (js : List ℕ) (k : ℕ)
+    (before : List FlatHit) (h : FlatHit) → k < length js → Some h ≡ next_hit test settle p q i js k →
     (before ++ hits_with test settle p q i (take k js)) ++ h ∷ [] ≡ before ++ hits_with test settle p q i (take (k + 1) js)
 along_some test settle p q i js k before h below e =
-    append_assoc before (hits_with test settle p q i (take k js)) (h ∷ []) ∙ ap (λ l. before ++ l) (sym (along_more test settle p q i js k below ∙ ap (λ o. hits_with test settle p q i (take k js) ++ cons_option o []) (sym e)))
+    append_assoc before (hits_with test settle p q i (take k js)) (h ∷ [])
+    ∙ ap (λ l. before ++ l) (sym (along_more test settle p q i js k below ∙ ap (λ o. hits_with test settle p q i (take k js) ++ cons_option o []) (sym e)))
 
 -- the hits of the first n edges of P, and one more
 abbrev pub hits_before : ShadowTest → (ℤ → ℤ) → FlatSide → FlatSide → ℕ → List FlatHit
 hits_before test settle p q n = flat_map (flat_hits_along test settle p q) (upto n)
 
-pub hits_more : (test : ShadowTest) (settle : ℤ → ℤ) (p q : FlatSide) (n : ℕ) → hits_before test settle p q (n + 1) ≡ hits_before test settle p q n ++ flat_hits_along test settle p q n
+pub hits_more : (test : ShadowTest) (settle : ℤ → ℤ) (p q : FlatSide) (n : ℕ) →
+    hits_before test settle p q (n + 1) ≡ hits_before test settle p q n ++ flat_hits_along test settle p q n
 hits_more test settle p q n =
-    ap (flat_map (flat_hits_along test settle p q)) (upto_more n) ∙ flat_map-append (flat_hits_along test settle p q) (upto n) (n ∷ []) ∙ ap (λ r. hits_before test settle p q n ++ r) (append-nil (flat_hits_along test settle p q n))
+    ap (flat_map (flat_hits_along test settle p q)) (upto_more n) ∙ flat_map-append (flat_hits_along test settle p q) (upto n) (n ∷ [])
+    ∙ ap (λ r. hits_before test settle p q n ++ r) (append-nil (flat_hits_along test settle p q n))

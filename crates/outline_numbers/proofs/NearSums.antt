@@ -18,13 +18,15 @@ use Rattle.outline_numbers.specs.Sides.{edge_boxes}
 use Rattle.outline_numbers.proofs.NearHits.{many_boxes}
 
 -- a sum over the edges by their places
-pub by_places : (side : FlatSide) (part : List Corner → ℤ) → total (λ k. part (ends_of side (edge_at side k))) (upto (length side.edges)) ≡ total (λ e. part (ends_of side e)) side.edges
+pub by_places : (side : FlatSide) (part : List Corner → ℤ) →
+    total (λ k. part (ends_of side (edge_at side k))) (upto (length side.edges)) ≡ total (λ e. part (ends_of side e)) side.edges
 by_places side part = sym (total-places (λ (e : ℕ × ℕ). part (ends_of side e)) (0, 0) side.edges)
 
 -- edges that are near an area, in any order
 module _ (side : FlatSide) (area : Box3) (near : List ℕ) (moved : IsPermutation (touching_numbers (edge_boxes side) area) near) where
   pub near_below : All (λ k. k < length side.edges) near
-  near_below = All-permutation (λ k. k < length side.edges) (touching_numbers (edge_boxes side) area) near moved (subst (λ n. All (λ k. k < n) (touching_numbers (edge_boxes side) area)) (many_boxes side) (touching_below (edge_boxes side) area))
+  near_below = All-permutation (λ k. k < length side.edges) (touching_numbers (edge_boxes side) area) near moved
+      (subst (λ n. All (λ k. k < n) (touching_numbers (edge_boxes side) area)) (many_boxes side) (touching_below (edge_boxes side) area))
 
   pub near_few : length near ≤ length side.edges
   near_few = omega (arith, length_permutation (touching_numbers (edge_boxes side) area) near moved, touching_few (edge_boxes side) area, many_boxes side)
@@ -36,7 +38,8 @@ module _ (side : FlatSide) (area : Box3) (near : List ℕ) (moved : IsPermutatio
       let n = length side.edges in
       let value : ℕ → ℤ = λ k. part (ends_of side (edge_at side k)) in
       let p : ℕ → Bool = λ k. touches (box_at (edge_boxes side) k) area in
-      let each : (k : ℕ) → k < n → cond (p k) (value k) (pos 0) ≡ value k = λ k below. cond_both (p k) (value k) (pos 0) (λ z. z ≡ value k) (λ y. refl) (λ far. sym (none k below far)) in
+      let each : (k : ℕ) → k < n → cond (p k) (value k) (pos 0) ≡ value k = λ k below. cond_both
+      (p k) (value k) (pos 0) (λ z. z ≡ value k) (λ y. refl) (λ far. sym (none k below far)) in
       total-permutation value (touching_numbers (edge_boxes side) area) near moved
       ∙ ap (λ m. total value (filter p (upto m))) (many_boxes side)
       ∙ total-filter value p (upto n)

@@ -37,12 +37,14 @@ module _ (es : List (ℕ × ℕ)) (n : ℕ) where
       (λ v. ap (λ l. before l v) (drop_more es k (0, 0) low) ∙ ends_first (finish es k == v) (start es k) (end_from v (backward rest)))
 
   -- from place i down to the one before it
-  pub back_after : (i : ℕ) → 0 < i → i ≤ length es → start es (i - 1) < n → set (map (after (drop i es)) (upto n)) (start es (i - 1)) (finish es (i - 1)) ≡ map (after (drop (i - 1) es)) (upto n)
+  pub back_after : (i : ℕ) → 0 < i → i ≤ length es → start es (i - 1) < n →
+      set (map (after (drop i es)) (upto n)) (start es (i - 1)) (finish es (i - 1)) ≡ map (after (drop (i - 1) es)) (upto n)
   back_after i some within inside =
       let same : i ≡ (i - 1) + 1 = omega (arith, some) in
       ap (λ j. set (map (after (drop j es)) (upto n)) (start es (i - 1)) (finish es (i - 1))) same ∙ more_after (i - 1) (omega (arith, some, within)) inside
 
-  pub back_before : (i : ℕ) → 0 < i → i ≤ length es → finish es (i - 1) < n → set (map (before (drop i es)) (upto n)) (finish es (i - 1)) (start es (i - 1)) ≡ map (before (drop (i - 1) es)) (upto n)
+  pub back_before : (i : ℕ) → 0 < i → i ≤ length es → finish es (i - 1) < n →
+      set (map (before (drop i es)) (upto n)) (finish es (i - 1)) (start es (i - 1)) ≡ map (before (drop (i - 1) es)) (upto n)
   back_before i some within inside =
       let same : i ≡ (i - 1) + 1 = omega (arith, some) in
       ap (λ j. set (map (before (drop j es)) (upto n)) (finish es (i - 1)) (start es (i - 1))) same ∙ more_before (i - 1) (omega (arith, some, within)) inside

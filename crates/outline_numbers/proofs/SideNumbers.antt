@@ -33,12 +33,17 @@ pub q_walk : (t : FlatTests) (op : Op) (p q : Outline) → LiftEdges t (p_flat o
 q_walk t op p q lift = q_changes t (p_flat op p) (q_flat q) p.loops (record { edges = refl }) lift
 
 -- a sum of turned parts is the turned sum
-pub turned_parts : (t : FlatTests) (p q : FlatSide) → map (winding_of (λ c e. neg_ℤ (shadow_of (t.edge_vertex e (c ∷ [])))) p) q.corners ≡ map (λ c. flat_winding_back t p c) q.corners
+pub turned_parts : (t : FlatTests) (p q : FlatSide) →
+    map (winding_of (λ c e. neg_ℤ (shadow_of (t.edge_vertex e (c ∷ [])))) p) q.corners ≡ map (λ c. flat_winding_back t p c) q.corners
 turned_parts t p q =
-    let same : (λ (c : Corner). winding_of (λ k e. neg_ℤ (shadow_of (t.edge_vertex e (k ∷ [])))) p c) ≡ (λ (c : Corner). flat_winding_back t p c) = λ i c. total-neg (λ e. shadow_of (t.edge_vertex (ends_of p e) (c ∷ []))) p.edges i in
+    let same : (λ (c : Corner). winding_of (λ k e. neg_ℤ (shadow_of (t.edge_vertex e (k ∷ [])))) p c)
+    ≡ (λ (c : Corner). flat_winding_back t p c) = λ i c. total-neg (λ e. shadow_of (t.edge_vertex (ends_of p e) (c ∷ []))) p.edges i in
     ap (λ f. map f q.corners) same
 
 -- a hit's number is that of two edges
-pub hits_small : (t : FlatTests) (settle : ℤ → ℤ) (p q : FlatSide) → ((e f : ℕ × ℕ) → (negsuc 0 ≤ℤ flat_number t p q e f) × (flat_number t p q e f ≤ℤ pos 1)) → All (λ h. nat_abs h.number ≤ 1) (flat_hits t.edge_edge settle p q)
+pub hits_small : (t : FlatTests) (settle : ℤ → ℤ) (p q : FlatSide) →
+    ((e f : ℕ × ℕ) → (negsuc 0 ≤ℤ flat_number t p q e f) × (flat_number t p q e f ≤ℤ pos 1)) → All (λ h. nat_abs h.number ≤ 1) (flat_hits t.edge_edge settle p q)
 hits_small t settle p q small =
-    All-weaker (IsHit t settle p q) (λ h. nat_abs h.number ≤ 1) (λ h is. let s = small (edge_at p h.p_edge) (edge_at q h.q_edge) in omega (arith, ints, s.0, s.1, is.number)) (flat_hits t.edge_edge settle p q) (all_hits t settle p q)
+    All-weaker (IsHit t settle p q)
+    (λ h. nat_abs h.number ≤ 1) (λ h is. let s = small (edge_at p h.p_edge) (edge_at q h.q_edge) in omega (arith, ints, s.0, s.1, is.number))
+    (flat_hits t.edge_edge settle p q) (all_hits t settle p q)

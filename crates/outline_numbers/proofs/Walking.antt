@@ -54,9 +54,11 @@ all_known number side whole numbers full known = same_lists numbers (map number 
     ∙ sym (get_or-map number side.corners v blank_corner d (omega (arith, low, full))))
 
 -- a winding number is no greater in size than there are edges
-pub winding_within : (part : Corner → List Corner → ℤ) (edges : FlatSide) (c : Corner) → ((e : ℕ × ℕ) → IsSmall (part c (ends_of edges e))) → nat_abs (winding_of part edges c) ≤ length edges.edges
+pub winding_within : (part : Corner → List Corner → ℤ) (edges : FlatSide) (c : Corner) →
+    ((e : ℕ × ℕ) → IsSmall (part c (ends_of edges e))) → nat_abs (winding_of part edges c) ≤ length edges.edges
 winding_within part edges c small =
-    let w = total_within (λ e. part c (ends_of edges e)) 1 edges.edges (λ k d low. let s = small (get_or edges.edges k d) in record { low = omega (arith, ints, s.low); high = s.high }) in
+    let w = total_within (λ e. part c (ends_of edges e)) 1 edges.edges
+    (λ k d low. let s = small (get_or edges.edges k d) in record { low = omega (arith, ints, s.low); high = s.high }) in
     omega (arith, size_within (winding_of part edges c) (1 * length edges.edges) w)
 
 -- so are those of a list of corners
@@ -67,8 +69,10 @@ windings_within part edges cs fine others small =
     (λ k d low. winding_within part edges (get_or cs k d) (λ e. small (get_or cs k d) (ends_of edges e) refl (fine k d low) (edge_fine edges.corners others e.0 e.1)))
 
 -- from one vertex to the next
-pub next_number : (part : Corner → List Corner → ℤ) (change : List Corner → List Corner → ℤ) (vertices edges : FlatSide) → ChangesAlong part change vertices edges → (a b : ℕ) (way : List Corner) (here there : ℤ) →
-    here ≡ winding_of part edges (corner_at vertices.corners a) → way ≡ edge_of vertices.corners a b → there ≡ total (λ e. change way (ends_of edges e)) edges.edges → (here +ℤ there) ≡ winding_of part edges (corner_at vertices.corners b)
+pub next_number : (part : Corner → List Corner → ℤ) (change : List Corner → List Corner → ℤ) (vertices edges : FlatSide) →
+    ChangesAlong part change vertices edges → (a b : ℕ) (way : List Corner) (here there : ℤ) →
+    here ≡ winding_of part edges (corner_at vertices.corners a) → way ≡ edge_of vertices.corners a b →
+    there ≡ total (λ e. change way (ends_of edges e)) edges.edges → (here +ℤ there) ≡ winding_of part edges (corner_at vertices.corners b)
 next_number part change vertices edges changes a b way here there e w h =
     let along : there ≡ total (λ f. change (edge_of vertices.corners a b) (ends_of edges f)) edges.edges = h ∙ ap (λ u. total (λ f. change u (ends_of edges f)) edges.edges) w in
     (λ i. e i +ℤ along i) ∙ sym (changes.along a b)
@@ -76,7 +80,8 @@ next_number part change vertices edges changes a b way here there e w h =
 -- the law of two edges, at corners of two sides
 pub lift_edges : (vertex_edge edge_vertex edge_edge : ShadowTest) →
     ((a b c d : Corner) → AllFine (a ∷ b ∷ []) → AllFine (c ∷ d ∷ []) → count_of (edge_edge (a ∷ b ∷ []) (c ∷ d ∷ []))
-    ≡ shadow_of (vertex_edge (b ∷ []) (c ∷ d ∷ [])) -ℤ shadow_of (vertex_edge (a ∷ []) (c ∷ d ∷ [])) +ℤ shadow_of (edge_vertex (a ∷ b ∷ []) (d ∷ [])) -ℤ shadow_of (edge_vertex (a ∷ b ∷ []) (c ∷ []))) →
+    ≡ shadow_of (vertex_edge (b ∷ []) (c ∷ d ∷ [])) -ℤ shadow_of (vertex_edge (a ∷ []) (c ∷ d ∷ [])) +ℤ
+    shadow_of (edge_vertex (a ∷ b ∷ []) (d ∷ [])) -ℤ shadow_of (edge_vertex (a ∷ b ∷ []) (c ∷ []))) →
     (ps qs : List Corner) → AllFine ps → AllFine qs → LiftEdges (flat_tests vertex_edge edge_vertex edge_edge) ps qs
 lift_edges vertex_edge edge_vertex edge_edge law ps qs p_fine q_fine a b c d =
     law (corner_at ps a) (corner_at ps b) (corner_at qs c) (corner_at qs d) (edge_fine ps p_fine a b) (edge_fine qs q_fine c d)
@@ -91,7 +96,8 @@ pub q_changes : (t : FlatTests) (p q : FlatSide) (loops : List (List ℕ)) → H
     ChangesAlong (λ c e. neg_ℤ (shadow_of (t.edge_vertex e (c ∷ [])))) (λ way e. neg_ℤ (count_of (t.edge_edge e way))) q p
 q_changes t p q loops h lift = record {
   along = λ c d.
-      let parts : (v : ℕ) → winding_of (λ k e. neg_ℤ (shadow_of (t.edge_vertex e (k ∷ [])))) p (corner_at q.corners v) ≡ neg_ℤ (total (λ e. shadow_of (t.edge_vertex (ends_of p e) (corner_at q.corners v ∷ []))) p.edges) =
+      let parts : (v : ℕ) → winding_of (λ k e. neg_ℤ (shadow_of (t.edge_vertex e (k ∷ [])))) p (corner_at q.corners v)
+      ≡ neg_ℤ (total (λ e. shadow_of (t.edge_vertex (ends_of p e) (corner_at q.corners v ∷ []))) p.edges) =
       λ v. total-neg (λ e. shadow_of (t.edge_vertex (ends_of p e) (corner_at q.corners v ∷ []))) p.edges in
       omega (arith, ints, edges_conserve_back t p q loops h lift c d, parts c, parts d, total-neg (λ e. flat_number t p q e (c, d)) p.edges);
 }

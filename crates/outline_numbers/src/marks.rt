@@ -16,7 +16,9 @@ pub fn marks_of(
     edges: &[(u32, u32)],
 ) -> Result<Vec<[bool; 3]>, NoMemory>
     requires { All (IsBetween (length points.now)) edges.now }
-    ensures { IfOk result (λ ups. ups.items ≡ map (λ v. marks_between op (get_or points.now (before edges.now v) []) (get_or points.now (after edges.now v) [])) (upto (length points.now))) }
+    ensures { IfOk result (λ ups. ups.items ≡ map
+        (λ v. marks_between op (get_or points.now (before edges.now v) []) (get_or points.now (after edges.now v) []))
+        (upto (length points.now))) }
 {
     let before = all_before(alloc, edges, points.len())?;
     let after = all_after(alloc, edges, points.len())?;

@@ -29,13 +29,15 @@ telescope es loops is number high low g each =
 pub edges_conserve : (t : FlatTests) (p q : FlatSide) (loops : List (List ℕ)) → HasLoops q loops → LiftEdges t p.corners q.corners → (a b : ℕ) →
     flat_winding t (corner_at p.corners b) q ≡ flat_winding t (corner_at p.corners a) q +ℤ total (flat_number t p q (a, b)) q.edges
 edges_conserve t p q loops h lift a b =
-    let sum = telescope q.edges loops h.edges (flat_number t p q (a, b)) (λ e. shadow_of (t.vertex_edge (corner_at p.corners b ∷ []) (ends_of q e))) (λ e. shadow_of (t.vertex_edge (corner_at p.corners a ∷ []) (ends_of q e)))
+    let sum = telescope q.edges loops h.edges (flat_number t p q (a, b)) (λ e. shadow_of (t.vertex_edge (corner_at p.corners b ∷ []) (ends_of q e)))
+    (λ e. shadow_of (t.vertex_edge (corner_at p.corners a ∷ []) (ends_of q e)))
     (λ v. shadow_of (t.edge_vertex (ends_of p (a, b)) (corner_at q.corners v ∷ []))) (λ e. omega (arith, ints, lift a b e.0 e.1)) in
     omega (arith, ints, sum)
 
 pub edges_conserve_back : (t : FlatTests) (p q : FlatSide) (loops : List (List ℕ)) → HasLoops p loops → LiftEdges t p.corners q.corners → (c d : ℕ) →
     flat_winding_back t p (corner_at q.corners d) ≡ flat_winding_back t p (corner_at q.corners c) -ℤ total (λ e. flat_number t p q e (c, d)) p.edges
 edges_conserve_back t p q loops h lift c d =
-    let sum = telescope p.edges loops h.edges (λ e. flat_number t p q e (c, d)) (λ e. shadow_of (t.edge_vertex (ends_of p e) (corner_at q.corners d ∷ []))) (λ e. shadow_of (t.edge_vertex (ends_of p e) (corner_at q.corners c ∷ [])))
+    let sum = telescope p.edges loops h.edges (λ e. flat_number t p q e (c, d))
+    (λ e. shadow_of (t.edge_vertex (ends_of p e) (corner_at q.corners d ∷ []))) (λ e. shadow_of (t.edge_vertex (ends_of p e) (corner_at q.corners c ∷ [])))
     (λ v. shadow_of (t.vertex_edge (corner_at p.corners v ∷ []) (ends_of q (c, d)))) (λ e. omega (arith, ints, lift e.0 e.1 c d)) in
     omega (arith, ints, sum)

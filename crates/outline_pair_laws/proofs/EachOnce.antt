@@ -30,7 +30,8 @@ permutation_from (x ∷ xs) ys same =
     subst (λ l. IsPermutation (x ∷ xs) l) whole (IsPermutation-trans (x ∷ xs) (x ∷ (s.front ++ s.back)) (s.front ++ x ∷ s.back) first second)
 
 -- where every number below n is a start of one list, the loops of the segments have each once
-pub each_once : {X : Type 0} (stand key : X → ℕ → ℤ) (n : ℕ) (xs : List X) → AreEven stand n xs → StandOnce stand n xs → ((v : ℕ) → v < n → start_count stand xs v ≡ 1) → IsPermutation (upto n) (concat (cycles (segments_of stand key n xs)))
+pub each_once : {X : Type 0} (stand key : X → ℕ → ℤ) (n : ℕ) (xs : List X) → AreEven stand n xs → StandOnce stand n xs →
+    ((v : ℕ) → v < n → start_count stand xs v ≡ 1) → IsPermutation (upto n) (concat (cycles (segments_of stand key n xs)))
 each_once stand key n xs even once starts =
     let es = segments_of stand key n xs in
     let moved = cycles_edges (length es) es (omega arith) (one_to_one stand key n xs even once).balanced in

@@ -153,7 +153,8 @@ all_upto P n h = All-from_get_or P (upto n) 0 (λ i l. at i (omega (arith, lengt
 
 lists_known : (p q : List (ℕ × ℕ)) → All (IsEdgeOf p q) (flat_lists p q)
 lists_known p q =
-    All-append (IsEdgeOf p q) (map EdgeP (upto (length p))) (map EdgeQ (upto (length q))) (All-map (IsEdgeOf p q) EdgeP (upto (length p)) (all_upto (λ i. i < length p) (length p) (λ i l. l)))
+    All-append (IsEdgeOf p q) (map EdgeP (upto (length p))) (map EdgeQ (upto (length q)))
+    (All-map (IsEdgeOf p q) EdgeP (upto (length p)) (all_upto (λ i. i < length p) (length p) (λ i l. l)))
     (All-map (IsEdgeOf p q) EdgeQ (upto (length q)) (all_upto (λ i. i < length q) (length q) (λ i l. l)))
 
 -- copies of one thing have one sign
@@ -167,10 +168,16 @@ none_exchanged p q cs np nq signs x y x_in y_in v w vl wl vx vy wx wy =
     let c = get_or cs v no_flat_copy in
     let d = get_or cs w no_flat_copy in
     let known = lists_known p q in
-    let c_told = told p q x y c.origin (unturned c.negative (flat_incidence p q x c.origin) (flat_incidence p q y c.origin) (inl (above (flat_standing p q cs x v) vx, beneath (flat_standing p q cs y v) vy))) in
-    let d_told = told p q x y d.origin (unturned d.negative (flat_incidence p q x d.origin) (flat_incidence p q y d.origin) (inr (beneath (flat_standing p q cs x w) wx, above (flat_standing p q cs y w) wy))) in
-    let same = same_origin p q np nq x y (All-contains (IsEdgeOf p q) (flat_lists p q) x known x_in) (All-contains (IsEdgeOf p q) (flat_lists p q) y known y_in) c.origin d.origin c_told d_told in
+    let c_told = told p q x y c.origin
+    (unturned c.negative (flat_incidence p q x c.origin) (flat_incidence p q y c.origin)
+    (inl (above (flat_standing p q cs x v) vx, beneath (flat_standing p q cs y v) vy))) in
+    let d_told = told p q x y d.origin
+    (unturned d.negative (flat_incidence p q x d.origin) (flat_incidence p q y d.origin)
+    (inr (beneath (flat_standing p q cs x w) wx, above (flat_standing p q cs y w) wy))) in
+    let same = same_origin p q np nq x y (All-contains (IsEdgeOf p q) (flat_lists p q) x known x_in)
+    (All-contains (IsEdgeOf p q) (flat_lists p q) y known y_in) c.origin d.origin c_told d_told in
     let turned : c.negative ≡ d.negative = signs.signed v no_flat_copy vl ∙ ap signs.sign same ∙ sym (signs.signed w no_flat_copy wl) in
     let alike : flat_standing p q cs x v ≡ flat_standing p q cs x w =
-    ap (λ o. cond c.negative (neg_ℤ (flat_incidence p q x o)) (flat_incidence p q x o)) same ∙ ap (λ b. cond b (neg_ℤ (flat_incidence p q x d.origin)) (flat_incidence p q x d.origin)) turned in
+    ap (λ o. cond c.negative (neg_ℤ (flat_incidence p q x o)) (flat_incidence p q x o)) same
+    ∙ ap (λ b. cond b (neg_ℤ (flat_incidence p q x d.origin)) (flat_incidence p q x d.origin)) turned in
     omega (arith, ints, alike, above (flat_standing p q cs x v) vx, beneath (flat_standing p q cs x w) wx)

@@ -36,7 +36,14 @@ count_never p (x ∷ xs) never = omega (arith, count_never p xs never, count_by-
 -- over the places of edges as over the edges
 count_places : (t : ℕ → ℕ → Bool) (es : List (ℕ × ℕ)) → count_by (λ k. t (start es k) (finish es k)) (upto (length es)) ≡ count_by (λ e. t e.0 e.1) es
 count_places t es =
-    omega (arith, ints, total-places (λ e. pos (one_if (t e.0 e.1))) (0, 0) es, total-count_by (λ e. t e.0 e.1) es, total-count_by (λ k. t (start es k) (finish es k)) (upto (length es)))
+    omega (
+      arith,
+      ints,
+      total-places (λ e. pos (one_if (t e.0 e.1))) (0, 0) es,
+      total-count_by
+          (λ e. t e.0 e.1) es,
+      total-count_by (λ k. t (start es k) (finish es k)) (upto (length es)),
+    )
 
 -- of two different ends one at most is v
 pub starts_test : (a b v : ℕ) → a ≢ b → int_lt (pos 0) (at_same a v -ℤ at_same b v) ≡ (a == v)
@@ -59,12 +66,14 @@ ends_test a b v n = by (a == v) (b == v) refl refl where
 vertex_starts : (es : List (ℕ × ℕ)) (v : ℕ) → NoReturn es → count_by (λ k. int_lt (pos 0) (at_end es k v)) (upto (length es)) ≡ out es v
 vertex_starts es v none =
     count_places (λ a b. int_lt (pos 0) (at_same a v -ℤ at_same b v)) es
-    ∙ count_same (λ e. int_lt (pos 0) (at_same e.0 v -ℤ at_same e.1 v)) (λ e. e.0 == v) es (λ k d low. starts_test (get_or es k d).0 (get_or es k d).1 v (ends_differ es none k d low))
+    ∙ count_same (λ e. int_lt (pos 0) (at_same e.0 v -ℤ at_same e.1 v)) (λ e. e.0 == v) es
+    (λ k d low. starts_test (get_or es k d).0 (get_or es k d).1 v (ends_differ es none k d low))
 
 vertex_ends : (es : List (ℕ × ℕ)) (v : ℕ) → NoReturn es → count_by (λ k. int_lt (at_end es k v) (pos 0)) (upto (length es)) ≡ into es v
 vertex_ends es v none =
     count_places (λ a b. int_lt (at_same a v -ℤ at_same b v) (pos 0)) es
-    ∙ count_same (λ e. int_lt (at_same e.0 v -ℤ at_same e.1 v) (pos 0)) (λ e. e.1 == v) es (λ k d low. ends_test (get_or es k d).0 (get_or es k d).1 v (ends_differ es none k d low))
+    ∙ count_same (λ e. int_lt (at_same e.0 v -ℤ at_same e.1 v) (pos 0)) (λ e. e.1 == v) es
+    (λ k d low. ends_test (get_or es k d).0 (get_or es k d).1 v (ends_differ es none k d low))
 
 -- tests of whether two numbers are the same
 pub same_test : (i k : ℕ) → int_lt (pos 0) (at_same i k) ≡ (k == i)
@@ -108,17 +117,48 @@ module _ (p q : List (ℕ × ℕ)) (m n : ℕ) (ps : IsOnce p m) (qs : IsOnce q 
 
   above_once : (o : FlatOrigin) → IsOfBoth p q m n o → count_by (λ x. int_lt (pos 0) (flat_incidence p q x o)) (flat_lists p q) ≡ 1
   above_once (OfP v) low =
-      omega (arith, parts (λ x. int_lt (pos 0) (flat_incidence p q x (OfP v))), vertex_starts p v ps.none, ps.starts v low, count_never (λ (k : ℕ). false) (upto (length q)) (λ k. refl))
+      omega (
+        arith,
+        parts (λ x. int_lt (pos 0) (flat_incidence p q x (OfP v))),
+        vertex_starts
+            p v ps.none,
+        ps.starts v low,
+        count_never (λ (k : ℕ). false) (upto (length q)) (λ k. refl),
+      )
   above_once (OfQ v) low =
-      omega (arith, parts (λ x. int_lt (pos 0) (flat_incidence p q x (OfQ v))), vertex_starts q v qs.none, qs.starts v low, count_never (λ (k : ℕ). false) (upto (length p)) (λ k. refl))
+      omega (
+        arith,
+        parts (λ x. int_lt (pos 0) (flat_incidence p q x (OfQ v))),
+        vertex_starts
+            q v qs.none,
+        qs.starts v low,
+        count_never (λ (k : ℕ). false) (upto (length p)) (λ k. refl),
+      )
   above_once (OfBoth i j) low =
-      omega (arith, parts (λ x. int_lt (pos 0) (flat_incidence p q x (OfBoth i j))), once_among (length p) i low.0, count_never (λ k. int_lt (pos 0) (neg_ℤ (at_same j k))) (upto (length q)) (same_never_turned j))
+      omega (
+        arith,
+        parts (λ x. int_lt (pos 0) (flat_incidence p q x (OfBoth i j))),
+        once_among (length p) i low.0,
+        count_never (λ k. int_lt (pos 0) (neg_ℤ (at_same j k))) (upto (length q)) (same_never_turned j),
+      )
 
   below_once : (o : FlatOrigin) → IsOfBoth p q m n o → count_by (λ x. int_lt (flat_incidence p q x o) (pos 0)) (flat_lists p q) ≡ 1
   below_once (OfP v) low =
-      omega (arith, parts (λ x. int_lt (flat_incidence p q x (OfP v)) (pos 0)), vertex_ends p v ps.none, ps.ends v low, count_never (λ (k : ℕ). false) (upto (length q)) (λ k. refl))
+      omega (
+        arith,
+        parts (λ x. int_lt (flat_incidence p q x (OfP v)) (pos 0)),
+        vertex_ends p v ps.none,
+        ps.ends v low,
+        count_never (λ (k : ℕ). false) (upto (length q)) (λ k. refl),
+      )
   below_once (OfQ v) low =
-      omega (arith, parts (λ x. int_lt (flat_incidence p q x (OfQ v)) (pos 0)), vertex_ends q v qs.none, qs.ends v low, count_never (λ (k : ℕ). false) (upto (length p)) (λ k. refl))
+      omega (
+        arith,
+        parts (λ x. int_lt (flat_incidence p q x (OfQ v)) (pos 0)),
+        vertex_ends q v qs.none,
+        qs.ends v low,
+        count_never (λ (k : ℕ). false) (upto (length p)) (λ k. refl),
+      )
   below_once (OfBoth i j) low =
       omega (
         arith,
@@ -139,14 +179,18 @@ module _ (p q : List (ℕ × ℕ)) (m n : ℕ) (ps : IsOnce p m) (qs : IsOnce q 
   below_turned (pos (suc k)) = sym (lt-ltb 0 (suc k) (omega arith))
   below_turned (negsuc k) = le-ltb (suc k) 0 (omega arith)
 
-  pub starts_once : (b : Bool) (o : FlatOrigin) → IsOfBoth p q m n o → count_by (λ x. int_lt (pos 0) (cond b (neg_ℤ (flat_incidence p q x o)) (flat_incidence p q x o))) (flat_lists p q) ≡ 1
+  pub starts_once : (b : Bool) (o : FlatOrigin) → IsOfBoth p q m n o →
+      count_by (λ x. int_lt (pos 0) (cond b (neg_ℤ (flat_incidence p q x o)) (flat_incidence p q x o))) (flat_lists p q) ≡ 1
   starts_once true o known =
-      count_same (λ x. int_lt (pos 0) (neg_ℤ (flat_incidence p q x o))) (λ x. int_lt (flat_incidence p q x o) (pos 0)) (flat_lists p q) (λ k d l. above_turned (flat_incidence p q (get_or (flat_lists p q) k d) o)) ∙ below_once o known
+      count_same (λ x. int_lt (pos 0) (neg_ℤ (flat_incidence p q x o))) (λ x. int_lt (flat_incidence p q x o) (pos 0))
+      (flat_lists p q) (λ k d l. above_turned (flat_incidence p q (get_or (flat_lists p q) k d) o)) ∙ below_once o known
   starts_once false o known = above_once o known
 
-  ends_once : (b : Bool) (o : FlatOrigin) → IsOfBoth p q m n o → count_by (λ x. int_lt (cond b (neg_ℤ (flat_incidence p q x o)) (flat_incidence p q x o)) (pos 0)) (flat_lists p q) ≡ 1
+  ends_once : (b : Bool) (o : FlatOrigin) → IsOfBoth p q m n o →
+      count_by (λ x. int_lt (cond b (neg_ℤ (flat_incidence p q x o)) (flat_incidence p q x o)) (pos 0)) (flat_lists p q) ≡ 1
   ends_once true o known =
-      count_same (λ x. int_lt (neg_ℤ (flat_incidence p q x o)) (pos 0)) (λ x. int_lt (pos 0) (flat_incidence p q x o)) (flat_lists p q) (λ k d l. below_turned (flat_incidence p q (get_or (flat_lists p q) k d) o)) ∙ above_once o known
+      count_same (λ x. int_lt (neg_ℤ (flat_incidence p q x o)) (pos 0)) (λ x. int_lt (pos 0) (flat_incidence p q x o))
+      (flat_lists p q) (λ k d l. below_turned (flat_incidence p q (get_or (flat_lists p q) k d) o)) ∙ above_once o known
   ends_once false o known = below_once o known
 
   pub stand_once : (cs : List FlatCopy) → All (λ c. IsOfBoth p q m n c.origin) cs → StandOnce (flat_standing p q cs) (length cs) (flat_lists p q)

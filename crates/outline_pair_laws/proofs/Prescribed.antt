@@ -51,16 +51,20 @@ module _ (t : FlatTests) (settle : ℤ → ℤ) (p q : FlatSide) where
 
   pub all_hits : All IsHit (flat_hits t.edge_edge settle p q)
   all_hits =
-      all_joined IsHit (flat_hits_along t.edge_edge settle p q) (upto (length p.edges)) (all_upto (λ i. All IsHit (flat_hits_along t.edge_edge settle p q i)) (length p.edges) (λ i il.
+      all_joined IsHit (flat_hits_along t.edge_edge settle p q) (upto (length p.edges))
+      (all_upto (λ i. All IsHit (flat_hits_along t.edge_edge settle p q i)) (length p.edges) (λ i il.
       all_kept IsHit (λ j. flat_hit settle i j (t.edge_edge (ends_of p (edge_at p i)) (ends_of q (edge_at q j)))) (upto (length q.edges))
-      (all_upto (λ j. IfSome (flat_hit settle i j (t.edge_edge (ends_of p (edge_at p i)) (ends_of q (edge_at q j)))) IsHit) (length q.edges) (λ j jl. one i j il jl (t.edge_edge (ends_of p (edge_at p i)) (ends_of q (edge_at q j))) refl))))
+      (all_upto (λ j. IfSome (flat_hit settle i j (t.edge_edge (ends_of p (edge_at p i)) (ends_of q (edge_at q j)))) IsHit)
+      (length q.edges) (λ j jl. one i j il jl (t.edge_edge (ends_of p (edge_at p i)) (ends_of q (edge_at q j))) refl))))
     where
-      one : (i j : ℕ) → i < length p.edges → j < length q.edges → (o : Option Meet) → t.edge_edge (ends_of p (edge_at p i)) (ends_of q (edge_at q j)) ≡ o → IfSome (flat_hit settle i j o) IsHit
+      one : (i j : ℕ) → i < length p.edges → j < length q.edges → (o : Option Meet) →
+          t.edge_edge (ends_of p (edge_at p i)) (ends_of q (edge_at q j)) ≡ o → IfSome (flat_hit settle i j o) IsHit
       one i j il jl None e = tt
       one i j il jl (Some m) e = record { on_p = il; on_q = jl; number = sym (ap count_of e); flat = refl }
 
   -- a hit's number, where it is on such an edge
-  hit_value : (i j : ℕ) (test : ℕ → ℕ → Bool) (o : Option Meet) → value_or_zero (λ (h : FlatHit). cond (test h.p_edge h.q_edge) h.number (pos 0)) (flat_hit settle i j o) ≡ cond (test i j) (count_of o) (pos 0)
+  hit_value : (i j : ℕ) (test : ℕ → ℕ → Bool) (o : Option Meet) →
+      value_or_zero (λ (h : FlatHit). cond (test h.p_edge h.q_edge) h.number (pos 0)) (flat_hit settle i j o) ≡ cond (test i j) (count_of o) (pos 0)
   hit_value i j test None = by (test i j) where
     by : (b : Bool) → pos 0 ≡ cond b (pos 0) (pos 0)
     by true = refl
@@ -72,27 +76,36 @@ module _ (t : FlatTests) (settle : ℤ → ℤ) (p q : FlatSide) where
       ≡ total (λ i. total (λ j. cond (test i j) (flat_number t p q (edge_at p i) (edge_at q j)) (pos 0)) (upto (length q.edges))) (upto (length p.edges))
   hits_sum test =
       total-flat_map (λ h. cond (test h.p_edge h.q_edge) h.number (pos 0)) (flat_hits_along t.edge_edge settle p q) (upto (length p.edges))
-      ∙ total-same (λ i. total (λ h. cond (test h.p_edge h.q_edge) h.number (pos 0)) (flat_hits_along t.edge_edge settle p q i)) (λ i. total (λ j. cond (test i j) (flat_number t p q (edge_at p i) (edge_at q j)) (pos 0)) (upto (length q.edges)))
-      (λ i. total-filter_map (λ (h : FlatHit). cond (test h.p_edge h.q_edge) h.number (pos 0)) (λ j. flat_hit settle i j (t.edge_edge (ends_of p (edge_at p i)) (ends_of q (edge_at q j)))) (upto (length q.edges))
-      ∙ total-same (λ j. value_or_zero (λ (h : FlatHit). cond (test h.p_edge h.q_edge) h.number (pos 0)) (flat_hit settle i j (t.edge_edge (ends_of p (edge_at p i)) (ends_of q (edge_at q j)))))
-      (λ j. cond (test i j) (flat_number t p q (edge_at p i) (edge_at q j)) (pos 0)) (λ j. hit_value i j test (t.edge_edge (ends_of p (edge_at p i)) (ends_of q (edge_at q j)))) (upto (length q.edges)))
+      ∙ total-same (λ i. total (λ h. cond (test h.p_edge h.q_edge) h.number (pos 0)) (flat_hits_along t.edge_edge settle p q i))
+      (λ i. total (λ j. cond (test i j) (flat_number t p q (edge_at p i) (edge_at q j)) (pos 0)) (upto (length q.edges)))
+      (λ i. total-filter_map (λ (h : FlatHit). cond (test h.p_edge h.q_edge) h.number (pos 0))
+      (λ j. flat_hit settle i j (t.edge_edge (ends_of p (edge_at p i)) (ends_of q (edge_at q j)))) (upto (length q.edges))
+      ∙ total-same (λ j. value_or_zero (λ (h : FlatHit). cond (test h.p_edge h.q_edge) h.number (pos 0))
+      (flat_hit settle i j (t.edge_edge (ends_of p (edge_at p i)) (ends_of q (edge_at q j)))))
+      (λ j. cond (test i j) (flat_number t p q (edge_at p i) (edge_at q j)) (pos 0))
+      (λ j. hit_value i j test (t.edge_edge (ends_of p (edge_at p i)) (ends_of q (edge_at q j)))) (upto (length q.edges)))
       (upto (length p.edges))
 
   -- the hits of an edge of P have the numbers of the edge with all of Q
-  pub hits_of_p : (k : ℕ) → k < length p.edges → total (λ h. cond (h.p_edge == k) h.number (pos 0)) (flat_hits t.edge_edge settle p q) ≡ total (flat_number t p q (edge_at p k)) q.edges
+  pub hits_of_p : (k : ℕ) → k < length p.edges →
+      total (λ h. cond (h.p_edge == k) h.number (pos 0)) (flat_hits t.edge_edge settle p q) ≡ total (flat_number t p q (edge_at p k)) q.edges
   hits_of_p k low =
       let row : ℕ → ℤ = λ i. total (λ j. flat_number t p q (edge_at p i) (edge_at q j)) (upto (length q.edges)) in
       hits_sum (λ i j. i == k)
-      ∙ total-same (λ i. total (λ j. cond (i == k) (flat_number t p q (edge_at p i) (edge_at q j)) (pos 0)) (upto (length q.edges))) (λ i. where_same i k (row i)) (λ i. by (i == k) i) (upto (length p.edges))
+      ∙ total-same (λ i. total (λ j. cond (i == k) (flat_number t p q (edge_at p i) (edge_at q j)) (pos 0)) (upto (length q.edges)))
+      (λ i. where_same i k (row i)) (λ i. by (i == k) i) (upto (length p.edges))
       ∙ one_hit_of row k (length p.edges) low ∙ sym (total-places (flat_number t p q (edge_at p k)) (0, 0) q.edges)
     where
-      by : (b : Bool) (i : ℕ) → total (λ j. cond b (flat_number t p q (edge_at p i) (edge_at q j)) (pos 0)) (upto (length q.edges)) ≡ cond b (total (λ j. flat_number t p q (edge_at p i) (edge_at q j)) (upto (length q.edges))) (pos 0)
+      by : (b : Bool) (i : ℕ) → total (λ j. cond b (flat_number t p q (edge_at p i) (edge_at q j)) (pos 0))
+          (upto (length q.edges)) ≡ cond b (total (λ j. flat_number t p q (edge_at p i) (edge_at q j)) (upto (length q.edges))) (pos 0)
       by true i = refl
       by false i = total-zero (upto (length q.edges))
 
-  pub hits_of_q : (k : ℕ) → k < length q.edges → total (λ h. cond (h.q_edge == k) h.number (pos 0)) (flat_hits t.edge_edge settle p q) ≡ total (λ e. flat_number t p q e (edge_at q k)) p.edges
+  pub hits_of_q : (k : ℕ) → k < length q.edges → total (λ h. cond (h.q_edge == k) h.number (pos 0))
+      (flat_hits t.edge_edge settle p q) ≡ total (λ e. flat_number t p q e (edge_at q k)) p.edges
   hits_of_q k low =
       hits_sum (λ i j. j == k)
-      ∙ total-same (λ i. total (λ j. cond (j == k) (flat_number t p q (edge_at p i) (edge_at q j)) (pos 0)) (upto (length q.edges))) (λ i. flat_number t p q (edge_at p i) (edge_at q k))
+      ∙ total-same (λ i. total (λ j. cond (j == k) (flat_number t p q (edge_at p i) (edge_at q j)) (pos 0)) (upto (length q.edges)))
+      (λ i. flat_number t p q (edge_at p i) (edge_at q k))
       (λ i. one_hit_of (λ j. flat_number t p q (edge_at p i) (edge_at q j)) k (length q.edges) low) (upto (length p.edges))
       ∙ sym (total-places (λ e. flat_number t p q e (edge_at q k)) (0, 0) p.edges)

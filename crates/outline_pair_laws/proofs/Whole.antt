@@ -39,7 +39,9 @@ zip_length (x ∷ xs) (y ∷ ys) e = omega (arith, zip_length xs ys (omega (arit
 pub p_corners : (op : Op) (o : Outline) → length (p_flat op o).corners ≡ length o.points
 p_corners op o =
     length-map (zip o.points (p_marks op o)) (λ m. corner_of m.0 m.1)
-    ∙ zip_length o.points (p_marks op o) (length-map (upto (length o.points)) (λ v. marks_between op (get_or o.points (before (outline_edges o) v) []) (get_or o.points (after (outline_edges o) v) [])) ∙ length-up_from 0 (length o.points))
+    ∙ zip_length o.points (p_marks op o)
+    (length-map (upto (length o.points)) (λ v. marks_between op (get_or o.points (before (outline_edges o) v) []) (get_or o.points (after (outline_edges o) v) []))
+    ∙ length-up_from 0 (length o.points))
 
 pub q_corners : (o : Outline) → length (q_flat o).corners ≡ length o.points
 q_corners o = length-map (zip o.points (q_marks o)) (λ m. corner_of m.0 m.1) ∙ zip_length o.points (q_marks o) (length-replicate (length o.points) (false ∷ false ∷ false ∷ []))
@@ -80,23 +82,30 @@ module _ (t : FlatTests) (settle : ℤ → ℤ) (op : Op) (p q : Outline) (p_is 
   cs = flat_copies op p q n
 
   -- what holds of a copy of each vertex and hit
-  of_all : (P : FlatCopy → Type 0) → ((v : ℕ) → v < length p.points → (z : ℤ) (at : List ℤ) → z ≡ constant op 0 +ℤ constant op 2 *ℤ get_or n.w02 v (pos 0) → P (copy_from (record { origin = OfP v; number = z; point = at })))
-      → ((v : ℕ) → v < length q.points → (z : ℤ) (at : List ℤ) → z ≡ constant op 1 +ℤ constant op 2 *ℤ get_or n.w20 v (pos 0) → P (copy_from (record { origin = OfQ v; number = z; point = at })))
+  of_all : (P : FlatCopy → Type 0) →
+      ((v : ℕ) → v < length p.points → (z : ℤ) (at : List ℤ) → z ≡ constant op 0 +ℤ constant op 2 *ℤ get_or n.w02 v (pos 0) →
+      P (copy_from (record { origin = OfP v; number = z; point = at })))
+      → ((v : ℕ) → v < length q.points → (z : ℤ) (at : List ℤ) → z ≡ constant op 1 +ℤ constant op 2 *ℤ get_or n.w20 v (pos 0) →
+      P (copy_from (record { origin = OfQ v; number = z; point = at })))
       → ((h : FlatHit) → IsHit t settle ps qs h → P (copy_from (record { origin = OfBoth h.p_edge h.q_edge; number = constant op 2 *ℤ h.number; point = h.at }))) → All P cs
   of_all P on_p on_q on_hit =
       let R : FlatIncluded → Type 0 = λ i. P (copy_from i) in
       all_copies P (p_included op p n ++ (q_included op q n ++ hits_included op n))
       (All-append R (p_included op p n) (q_included op q n ++ hits_included op n)
       (All-map R (λ v. record { origin = OfP v; number = constant op 0 +ℤ constant op 2 *ℤ get_or n.w02 v (pos 0); point = get_or p.points v [] }) (upto (length p.points))
-      (all_upto (λ v. R (record { origin = OfP v; number = constant op 0 +ℤ constant op 2 *ℤ get_or n.w02 v (pos 0); point = get_or p.points v [] })) (length p.points) (λ v low. on_p v low (constant op 0 +ℤ constant op 2 *ℤ get_or n.w02 v (pos 0)) (get_or p.points v []) refl)))
+      (all_upto (λ v. R (record { origin = OfP v; number = constant op 0 +ℤ constant op 2 *ℤ get_or n.w02 v (pos 0); point = get_or p.points v [] }))
+      (length p.points) (λ v low. on_p v low (constant op 0 +ℤ constant op 2 *ℤ get_or n.w02 v (pos 0)) (get_or p.points v []) refl)))
       (All-append R (q_included op q n) (hits_included op n)
       (All-map R (λ v. record { origin = OfQ v; number = constant op 1 +ℤ constant op 2 *ℤ get_or n.w20 v (pos 0); point = get_or q.points v [] }) (upto (length q.points))
-      (all_upto (λ v. R (record { origin = OfQ v; number = constant op 1 +ℤ constant op 2 *ℤ get_or n.w20 v (pos 0); point = get_or q.points v [] })) (length q.points) (λ v low. on_q v low (constant op 1 +ℤ constant op 2 *ℤ get_or n.w20 v (pos 0)) (get_or q.points v []) refl)))
+      (all_upto (λ v. R (record { origin = OfQ v; number = constant op 1 +ℤ constant op 2 *ℤ get_or n.w20 v (pos 0); point = get_or q.points v [] }))
+      (length q.points) (λ v low. on_q v low (constant op 1 +ℤ constant op 2 *ℤ get_or n.w20 v (pos 0)) (get_or q.points v []) refl)))
       (All-map R (λ (h : FlatHit). record { origin = OfBoth h.p_edge h.q_edge; number = constant op 2 *ℤ h.number; point = h.at }) n.hits
-      (All-weaker (IsHit t settle ps qs) (λ h. R (record { origin = OfBoth h.p_edge h.q_edge; number = constant op 2 *ℤ h.number; point = h.at })) on_hit n.hits (all_hits t settle ps qs)))))
+      (All-weaker (IsHit t settle ps qs) (λ h. R (record { origin = OfBoth h.p_edge h.q_edge; number = constant op 2 *ℤ h.number; point = h.at }))
+      on_hit n.hits (all_hits t settle ps qs)))))
 
   known : All (λ c. IsOfBoth (outline_edges p) (outline_edges q) (length p.points) (length q.points) c.origin) cs
-  known = of_all (λ c. IsOfBoth (outline_edges p) (outline_edges q) (length p.points) (length q.points) c.origin) (λ v low z at e. low) (λ v low z at e. low) (λ h is. (is.on_p, is.on_q))
+  known = of_all (λ c. IsOfBoth (outline_edges p) (outline_edges q) (length p.points) (length q.points) c.origin)
+      (λ v low z at e. low) (λ v low z at e. low) (λ h is. (is.on_p, is.on_q))
 
   -- the number of what a copy is a copy of
   number_of : FlatOrigin → ℤ
@@ -109,7 +118,8 @@ module _ (t : FlatTests) (settle : ℤ → ℤ) (op : Op) (p q : Outline) (p_is 
 
   signed : All (λ c. c.negative ≡ sign_of c.origin) cs
   unfolding sign_of number_of
-  signed = of_all (λ c. c.negative ≡ sign_of c.origin) (λ v low z at e. ap (λ i. int_lt i (pos 0)) e) (λ v low z at e. ap (λ i. int_lt i (pos 0)) e) (λ h is. ap (λ i. int_lt (constant op 2 *ℤ i) (pos 0)) is.number)
+  signed = of_all (λ c. c.negative ≡ sign_of c.origin) (λ v low z at e. ap (λ i. int_lt i (pos 0)) e)
+      (λ v low z at e. ap (λ i. int_lt i (pos 0)) e) (λ h is. ap (λ i. int_lt (constant op 2 *ℤ i) (pos 0)) is.number)
 
   pub loops_whole : All (λ loop. 3 ≤ length loop) (cycles (flat_segments p q cs))
   loops_whole = outline_loops_long p q cs p_is q_is known (record { sign = sign_of; signed = signed }) (are_even op p q n conserved (edge_ends p p_is) (edge_ends q q_is))
@@ -123,5 +133,6 @@ module _ (t : FlatTests) (settle : ℤ → ℤ) (op : Op) (p q : Outline) (p_is 
       let fs = outline_edges q in
       let one = outline_once p p_is in
       let two = outline_once q q_is in
-      each_once (flat_standing es fs cs) (flat_key p q cs) (length cs) (flat_lists es fs) (are_even op p q n conserved (edge_ends p p_is) (edge_ends q q_is)) (stand_once es fs (length p.points) (length q.points) one two cs known)
+      each_once (flat_standing es fs cs) (flat_key p q cs) (length cs) (flat_lists es fs)
+      (are_even op p q n conserved (edge_ends p p_is) (edge_ends q q_is)) (stand_once es fs (length p.points) (length q.points) one two cs known)
       (λ v low. let c = get_or cs v no_flat_copy in starts_once es fs (length p.points) (length q.points) one two c.negative c.origin (known v no_flat_copy low))

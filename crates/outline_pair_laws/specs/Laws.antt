@@ -31,7 +31,8 @@ EdgesConserveBack = (t : FlatTests) (p q : FlatSide) (loops : List (List ℕ)) �
 -- where no edge has one that runs back, and copies of one thing have one sign, no two copies stand in two lists the one as the
 -- other does not
 abbrev pub CopiesAreNotExchanged : Type 0
-CopiesAreNotExchanged = (p q : List (ℕ × ℕ)) (cs : List FlatCopy) (sign : FlatOrigin → Bool) → ((v w : ℕ) → Contains p (v, w) → Contains p (w, v) → ⊥) → ((v w : ℕ) → Contains q (v, w) → Contains q (w, v) → ⊥) →
+CopiesAreNotExchanged = (p q : List (ℕ × ℕ)) (cs : List FlatCopy) (sign : FlatOrigin → Bool) →
+    ((v w : ℕ) → Contains p (v, w) → Contains p (w, v) → ⊥) → ((v w : ℕ) → Contains q (v, w) → Contains q (w, v) → ⊥) →
     All (λ c. c.negative ≡ sign c.origin) cs → NoneExchanged (flat_standing p q cs) (length cs) (flat_lists p q)
 
 -- what copies are copies of, in outlines with such edges and so many vertices
@@ -43,8 +44,10 @@ IsOfBoth p q m n (OfBoth i j) = (i < length p) × (j < length q)
 -- where each list of edges has as many starts as ends, and copies of one thing have one sign, the segments of two outlines form
 -- loops, each of three vertices or more
 abbrev pub OutlineLoopsAreLong : Type 0
-OutlineLoopsAreLong = (p q : Outline) (cs : List FlatCopy) (sign : FlatOrigin → Bool) → IsOutline p → IsOutline q → All (λ c. IsOfBoth (outline_edges p) (outline_edges q) (length p.points) (length q.points) c.origin) cs → All (λ c. c.negative ≡ sign c.origin) cs →
-    AreEven (flat_standing (outline_edges p) (outline_edges q) cs) (length cs) (flat_lists (outline_edges p) (outline_edges q)) → IsOneToOne (flat_segments p q cs) × All (λ loop. 3 ≤ length loop) (cycles (flat_segments p q cs))
+OutlineLoopsAreLong = (p q : Outline) (cs : List FlatCopy) (sign : FlatOrigin → Bool) → IsOutline p → IsOutline q →
+    All (λ c. IsOfBoth (outline_edges p) (outline_edges q) (length p.points) (length q.points) c.origin) cs → All (λ c. c.negative ≡ sign c.origin) cs →
+    AreEven (flat_standing (outline_edges p) (outline_edges q) cs) (length cs) (flat_lists (outline_edges p) (outline_edges q)) →
+    IsOneToOne (flat_segments p q cs) × All (λ loop. 3 ≤ length loop) (cycles (flat_segments p q cs))
 
 -- an operation on two outlines, whatever the tests answer that keep the lift: winding numbers and hits agree along the edges, and
 -- the segments form loops, each of three vertices or more, and every copy is in exactly one
@@ -52,7 +55,9 @@ pub record GivesLoops (t : FlatTests) (settle : ℤ → ℤ) (op : Op) (p q : Ou
   pub conserved : AreConserved (outline_edges p) (outline_edges q) (flat_numbers t settle (p_flat op p) (q_flat q))
   pub once : IsOneToOne (flat_segments p q (flat_copies op p q (flat_numbers t settle (p_flat op p) (q_flat q))))
   pub long : All (λ loop. 3 ≤ length loop) (cycles (flat_segments p q (flat_copies op p q (flat_numbers t settle (p_flat op p) (q_flat q)))))
-  pub each : IsPermutation (upto (length (flat_copies op p q (flat_numbers t settle (p_flat op p) (q_flat q))))) (concat (cycles (flat_segments p q (flat_copies op p q (flat_numbers t settle (p_flat op p) (q_flat q))))))
+  pub each : IsPermutation (upto (length (flat_copies op p q (flat_numbers t settle (p_flat op p) (q_flat q)))))
+      (concat (cycles (flat_segments p q (flat_copies op p q (flat_numbers t settle (p_flat op p) (q_flat q))))))
 
 abbrev pub OperationsGiveLoops : Type 0
-OperationsGiveLoops = (t : FlatTests) (settle : ℤ → ℤ) (op : Op) (p q : Outline) → IsOutline p → IsOutline q → LiftEdges t (p_flat op p).corners (q_flat q).corners → GivesLoops t settle op p q
+OperationsGiveLoops = (t : FlatTests) (settle : ℤ → ℤ) (op : Op) (p q : Outline) → IsOutline p →
+    IsOutline q → LiftEdges t (p_flat op p).corners (q_flat q).corners → GivesLoops t settle op p q

@@ -91,8 +91,10 @@ flat_lists p q = map EdgeP (upto (length p)) ++ map EdgeQ (upto (length q))
 
 -- how far along the edge of a list a copy lies, from the edge's start
 abbrev pub flat_key : Outline → Outline → List FlatCopy → FlatList → ℕ → ℤ
-flat_key p q cs (EdgeP k) v = let es = outline_edges p in scalar_product (step (get_or p.points (start es k) []) (get_or p.points (finish es k) [])) (get_or cs v no_flat_copy).point
-flat_key p q cs (EdgeQ k) v = let es = outline_edges q in scalar_product (step (get_or q.points (start es k) []) (get_or q.points (finish es k) [])) (get_or cs v no_flat_copy).point
+flat_key p q cs (EdgeP k) v = let es
+    = outline_edges p in scalar_product (step (get_or p.points (start es k) []) (get_or p.points (finish es k) [])) (get_or cs v no_flat_copy).point
+flat_key p q cs (EdgeQ k) v = let es
+    = outline_edges q in scalar_product (step (get_or q.points (start es k) []) (get_or q.points (finish es k) [])) (get_or cs v no_flat_copy).point
 
 -- the segments of all lists
 abbrev pub flat_segments : Outline → Outline → List FlatCopy → List (ℕ × ℕ)

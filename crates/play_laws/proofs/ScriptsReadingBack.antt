@@ -1,9 +1,9 @@
 -- What a script writes is read again.
-use Rattle.std.proofs.Common.{◌≡◌, ◌≤◌, ℕ, Bool, true, false, List, [], Some, None, Ok, Err, refl, subst}
-use Rattle.std.specs.Prelude.{nat_lt, bytes_eq, if◌then◌else◌, Option}
+use Rattle.std.proofs.Common.{◌≡◌, ◌≤◌, ℕ, ℤ, min, Bool, true, false, List, [], Some, None, Ok, Err, refl, subst}
+use Rattle.std.specs.Prelude.{nat_lt, bytes_eq, if◌then◌else◌, None, Option, Result}
 use Rattle.std.proofs.lemmas.List.Elements.{All-nil, All-cons}
 use Rattle.made_terms.specs.Refusals.{MadeFault}
-use Rattle.mesh_terms.specs.Faults.{Halfedges}
+use Rattle.mesh_terms.specs.Faults.{Halfedges, Points, Fault, Bad, Over}
 use Rattle.mesh_terms.specs.Limits.{Limits, IsLawful}
 use Rattle.mesh_terms.specs.Meshes.{Mesh}
 use Rattle.mb_base.specs.declared.kernel_kind.KernelKind.{KernelKind}
@@ -17,22 +17,28 @@ use Rattle.play_terms.specs.Commands.{ask_file, ask_mesh, say_line, write_mesh}
 use Rattle.play_terms.specs.Formats.{mesh_text}
 use Rattle.play_terms.specs.ReadingBack.{IsReadable, WritesReadable}
 use Rattle.play_laws.proofs.ReadingBack.{mesh_asked, read_again}
-use Rattle.play_terms.specs.Combined.{Combined}
-use Rattle.play_terms.specs.ScriptLines.{load_line, save_line, measure_line, combine_line, tidy_line}
+use Rattle.play_terms.specs.Combined.{Combined, Combined2, Extruded}
+use Rattle.play_terms.specs.ScriptLines.{load_line, save_line, measure_line, combine_line, tidy_line, combine2_line, extrude_line}
 use Rattle.made_terms.specs.Making.{solid_fault, solid_mesh}
 use Rattle.made_terms.specs.Motions.{motion_fault, moved_mesh}
 use Rattle.made_terms.specs.declared.motion.Motion.{Motion}
 use Rattle.made_terms.specs.declared.solid.Solid.{Solid}
-use Rattle.play_terms.specs.Plays.{Meanings, Named, with_name, mesh_at, mesh_or_none, within, made, load_task, save_task, measure_task, combine_task}
+use Rattle.play_terms.specs.Plays.{Held, Meanings, Named, OfMesh, OfOutline, with_held, with_name, with_outline, mesh_at, mesh_held, mesh_or_none, outline_at, outline_held, outline_or_none, within, made}
+use Rattle.play_terms.specs.Plays.{load_task, save_task, measure_task, combine_task, polygon_task, combine2_task, extrude_task, extruded, extrusion_fault, vertex_count, within2}
 use Rattle.play_terms.specs.Plays.{State, at_first, line_task, make_task, move_task, script_checked, script_task, state_after, step_task, steps_task, tidy_task}
 use Rattle.play_terms.specs.Scripts.{script}
-use Rattle.play_terms.specs.Steps.{Line, Step, Load, Save, Measure, Combine, Make, Move, Tidy, Exact}
+use Rattle.play_terms.specs.Steps.{Line, Step, Load, Save, Measure, Combine, Make, Move, Tidy, Polygon, Combine2, Extrude, Exact}
+use Rattle.play_terms.specs.Sound.{HasPlaces, HavePlaces, IsRing}
+use Rattle.play_terms.proofs.Soundness.{script_sound, sound_places}
+use Rattle.mesh_terms.specs.Points.{IsOnGrid}
+use Rattle.outline_terms.specs.Outlines.{Outline, most_vertices, ring_of}
+use Rattle.play_laws.proofs.Outlined.{empty_outline, ring_given}
 use Rattle.tidy_terms.specs.Tidy.{tidied, tidy_mesh}
 use Rattle.made_laws.proofs.Motions.{moved_within}
 use Rattle.made_laws.proofs.Solids.{solid_given}
 use Rattle.obj_laws.specs.Within.{IsWithin}
 use Rattle.stl_laws.proofs.SavedMeshes.{meshes_read_welded}
-use Rattle.play_laws.specs.ScriptsReadingBack.{IsReadOfTexts, KeepsMeshes, MeshReadable, NamesReadable, ResultsReadable, soup_of_mesh}
+use Rattle.play_laws.specs.ScriptsReadingBack.{IsGivenOutline, IsReadOfTexts, KeepsMeshes, MeshReadable, NamesReadable, ResultsReadable, soup_of_mesh}
 use Rattle.play_laws.proofs.KeepingInOrder.{keeps_value, keeps_in_order}
 use Rattle.play_laws.proofs.Readable.{readable_within, within_of_readable}
 use Rattle.play_laws.proofs.Tidied.{tidied_given, tidied_is_tidy}
@@ -46,10 +52,30 @@ taken_within limits o a e = by_limit (nat_lt limits.halfedges o.halfedges) refl 
     by_limit true past e = absurd (cc)
     by_limit false is e = (cc, is)
 
+-- lines that were not refused are those of the script
+lines_checked : (name : Bytes) (r : Result (List Line) Fault) (lines : List Line) → script_checked name r ≡ Ok lines → r ≡ Ok lines
+lines_checked name (Err (Bad line kind)) lines is = absurd (cc)
+lines_checked name (Err (Over what seen)) lines is = absurd (cc)
+lines_checked name (Ok lines) more is = cc
+
 -- what was made is what was asked for, and was not refused
 taken_made : (script : Bytes) (line : ℕ) (fault : Option MadeFault) (m n : Mesh) → made script line fault m ≡ Ok n → (fault ≡ None) × (m ≡ n)
 taken_made script line None m n is = (refl, cc)
 taken_made script line (Some fault) m n is = cc
+
+-- the same of an outline
+taken_within2 : (limits : Limits) (o a : Combined2) → within2 limits o ≡ Ok a → (o ≡ a) × (nat_lt (min limits.points most_vertices) (vertex_count o) ≡ false)
+taken_within2 limits o a e = by_limit (nat_lt (min limits.points most_vertices) (vertex_count o)) refl e
+  where
+    by_limit : (b : Bool) → nat_lt (min limits.points most_vertices) (vertex_count o) ≡ b → (if b then Err (PastLimit Points (vertex_count o)) else Ok o) ≡ Ok a →
+        (o ≡ a) × (nat_lt (min limits.points most_vertices) (vertex_count o) ≡ false)
+    by_limit true past e = absurd (cc)
+    by_limit false is e = (cc, is)
+
+-- and of a solid of one
+taken_extruded : (script : Bytes) (line : ℕ) (fault : Option MadeFault) (e a : Extruded) → extruded script line fault e ≡ Ok a → (fault ≡ None) × (e ≡ a)
+taken_extruded script line None e a is = (refl, cc)
+taken_extruded script line (Some fault) e a is = cc
 
 module _ (means : KernelKind → Meanings) (k : ℕ) (limits : Limits) (few : k ≤ 6) (lawful : IsLawful limits)
     (results : (kernels : KernelKind) → ResultsReadable (means kernels) k limits) where
@@ -71,13 +97,26 @@ module _ (means : KernelKind → Meanings) (k : ℕ) (limits : Limits) (few : k 
   empty_readable : MeshReadable k limits (record { points = []; triples = []; labels = [] })
   empty_readable = read_again k limits [] [] (soup_of_mesh (record { points = []; triples = []; labels = [] })) few lawful refl
 
-  -- a name more has such a mesh
-  named_more : (name : Bytes) (m : Mesh) (named : Named) → Names named → MeshReadable k limits m → Names (with_name name m named)
-  named_more name m named all more n = by_name (bytes_eq n name)
+  -- a name more holds something such
+  held_more : (name : Bytes) (h : Held) (named : Named) → Names named →
+      MeshReadable k limits (mesh_or_none (mesh_held (Some h))) → IsGivenOutline (outline_or_none (outline_held (Some h)))
+      → Names (with_held name h named)
+  held_more name h named all mesh outline = record { meshes = λ n. by_mesh n (bytes_eq n name); outlines = λ n. by_outline n (bytes_eq n name) }
     where
-      by_name : (b : Bool) → MeshReadable k limits (mesh_or_none (if b then Some m else named n))
-      by_name true = more
-      by_name false = all n
+      by_mesh : (n : Bytes) (b : Bool) → MeshReadable k limits (mesh_or_none (mesh_held (if b then Some h else named n)))
+      by_mesh n true = mesh
+      by_mesh n false = all.meshes n
+
+      by_outline : (n : Bytes) (b : Bool) → IsGivenOutline (outline_or_none (outline_held (if b then Some h else named n)))
+      by_outline n true = outline
+      by_outline n false = all.outlines n
+
+  -- a mesh, or an outline
+  named_more : (name : Bytes) (m : Mesh) (named : Named) → Names named → MeshReadable k limits m → Names (with_name name m named)
+  named_more name m named all more = held_more name (OfMesh m) named all more empty_outline
+
+  outlined_more : (name : Bytes) (o : Outline) (named : Named) → Names named → IsGivenOutline o → Names (with_outline name o named)
+  outlined_more name o named all more = held_more name (OfOutline o) named all empty_readable more
 
   -- a line is said, and the names are these
   told : (line : Bytes) (named : Named) → Names named → Keeps Writes Names (then_task (say_line line) (λ _. give (Ok named)))
@@ -110,7 +149,8 @@ module _ (means : KernelKind → Meanings) (k : ℕ) (limits : Limits) (few : k 
       let R : Combined → Type 0 = λ a. MeshReadable k limits a.mesh in
       keeps_then Writes R Names (give (within limits o)) (λ a. then_task (say_line (combine_line op name left right a)) (λ _. give (Ok (with_name name a.mesh named))))
       (keeps_give Writes R (within limits o)
-      (λ a is. let taken = taken_within limits o a is in subst R taken.0 (results kernels op (mesh_at named left) (mesh_at named right) (all left) (all right) taken.1)))
+      (λ a is. let taken = taken_within limits o a is in subst R taken.0
+      ((results kernels).meshes op (mesh_at named left) (mesh_at named right) (all.meshes left) (all.meshes right) taken.1)))
       (λ a more. told_and_named (combine_line op name left right a) name a.mesh named all more)
 
   -- a name more has what is made, where that is not refused
@@ -134,37 +174,68 @@ module _ (means : KernelKind → Meanings) (k : ℕ) (limits : Limits) (few : k 
   move_keeps script line name old motion named all =
       let m = mesh_at named old in
       made_and_named script line name (motion_fault motion m.points) (moved_mesh motion m) named all
-      (λ none. readable_within k limits (moved_mesh motion m) few lawful (moved_within limits motion m (within_of_readable k limits m lawful (all old)) none))
+      (λ none. readable_within k limits (moved_mesh motion m) few lawful (moved_within limits motion m (within_of_readable k limits m lawful (all.meshes old)) none))
 
   tidy_keeps : (name old : Bytes) (m : Mesh) (named : Named) → Names named → MeshReadable k limits m → Keeps Writes Names (tidy_task name old m named)
   tidy_keeps name old m named all such =
       told_and_named (tidy_line name old (tidied m.points m.triples m.labels).collapses) name (tidy_mesh m) named all
       (readable_within k limits (tidy_mesh m) few lawful (tidied_given limits m (within_of_readable k limits m lawful such)))
 
-  step_keeps : (kernels : KernelKind) (script : Bytes) (line : ℕ) (step : Step) (named : Named) → Names named →
+  polygon_keeps : (name : Bytes) (ring : List (List ℤ)) (named : Named) → IsRing ring → Names named → Keeps Writes Names (polygon_task name ring named)
+  polygon_keeps name ring named such all = keeps_value Writes Names (with_outline name (ring_of ring) named) (outlined_more name (ring_of ring) named all (ring_given ring such))
+
+  combine2_keeps : (kernels : KernelKind) (op : Op) (name left right : Bytes) (named : Named) → Names named →
+      Keeps Writes Names (combine2_task (means kernels) limits op name left right named)
+  combine2_keeps kernels op name left right named all =
+      let p = outline_at named left in
+      let q = outline_at named right in
+      let o = (means kernels).outlines op p q in
+      let R : Combined2 → Type 0 = λ a. IsGivenOutline a.outline in
+      keeps_then Writes R Names (give (within2 limits o)) (λ a. then_task (say_line (combine2_line op name left right a)) (λ _. give (Ok (with_outline name a.outline named))))
+      (keeps_give Writes R (within2 limits o)
+      (λ a is. let taken = taken_within2 limits o a is in subst R taken.0 ((results kernels).outlines op p q (all.outlines left) (all.outlines right) taken.1)))
+      (λ a more. told (combine2_line op name left right a) (with_outline name a.outline named) (outlined_more name a.outline named all more))
+
+  extrude_keeps : (kernels : KernelKind) (script : Bytes) (line : ℕ) (name old : Bytes) (low high : ℤ) (named : Named) → IsOnGrid low × IsOnGrid high → Names named →
+      Keeps Writes Names (extrude_task (means kernels) limits script line name old low high named)
+  extrude_keeps kernels script line name old low high named such all =
+      let o = outline_at named old in
+      let e = (means kernels).extrusion o low high in
+      let fault = extrusion_fault limits low high e.mesh in
+      let R : Extruded → Type 0 = λ a. MeshReadable k limits a.mesh in
+      keeps_then Writes R Names (give (extruded script line fault e)) (λ a. then_task (say_line (extrude_line name old a.forced)) (λ _. give (Ok (with_name name a.mesh named))))
+      (keeps_give Writes R (extruded script line fault e)
+      (λ a is. let taken = taken_extruded script line fault e a is in subst R taken.1 ((results kernels).solids o low high (all.outlines old) such.0 such.1 taken.0)))
+      (λ a more. told_and_named (extrude_line name old a.forced) name a.mesh named all more)
+
+  step_keeps : (kernels : KernelKind) (script : Bytes) (line : ℕ) (step : Step) (named : Named) → HasPlaces step → Names named →
       Keeps Writes Names (step_task (means kernels) k limits script line step named)
-  step_keeps kernels script line (Load name file) named all = load_keeps name file named all
-  step_keeps kernels script line (Save name file) named all = save_keeps name file (mesh_at named name) named all (all name)
-  step_keeps kernels script line (Measure name) named all = measure_keeps name (mesh_at named name) named all
-  step_keeps kernels script line (Combine op name left right) named all = combine_keeps kernels op name left right named all
-  step_keeps kernels script line (Make name solid) named all = make_keeps script line name solid named all
-  step_keeps kernels script line (Move name old motion) named all = move_keeps script line name old motion named all
-  step_keeps kernels script line (Tidy name old) named all = tidy_keeps name old (mesh_at named old) named all (all old)
-  step_keeps kernels script line Exact named all = keeps_value Writes Names named all
+  step_keeps kernels script line (Load name file) named places all = load_keeps name file named all
+  step_keeps kernels script line (Save name file) named places all = save_keeps name file (mesh_at named name) named all (all.meshes name)
+  step_keeps kernels script line (Measure name) named places all = measure_keeps name (mesh_at named name) named all
+  step_keeps kernels script line (Combine op name left right) named places all = combine_keeps kernels op name left right named all
+  step_keeps kernels script line (Make name solid) named places all = make_keeps script line name solid named all
+  step_keeps kernels script line (Move name old motion) named places all = move_keeps script line name old motion named all
+  step_keeps kernels script line (Tidy name old) named places all = tidy_keeps name old (mesh_at named old) named all (all.meshes old)
+  step_keeps kernels script line (Polygon name ring) named places all = polygon_keeps name ring named places all
+  step_keeps kernels script line (Combine2 op name left right) named places all = combine2_keeps kernels op name left right named all
+  step_keeps kernels script line (Extrude name old low high) named places all = extrude_keeps kernels script line name old low high named places all
+  step_keeps kernels script line Exact named places all = keeps_value Writes Names named all
 
   abbrev Known : State → Type 0
   Known state = Names state.named
 
   -- a line, under the kernels of the state before it
-  line_keeps : (script : Bytes) (l : Line) (state : State) → Known state → Keeps Writes Known (line_task means k limits script l state)
-  line_keeps script l state all =
+  line_keeps : (script : Bytes) (l : Line) (state : State) → HasPlaces l.1 → Known state → Keeps Writes Known (line_task means k limits script l state)
+  line_keeps script l state places all =
       keeps_then Writes Names Known (step_task (means state.kernels) k limits script l.0 l.1 state.named) (λ named. give (Ok (state_after l.1 state named)))
-      (step_keeps state.kernels script l.0 l.1 state.named all) (λ named such. keeps_value Writes Known (state_after l.1 state named) such)
+      (step_keeps state.kernels script l.0 l.1 state.named places all) (λ named such. keeps_value Writes Known (state_after l.1 state named) such)
 
   -- whatever lines are done, each name has a mesh that is read where it is written
-  pub steps_keep : (script : Bytes) (lines : List Line) → Keeps Writes Known (steps_task means k limits script lines at_first)
-  steps_keep script lines =
-      keeps_in_order Writes Known (line_task means k limits script) lines at_first (line_keeps script) (λ name. empty_readable)
+  pub steps_keep : (script : Bytes) (lines : List Line) → HavePlaces lines → Keeps Writes Known (steps_task means k limits script lines at_first)
+  steps_keep script lines places =
+      keeps_in_order Writes Known (λ l. HasPlaces l.1) (line_task means k limits script) lines at_first (line_keeps script) places
+      (record { meshes = λ name. empty_readable; outlines = λ name. empty_outline })
 
   -- a mesh that is read of its OBJ text is read of its STL text, welded
   read_of_texts : (m : Mesh) → MeshReadable k limits m → IsReadOfTexts k limits m
@@ -177,9 +248,11 @@ module _ (means : KernelKind → Meanings) (k : ℕ) (limits : Limits) (few : k 
   -- so is the mesh of each name, whatever lines are done, and a line that saves it writes its text
   pub meshes_kept : (script : Bytes) → KeepsMeshes means k limits script
   meshes_kept script = record {
-    names = λ files lines state is name. read_of_texts (mesh_at state.named name) ((steps_keep script lines).value files state is name);
-    tidies = λ files lines state is name.
-        let m = mesh_at state.named name in tidied_is_tidy limits m (within_of_readable k limits m lawful ((steps_keep script lines).value files state is name));
+    places = λ text lines is. sound_places [] lines (script_sound k text lines is);
+    names = λ files lines state places is name. read_of_texts (mesh_at state.named name) (((steps_keep script lines places).value files state is).meshes name);
+    outlines = λ files lines state places is name. ((steps_keep script lines places).value files state is).outlines name;
+    tidies = λ files lines state places is name.
+        let m = mesh_at state.named name in tidied_is_tidy limits m (within_of_readable k limits m lawful (((steps_keep script lines places).value files state is).meshes name));
     saves = λ state line name file files. refl;
   }
 
@@ -189,8 +262,9 @@ module _ (means : KernelKind → Meanings) (k : ℕ) (limits : Limits) (few : k 
       keeps_then Writes (λ _. Unit {0}) (λ _. Unit {0}) (ask_file limits name)
       (λ bytes. then_task (give (script_checked name (script k bytes))) (λ lines. then_task (steps_task means k limits name lines at_first) (λ _. give (Ok tt))))
       (asked name)
-      (λ bytes _. keeps_then Writes (λ _. Unit {0}) (λ _. Unit {0}) (give (script_checked name (script k bytes)))
+      (λ bytes _. keeps_then Writes HavePlaces (λ _. Unit {0}) (give (script_checked name (script k bytes)))
       (λ lines. then_task (steps_task means k limits name lines at_first) (λ _. give (Ok tt)))
-      (keeps_give Writes (λ _. Unit {0}) (script_checked name (script k bytes)) (λ lines is. tt))
-      (λ lines _. keeps_then Writes Known (λ _. Unit {0}) (steps_task means k limits name lines at_first) (λ _. give (Ok tt)) (steps_keep name lines)
+      (keeps_give Writes HavePlaces (script_checked name (script k bytes))
+      (λ lines is. sound_places [] lines (script_sound k bytes lines (lines_checked name (script k bytes) lines is))))
+      (λ lines places. keeps_then Writes Known (λ _. Unit {0}) (steps_task means k limits name lines at_first) (λ _. give (Ok tt)) (steps_keep name lines places)
       (λ state all. keeps_value Writes (λ _. Unit {0}) tt tt)))

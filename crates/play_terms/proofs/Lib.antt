@@ -1,4 +1,5 @@
 mod Endings
+pub mod GivenKinds
 mod PlayRows
 mod ProgramRows
 mod Rows

@@ -8,6 +8,7 @@ use Rattle.mesh_terms.specs.Limits.{Limits}
 use Rattle.mesh_terms.specs.Meshes.{Mesh}
 use Rattle.obj_terms.specs.Written.{obj_text}
 use Rattle.text_terms.specs.Written.{line_of}
+use Rattle.outline_terms.specs.Extrusion.{extruded_points}
 use Rattle.run_terms.specs.Files.{Bytes, Files, put}
 use Rattle.run_terms.specs.Runs.{Action, Ask, Write, Say}
 use Rattle.run_terms.specs.Tasks.{Part}
@@ -65,7 +66,11 @@ tabled p q =
     else record { mesh = record { points = []; triples = []; labels = [] }; p_kept = 0; q_kept = 0; crossings = 0; forced = 0; halfedges = 0 }
 
 abbrev table : KernelKind → Meanings
-table kernels = record { operation = λ op p q. tabled p q }
+table kernels = record {
+  operation = λ op p q. tabled p q;
+  outlines = λ op p q. record { outline = p; p_kept = 0; q_kept = 0; crossings = 0 };
+  extrusion = λ o low high. record { mesh = record { points = []; triples = []; labels = [] }; forced = 0 };
+}
 
 -- a script beside the cube and the box
 abbrev beside : Bytes → Files
@@ -161,7 +166,12 @@ told_kept Exact n = 0
 
 -- an operation that gives its first mesh
 abbrev first : KernelKind → Meanings
-first kernels = record { operation = λ op p q. record { mesh = p; p_kept = told_kept kernels (length p.points); q_kept = 0; crossings = 0; forced = 0; halfedges = 36 } }
+first kernels = record {
+  operation = λ op p q. record { mesh = p; p_kept = told_kept kernels (length p.points); q_kept = 0; crossings = 0; forced = 0; halfedges = 36 };
+  outlines = λ op p q. record { outline = p; p_kept = told_kept kernels (length p.points); q_kept = 1; crossings = 2 };
+  extrusion
+      = λ o low high. record { mesh = record { points = extruded_points low high o.points; triples = []; labels = [] }; forced = 3 };
+}
 
 -- a script that asks for no file
 abbrev alone : Limits → Bytes → Part (Unit {0})

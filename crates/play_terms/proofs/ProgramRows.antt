@@ -44,7 +44,11 @@ plain_cube = codes "v 0 0 0\nv 10 0 0\nv 0 10 0\nv 10 10 0\nv 0 0 10\nv 10 0 10\
 abbrev told : Meanings
 told = record {
   points = record { winding = λ p m. get_or p 0 (pos 0) };
-  scripts = λ kernels. record { operation = λ op p q. record { mesh = record { points = []; triples = []; labels = [] }; p_kept = 0; q_kept = 0; crossings = 0; forced = 0; halfedges = 0 } };
+  scripts = λ kernels. record {
+    operation = λ op p q. record { mesh = record { points = []; triples = []; labels = [] }; p_kept = 0; q_kept = 0; crossings = 0; forced = 0; halfedges = 0 };
+    outlines = λ op p q. record { outline = p; p_kept = 0; q_kept = 0; crossings = 0 };
+    extrusion = λ o low high. record { mesh = record { points = []; triples = []; labels = [] }; forced = 0 };
+  };
 }
 
 abbrev play_on : Bytes → Part (Unit {0})

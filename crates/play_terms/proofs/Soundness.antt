@@ -1,27 +1,33 @@
 -- The steps of a script without a fault are sound.
-use Rattle.std.proofs.Common.{◌≡◌, ℕ, ◌<◌, Bool, true, false, List, [], ◌∷◌, ◌++◌, length, get_or, Option, Some, None, Result, Ok, Err, All, IsTrue, refl, sym, subst, arith, append-nil, append_assoc}
-use Rattle.std.specs.Prelude.{◌==◌, if◌then◌else◌, bytes_eq}
-use Rattle.std.proofs.lemmas.Bool.{eqb-true}
-use Rattle.std.proofs.lemmas.List.Elements.{All-nil, All-cons}
+use Rattle.std.proofs.Common.{◌≡◌, ℕ, zero, suc, replicate, ◌∙◌, ◌+◌, ◌≤◌, ◌<◌, map, Bool, true, false, List, [], ◌∷◌, ◌++◌, length, get_or, Option, Some, None, Result, Ok, Err, All, IsTrue, refl, sym, subst, arith, append-nil, append_assoc}
+use Rattle.std.specs.Prelude.{◌==◌, ◌&&◌, ◌%◌, ◌*◌, ◌/◌, ◌-◌, if◌then◌else◌, bytes_eq, nat_le}
+use Rattle.std.proofs.lemmas.Bool.{eqb-true, leb-true}
+use Rattle.std.proofs.lemmas.List.Elements.{All-nil, All-cons, All-map}
+use Rattle.std.proofs.lemmas.List.{length-map, length-replicate}
+use Rattle.chain_terms.specs.Sums.{upto}
+use Rattle.chain_laws.proofs.Places.{get_or-up_from, length-up_from}
 use Rattle.mesh_terms.specs.Faults.{Fault}
+use Rattle.mesh_terms.specs.Points.{IsOnGrid, coordinate_of}
 use Rattle.mb_base.specs.declared.op.Op.{Op}
 use Rattle.mb_base.specs.declared.op.Op.TheVariants.{Union, Intersect, Subtract}
 use Rattle.text_terms.specs.FirstFault.{then_read, on_line}
 use Rattle.run_terms.specs.Files.{Bytes}
-use Rattle.play_terms.specs.ScriptCommands.{Command, at, load, save, measure, combine, tidy, exact, box, tetra, prism, lattice, shift, scale, mirror, turn, commands, named_in, command_named}
+use Rattle.play_terms.specs.ScriptCommands.{Command, at, load, save, measure, combine, tidy, polygon, combine2, extrude, exact, box, tetra, prism, lattice, shift, scale, mirror, turn, commands, motions, outlines, solids, named_in, command_named, number_at, pair_at, ring_at, ring_numbers}
 use Rattle.play_terms.specs.Formats.{is_mesh_name}
 use Rattle.made_terms.specs.declared.motion.Motion.{Motion}
 use Rattle.made_terms.specs.declared.solid.Solid.{Solid}
-use Rattle.play_terms.specs.Operands.{NewName, is_name, new_name_fault, old_name_fault, operand_fault, operands_fault}
+use Rattle.play_terms.specs.Operands.{NewName, Number, is_name, new_name_fault, number_fault, old_name_fault, operand_fault, operands_fault}
 use Rattle.play_terms.specs.Scripts.{unless_refused, command_step, step_by, script_line, script_lines, numbered_words, script}
 use Rattle.made_terms.specs.Making.{IsSolid}
 use Rattle.made_terms.specs.Motions.{IsMotion}
-use Rattle.play_terms.specs.Sound.{IsSound, AreSound}
-use Rattle.play_terms.specs.Steps.{Line, Step, Make, Move, is_given}
-use Rattle.play_terms.proofs.Taken.{name_taken, old_taken, file_taken, number_taken, within_taken, axis_taken, point_taken, none_at}
+use Rattle.play_terms.specs.Sound.{IsSound, AreSound, HasNumbers, HasPlaces, HavePlaces}
+use Rattle.play_terms.specs.Steps.{Line, Step, Load, Save, Measure, Combine, Make, Move, Tidy, Polygon, Combine2, Extrude, Exact, is_given, mesh_of, outline_of}
+use Rattle.play_terms.specs.declared.held.HeldKind.{HeldKind}
+use Rattle.play_terms.specs.declared.held.HeldKind.TheVariants as held
+use Rattle.play_terms.proofs.Taken.{both, name_taken, old_taken, file_taken, number_taken, within_taken, axis_taken, point_taken, none_at}
 
-abbrev IsGiven : List Line → Bytes → Type 0
-IsGiven before w = IsTrue (is_given w before)
+abbrev IsGiven : List Line → HeldKind × Bytes → Type 0
+IsGiven before t = IsTrue (is_given t.0 t.1 before)
 
 abbrev IsNamed : Bytes → Type 0
 IsNamed w = IsTrue (is_name w)
@@ -39,14 +45,14 @@ two P x y first second = All-cons P x (y ∷ []) first (one P y second)
 
 -- none of the words is refused as an operand of the command
 abbrev NoneRefused : ℕ → List Line → List Bytes → Command → Type 0
-NoneRefused k before ws c = (i : ℕ) → i < length c.operands → operand_fault k before (get_or c.operands i NewName) (at ws i) ≡ None
+NoneRefused k before ws c = (i : ℕ) → i < length (c.operands (length ws)) → operand_fault k before (get_or (c.operands (length ws)) i NewName) (at ws i) ≡ None
 
 -- the steps of a command are sound
 abbrev GivesSound : Command → Type 0
-GivesSound c = (k : ℕ) (before : List Line) (ws : List Bytes) → NoneRefused k before ws c → IsSound before (c.step k ws)
+GivesSound c = (k : ℕ) (before : List Line) (ws : List Bytes) → length ws ≡ length (c.operands (length ws)) → NoneRefused k before ws c → IsSound before (c.step k ws)
 
 load_sound : GivesSound load
-load_sound k before ws none =
+load_sound k before ws count none =
     record {
       given = All-nil (IsGiven before);
       names = one IsNamed (at ws 0) (name_taken (at ws 0) (none 0 (omega arith)));
@@ -55,44 +61,126 @@ load_sound k before ws none =
     }
 
 save_sound : GivesSound save
-save_sound k before ws none =
-    let old = old_taken before (at ws 0) (none 0 (omega arith)) in
+save_sound k before ws count none =
+    let old = old_taken held.Mesh before (at ws 0) (none 0 (omega arith)) in
     record {
-      given = one (IsGiven before) (at ws 0) old.1;
+      given = one (IsGiven before) (mesh_of (at ws 0)) old.1;
       names = one IsNamed (at ws 0) old.0;
       files = one IsFile (at ws 1) (file_taken (at ws 1) (none 1 (omega arith)));
       numbers = tt;
     }
 
 measure_sound : GivesSound measure
-measure_sound k before ws none =
-    let old = old_taken before (at ws 0) (none 0 (omega arith)) in
-    record { given = one (IsGiven before) (at ws 0) old.1; names = one IsNamed (at ws 0) old.0; files = All-nil IsFile; numbers = tt }
+measure_sound k before ws count none =
+    let old = old_taken held.Mesh before (at ws 0) (none 0 (omega arith)) in
+    record { given = one (IsGiven before) (mesh_of (at ws 0)) old.1; names = one IsNamed (at ws 0) old.0; files = All-nil IsFile; numbers = tt }
 
 combine_sound : (op : Op) → GivesSound (combine op)
-combine_sound op k before ws none =
+combine_sound op k before ws count none =
     let name = name_taken (at ws 0) (none 0 (omega arith)) in
-    let left = old_taken before (at ws 1) (none 1 (omega arith)) in
-    let right = old_taken before (at ws 2) (none 2 (omega arith)) in
+    let left = old_taken held.Mesh before (at ws 1) (none 1 (omega arith)) in
+    let right = old_taken held.Mesh before (at ws 2) (none 2 (omega arith)) in
     record {
-      given = two (IsGiven before) (at ws 1) (at ws 2) left.1 right.1;
+      given = two (IsGiven before) (mesh_of (at ws 1)) (mesh_of (at ws 2)) left.1 right.1;
       names = All-cons IsNamed (at ws 0) (at ws 1 ∷ at ws 2 ∷ []) name (two IsNamed (at ws 1) (at ws 2) left.0 right.0);
       files = All-nil IsFile;
       numbers = tt;
     }
 
 tidy_sound : GivesSound tidy
-tidy_sound k before ws none =
-    let old = old_taken before (at ws 1) (none 1 (omega arith)) in
+tidy_sound k before ws count none =
+    let old = old_taken held.Mesh before (at ws 1) (none 1 (omega arith)) in
     record {
-      given = one (IsGiven before) (at ws 1) old.1;
+      given = one (IsGiven before) (mesh_of (at ws 1)) old.1;
       names = two IsNamed (at ws 0) (at ws 1) (name_taken (at ws 0) (none 0 (omega arith))) old.0;
       files = All-nil IsFile;
       numbers = tt;
     }
 
+-- so many words are a name and pairs of numbers
+pairs_of : (n : ℕ) → n ≡ 1 + ring_numbers n → (7 ≤ n) × (n ≤ 129) × (n % 2 ≡ 1)
+pairs_of n e = by_test (nat_le 7 n && nat_le n 129) (n % 2 == 1) refl refl e
+  where
+    by_test : (b c : Bool) → (nat_le 7 n && nat_le n 129) ≡ b → (n % 2 == 1) ≡ c → n ≡ 1 + (if b && c then n - 1 else 6) → (7 ≤ n) × (n ≤ 129) × (n % 2 ≡ 1)
+    by_test true true range odd e = let r = both (nat_le 7 n) (nat_le n 129) range in (leb-true 7 n r.0, leb-true n 129 r.1, eqb-true (n % 2) 1 odd)
+    by_test true false range odd e = absurd (seven range odd e)
+      where
+        seven : (nat_le 7 n && nat_le n 129) ≡ true → (n % 2 == 1) ≡ false → n ≡ 7 → ⊥
+        seven range odd is = let P : ℕ → Type 0 = λ m. (m % 2 == 1) ≡ false in let wrong = subst P is odd in cc
+    by_test false c range odd e = absurd (seven range e)
+      where
+        seven : (nat_le 7 n && nat_le n 129) ≡ false → n ≡ 7 → ⊥
+        seven range is = let P : ℕ → Type 0 = λ m. (nat_le 7 m && nat_le m 129) ≡ false in let wrong = subst P is range in cc
+
+-- each operand after the name is a number
+number_operand : (m j : ℕ) → j < m → get_or (replicate m Number) j NewName ≡ Number
+number_operand zero j inside = absurd (omega (arith, inside))
+number_operand (suc m) zero inside = refl
+number_operand (suc m) (suc j) inside = number_operand m j (omega (arith, inside))
+
+numbers_taken : (k : ℕ) (before : List Line) (ws : List Bytes) (m : ℕ)
+    → ((i : ℕ) → i < length (NewName ∷ replicate m Number) → operand_fault k before (get_or (NewName ∷ replicate m Number) i NewName) (at ws i) ≡ None)
+    → (j : ℕ) → j < m → number_fault k (at ws (suc j)) ≡ None
+numbers_taken k before ws m none j inside =
+    subst (λ o. operand_fault k before o (at ws (suc j)) ≡ None) (number_operand m j inside) (none (suc j) (omega (arith, inside, length-replicate m Number)))
+
+-- each place of the ring is of two numbers on the grid
+ring_on_grid : (k : ℕ) (ws : List Bytes) (n : ℕ) → ((i : ℕ) → i < n → number_fault k (at ws (2 * i + 1)) ≡ None) →
+    ((i : ℕ) → i < n → number_fault k (at ws (2 * i + 1 + 1)) ≡ None) →
+    All (λ p. IsOnGrid (coordinate_of p 0) × IsOnGrid (coordinate_of p 1)) (map (λ i. pair_at k ws (2 * i + 1)) (upto n))
+ring_on_grid k ws n xs ys =
+    All-map (λ p. IsOnGrid (coordinate_of p 0) × IsOnGrid (coordinate_of p 1)) (λ i. pair_at k ws (2 * i + 1)) (upto n)
+    (λ i d inside.
+    let low : i < n = omega (arith, inside, length-up_from 0 n) in
+    let same : i ≡ get_or (upto n) i d = omega (arith, get_or-up_from 0 n i d low) in
+    subst (λ j. IsOnGrid (number_at k ws (2 * j + 1)) × IsOnGrid (number_at k ws (2 * j + 1 + 1))) same
+    (number_taken k (at ws (2 * i + 1)) (xs i low), number_taken k (at ws (2 * i + 1 + 1)) (ys i low)))
+
+polygon_sound : GivesSound polygon
+polygon_sound k before ws count none =
+    let n = length ws in
+    let m = ring_numbers n in
+    let whole : n ≡ 1 + m = omega (arith, count, length-replicate m Number) in
+    let is = pairs_of n whole in
+    let many = (n - 1) / 2 in
+    let long : length (ring_at k ws) ≡ many = length-map (upto many) (λ i. pair_at k ws (2 * i + 1)) ∙ length-up_from 0 many in
+    record {
+      given = All-nil (IsGiven before);
+      names = one IsNamed (at ws 0) (name_taken (at ws 0) (none 0 (omega arith)));
+      files = All-nil IsFile;
+      numbers = record {
+        some = omega (arith, long, is.0);
+        few = omega (arith, long, is.1);
+        on_grid = ring_on_grid k ws many
+            (λ i inside. subst (λ j. number_fault k (at ws j) ≡ None) (omega arith) (numbers_taken k before ws m none (2 * i) (omega (arith, inside, whole))))
+            (λ i inside. subst (λ j. number_fault k (at ws j) ≡ None) (omega arith) (numbers_taken k before ws m none (2 * i + 1) (omega (arith, inside, whole))));
+      };
+    }
+
+combine2_sound : (op : Op) → GivesSound (combine2 op)
+combine2_sound op k before ws count none =
+    let name = name_taken (at ws 0) (none 0 (omega arith)) in
+    let left = old_taken held.Outline before (at ws 1) (none 1 (omega arith)) in
+    let right = old_taken held.Outline before (at ws 2) (none 2 (omega arith)) in
+    record {
+      given = two (IsGiven before) (outline_of (at ws 1)) (outline_of (at ws 2)) left.1 right.1;
+      names = All-cons IsNamed (at ws 0) (at ws 1 ∷ at ws 2 ∷ []) name (two IsNamed (at ws 1) (at ws 2) left.0 right.0);
+      files = All-nil IsFile;
+      numbers = tt;
+    }
+
+extrude_sound : GivesSound extrude
+extrude_sound k before ws count none =
+    let old = old_taken held.Outline before (at ws 1) (none 1 (omega arith)) in
+    record {
+      given = one (IsGiven before) (outline_of (at ws 1)) old.1;
+      names = two IsNamed (at ws 0) (at ws 1) (name_taken (at ws 0) (none 0 (omega arith))) old.0;
+      files = All-nil IsFile;
+      numbers = (number_taken k (at ws 2) (none 2 (omega arith)), number_taken k (at ws 3) (none 3 (omega arith)));
+    }
+
 exact_sound : GivesSound exact
-exact_sound k before ws none = record { given = All-nil (IsGiven before); names = All-nil IsNamed; files = All-nil IsFile; numbers = tt }
+exact_sound k before ws count none = record { given = All-nil (IsGiven before); names = All-nil IsNamed; files = All-nil IsFile; numbers = tt }
 
 -- a solid
 makes_sound : (before : List Line) (name : Bytes) (solid : Solid) → new_name_fault name ≡ None → IsSolid solid → IsSound before (Make name solid)
@@ -100,45 +188,47 @@ makes_sound before name solid taken such =
     record { given = All-nil (IsGiven before); names = one IsNamed name (name_taken name taken); files = All-nil IsFile; numbers = such }
 
 box_sound : GivesSound box
-box_sound k before ws none =
+box_sound k before ws count none =
     let low = point_taken k ws 1 (none 1 (omega arith)) (none 2 (omega arith)) (none 3 (omega arith)) in
     let high = point_taken k ws 4 (none 4 (omega arith)) (none 5 (omega arith)) (none 6 (omega arith)) in
     makes_sound before (at ws 0) _ (none 0 (omega arith)) (low, high)
 
 tetra_sound : GivesSound tetra
-tetra_sound k before ws none =
+tetra_sound k before ws count none =
     let corner = point_taken k ws 1 (none 1 (omega arith)) (none 2 (omega arith)) (none 3 (omega arith)) in
     makes_sound before (at ws 0) _ (none 0 (omega arith)) (corner, number_taken k (at ws 4) (none 4 (omega arith)))
 
 prism_sound : GivesSound prism
-prism_sound k before ws none =
+prism_sound k before ws count none =
     let corner = point_taken k ws 1 (none 1 (omega arith)) (none 2 (omega arith)) (none 3 (omega arith)) in
     makes_sound before (at ws 0) _ (none 0 (omega arith)) (corner, number_taken k (at ws 4) (none 4 (omega arith)), number_taken k (at ws 5) (none 5 (omega arith)))
 
 lattice_sound : GivesSound lattice
-lattice_sound k before ws none =
+lattice_sound k before ws count none =
     let n = within_taken 1 60 (at ws 1) (none 1 (omega arith)) in
     let seed = within_taken 0 999999 (at ws 2) (none 2 (omega arith)) in
     makes_sound before (at ws 0) _ (none 0 (omega arith)) (n.0, n.1, seed.1)
 
 -- a motion
-moves_sound : (before : List Line) (name old : Bytes) (motion : Motion) → new_name_fault name ≡ None → old_name_fault before old ≡ None → IsMotion motion → IsSound before (Move name old motion)
+moves_sound : (before : List Line) (name old : Bytes) (motion : Motion) → new_name_fault name ≡ None →
+    old_name_fault held.Mesh before old ≡ None → IsMotion motion → IsSound before (Move name old motion)
 moves_sound before name old motion taken known such =
-    let source = old_taken before old known in
-    record { given = one (IsGiven before) old source.1; names = two IsNamed name old (name_taken name taken) source.0; files = All-nil IsFile; numbers = such }
+    let source = old_taken held.Mesh before old known in
+    record { given = one (IsGiven before) (mesh_of old) source.1; names = two IsNamed name old (name_taken name taken) source.0; files = All-nil IsFile; numbers = such }
 
 shift_sound : GivesSound shift
-shift_sound k before ws none =
+shift_sound k before ws count none =
     moves_sound before (at ws 0) (at ws 1) _ (none 0 (omega arith)) (none 1 (omega arith)) (point_taken k ws 2 (none 2 (omega arith)) (none 3 (omega arith)) (none 4 (omega arith)))
 
 scale_sound : GivesSound scale
-scale_sound k before ws none = moves_sound before (at ws 0) (at ws 1) _ (none 0 (omega arith)) (none 1 (omega arith)) (within_taken 1 1000000 (at ws 2) (none 2 (omega arith)))
+scale_sound k before ws count none = moves_sound before (at ws 0) (at ws 1) _ (none 0 (omega arith))
+    (none 1 (omega arith)) (within_taken 1 1000000 (at ws 2) (none 2 (omega arith)))
 
 mirror_sound : GivesSound mirror
-mirror_sound k before ws none = moves_sound before (at ws 0) (at ws 1) _ (none 0 (omega arith)) (none 1 (omega arith)) (axis_taken (at ws 2) (none 2 (omega arith)))
+mirror_sound k before ws count none = moves_sound before (at ws 0) (at ws 1) _ (none 0 (omega arith)) (none 1 (omega arith)) (axis_taken (at ws 2) (none 2 (omega arith)))
 
 turn_sound : GivesSound turn
-turn_sound k before ws none = moves_sound before (at ws 0) (at ws 1) _ (none 0 (omega arith)) (none 1 (omega arith)) (axis_taken (at ws 2) (none 2 (omega arith)))
+turn_sound k before ws count none = moves_sound before (at ws 0) (at ws 1) _ (none 0 (omega arith)) (none 1 (omega arith)) (axis_taken (at ws 2) (none 2 (omega arith)))
 
 -- each of some commands
 abbrev Each : (Command → Type 0) → List Command → Type 0
@@ -156,22 +246,25 @@ named_such P (d ∷ cs) w c such e = by_word (bytes_eq w d.word) e (λ f. named_
 
 all_sound : Each GivesSound commands
 all_sound =
-    let making : Each GivesSound (box ∷ tetra ∷ prism ∷ lattice ∷ shift ∷ scale ∷ mirror ∷ turn ∷ []) =
-    (box_sound, (tetra_sound, (prism_sound, (lattice_sound, (shift_sound, (scale_sound, (mirror_sound, (turn_sound, tt)))))))) in
+    let drawing : Each GivesSound outlines = (polygon_sound, (combine2_sound Union, (combine2_sound Intersect, (combine2_sound Subtract, (extrude_sound, tt))))) in
+    let making : Each GivesSound (solids ++ (motions ++ outlines)) =
+    (box_sound, (tetra_sound, (prism_sound, (lattice_sound, (shift_sound, (scale_sound, (mirror_sound, (turn_sound, drawing)))))))) in
     (load_sound, (save_sound, (measure_sound, (combine_sound Union, (combine_sound Intersect, (combine_sound Subtract, (tidy_sound, (exact_sound, making))))))))
 
 -- the step of a command whose steps are sound
 command_sound : (k : ℕ) (before : List Line) (ws : List Bytes) (c : Command) (step : Step) → GivesSound c → command_step k before ws c ≡ Ok step → IsSound before step
-command_sound k before ws c step sound e = by_count (length ws == length c.operands) refl e
+command_sound k before ws c step sound e = by_count (length ws == length (c.operands (length ws))) refl e
   where
-    by_fault : length ws ≡ length c.operands → (f : Option ℕ) → operands_fault k before c.operands ws ≡ f → unless_refused (c.step k ws) f ≡ Ok step → IsSound before step
+    by_fault : length ws ≡ length (c.operands (length ws)) → (f : Option ℕ) →
+        operands_fault k before (c.operands (length ws)) ws ≡ f → unless_refused (c.step k ws) f ≡ Ok step → IsSound before step
     by_fault count None none e =
         let is : c.step k ws ≡ step = cc in
-        subst (IsSound before) is (sound k before ws (λ i inside. none_at k before c.operands ws i count none inside))
+        subst (IsSound before) is (sound k before ws count (λ i inside. none_at k before (c.operands (length ws)) ws i count none inside))
     by_fault count (Some kind) some e = absurd (cc)
 
-    by_count : (b : Bool) → (length ws == length c.operands) ≡ b → (if b then unless_refused (c.step k ws) (operands_fault k before c.operands ws) else Err 21) ≡ Ok step → IsSound before step
-    by_count true same e = by_fault (eqb-true (length ws) (length c.operands) same) (operands_fault k before c.operands ws) refl e
+    by_count : (b : Bool) → (length ws == length (c.operands (length ws))) ≡ b →
+        (if b then unless_refused (c.step k ws) (operands_fault k before (c.operands (length ws)) ws) else Err 21) ≡ Ok step → IsSound before step
+    by_count true same e = by_fault (eqb-true (length ws) (length (c.operands (length ws))) same) (operands_fault k before (c.operands (length ws)) ws) refl e
     by_count false other e = absurd (cc)
 
 -- the step of a line is sound after the lines before it
@@ -215,3 +308,21 @@ lines_sound k (l ∷ ls) before after e sound = by_line (script_line k l.0 l.1 b
 -- the steps of a script without a fault are sound
 pub script_sound : (k : ℕ) (bytes : Bytes) (lines : List Line) → script k bytes ≡ Ok lines → AreSound [] lines
 script_sound k bytes lines e = lines_sound k (numbered_words bytes) [] lines e tt
+
+-- the places of sound lines are on the grid
+numbers_places : (step : Step) → HasNumbers step → HasPlaces step
+numbers_places (Load name file) such = tt
+numbers_places (Save name file) such = tt
+numbers_places (Measure name) such = tt
+numbers_places (Combine op name left right) such = tt
+numbers_places (Make name solid) such = tt
+numbers_places (Move name old motion) such = tt
+numbers_places (Tidy name old) such = tt
+numbers_places (Polygon name ring) such = such
+numbers_places (Combine2 op name left right) such = tt
+numbers_places (Extrude name old low high) such = such
+numbers_places Exact such = tt
+
+pub sound_places : (before lines : List Line) → AreSound before lines → HavePlaces lines
+sound_places before [] sound = All-nil (λ l. HasPlaces l.1)
+sound_places before (l ∷ ls) sound = All-cons (λ l. HasPlaces l.1) l ls (numbers_places l.1 sound.0.numbers) (sound_places (before ++ l ∷ []) ls sound.1)

@@ -10,6 +10,7 @@ use Rattle.play_terms.specs.Formats.{is_mesh_name}
 use Rattle.play_terms.specs.ScriptCommands.{at, point_at}
 use Rattle.play_terms.specs.Operands.{Operand, NewName, is_name, new_name_fault, old_name_fault, file_name_fault, number_of, number_fault, within_fault, axis, axis_fault, value_fault, operand_fault, operands_fault, or_later}
 use Rattle.play_terms.specs.Steps.{Line, is_given}
+use Rattle.play_terms.specs.declared.held.HeldKind.{HeldKind}
 
 -- neither of two faults
 neither : (a b : Option ℕ) → or_later a b ≡ None → (a ≡ None) × (b ≡ None)
@@ -17,7 +18,7 @@ neither None b e = (refl, e)
 neither (Some kind) b e = absurd (cc)
 
 -- both of two tests
-both : (a b : Bool) → (a && b) ≡ true → (a ≡ true) × (b ≡ true)
+pub both : (a b : Bool) → (a && b) ≡ true → (a ≡ true) × (b ≡ true)
 both true true e = (refl, refl)
 both true false e = absurd (cc)
 both false b e = absurd (cc)
@@ -30,14 +31,14 @@ passed false kind e = absurd (cc)
 pub name_taken : (w : Bytes) → new_name_fault w ≡ None → IsTrue (is_name w)
 name_taken w e = passed (is_name w) 22 e
 
-pub old_taken : (before : List Line) (w : Bytes) → old_name_fault before w ≡ None → IsTrue (is_name w) × IsTrue (is_given w before)
-old_taken before w e = by_name (is_name w) refl e
+pub old_taken : (kind : HeldKind) (before : List Line) (w : Bytes) → old_name_fault kind before w ≡ None → IsTrue (is_name w) × IsTrue (is_given kind w before)
+old_taken kind before w e = by_name (is_name w) refl e
   where
     known : Bool → Option ℕ
     known b = if b then None else Some 23
 
-    by_name : (b : Bool) → is_name w ≡ b → (if b then known (is_given w before) else Some 22) ≡ None → IsTrue (is_name w) × IsTrue (is_given w before)
-    by_name true is e = (is, passed (is_given w before) 23 e)
+    by_name : (b : Bool) → is_name w ≡ b → (if b then known (is_given kind w before) else Some 22) ≡ None → IsTrue (is_name w) × IsTrue (is_given kind w before)
+    by_name true is e = (is, passed (is_given kind w before) 23 e)
     by_name false is e = absurd (cc)
 
 pub file_taken : (w : Bytes) → file_name_fault w ≡ None → IsTrue (is_mesh_name w)

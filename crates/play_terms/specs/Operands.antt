@@ -8,12 +8,15 @@ use Rattle.play_terms.specs.Formats.{is_mesh_name}
 use Rattle.play_terms.specs.Words.{grid_operand}
 use Rattle.run_terms.specs.Files.{Bytes}
 use Rattle.play_terms.specs.Steps.{Line, is_given}
+use Rattle.play_terms.specs.declared.held.HeldKind.{HeldKind}
+use Rattle.play_terms.specs.declared.held.HeldKind.TheVariants as held
 
--- what an operand is: a name that gets a mesh, the name of a mesh, the name of a mesh file, a number on the grid, a whole number from low to high, or
--- an axis
+-- what an operand is: a name that gets a mesh or an outline, the name of a mesh, that of an outline, the name of a mesh file, a number on the grid, a whole
+-- number from low to high, or an axis
 pub data Operand : Type 0 where
   NewName : Operand
-  OldName : Operand
+  OldMesh : Operand
+  OldOutline : Operand
   FileName : Operand
   Number : Operand
   Within : (low high : ℕ) → Operand
@@ -34,10 +37,10 @@ is_name w = begins_name w && nat_le (length w) 32 && list_all is_name_byte w
 abbrev pub new_name_fault : Bytes → Option ℕ
 new_name_fault w = if is_name w then None else Some 22
 
--- 22 where it is no name, else 23 where no line before gives it a mesh
-abbrev pub old_name_fault : List Line → Bytes → Option ℕ
-old_name_fault before w =
-    if is_name w then (if is_given w before then None else Some 23) else Some 22
+-- 22 where it is no name, else 23 where the lines before do not leave it something of this kind
+abbrev pub old_name_fault : HeldKind → List Line → Bytes → Option ℕ
+old_name_fault kind before w =
+    if is_name w then (if is_given kind w before then None else Some 23) else Some 22
 
 -- 25 where it is no text, or has another suffix
 abbrev pub file_name_fault : Bytes → Option ℕ
@@ -79,7 +82,8 @@ axis_fault w = value_fault (axis w)
 -- the refusal of a word as this operand, if there is one, under k digits and after the lines before it
 abbrev pub operand_fault : ℕ → List Line → Operand → Bytes → Option ℕ
 operand_fault k before NewName w = new_name_fault w
-operand_fault k before OldName w = old_name_fault before w
+operand_fault k before OldMesh w = old_name_fault held.Mesh before w
+operand_fault k before OldOutline w = old_name_fault held.Outline before w
 operand_fault k before FileName w = file_name_fault w
 operand_fault k before Number w = number_fault k w
 operand_fault k before (Within low high) w = within_fault low high w

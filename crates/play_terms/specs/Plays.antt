@@ -1,39 +1,74 @@
 -- What a script does: its file is asked for and read, and then its steps are done in order, over the names and files as they are by then.
-use Rattle.std.specs.Prelude.{ℕ, List, [], ◌∷◌, if◌then◌else◌, nat_lt, bytes_eq, Option, Some, None, Result, Ok, Err}
-use Rattle.mesh_terms.specs.Faults.{Halfedges, Fault, Bad, Over}
+use Rattle.std.specs.Prelude.{ℕ, ◌+◌, ℤ, min, int_le, length, List, [], ◌∷◌, if◌then◌else◌, nat_lt, bytes_eq, Option, Some, None, Result, Ok, Err}
+use Rattle.mesh_terms.specs.Faults.{Halfedges, Points, Fault, Bad, Over}
 use Rattle.mesh_terms.specs.Limits.{Limits}
 use Rattle.mesh_terms.specs.Meshes.{Mesh}
-use Rattle.made_terms.specs.Refusals.{MadeFault, Flat, Outside, Exceeds}
+use Rattle.made_terms.specs.Refusals.{MadeFault, Flat, Outside, Exceeds, excess}
+use Rattle.outline_terms.specs.Outlines.{Outline, most_vertices, ring_of}
 use Rattle.run_terms.specs.Files.{Bytes}
 use Rattle.run_terms.specs.Tasks.{Refusal, FaultyScript, FaultyStep, PastLimit, Task, give, then_task}
 use Rattle.play_terms.specs.Commands.{ask_file, ask_mesh, write_mesh, say_line}
 use Rattle.mb_base.specs.declared.kernel_kind.KernelKind.{KernelKind}
 use Rattle.mb_base.specs.declared.kernel_kind.KernelKind.TheVariants.{Grid}
 use Rattle.mb_base.specs.declared.op.Op.{Op}
-use Rattle.play_terms.specs.Combined.{Combined}
-use Rattle.play_terms.specs.ScriptLines.{load_line, save_line, measure_line, combine_line, tidy_line}
+use Rattle.play_terms.specs.declared.held.HeldKind.{HeldKind}
+use Rattle.play_terms.specs.declared.held.HeldKind.TheVariants as held
+use Rattle.play_terms.specs.Combined.{Combined, Combined2, Extruded}
+use Rattle.play_terms.specs.ScriptLines.{load_line, save_line, measure_line, combine_line, tidy_line, combine2_line, extrude_line}
 use Rattle.made_terms.specs.Making.{solid_fault, solid_mesh}
 use Rattle.made_terms.specs.Motions.{motion_fault, moved_mesh}
 use Rattle.made_terms.specs.declared.motion.Motion.{Motion}
 use Rattle.made_terms.specs.declared.solid.Solid.{Solid}
 use Rattle.play_terms.specs.Scripts.{script}
-use Rattle.play_terms.specs.Steps.{Line, Step, Load, Save, Measure, Combine, Make, Move, Tidy, Exact, kernels_after}
+use Rattle.play_terms.specs.Steps.{Line, Step, Load, Save, Measure, Combine, Make, Move, Tidy, Polygon, Combine2, Extrude, Exact, kernels_after}
 use Rattle.tidy_terms.specs.Tidy.{tidied, tidy_mesh}
 
--- what the steps need of geometry: what an operation gives of two meshes. Solids, motions, tidying and measures are definitions
+-- what the steps need of geometry: what an operation gives of two meshes, what one gives of two outlines, and what an outline between two heights is. Solids,
+-- motions, tidying and measures are definitions
 pub record Meanings : Type 0 where
   pub operation : Op → Mesh → Mesh → Combined
+  pub outlines : Op → Outline → Outline → Combined2
+  pub extrusion : Outline → ℤ → ℤ → Extruded
 
--- the mesh of each name that has one
+-- what a name holds
+pub data Held : Type 0 where
+  OfMesh : (mesh : Mesh) → Held
+  OfOutline : (outline : Outline) → Held
+
+-- what each name holds that holds something
 abbrev pub Named : Type 0
-Named = Bytes → Option Mesh
+Named = Bytes → Option Held
 
 abbrev pub no_names : Named
 no_names = λ n. None
 
--- a name gets a mesh; all others keep theirs
+-- a name gets something; all others keep what they have
+abbrev pub with_held : Bytes → Held → Named → Named
+with_held name h named = λ n. if bytes_eq n name then Some h else named n
+
+-- a mesh, or an outline
 abbrev pub with_name : Bytes → Mesh → Named → Named
-with_name name m named = λ n. if bytes_eq n name then Some m else named n
+with_name name m named = with_held name (OfMesh m) named
+
+abbrev pub with_outline : Bytes → Outline → Named → Named
+with_outline name o named = with_held name (OfOutline o) named
+
+-- the kind of what is held
+abbrev pub kind_held : Option Held → Option HeldKind
+kind_held None = None
+kind_held (Some (OfMesh m)) = Some held.Mesh
+kind_held (Some (OfOutline o)) = Some held.Outline
+
+-- the mesh, and the outline, that is held
+abbrev pub mesh_held : Option Held → Option Mesh
+mesh_held None = None
+mesh_held (Some (OfMesh m)) = Some m
+mesh_held (Some (OfOutline o)) = None
+
+abbrev pub outline_held : Option Held → Option Outline
+outline_held None = None
+outline_held (Some (OfMesh m)) = None
+outline_held (Some (OfOutline o)) = Some o
 
 -- the mesh of a name; one without points where it has none
 abbrev pub mesh_or_none : Option Mesh → Mesh
@@ -41,7 +76,15 @@ mesh_or_none None = record { points = []; triples = []; labels = [] }
 mesh_or_none (Some m) = m
 
 abbrev pub mesh_at : Named → Bytes → Mesh
-mesh_at named name = mesh_or_none (named name)
+mesh_at named name = mesh_or_none (mesh_held (named name))
+
+-- the outline of a name; one without points where it has none
+abbrev pub outline_or_none : Option Outline → Outline
+outline_or_none None = record { points = []; loops = [] }
+outline_or_none (Some o) = o
+
+abbrev pub outline_at : Named → Bytes → Outline
+outline_at named name = outline_or_none (outline_held (named name))
 
 -- a name gets the mesh of a file, and the mesh is told
 abbrev pub load_task : ℕ → Limits → Bytes → Bytes → Named → Task Named
@@ -103,6 +146,42 @@ tidy_task name old m named =
     then_task (say_line (tidy_line name old (tidied m.points m.triples m.labels).collapses)) (λ _.
     give (Ok (with_name name (tidy_mesh m) named)))
 
+-- a name gets the outline of one loop through these places, and nothing is told
+abbrev pub polygon_task : Bytes → List (List ℤ) → Named → Task Named
+polygon_task name ring named = give (Ok (with_outline name (ring_of ring) named))
+
+-- how many vertices the outline of an operation has
+abbrev pub vertex_count : Combined2 → ℕ
+vertex_count o = o.p_kept + o.q_kept + o.crossings
+
+-- refused where it has more than the limit on points, or than any outline
+abbrev pub within2 : Limits → Combined2 → Result Combined2 Refusal
+within2 limits o = if nat_lt (min limits.points most_vertices) (vertex_count o) then Err (PastLimit Points (vertex_count o)) else Ok o
+
+-- a name gets what an operation on the outlines of two names gives, and that is told
+abbrev pub combine2_task : Meanings → Limits → Op → Bytes → Bytes → Bytes → Named → Task Named
+combine2_task means limits op name left right named =
+    then_task (give (within2 limits (means.outlines op (outline_at named left) (outline_at named right)))) (λ o.
+    then_task (say_line (combine2_line op name left right o)) (λ _.
+    give (Ok (with_outline name o.outline named))))
+
+-- why there is no solid between two heights: the low one is not below the high one, or it has too many points or triangles
+abbrev pub extrusion_fault : Limits → ℤ → ℤ → Mesh → Option MadeFault
+extrusion_fault limits low high m = if int_le high low then Some Flat else excess limits (length m.points) (length m.triples)
+
+-- refused on this line of the script where there is a fault
+abbrev pub extruded : Bytes → ℕ → Option MadeFault → Extruded → Result Extruded Refusal
+extruded script line None e = Ok e
+extruded script line (Some fault) e = Err (made_refusal script line fault)
+
+-- a name gets the solid between the outline of a name at two heights, and how many cuts were forced is told
+abbrev pub extrude_task : Meanings → Limits → Bytes → ℕ → Bytes → Bytes → ℤ → ℤ → Named → Task Named
+extrude_task means limits script line name old low high named =
+    let e = means.extrusion (outline_at named old) low high in
+    then_task (give (extruded script line (extrusion_fault limits low high e.mesh) e)) (λ e.
+    then_task (say_line (extrude_line name old e.forced)) (λ _.
+    give (Ok (with_name name e.mesh named))))
+
 -- one row for each kind of step, on this line of the script; the choice of kernels leaves the names as they are
 abbrev pub step_task : Meanings → ℕ → Limits → Bytes → ℕ → Step → Named → Task Named
 step_task means k limits script line (Load name file) named = load_task k limits name file named
@@ -112,9 +191,12 @@ step_task means k limits script line (Combine op name left right) named = combin
 step_task means k limits script line (Make name solid) named = make_task limits script line name solid named
 step_task means k limits script line (Move name old motion) named = move_task script line name old motion named
 step_task means k limits script line (Tidy name old) named = tidy_task name old (mesh_at named old) named
+step_task means k limits script line (Polygon name ring) named = polygon_task name ring named
+step_task means k limits script line (Combine2 op name left right) named = combine2_task means limits op name left right named
+step_task means k limits script line (Extrude name old low high) named = extrude_task means limits script line name old low high named
 step_task means k limits script line Exact named = give (Ok named)
 
--- what steps hand on: the kernels under which operations are taken from here on, and the mesh of each name that has one
+-- what steps hand on: the kernels under which operations are taken from here on, and what each name holds that holds something
 pub record State : Type 0 where
   pub kernels : KernelKind
   pub named : Named

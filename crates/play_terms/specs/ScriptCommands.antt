@@ -1,5 +1,6 @@
 -- The commands of a script: the word of each, its operands, and its step.
-use Rattle.std.specs.Prelude.{ℕ, ◌+◌, ℤ, List, [], ◌∷◌, ◌++◌, get_or, replicate, if◌then◌else◌, codes, bytes_eq, Option, Some, None, unwrap_or}
+use Rattle.std.specs.Prelude.{ℕ, ◌+◌, ◌-◌, ◌*◌, ◌/◌, ◌%◌, ◌==◌, Bool, ◌&&◌, nat_le, length, map, ℤ, List, [], ◌∷◌, ◌++◌, get_or, replicate, if◌then◌else◌, codes, bytes_eq, Option, Some, None, unwrap_or}
+use Rattle.chain_terms.specs.Sums.{upto}
 use Rattle.text_terms.specs.Numbers.{digits_value}
 use Rattle.made_terms.specs.Solids.{point}
 use Rattle.run_terms.specs.Files.{Bytes}
@@ -9,13 +10,13 @@ use Rattle.made_terms.specs.declared.motion.Motion.{Motion}
 use Rattle.made_terms.specs.declared.motion.Motion.TheVariants.{Shift, Scale, Mirror, Turn}
 use Rattle.made_terms.specs.declared.solid.Solid.{Solid}
 use Rattle.made_terms.specs.declared.solid.Solid.TheVariants.{Box, Tetra, Prism, Lattice}
-use Rattle.play_terms.specs.Operands.{Operand, NewName, OldName, FileName, Number, Within, Axis, axis, number_of}
-use Rattle.play_terms.specs.Steps.{Step, Load, Save, Measure, Combine, Make, Move, Tidy, Exact}
+use Rattle.play_terms.specs.Operands.{Operand, NewName, OldMesh, OldOutline, FileName, Number, Within, Axis, axis, number_of}
+use Rattle.play_terms.specs.Steps.{Step, Load, Save, Measure, Combine, Make, Move, Tidy, Polygon, Combine2, Extrude, Exact}
 
--- a command: its word, what words stand after it, and the step of such words under so many digits
+-- a command: its word, what words stand after it where they are so many, and the step of such words under so many digits
 pub record Command : Type 0 where
   pub word : Bytes
-  pub operands : List Operand
+  pub operands : ℕ → List Operand
   pub step : ℕ → List Bytes → Step
 
 -- the word at a place
@@ -38,13 +39,13 @@ abbrev pub axis_at : List Bytes → ℕ → ℕ
 axis_at ws i = unwrap_or (axis (at ws i)) 0
 
 abbrev pub load : Command
-load = record { word = codes "load"; operands = NewName ∷ FileName ∷ []; step = λ k ws. Load (at ws 0) (at ws 1) }
+load = record { word = codes "load"; operands = λ n. NewName ∷ FileName ∷ []; step = λ k ws. Load (at ws 0) (at ws 1) }
 
 abbrev pub save : Command
-save = record { word = codes "save"; operands = OldName ∷ FileName ∷ []; step = λ k ws. Save (at ws 0) (at ws 1) }
+save = record { word = codes "save"; operands = λ n. OldMesh ∷ FileName ∷ []; step = λ k ws. Save (at ws 0) (at ws 1) }
 
 abbrev pub measure : Command
-measure = record { word = codes "measure"; operands = OldName ∷ []; step = λ k ws. Measure (at ws 0) }
+measure = record { word = codes "measure"; operands = λ n. OldMesh ∷ []; step = λ k ws. Measure (at ws 0) }
 
 -- the word of an operation
 abbrev pub op_word : Op → Bytes
@@ -53,17 +54,53 @@ op_word Intersect = codes "intersect"
 op_word Subtract = codes "subtract"
 
 abbrev pub combine : Op → Command
-combine op = record { word = op_word op; operands = NewName ∷ OldName ∷ OldName ∷ []; step = λ k ws. Combine op (at ws 0) (at ws 1) (at ws 2) }
+combine op = record { word = op_word op; operands = λ n. NewName ∷ OldMesh ∷ OldMesh ∷ []; step = λ k ws. Combine op (at ws 0) (at ws 1) (at ws 2) }
 
 abbrev pub tidy : Command
-tidy = record { word = codes "tidy"; operands = NewName ∷ OldName ∷ []; step = λ k ws. Tidy (at ws 0) (at ws 1) }
+tidy = record { word = codes "tidy"; operands = λ n. NewName ∷ OldMesh ∷ []; step = λ k ws. Tidy (at ws 0) (at ws 1) }
+
+-- so many words are a name and from 3 to 64 pairs of numbers
+abbrev pub are_pairs : ℕ → Bool
+are_pairs n = nat_le 7 n && nat_le n 129 && (n % 2 == 1)
+
+-- so many numbers stand after the name of a polygon: three pairs are asked for where the words are no such
+abbrev pub ring_numbers : ℕ → ℕ
+ring_numbers n = if are_pairs n then n - 1 else 6
+
+-- the numbers at a place and after it
+abbrev pub pair_at : ℕ → List Bytes → ℕ → List ℤ
+pair_at k ws i = number_at k ws i ∷ number_at k ws (i + 1) ∷ []
+
+-- the pairs of numbers after the name
+abbrev pub ring_at : ℕ → List Bytes → List (List ℤ)
+ring_at k ws = map (λ i. pair_at k ws (2 * i + 1)) (upto ((length ws - 1) / 2))
+
+abbrev pub polygon : Command
+polygon = record { word = codes "polygon"; operands = λ n. NewName ∷ replicate (ring_numbers n) Number; step = λ k ws. Polygon (at ws 0) (ring_at k ws) }
+
+-- the word of an operation on outlines
+abbrev pub op2_word : Op → Bytes
+op2_word Union = codes "union2"
+op2_word Intersect = codes "intersect2"
+op2_word Subtract = codes "subtract2"
+
+abbrev pub combine2 : Op → Command
+combine2 op = record { word = op2_word op; operands = λ n. NewName ∷ OldOutline ∷ OldOutline ∷ []; step = λ k ws. Combine2 op (at ws 0) (at ws 1) (at ws 2) }
+
+-- a low height and a high one
+abbrev pub extrude : Command
+extrude = record {
+  word = codes "extrude";
+  operands = λ n. NewName ∷ OldOutline ∷ Number ∷ Number ∷ [];
+  step = λ k ws. Extrude (at ws 0) (at ws 1) (number_at k ws 2) (number_at k ws 3);
+}
 
 abbrev pub exact : Command
-exact = record { word = codes "exact"; operands = []; step = λ k ws. Exact }
+exact = record { word = codes "exact"; operands = λ n. []; step = λ k ws. Exact }
 
 -- a command that makes a solid
 abbrev pub making : Bytes → List Operand → (ℕ → List Bytes → Solid) → Command
-making word operands solid = record { word = word; operands = NewName ∷ operands; step = λ k ws. Make (at ws 0) (solid k ws) }
+making word operands solid = record { word = word; operands = λ n. NewName ∷ operands; step = λ k ws. Make (at ws 0) (solid k ws) }
 
 -- the two corners of a box
 abbrev pub box : Command
@@ -83,7 +120,7 @@ lattice = making (codes "lattice") (Within 1 60 ∷ Within 0 999999 ∷ []) (λ 
 
 -- a command that moves a mesh
 abbrev pub moving : Bytes → List Operand → (ℕ → List Bytes → Motion) → Command
-moving word operands motion = record { word = word; operands = NewName ∷ OldName ∷ operands; step = λ k ws. Move (at ws 0) (at ws 1) (motion k ws) }
+moving word operands motion = record { word = word; operands = λ n. NewName ∷ OldMesh ∷ operands; step = λ k ws. Move (at ws 0) (at ws 1) (motion k ws) }
 
 abbrev pub shift : Command
 shift = moving (codes "shift") (replicate 3 Number) (λ k ws. Shift (point_at k ws 2))
@@ -105,8 +142,14 @@ solids = box ∷ tetra ∷ prism ∷ lattice ∷ []
 abbrev pub motions : List Command
 motions = shift ∷ scale ∷ mirror ∷ turn ∷ []
 
+-- those of outlines
+abbrev pub outlines : List Command
+outlines = polygon ∷ combine2 Union ∷ combine2 Intersect ∷ combine2 Subtract ∷ extrude ∷ []
+
 abbrev pub commands : List Command
-commands = load ∷ save ∷ measure ∷ combine Union ∷ combine Intersect ∷ combine Subtract ∷ tidy ∷ exact ∷ (solids ++ motions)
+commands =
+    load ∷ save ∷ measure ∷ combine Union ∷ combine Intersect ∷ combine Subtract ∷ tidy ∷ exact ∷
+    (solids ++ (motions ++ outlines))
 
 -- the first of some commands whose word is this
 abbrev pub named_in : List Command → Bytes → Option Command

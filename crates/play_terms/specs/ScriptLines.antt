@@ -10,8 +10,8 @@ use Rattle.text_terms.specs.Written.{line_of}
 use Rattle.run_terms.specs.Files.{Bytes}
 use Rattle.play_terms.specs.Lines.{counts_text}
 use Rattle.mb_base.specs.declared.op.Op.{Op}
-use Rattle.play_terms.specs.Combined.{Combined}
-use Rattle.play_terms.specs.ScriptCommands.{op_word}
+use Rattle.play_terms.specs.Combined.{Combined, Combined2}
+use Rattle.play_terms.specs.ScriptCommands.{op_word, op2_word}
 
 -- load NAME FILE: points P, triangles T, unused U
 abbrev pub load_line : Bytes → Bytes → Soup → Bytes
@@ -55,6 +55,26 @@ collapsed_text collapses = codes ": collapsed " ++ decimal collapses
 -- NAME = tidy OLD: collapsed N
 abbrev pub tidy_line : Bytes → Bytes → ℕ → Bytes
 tidy_line name old collapses = line_of (name ++ codes " = tidy " ++ old ++ collapsed_text collapses)
+
+-- : kept N M, crossings X
+abbrev pub combined2_text : Combined2 → Bytes
+combined2_text o = codes ": kept " ++ decimal o.p_kept ++ codes " " ++ decimal o.q_kept ++ codes ", crossings " ++ decimal o.crossings
+
+-- OP LEFT RIGHT
+abbrev pub operation2_text : Op → Bytes → Bytes → Bytes
+operation2_text op left right = op2_word op ++ codes " " ++ left ++ codes " " ++ right
+
+-- NAME = OP LEFT RIGHT: kept N M, crossings X
+abbrev pub combine2_line : Op → Bytes → Bytes → Bytes → Combined2 → Bytes
+combine2_line op name left right o = line_of (name ++ codes " = " ++ operation2_text op left right ++ combined2_text o)
+
+-- : forced F
+abbrev pub forced_text : ℕ → Bytes
+forced_text forced = codes ": forced " ++ decimal forced
+
+-- NAME = extrude OLD: forced F
+abbrev pub extrude_line : Bytes → Bytes → ℕ → Bytes
+extrude_line name old forced = line_of (name ++ codes " = extrude " ++ old ++ forced_text forced)
 
 -- the name of a kind of fault of a script by its number
 abbrev pub script_kind_name : ℕ → Bytes

@@ -17,7 +17,8 @@ unless_refused step (Some kind) = Err kind
 -- the step of a command with the words after it: 21 where these are not as many as its operands, and then the first operand that is refused
 abbrev pub command_step : ℕ → List Line → List Bytes → Command → Result Step ℕ
 command_step k before ws c =
-    if length ws == length c.operands then unless_refused (c.step k ws) (operands_fault k before c.operands ws) else Err 21
+    let operands = c.operands (length ws) in
+    if length ws == length operands then unless_refused (c.step k ws) (operands_fault k before operands ws) else Err 21
 
 -- 20 where the first word is no command
 abbrev pub step_by : ℕ → List Line → List Bytes → Option Command → Result Step ℕ

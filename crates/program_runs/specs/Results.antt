@@ -1,4 +1,4 @@
--- What the operations of a command give, and how the meshes of its names are read and saved.
+-- What the operations of a command give, and what its names hold.
 use Rattle.std.specs.Prelude.{Option, Some, None}
 use Rattle.mesh_terms.specs.Limits.{Limits}
 use Rattle.operation_laws.specs.Results.{GivesResults}
@@ -13,7 +13,8 @@ CommandGivesResults limits (Some (CopyFile k from to)) = Unit {0}
 CommandGivesResults limits (Some (InsideFile k file p)) = Unit {0}
 CommandGivesResults limits (Some (RunScript k script)) = GivesResults k limits script
 
--- whatever lines of the script that it does, if it does one, the mesh of each name is read of its texts, its tidied mesh is a tidy one of it, and a line that saves it writes its text
+-- whatever lines of the script that it does, if it does one, the mesh of each name is read of its texts, its tidied mesh
+-- is a tidy one of it, and a line that saves it writes its text; and the outline of each name is one at points of the grid
 abbrev pub CommandKeepsMeshes : Limits → Option Command → Type 0
 CommandKeepsMeshes limits None = Unit {0}
 CommandKeepsMeshes limits (Some (CopyFile k from to)) = Unit {0}

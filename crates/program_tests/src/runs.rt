@@ -1,4 +1,5 @@
 // Whole runs over memory, with what users and scripts see of them: status, output, error line, files.
+mod drawn_flat;
 mod faults;
 mod files;
 mod hostile;

@@ -3,9 +3,9 @@ use Rattle.std.proofs.Common.{◌≡◌, ◌++◌, [], ◌∷◌, codes, ap, sym
 use Rattle.text_terms.specs.Written.{line_of}
 use Rattle.run_terms.specs.Files.{Bytes}
 use Rattle.mb_base.specs.declared.op.Op.{Op}
-use Rattle.play_terms.specs.Combined.{Combined}
-use Rattle.play_terms.specs.ScriptCommands.{op_word}
-use Rattle.play_terms.specs.ScriptLines.{combine_line, combined_text, operation_text}
+use Rattle.play_terms.specs.Combined.{Combined, Combined2}
+use Rattle.play_terms.specs.ScriptCommands.{op_word, op2_word}
+use Rattle.play_terms.specs.ScriptLines.{combine2_line, combine_line, combined2_text, combined_text, operation2_text, operation_text}
 
 -- five texts, joined from the left and from the right
 from_right : (a b c d e : Bytes) → a ++ b ++ c ++ d ++ e ≡ a ++ (b ++ (c ++ (d ++ e)))
@@ -35,3 +35,20 @@ combined_parts op name left right line o is =
     ap (λ t. name ++ t) (op_parts op left right (line ++ []))
     ∙ ap (λ t. name ++ (codes " = " ++ (operation_text op left right ++ t))) (append-nil line ∙ is)
     ∙ sym (from_right name (codes " = ") (operation_text op left right) (combined_text o) (10 ∷ []))
+
+-- and that of an operation on outlines
+op2_parts : (op : Op) (left right text : Bytes) →
+    (codes " = " ++ op2_word op ++ codes " ") ++ (left ++ (codes " " ++ (right ++ text))) ≡ codes " = " ++ (operation2_text op left right ++ text)
+op2_parts op left right text =
+    let word = op2_word op in
+    let rest = left ++ (codes " " ++ (right ++ text)) in
+    append_assoc (codes " = " ++ word) (codes " ") rest
+    ∙ ap (λ t. codes " = " ++ t) (sym (append_assoc (word ++ codes " " ++ left ++ codes " ") right text ∙ from_right word (codes " ") left (codes " ") (right ++ text)))
+
+-- and of one that reports an operation on outlines
+pub combined2_parts : (op : Op) (name left right line : Bytes) (o : Combined2) → line ≡ line_of (combined2_text o)
+    → name ++ ((codes " = " ++ op2_word op ++ codes " ") ++ (left ++ (codes " " ++ (right ++ (line ++ []))))) ≡ combine2_line op name left right o
+combined2_parts op name left right line o is =
+    ap (λ t. name ++ t) (op2_parts op left right (line ++ []))
+    ∙ ap (λ t. name ++ (codes " = " ++ (operation2_text op left right ++ t))) (append-nil line ∙ is)
+    ∙ sym (from_right name (codes " = ") (operation2_text op left right) (combined2_text o) (10 ∷ []))

@@ -2,18 +2,20 @@
 ghost use Rattle.std.specs.Prelude.{◌≡◌, ◌++◌, codes};
 ghost use Rattle.mb_outside.specs.Seen.{MeetsOnOutput};
 ghost use Rattle.play_terms.specs.Commands.{say_line};
-ghost use Rattle.play_terms.specs.Combined.{Combined};
-ghost use Rattle.play_terms.specs.ScriptCommands.{op_word};
-ghost use Rattle.play_terms.specs.ScriptLines.{combine_line, load_line, measure_line, save_line, tidy_line};
+ghost use Rattle.play_terms.specs.Combined.{Combined, Combined2};
+ghost use Rattle.play_terms.specs.ScriptCommands.{op_word, op2_word};
+ghost use Rattle.play_terms.specs.ScriptLines.{combine2_line, combine_line, extrude_line, load_line, measure_line, save_line, tidy_line};
 ghost use Rattle.mesh_terms.specs.Meshes.{Mesh as TheMesh};
 ghost use Rattle.mesh_files.specs.Reasons.{soup_of};
-ghost use Rattle.report_lines.specs.Counts.{counts_of};
+ghost use Rattle.report_lines.specs.Counts.{counts2_of, counts_of};
 ghost use Rattle.report_lines.specs.Measures.{IsMeasureOf};
 ghost use Rattle.report_lines.specs.Reports.{said};
 ghost use Rattle.report_lines.specs.Taken.{Takes};
 
 use crate::report::say;
-use crate::script_tail::{combined_tail, measured_tail, saved_tail, size_tail, tidied_tail};
+use crate::script_tail::{
+    combined_tail, combined2_tail, extruded_tail, measured_tail, saved_tail, size_tail, tidied_tail,
+};
 use crate::tail::copied_tail;
 use mb_base::Op;
 use mb_outside::{Failed, Sink};
@@ -26,6 +28,13 @@ pub struct OperationCounts {
     pub kept: [u64; 2],
     pub crossings: u64,
     pub forced: u64,
+}
+
+/// The numbers of an operation on outlines: how many vertices of each were kept, and how many crossings there are.
+#[derive(Clone, Copy, Debug, PartialEq, Eq, Drop)]
+pub struct OutlineCounts {
+    pub kept: [u64; 2],
+    pub crossings: u64,
 }
 
 /// Reports a mesh that was read: `load NAME FILE: points P, triangles T, unused U`. After `Failed`, which comes only where the sink's count
@@ -88,6 +97,22 @@ pub fn say_tidied<K: Sink>(
     say(&[name, b" = tidy ", source, tail.as_slice()], sink)
 }
 
+/// Reports an extruded outline: `NAME = extrude OLD: forced F`. After `Failed`, which comes only where the sink's count rose, it has a
+/// first part of the line.
+pub fn say_extruded<K: Sink>(
+    name: &str,
+    source: &str,
+    forced: u64,
+    sink: &mut K,
+) -> Result<(), Failed>
+    ensures meets { MeetsOnOutput K.Sink (say_line (extrude_line name.now source.now forced)) sink.old sink.new (said result) }
+    ensures takes { Takes K.Sink (extrude_line name.now source.now forced) sink.old sink.new result }
+{
+    let tail = extruded_tail(forced);
+    let (name, source) = (name.as_bytes(), source.as_bytes());
+    say(&[name, b" = extrude ", source, tail.as_slice()], sink)
+}
+
 // The word of an operation, between the name that gets the result and those of the two meshes. It has any lifetime, so that it can
 // stand in a list with these.
 fn op_text<'a>(op: Op) -> &'a [u8]
@@ -118,5 +143,37 @@ pub fn say_combined<'a, K: Sink>(
     let tail = combined_tail(counts.kept, counts.crossings, counts.forced);
     let (name, left, right) = (name.as_bytes(), left.as_bytes(), right.as_bytes());
     let word = op_text(op);
+    say(&[name, word, left, b" ", right, tail.as_slice()], sink)
+}
+
+// The word of an operation on outlines, between the name that gets the result and those of the two.
+fn op2_text<'a>(op: Op) -> &'a [u8]
+    ensures { result.now ≡ codes " = " ++ op2_word op ++ codes " " }
+{
+    match op {
+        Op::Union => b" = union2 ",
+        Op::Intersect => b" = intersect2 ",
+        Op::Subtract => b" = subtract2 ",
+    }
+}
+
+/// Reports an operation on outlines: `NAME = OP LEFT RIGHT: kept N M, crossings X`. After `Failed`, which comes only where the sink's count
+/// rose, it has a first part of the line.
+pub fn say_combined2<'a, K: Sink>(
+    op: Op,
+    name: &'a str,
+    left: &'a str,
+    right: &'a str,
+    counts: &OutlineCounts,
+    sink: &mut K,
+) -> Result<(), Failed>
+    ensures meets { (o : Combined2) → counts.now ≡ counts2_of o →
+        MeetsOnOutput K.Sink (say_line (combine2_line op name.now left.now right.now o)) sink.old sink.new (said result) }
+    ensures takes { (o : Combined2) → counts.now ≡ counts2_of o →
+        Takes K.Sink (combine2_line op name.now left.now right.now o) sink.old sink.new result }
+{
+    let tail = combined2_tail(counts.kept, counts.crossings);
+    let (name, left, right) = (name.as_bytes(), left.as_bytes(), right.as_bytes());
+    let word = op2_text(op);
     say(&[name, word, left, b" ", right, tail.as_slice()], sink)
 }

@@ -49,6 +49,29 @@ pub fn tidied_tail(collapsed: u64) -> Tail
     tail
 }
 
+/// The end of the line that reports an extruded outline.
+pub fn extruded_tail(forced: u64) -> Tail
+    ensures { result.items ≡ line_of (codes ": forced " ++ decimal forced) }
+{
+    let mut tail = Tail::new();
+    put_pair(&mut tail, b": forced ", forced);
+    put(&mut tail, b"\n");
+    tail
+}
+
+/// The end of the line that reports an operation on outlines.
+pub fn combined2_tail(kept: [u64; 2], crossings: u64) -> Tail
+    ensures { result.items ≡
+        line_of (codes ": kept " ++ decimal (slice_index kept 0) ++ codes " " ++ decimal (slice_index kept 1) ++ codes ", crossings " ++ decimal crossings) }
+{
+    let mut tail = Tail::new();
+    put_pair(&mut tail, b": kept ", kept[0]);
+    put_pair(&mut tail, b" ", kept[1]);
+    put_pair(&mut tail, b", crossings ", crossings);
+    put(&mut tail, b"\n");
+    tail
+}
+
 /// The end of the line that reports an operation.
 pub fn combined_tail(kept: [u64; 2], crossings: u64, forced: u64) -> Tail
     ensures { result.items ≡

@@ -18,11 +18,11 @@ pub fn point_of(corner: &Corner) -> Point
     Point::of(grid_step(x), grid_step(y), grid_step(z)).unwrap()
 }
 
-// A fine coordinate in grid steps.
+// A fine coordinate in grid steps, rounded down. The unit is a power of two, so that a shift divides by it.
 fn grid_step(coordinate: i64) -> i32
     requires { IsFine coordinate }
     ensures value { result ≡ int_div_euclid coordinate UNIT }
     ensures on_grid { IsOnGrid result }
 {
-    coordinate.div_euclid(UNIT) as i32
+    (coordinate >> UNIT.trailing_zeros()) as i32
 }

@@ -1,3 +1,5 @@
-mod NameSets
+mod Giving
 mod NameTests
 mod Named
+mod RingWords
+pub mod NameKinds

@@ -1,12 +1,12 @@
--- The names that have meshes.
-use Rattle.std.specs.Prelude.{◌≡◌, List, Bool, ◌||◌, bytes_eq}
-use Rattle.std.specs.List.{list_any}
+-- What names hold, as far as lines of a script tell it.
+use Rattle.std.specs.Prelude.{List, [], ◌∷◌, Option, Some, None, if◌then◌else◌, bytes_eq}
 use Rattle.run_terms.specs.Files.{Bytes}
 
--- the name is one of these
-abbrev pub is_among : Bytes → List Bytes → Bool
-is_among w names = list_any (bytes_eq w) names
+-- what stands beside the first name that is this
+abbrev pub beside : {X : Type 0} → List (Bytes × X) → Bytes → Option X
+beside [] n = None
+beside (e ∷ es) n = if bytes_eq n e.0 then Some e.1 else beside es n
 
--- the names with those that pass a test
-abbrev pub HasMore : (Bytes → Bool) → List Bytes → List Bytes → Type 0
-HasMore more old new = (w : Bytes) → is_among w new ≡ (is_among w old || more w)
+-- a name gets something in place of what it had
+abbrev pub with_more : {X : Type 0} → Bytes → X → (Bytes → Option X) → Bytes → Option X
+with_more name x had = λ n. if bytes_eq n name then Some x else had n

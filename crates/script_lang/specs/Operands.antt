@@ -7,7 +7,7 @@ use Rattle.play_terms.specs.Operands.{number_of, number_fault, or_later}
 
 -- no command has more operands
 abbrev pub most_operands : ℕ
-most_operands = 7
+most_operands = 129
 
 -- the numbers of three words
 abbrev pub three_of : ℕ → Bytes → Bytes → Bytes → List ℤ

@@ -1,7 +1,7 @@
 // The commands of a script.
 ghost use Rattle.std.specs.Prelude.{◌≡◌, ◌++◌};
 ghost use Rattle.std.specs.Option.{option_map};
-ghost use Rattle.play_terms.specs.ScriptCommands.{command_named, motions, named_in, solids};
+ghost use Rattle.play_terms.specs.ScriptCommands.{command_named, motions, named_in, outlines, solids};
 ghost use Rattle.script_lang.specs.Steps.{command_of};
 
 use crate::motions::MotionCommand;
@@ -18,6 +18,9 @@ pub enum Command {
     Make(SolidCommand),
     Move(MotionCommand),
     Tidy,
+    Polygon,
+    Combine2(Op),
+    Extrude,
     Exact,
 }
 
@@ -48,9 +51,9 @@ impl Command {
     }
 }
 
-// The command of this word that makes a solid or moves a mesh, if there is one.
+// The command of this word that makes a solid, moves a mesh or is one of outlines, if there is one.
 fn making_or_moving(word: &[u8]) -> Option<Command>
-    ensures { option_map command_of result ≡ named_in (solids ++ motions) word.now }
+    ensures { option_map command_of result ≡ named_in (solids ++ (motions ++ outlines)) word.now }
 {
     match SolidCommand::named(word) {
         Some(solid) => Some(Command::Make(solid)),
@@ -58,12 +61,31 @@ fn making_or_moving(word: &[u8]) -> Option<Command>
     }
 }
 
-// The command of this word that moves a mesh, if there is one.
+// The command of this word that moves a mesh, or is one of outlines, if there is one.
 fn moving_by(word: &[u8]) -> Option<Command>
-    ensures { option_map command_of result ≡ named_in motions word.now }
+    ensures { option_map command_of result ≡ named_in (motions ++ outlines) word.now }
 {
     match MotionCommand::named(word) {
         Some(motion) => Some(Command::Move(motion)),
-        None => None,
+        None => of_outlines(word),
+    }
+}
+
+// The command of this word that makes an outline, or a solid of one, if there is one.
+fn of_outlines(word: &[u8]) -> Option<Command>
+    ensures { option_map command_of result ≡ named_in outlines word.now }
+{
+    if word == b"polygon".as_slice() {
+        Some(Command::Polygon)
+    } else if word == b"union2".as_slice() {
+        Some(Command::Combine2(Op::Union))
+    } else if word == b"intersect2".as_slice() {
+        Some(Command::Combine2(Op::Intersect))
+    } else if word == b"subtract2".as_slice() {
+        Some(Command::Combine2(Op::Subtract))
+    } else if word == b"extrude".as_slice() {
+        Some(Command::Extrude)
+    } else {
+        None
     }
 }

@@ -12,7 +12,7 @@ pub const WRONG_COUNT: u8 = 21;
 /// A name is none.
 pub const BAD_NAME: u8 = 22;
 
-/// A name is not that of an earlier line.
+/// A name is not that of an earlier line, or holds something of another kind.
 pub const NAME_NOT_DEFINED: u8 = 23;
 
 /// A number is none, is off the grid or out of its range, or an axis is none.
@@ -27,6 +27,13 @@ pub const BAD_SUFFIX: u8 = 25;
 pub enum ScriptFault {
     Bad { line: u64, kind: u8 },
     NoMemory,
+}
+
+/// The fault of a line.
+pub fn bad(line: u64, kind: u8) -> ScriptFault
+    ensures { result ≡ ScriptFault.Bad line kind }
+{
+    ScriptFault::Bad { line, kind }
 }
 
 impl From<AllocError> for ScriptFault {

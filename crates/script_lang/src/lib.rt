@@ -6,9 +6,10 @@
 //! with its word, its operands and its step, and `docs/FORMATS.md` says what they do.
 //!
 //! A NAME has at most 32 bytes, the first an ASCII letter and the others ASCII letters, digits or `_`. An OLD is a name
-//! that a line above gives. A FILE is a text that ends with `.obj` or `.stl`, ASCII case ignored. X, Y, Z, SIZE and HEIGHT are decimal
-//! numbers on the grid. N is from 1 to 60, SEED from 0 to 999999 and FACTOR from 1 to 1000000, each in one to seven
-//! digits. An AXIS is `x`, `y` or `z`.
+//! that a line above gives, and what the last of these gives it is a mesh or an outline, as it is wanted. A FILE is a text
+//! that ends with `.obj` or `.stl`, ASCII case ignored. X, Y, Z, SIZE, HEIGHT, LOW and HIGH are decimal numbers on the
+//! grid. N is from 1 to 60, SEED from 0 to 999999 and FACTOR from 1 to 1000000, each in one to seven digits. An AXIS is
+//! `x`, `y` or `z`. A polygon has from 3 to 64 pairs of X and Y.
 #![tactic(auto)]
 
 ghost use Rattle.std.specs.Prelude.{◌≡◌, ◌≤◌, [], Ok, IfOk, IfErr};
@@ -17,16 +18,19 @@ ghost use Rattle.play_terms.specs.Sound.{AreSound};
 ghost use Rattle.script_lang.specs.Faults.{IsFaultOf};
 
 mod commands;
+mod corners;
 mod fault;
 mod jobs;
 mod motions;
 mod names;
 mod operands;
+mod polygons;
 mod reading;
 mod solids;
 mod steps;
 mod words;
 
+pub use corners::Corners2;
 pub use fault::ScriptFault;
 pub use jobs::Job;
 use reading::Reading;
@@ -41,7 +45,7 @@ pub use steps::{Line, Script, Step, Word};
 /// - 20: no command has its first word,
 /// - 21: too few or too many operands, and then for the operands in their order
 /// - 22: no name can be written so,
-/// - 23: no line above gives this name,
+/// - 23: no line above gives this name, or it has a mesh where an outline is wanted, or the other way round,
 /// - 24: not a number on the grid, not in the range, or not an axis,
 /// - 25: not UTF-8, or not the ending of a mesh file.
 ///

@@ -53,22 +53,22 @@ impl<'a> Reading<'a> {
         match (motion, operands) {
             (MotionCommand::Shift, &[name, source, x, y, z]) => Ok(Step::Shift {
                 name: Word::of(name_text(name)?),
-                source: Word::of(self.old_text(source)?),
+                source: Word::of(self.mesh_text(source)?),
                 by: three(x, y, z, digits)?,
             }),
             (MotionCommand::Scale, &[name, source, factor]) => Ok(Step::Scale {
                 name: Word::of(name_text(name)?),
-                source: Word::of(self.old_text(source)?),
+                source: Word::of(self.mesh_text(source)?),
                 factor: within(factor, 1, 1_000_000)?,
             }),
             (MotionCommand::Mirror, &[name, source, of]) => Ok(Step::Mirror {
                 name: Word::of(name_text(name)?),
-                source: Word::of(self.old_text(source)?),
+                source: Word::of(self.mesh_text(source)?),
                 axis: axis(of)?,
             }),
             (MotionCommand::Turn, &[name, source, about]) => Ok(Step::Turn {
                 name: Word::of(name_text(name)?),
-                source: Word::of(self.old_text(source)?),
+                source: Word::of(self.mesh_text(source)?),
                 axis: axis(about)?,
             }),
             _ => Err(WRONG_COUNT),

@@ -24,8 +24,8 @@ use grid_number::read_grid;
 use mb_base::Point;
 use mesh_names::is_mesh_name;
 
-// No command has more operands.
-const MOST: usize = 7;
+// No command has more operands: a polygon has a name and up to 64 pairs.
+const MOST: usize = 129;
 
 // The longest name.
 const LONGEST: usize = 32;

@@ -1,24 +1,29 @@
 // The lines of a script, read one after the other.
-ghost use Rattle.std.specs.Prelude.{◌≡◌, ◌≤◌, ◌++◌, ◌∷◌, [], map, None, Some, Ok, Err, IfOk, OnOk, IfErr};
+ghost use Rattle.std.specs.Prelude.{ℕ, ◌≡◌, ◌≤◌, ◌++◌, ◌∷◌, [], map, None, Some, Ok, Err, IfOk, OnOk, IfErr};
 ghost use Rattle.play_terms.specs.Operands.{old_name_fault};
+ghost use Rattle.play_terms.specs.ScriptCommands.{combine, combine2, exact, extrude, load, measure, save, tidy};
 ghost use Rattle.play_terms.specs.Scripts.{command_step, numbered_words, script_line, script_lines, step_by};
 ghost use Rattle.play_terms.specs.Sound.{AreSound};
-ghost use Rattle.play_terms.specs.Steps.{gives, is_given};
+ghost use Rattle.play_terms.specs.Steps.{given_kind, gives};
 ghost use Rattle.script_lang.specs.Faults.{IsFaultOf};
+ghost use Rattle.text_terms.specs.FirstFault.{on_line};
 ghost use Rattle.script_lang.specs.Steps.{command_of, line_of, step_of};
 
 use crate::commands::Command;
-use crate::fault::{BAD_WORD, NAME_NOT_DEFINED, ScriptFault, WRONG_COUNT};
+use crate::fault::{BAD_WORD, NAME_NOT_DEFINED, ScriptFault, WRONG_COUNT, bad};
 use crate::names::Names;
-use crate::operands::{file_text, name_text, taken};
+use crate::operands::{file_text, name_text, number, taken};
+use crate::polygons::polygon_step;
 use crate::solids::solid_step;
 use crate::steps::{Line, Script, Step, Word};
 use crate::words::Words;
+use mb_base::Op;
+use play_terms::HeldKind;
 use std::alloc::Global;
 use std::marker::Model;
 use text_lines::{Lines, without_mark};
 
-/// The lines so far, and the names that they give meshes.
+/// The lines so far, and the names that they give meshes or outlines.
 #[derive(Drop)]
 pub struct Reading<'a> {
     lines: Vec<Line<'a>>,
@@ -27,15 +32,15 @@ pub struct Reading<'a> {
 
 impl<'a> Model for Reading<'a> {
     ghost use Rattle.std.specs.Prelude.{◌≡◌, ℕ, List, map};
-    ghost use Rattle.play_terms.specs.Steps.{Line as TheLine, is_given};
-    ghost use Rattle.script_lang.specs.Names.{is_among};
+    ghost use Rattle.play_terms.specs.Steps.{Line as TheLine, given_kind};
+    ghost use Rattle.script_lang.specs.Names.{beside};
     ghost use Rattle.script_lang.specs.Steps.{line_of};
 
     ghost Value = { List TheLine };
 
     ghost view = { λ r. map line_of r.lines.items };
 
-    ghost invariant = { λ r. (w : List ℕ) → is_among w r.names ≡ is_given w (map line_of r.lines.items) };
+    ghost invariant = { λ r. (w : List ℕ) → beside r.names w ≡ given_kind w (map line_of r.lines.items) };
 }
 
 impl<'a> Reading<'a> {
@@ -50,7 +55,7 @@ impl<'a> Reading<'a> {
             names: Names::new(alloc),
         };
         for (number, line) in Lines::of(without_mark(bytes)) {
-            reading.read_line(Words::of(line), number, digits)?;
+            reading.read_line(alloc, Words::of(line), number, digits)?;
         }
         Ok(reading)
     }
@@ -67,6 +72,7 @@ impl<'a> Reading<'a> {
     // Reads the words of the line with this number.
     fn read_line(
         &mut self,
+        alloc: Global,
         mut words: Words<'a>,
         number: u64,
         digits: u8,
@@ -81,67 +87,214 @@ impl<'a> Reading<'a> {
         let Some(command) = Command::named(word) else {
             return Err(bad(number, BAD_WORD));
         };
-        match self.step(command, words, digits) {
-            Ok(step) => self.add(number, step),
+        let step = self.step(alloc, command, words, number, digits)?;
+        self.add(number, step)
+    }
+
+    // The step of a command with the words after it on the line with this number; else the line's fault.
+    fn step(
+        &self,
+        alloc: Global,
+        command: Command,
+        words: Words<'a>,
+        number: u64,
+        digits: u8,
+    ) -> Result<Step<'a>, ScriptFault>
+        requires { digits ≤ 6 }
+        ensures step { IfOk result (λ step. step_by digits self.now words.entry (Some (command_of command)) ≡ Ok (step_of step)) }
+        ensures fault { IfErr result (IsFaultOf (on_line number (step_by digits self.now words.entry (Some (command_of command))))) }
+    {
+        let Some(words) = taken(words) else {
+            return Err(bad(number, WRONG_COUNT));
+        };
+        self.step_of_words(alloc, command, words.as_slice(), number, digits)
+    }
+
+    // The step of a command with these operands on the line with this number; else the line's fault.
+    fn step_of_words(
+        &self,
+        alloc: Global,
+        command: Command,
+        operands: &[&'a [u8]],
+        number: u64,
+        digits: u8,
+    ) -> Result<Step<'a>, ScriptFault>
+        requires { digits ≤ 6 }
+        ensures step { IfOk result (λ step. command_step digits self.now (map (λ w. w.now) operands.now) (command_of command) ≡ Ok (step_of step)) }
+        ensures fault { IfErr result (IsFaultOf (on_line number (command_step digits self.now (map (λ w. w.now) operands.now) (command_of command)))) }
+    {
+        if let Command::Polygon = command {
+            return polygon_step(alloc, operands, number, digits);
+        }
+        match self.step_with(command, operands, digits) {
+            Ok(step) => Ok(step),
             Err(kind) => Err(bad(number, kind)),
         }
     }
 
-    // The step of a command with the words after it; else the kind of the line's fault.
-    fn step(&self, command: Command, words: Words<'a>, digits: u8) -> Result<Step<'a>, u8>
-        requires { digits ≤ 6 }
-        ensures step { IfOk result (λ step. step_by digits self.now words.entry (Some (command_of command)) ≡ Ok (step_of step)) }
-        ensures fault { IfErr result (λ kind. step_by digits self.now words.entry (Some (command_of command)) ≡ Err kind) }
-    {
-        match taken(words) {
-            Some(words) => self.step_with(command, words.as_slice(), digits),
-            None => Err(WRONG_COUNT),
-        }
-    }
-
-    // The step of a command with these operands; else the kind of the line's fault.
+    // The step of a command other than `polygon` with these operands; else the kind of the line's fault.
     fn step_with(&self, command: Command, operands: &[&'a [u8]], digits: u8) -> Result<Step<'a>, u8>
-        requires { digits ≤ 6 }
+        requires digits { digits ≤ 6 }
+        requires other { command ≡ Command.Polygon → ⊥ }
         ensures step { IfOk result (λ step. command_step digits self.now (map (λ w. w.now) operands.now) (command_of command) ≡ Ok (step_of step)) }
         ensures fault { IfErr result (λ kind. command_step digits self.now (map (λ w. w.now) operands.now) (command_of command) ≡ Err kind) }
     {
-        match (command, operands) {
-            (Command::Load, &[name, file]) => Ok(Step::Load {
+        match command {
+            Command::Load => self.load_step(operands),
+            Command::Save => self.save_step(operands),
+            Command::Measure => self.measure_step(operands),
+            Command::Combine(op) => self.combine_step(op, operands),
+            Command::Make(solid) => solid_step(solid, operands, digits),
+            Command::Move(motion) => self.motion_step(motion, operands, digits),
+            Command::Tidy => self.tidy_step(operands),
+            Command::Polygon => unreachable!(),
+            Command::Combine2(op) => self.combine2_step(op, operands),
+            Command::Extrude => self.extrude_step(operands, digits),
+            Command::Exact => self.exact_step(operands),
+        }
+    }
+
+    // The step that loads a mesh.
+    fn load_step(&self, operands: &[&'a [u8]]) -> Result<Step<'a>, u8>
+        ensures step { (k : ℕ) → IfOk result (λ step. command_step k self.now (map (λ w. w.now) operands.now) load ≡ Ok (step_of step)) }
+        ensures fault { (k : ℕ) → IfErr result (λ kind. command_step k self.now (map (λ w. w.now) operands.now) load ≡ Err kind) }
+    {
+        match operands {
+            &[name, file] => Ok(Step::Load {
                 name: Word::of(name_text(name)?),
                 file: Word::of(file_text(file)?),
             }),
-            (Command::Save, &[name, file]) => Ok(Step::Save {
-                name: Word::of(self.old_text(name)?),
+            _ => Err(WRONG_COUNT),
+        }
+    }
+
+    // The step that saves one.
+    fn save_step(&self, operands: &[&'a [u8]]) -> Result<Step<'a>, u8>
+        ensures step { (k : ℕ) → IfOk result (λ step. command_step k self.now (map (λ w. w.now) operands.now) save ≡ Ok (step_of step)) }
+        ensures fault { (k : ℕ) → IfErr result (λ kind. command_step k self.now (map (λ w. w.now) operands.now) save ≡ Err kind) }
+    {
+        match operands {
+            &[name, file] => Ok(Step::Save {
+                name: Word::of(self.mesh_text(name)?),
                 file: Word::of(file_text(file)?),
             }),
-            (Command::Measure, &[name]) => Ok(Step::Measure {
-                name: Word::of(self.old_text(name)?),
+            _ => Err(WRONG_COUNT),
+        }
+    }
+
+    // The step that measures one.
+    fn measure_step(&self, operands: &[&'a [u8]]) -> Result<Step<'a>, u8>
+        ensures step { (k : ℕ) → IfOk result (λ step. command_step k self.now (map (λ w. w.now) operands.now) measure ≡ Ok (step_of step)) }
+        ensures fault { (k : ℕ) → IfErr result (λ kind. command_step k self.now (map (λ w. w.now) operands.now) measure ≡ Err kind) }
+    {
+        match operands {
+            &[name] => Ok(Step::Measure {
+                name: Word::of(self.mesh_text(name)?),
             }),
-            (Command::Combine(op), &[name, left, right]) => Ok(Step::Combine {
+            _ => Err(WRONG_COUNT),
+        }
+    }
+
+    // The step that combines two.
+    fn combine_step(&self, op: Op, operands: &[&'a [u8]]) -> Result<Step<'a>, u8>
+        ensures step { (k : ℕ) → IfOk result (λ step. command_step k self.now (map (λ w. w.now) operands.now) (combine op) ≡ Ok (step_of step)) }
+        ensures fault { (k : ℕ) → IfErr result (λ kind. command_step k self.now (map (λ w. w.now) operands.now) (combine op) ≡ Err kind) }
+    {
+        match operands {
+            &[name, left, right] => Ok(Step::Combine {
                 op,
                 name: Word::of(name_text(name)?),
-                left: Word::of(self.old_text(left)?),
-                right: Word::of(self.old_text(right)?),
+                left: Word::of(self.mesh_text(left)?),
+                right: Word::of(self.mesh_text(right)?),
             }),
-            (Command::Tidy, &[name, source]) => Ok(Step::Tidy {
+            _ => Err(WRONG_COUNT),
+        }
+    }
+
+    // The step that tidies one.
+    fn tidy_step(&self, operands: &[&'a [u8]]) -> Result<Step<'a>, u8>
+        ensures step { (k : ℕ) → IfOk result (λ step. command_step k self.now (map (λ w. w.now) operands.now) tidy ≡ Ok (step_of step)) }
+        ensures fault { (k : ℕ) → IfErr result (λ kind. command_step k self.now (map (λ w. w.now) operands.now) tidy ≡ Err kind) }
+    {
+        match operands {
+            &[name, source] => Ok(Step::Tidy {
                 name: Word::of(name_text(name)?),
-                source: Word::of(self.old_text(source)?),
+                source: Word::of(self.mesh_text(source)?),
             }),
-            (Command::Exact, &[]) => Ok(Step::Exact),
-            (Command::Make(solid), operands) => solid_step(solid, operands, digits),
-            (Command::Move(motion), operands) => self.motion_step(motion, operands, digits),
+            _ => Err(WRONG_COUNT),
+        }
+    }
+
+    // The step that combines two outlines.
+    fn combine2_step(&self, op: Op, operands: &[&'a [u8]]) -> Result<Step<'a>, u8>
+        ensures step { (k : ℕ) → IfOk result (λ step. command_step k self.now (map (λ w. w.now) operands.now) (combine2 op) ≡ Ok (step_of step)) }
+        ensures fault { (k : ℕ) → IfErr result (λ kind. command_step k self.now (map (λ w. w.now) operands.now) (combine2 op) ≡ Err kind) }
+    {
+        match operands {
+            &[name, left, right] => Ok(Step::Combine2 {
+                op,
+                name: Word::of(name_text(name)?),
+                left: Word::of(self.outline_text(left)?),
+                right: Word::of(self.outline_text(right)?),
+            }),
+            _ => Err(WRONG_COUNT),
+        }
+    }
+
+    // The step that makes a solid of an outline.
+    fn extrude_step(&self, operands: &[&'a [u8]], digits: u8) -> Result<Step<'a>, u8>
+        requires { digits ≤ 6 }
+        ensures step { IfOk result (λ step. command_step digits self.now (map (λ w. w.now) operands.now) extrude ≡ Ok (step_of step)) }
+        ensures fault { IfErr result (λ kind. command_step digits self.now (map (λ w. w.now) operands.now) extrude ≡ Err kind) }
+    {
+        match operands {
+            &[name, source, low, high] => Ok(Step::Extrude {
+                name: Word::of(name_text(name)?),
+                source: Word::of(self.outline_text(source)?),
+                low: number(low, digits)?,
+                high: number(high, digits)?,
+            }),
+            _ => Err(WRONG_COUNT),
+        }
+    }
+
+    // The step that chooses exact kernels.
+    fn exact_step(&self, operands: &[&'a [u8]]) -> Result<Step<'a>, u8>
+        ensures step { (k : ℕ) → IfOk result (λ step. command_step k self.now (map (λ w. w.now) operands.now) exact ≡ Ok (step_of step)) }
+        ensures fault { (k : ℕ) → IfErr result (λ kind. command_step k self.now (map (λ w. w.now) operands.now) exact ≡ Err kind) }
+    {
+        match operands {
+            &[] => Ok(Step::Exact),
             _ => Err(WRONG_COUNT),
         }
     }
 
     /// The text of a word that is the name of a mesh; else the kind of its fault.
-    pub fn old_text(&self, word: &'a [u8]) -> Result<&'a str, u8>
+    pub fn mesh_text(&self, word: &'a [u8]) -> Result<&'a str, u8>
         ensures text { IfOk result (λ text. text.now ≡ word.now) }
-        ensures sound { OnOk result (old_name_fault self.now word.now ≡ None) }
-        ensures fault { IfErr result (λ kind. old_name_fault self.now word.now ≡ Some kind) }
+        ensures sound { OnOk result (old_name_fault HeldKind.Mesh self.now word.now ≡ None) }
+        ensures fault { IfErr result (λ kind. old_name_fault HeldKind.Mesh self.now word.now ≡ Some kind) }
+    {
+        self.old_text(HeldKind::Mesh, word)
+    }
+
+    // The text of a word that is the name of an outline; else the kind of its fault.
+    fn outline_text(&self, word: &'a [u8]) -> Result<&'a str, u8>
+        ensures text { IfOk result (λ text. text.now ≡ word.now) }
+        ensures sound { OnOk result (old_name_fault HeldKind.Outline self.now word.now ≡ None) }
+        ensures fault { IfErr result (λ kind. old_name_fault HeldKind.Outline self.now word.now ≡ Some kind) }
+    {
+        self.old_text(HeldKind::Outline, word)
+    }
+
+    // The text of a word that is a name of this kind; else the kind of its fault.
+    fn old_text(&self, held: HeldKind, word: &'a [u8]) -> Result<&'a str, u8>
+        ensures text { IfOk result (λ text. text.now ≡ word.now) }
+        ensures sound { OnOk result (old_name_fault held self.now word.now ≡ None) }
+        ensures fault { IfErr result (λ kind. old_name_fault held self.now word.now ≡ Some kind) }
     {
         let text = name_text(word)?;
-        if self.names.has(text) {
+        if self.names.has(held, text) {
             Ok(text)
         } else {
             Err(NAME_NOT_DEFINED)
@@ -160,11 +313,4 @@ impl<'a> Reading<'a> {
             Err(_) => unreachable!(),
         }
     }
-}
-
-// The fault of a line.
-fn bad(line: u64, kind: u8) -> ScriptFault
-    ensures { result ≡ ScriptFault.Bad line kind }
-{
-    ScriptFault::Bad { line, kind }
 }

@@ -1,13 +1,15 @@
 // The steps of a script.
-ghost use Rattle.std.specs.Prelude.{◌≡◌, [], map, option_copied};
+ghost use Rattle.std.specs.Prelude.{◌≡◌, [], false, map, option_copied};
 ghost use Rattle.play_terms.specs.Sound.{AreSound};
-ghost use Rattle.play_terms.specs.Steps.{Make, Move, new_name};
+ghost use Rattle.play_terms.specs.Steps.{Make, Move, draws, new_kind, new_name};
 ghost use Rattle.script_lang.specs.Jobs.{job_step};
 ghost use Rattle.script_lang.specs.Steps.{line_of, step_of};
 
+use crate::corners::Corners2;
 use crate::jobs::Job;
 use made_terms::{Motion, Solid};
 use mb_base::{Op, Point};
+use play_terms::HeldKind;
 use std::marker::Model;
 
 /// A word of a script, which is a text.
@@ -118,12 +120,31 @@ pub enum Step<'a> {
         name: Word<'a>,
         source: Word<'a>,
     },
+    /// Gives a name the outline of one loop through these places of the plane.
+    Polygon {
+        name: Word<'a>,
+        ring: Corners2,
+    },
+    /// Gives a name what an operation makes of two outlines, of which `left` is the first.
+    Combine2 {
+        op: Op,
+        name: Word<'a>,
+        left: Word<'a>,
+        right: Word<'a>,
+    },
+    /// Gives a name the solid between an outline at a low height and at a high one.
+    Extrude {
+        name: Word<'a>,
+        source: Word<'a>,
+        low: i32,
+        high: i32,
+    },
     /// From here on operations are taken under exact kernels.
     Exact,
 }
 
 impl<'a> Step<'a> {
-    /// The name that the step gives a mesh, if it gives one.
+    /// The name that the step gives a mesh or an outline, if it gives one.
     pub fn new_name(&self) -> Option<&'a str>
         ensures { option_copied result ≡ new_name (step_of self.now) }
     {
@@ -139,12 +160,26 @@ impl<'a> Step<'a> {
             | Step::Scale { name, .. }
             | Step::Mirror { name, .. }
             | Step::Turn { name, .. }
-            | Step::Tidy { name, .. } => Some(name.as_str()),
+            | Step::Tidy { name, .. }
+            | Step::Polygon { name, .. }
+            | Step::Combine2 { name, .. }
+            | Step::Extrude { name, .. } => Some(name.as_str()),
         }
     }
 
-    /// What the step does, by the names and files in it.
+    /// The kind of what it gets.
+    pub fn new_kind(&self) -> HeldKind
+        ensures { result ≡ new_kind (step_of self.now) }
+    {
+        match self {
+            Step::Polygon { .. } | Step::Combine2 { .. } => HeldKind::Outline,
+            _ => HeldKind::Mesh,
+        }
+    }
+
+    /// What the step does, by the names and files in it, where that is not to make an outline.
     pub fn job(&self) -> Job<'a>
+        requires { draws (step_of self.now) ≡ false }
         ensures { job_step result ≡ step_of self.now }
     {
         match self {
@@ -190,6 +225,30 @@ impl<'a> Step<'a> {
             Step::Tidy { name, source } => Job::Tidy {
                 name: name.as_str(),
                 source: source.as_str(),
+            },
+            // A step with a list of its own.
+            Step::Polygon { .. } => unreachable!(),
+            Step::Combine2 {
+                op,
+                name,
+                left,
+                right,
+            } => Job::Combine2 {
+                op: *op,
+                name: name.as_str(),
+                left: left.as_str(),
+                right: right.as_str(),
+            },
+            Step::Extrude {
+                name,
+                source,
+                low,
+                high,
+            } => Job::Extrude {
+                name: name.as_str(),
+                source: source.as_str(),
+                low: *low,
+                high: *high,
             },
             Step::Exact => Job::Exact,
         }

@@ -1,50 +1,90 @@
--- Which names have meshes after steps.
-use Rattle.std.proofs.Common.{◌≡◌, ◌++◌, ◌⊎◌, Bool, true, false, List, [], ◌∷◌, Option, Some, None, IsSome, IsTrue, inl, inr, refl, sym, subst, ◌∙◌}
-use Rattle.std.specs.Prelude.{◌||◌, if◌then◌else◌, bytes_eq}
-use Rattle.std.proofs.lemmas.List.Elements.{All-weaker}
-use Rattle.std.proofs.lemmas.List.Folds.{list_any-append}
+-- What names hold after steps, as far as its kind goes.
+use Rattle.std.proofs.Common.{◌≡◌, ◌++◌, Bool, true, false, List, [], ◌∷◌, Option, Some, None, IsTrue, refl, ap, sym, subst, ◌∙◌}
+use Rattle.std.specs.Prelude.{if◌then◌else◌, bytes_eq}
+use Rattle.std.proofs.lemmas.List.Elements.{All-head, All-tail, All-weaker}
+use Rattle.std.specs.List.{All}
 use Rattle.run_terms.specs.Files.{Bytes}
-use Rattle.play_terms.specs.Plays.{Named}
+use Rattle.play_terms.specs.Plays.{Held, Named, OfMesh, OfOutline, kind_held, with_held}
 use Rattle.play_terms.specs.Sound.{IsSound}
-use Rattle.play_terms.specs.Steps.{Line, Step, gives, is_given, is_that, new_name}
-use Rattle.script_runs.specs.Names.{HasTaken, IsNamed, KeepsNames}
+use Rattle.play_terms.specs.Steps.{Line, Step, given_kind, gives, is_given, is_kind, is_that, new_kind, new_name, or_before, taken}
+use Rattle.play_terms.specs.declared.held.HeldKind.{HeldKind}
+use Rattle.play_terms.specs.declared.held.HeldKind.TheVariants as held
+use Rattle.play_terms.proofs.GivenKinds.{given_more}
+use Rattle.script_runs.specs.Names.{HasTaken, Holds, IsNamed, IsOutlined, KeepsNames}
 
--- each name that the lines give a mesh has one
+-- each name that the lines leave something of a kind holds something of this kind
 abbrev pub AreNamed : Named → List Line → Type 0
-AreNamed named lines = (w : Bytes) → IsTrue (is_given w lines) → IsSome (named w)
+AreNamed named lines = (w : Bytes) (kind : HeldKind) → given_kind w lines ≡ Some kind → kind_held (named w) ≡ Some kind
 
--- where a step gives a name a mesh, and that is done, the names are kept
-pub named_keeps : (step : Step) (name : Bytes) (old new : Named) → new_name step ≡ Some name → IsNamed name old new → KeepsNames step old new
-named_keeps step name old new is (m, now) w has =
-    subst (λ (n : Named). IsSome (n w)) (sym now) (by (bytes_eq w name) refl)
+-- something held has a kind
+has_kind : (h : Held) (rest : Option HeldKind) → kind_held (Some h) ≡ or_before (kind_held (Some h)) rest
+has_kind (OfMesh m) rest = refl
+has_kind (OfOutline o) rest = refl
+
+-- where a step gives a name something of its kind, and that is done, the names are kept
+held_keeps : (step : Step) (name : Bytes) (h : Held) (old new : Named) → new_name step ≡ Some name →
+    Some (new_kind step) ≡ kind_held (Some h) → new ≡ with_held name h old → KeepsNames step old new
+held_keeps step name h old new is kind now w =
+    ap (λ (n : Named). kind_held (n w)) now ∙ by (bytes_eq w name) ∙ sym (ap (λ g. or_before g (kind_held (old w))) given)
   where
-    given : IsTrue (gives w step) → IsTrue (bytes_eq w name)
-    given more = subst (λ (n : Option Bytes). IsTrue (is_that w n)) is more
+    given : gives w step ≡ (if bytes_eq w name then kind_held (Some h) else None)
+    given = λ i. if is_that w (is i) then kind i else None
 
-    by : (b : Bool) → bytes_eq w name ≡ b → IsSome (if b then Some m else old w)
-    by true here = refl
-    by false other = elim has [ inl some ↦ some | inr more ↦ let wrong = given more in absurd (cc) ]
+    by : (b : Bool) → kind_held (if b then Some h else old w) ≡ or_before (if b then kind_held (Some h) else None) (kind_held (old w))
+    by true = has_kind h (kind_held (old w))
+    by false = refl
 
--- where a step gives no name a mesh, names that stay are kept
+-- a mesh, or an outline
+pub named_keeps : (step : Step) (name : Bytes) (old new : Named) → new_name step ≡ Some name → new_kind step ≡ held.Mesh → IsNamed name old new → KeepsNames step old new
+named_keeps step name old new is kind (m, now) = held_keeps step name (OfMesh m) old new is (ap Some kind) now
+
+pub outlined_keeps : (step : Step) (name : Bytes) (old new : Named) → new_name step ≡ Some name → new_kind step ≡ held.Outline → IsOutlined name old new → KeepsNames step old new
+outlined_keeps step name old new is kind (o, now) = held_keeps step name (OfOutline o) old new is (ap Some kind) now
+
+-- where a step gives no name anything, names that stay are kept
 pub unchanged_keeps : (step : Step) (named : Named) → new_name step ≡ None → KeepsNames step named named
-unchanged_keeps step named is w has = elim has [ inl some ↦ some | inr more ↦ let wrong = given more in absurd (cc) ]
-  where
-    given : IsTrue (gives w step) → IsTrue false
-    given more = subst (λ (n : Option Bytes). IsTrue (is_that w n)) is more
+unchanged_keeps step named is w = sym (ap (λ n. or_before (if is_that w n then Some (new_kind step) else None) (kind_held (named w))) is)
 
 -- the names of one line more
 pub named_next : (old new : Named) (lines : List Line) (l : Line) → AreNamed old lines → KeepsNames l.1 old new → AreNamed new (lines ++ l ∷ [])
-named_next old new lines l known keeps w given = keeps w (by (is_given w lines) (gives w l.1) refl refl (sym (list_any-append (λ k. gives w k.1) lines (l ∷ [])) ∙ given))
+named_next old new lines l known keeps w kind given = keeps w ∙ by (gives w l.1) (sym (given_more w lines l) ∙ given)
   where
-    by : (b c : Bool) → is_given w lines ≡ b → gives w l.1 ≡ c → (b || (c || false)) ≡ true → IsSome (old w) ⊎ IsTrue (gives w l.1)
-    by true c before more e = inl (known w before)
-    by false true before more e = inr more
-    by false false before more e = absurd (cc)
+    by : (g : Option HeldKind) → or_before g (given_kind w lines) ≡ Some kind → or_before g (kind_held (old w)) ≡ Some kind
+    by None e = known w kind e
+    by (Some k) e = e
 
--- no line gives a name
+-- no line gives a name anything
 pub none_named : (named : Named) → AreNamed named []
-none_named named w given = absurd (cc)
+none_named named w kind given = absurd (cc)
 
--- so what a sound step takes has meshes
+-- a kind that is this one
+kind_is : (kind : HeldKind) (o : Option HeldKind) → IsTrue (is_kind kind o) → o ≡ Some kind
+kind_is kind None is = absurd (cc)
+kind_is held.Mesh (Some held.Mesh) is = refl
+kind_is held.Mesh (Some held.Outline) is = absurd (cc)
+kind_is held.Outline (Some held.Mesh) is = absurd (cc)
+kind_is held.Outline (Some held.Outline) is = refl
+
+-- something of a kind is held
+holds : (kind : HeldKind) (h : Option Held) → kind_held h ≡ Some kind → Holds kind h
+holds kind None is = absurd (cc)
+holds held.Mesh (Some (OfMesh m)) is = refl
+holds held.Mesh (Some (OfOutline o)) is = absurd (cc)
+holds held.Outline (Some (OfMesh m)) is = absurd (cc)
+holds held.Outline (Some (OfOutline o)) is = refl
+
+-- so the names that a sound step takes hold what it takes
 pub has_taken : (named : Named) (before : List Line) (step : Step) → AreNamed named before → IsSound before step → HasTaken named step
-has_taken named before step known sound = All-weaker (λ w. IsTrue (is_given w before)) (λ w. IsSome (named w)) known _ sound.given
+has_taken named before step known sound =
+    All-weaker (λ t. IsTrue (is_given t.0 t.1 before)) (λ t. Holds t.0 (named t.1))
+    (λ t is. holds t.0 (named t.1) (known t.1 t.0 (kind_is t.0 (given_kind t.1 before) is))) _ sound.given
+
+-- a step that takes one name, or two, has what it takes
+pub taken_one : (named : Named) (step : Step) (t : HeldKind × Bytes) → taken step ≡ t ∷ [] → HasTaken named step → Holds t.0 (named t.1)
+taken_one named step t is has = let P : HeldKind × Bytes → Type 0 = λ t. Holds t.0 (named t.1) in All-head P t [] (subst (All P) is has)
+
+pub taken_two : (named : Named) (step : Step) (t u : HeldKind × Bytes) → taken step ≡ t ∷ u ∷ [] → HasTaken named step →
+    Holds t.0 (named t.1) × Holds u.0 (named u.1)
+taken_two named step t u is has =
+    let P : HeldKind × Bytes → Type 0 = λ t. Holds t.0 (named t.1) in
+    let all : All P (t ∷ u ∷ []) = subst (All P) is has in (All-head P t (u ∷ []) all, All-head P u [] (All-tail P t (u ∷ []) all))

@@ -2,6 +2,7 @@ pub mod Known
 pub mod MadeMeshes
 pub mod Naming
 mod Operated
+mod OutlineStages
 pub mod Progress
 pub mod Reading
 pub mod Stages

@@ -3,7 +3,6 @@ use Rattle.std.proofs.Common.{◌≡◌, ◌+◌, ◌≤◌, ℕ, Bool, List, []
 use Rattle.mb_base.specs.declared.kernel_kind.KernelKind.{KernelKind}
 use Rattle.mb_base.specs.declared.kernel_kind.KernelKind.TheVariants.{Grid}
 use Rattle.mesh_terms.specs.Limits.{Limits}
-use Rattle.mesh_terms.specs.Meshes.{Mesh}
 use Rattle.mb_outside.specs.Seen.{OnOutput, OnShelf, ShelfMeets, seen}
 use Rattle.play_terms.specs.Commands.{ask_file}
 use Rattle.run_terms.specs.Files.{Bytes, Files}
@@ -14,7 +13,7 @@ use Rattle.play_laws.proofs.Tasks.{meets_given, meets_refused, meets_starved, me
 use Rattle.script_lang.specs.Faults.{IsFaultOf}
 use Rattle.script_lang.specs.declared.fault.ScriptFault.{ScriptFault}
 use Rattle.script_lang.specs.declared.fault.ScriptFault.TheVariants.{Bad, NoMemory}
-use Rattle.play_terms.specs.Plays.{Meanings, State, at_first, script_checked, script_task, steps_task}
+use Rattle.play_terms.specs.Plays.{Held, Meanings, State, at_first, script_checked, script_task, steps_task}
 use Rattle.play_terms.specs.Scripts.{script}
 use Rattle.play_terms.specs.Steps.{Line}
 use Rattle.script_runs.specs.Costs.{cost_of_value, lines_cost, script_cost, text_cost}
@@ -34,25 +33,25 @@ module _ (means : KernelKind → Meanings) (k : ℕ) (limits : Limits) (name : B
   text_refused text NoMemory now is = meets_starved (text_task means k limits name text) now
 
   -- the lines of a text were done, beginning without names
-  pub text_done : (text : Bytes) (lines : List Line) (es : List (Bytes × Mesh)) (after : State) (before now : Seen) → es ≡ [] → script k text ≡ Ok lines
+  pub text_done : (text : Bytes) (lines : List Line) (es : List (Bytes × Held)) (after : State) (before now : Seen) → es ≡ [] → script k text ≡ Ok lines
       → Meets (steps_task means k limits name lines (state_in Grid es)) before now (Ok after) → Meets (text_task means k limits name text) before now (Ok tt)
   text_done text lines es after before now none is met =
-      let P : List (Bytes × Mesh) → Type 0 = λ es. Meets (steps_task means k limits name lines (state_in Grid es)) before now (Ok after) in
+      let P : List (Bytes × Held) → Type 0 = λ es. Meets (steps_task means k limits name lines (state_in Grid es)) before now (Ok after) in
       meets_then (give (script_checked name (script k text))) doing lines (Ok tt) before before now
       (meets_given (script_checked name (script k text)) lines before (ap (script_checked name) is))
       (meets_then (steps_task means k limits name lines at_first) (λ _. give (Ok tt)) after (Ok tt) before now now (subst P none met) (meets_given (Ok tt) tt now refl))
 
   -- or one of them stopped
-  pub text_stopped : (text : Bytes) (lines : List Line) (es : List (Bytes × Mesh)) (why : Why) (before now : Seen) → es ≡ [] → script k text ≡ Ok lines
+  pub text_stopped : (text : Bytes) (lines : List Line) (es : List (Bytes × Held)) (why : Why) (before now : Seen) → es ≡ [] → script k text ≡ Ok lines
       → Meets (steps_task means k limits name lines (state_in Grid es)) before now (Err why) → Meets (text_task means k limits name text) before now (Err why)
   text_stopped text lines es why before now none is met =
-      let P : List (Bytes × Mesh) → Type 0 = λ es. Meets (steps_task means k limits name lines (state_in Grid es)) before now (Err why) in
+      let P : List (Bytes × Held) → Type 0 = λ es. Meets (steps_task means k limits name lines (state_in Grid es)) before now (Err why) in
       meets_then (give (script_checked name (script k text))) doing lines (Err why) before before now
       (meets_given (script_checked name (script k text)) lines before (ap (script_checked name) is))
       (meets_stop (steps_task means k limits name lines at_first) (λ _. give (Ok tt)) why before now (subst P none met))
 
   -- what the text costs is what its lines do
-  pub text_spent : (text : Bytes) (lines : List Line) (es : List (Bytes × Mesh)) (files : Files) (old new : ℕ) → es ≡ [] → script k text ≡ Ok lines
+  pub text_spent : (text : Bytes) (lines : List Line) (es : List (Bytes × Held)) (files : Files) (old new : ℕ) → es ≡ [] → script k text ≡ Ok lines
       → new ≤ old + lines_cost means k limits name lines (state_in Grid es) files → new ≤ old + text_cost means k limits name text files
   text_spent text lines es files old new none is most =
       omega (

@@ -11,7 +11,7 @@ use Rattle.run_terms.specs.Tasks.{Task, give, then_task}
 use Rattle.play_laws.proofs.Tasks.{meets_given, meets_starved, meets_stop, meets_then}
 use Rattle.play_terms.specs.Combined.{Combined}
 use Rattle.play_terms.specs.ScriptLines.{combine_line, load_line, measure_line, save_line, tidy_line}
-use Rattle.play_terms.specs.Plays.{Meanings, Named, combine_task, load_task, measure_task, mesh_at, save_task, tidy_task, with_name, within}
+use Rattle.play_terms.specs.Plays.{Held, Meanings, Named, OfMesh, combine_task, load_task, measure_task, mesh_at, save_task, tidy_task, with_held, with_name, within}
 use Rattle.tidy_terms.specs.Tidy.{tidied, tidy_mesh}
 
 -- the shelf and the output together
@@ -39,24 +39,24 @@ module _ {A B : Type 0} (t : Task A) (next : A → Task B) where
       Meets (then_task t next) (beside on before) (beside on now) (Err why)
   output_stop why on before now first = meets_stop t next why (beside on before) (beside on now) (first on)
 
--- a line was said and a name got a mesh; or one of the two was not done
-module _ (line name : Bytes) (m : Mesh) (named : Named) (on : OnShelf) (out told : OnOutput) where
+-- a line was said and a name got something; or one of the two was not done
+module _ (line name : Bytes) (h : Held) (named : Named) (on : OnShelf) (out told : OnOutput) where
   abbrev naming : Task Named
-  naming = then_task (say_line line) (λ _. give (Ok (with_name name m named)))
+  naming = then_task (say_line line) (λ _. give (Ok (with_held name h named)))
 
-  unsaid : (why : Why) → OutputMeets (say_line line) out told (Err why) → Meets naming (beside on out) (beside on told) (Err why)
-  unsaid why met = output_stop (say_line line) (λ _. give (Ok (with_name name m named))) why on out told met
+  pub unsaid : (why : Why) → OutputMeets (say_line line) out told (Err why) → Meets naming (beside on out) (beside on told) (Err why)
+  unsaid why met = output_stop (say_line line) (λ _. give (Ok (with_held name h named))) why on out told met
 
-  unnamed : OutputMeets (say_line line) out told (Ok tt) → Meets naming (beside on out) (beside on told) (Err Starved)
+  pub unnamed : OutputMeets (say_line line) out told (Ok tt) → Meets naming (beside on out) (beside on told) (Err Starved)
   unnamed met =
-      output_then (say_line line) (λ _. give (Ok (with_name name m named))) tt (Err Starved) on out told (beside on told) met
-      (meets_starved (give (Ok (with_name name m named))) (beside on told))
+      output_then (say_line line) (λ _. give (Ok (with_held name h named))) tt (Err Starved) on out told (beside on told) met
+      (meets_starved (give (Ok (with_held name h named))) (beside on told))
 
-  named_so : (now : Named) → now ≡ with_name name m named → OutputMeets (say_line line) out told (Ok tt) → Meets naming (beside on out) (beside on told) (Ok now)
+  pub named_so : (now : Named) → now ≡ with_held name h named → OutputMeets (say_line line) out told (Ok tt) → Meets naming (beside on out) (beside on told) (Ok now)
   named_so now is met =
       let P : Named → Type 0 = λ n. Meets naming (beside on out) (beside on told) (Ok n) in
-      subst P (sym is) (output_then (say_line line) (λ _. give (Ok (with_name name m named))) tt (Ok (with_name name m named)) on out told (beside on told) met
-      (meets_given (Ok (with_name name m named)) (with_name name m named) (beside on told) refl))
+      subst P (sym is) (output_then (say_line line) (λ _. give (Ok (with_held name h named))) tt (Ok (with_held name h named)) on out told (beside on told) met
+      (meets_given (Ok (with_held name h named)) (with_held name h named) (beside on told) refl))
 
 -- a mesh is loaded
 module _ (k : ℕ) (limits : Limits) (name file : Bytes) (named : Named) (before now : OnShelf) (out told : OnOutput) where
@@ -74,20 +74,20 @@ module _ (k : ℕ) (limits : Limits) (name file : Bytes) (named : Named) (before
       → Meets loading (beside before out) (beside now told) (Err why)
   load_unsaid m why ask line =
       shelf_then (ask_mesh k limits file) after_asking m (Err why) before now out (beside now told) ask
-      (unsaid (load_line name file m) name (record { points = m.points; triples = m.triples; labels = m.labels }) named now out told why line)
+      (unsaid (load_line name file m) name (OfMesh (record { points = m.points; triples = m.triples; labels = m.labels })) named now out told why line)
 
   pub load_unnamed : (m : Soup) → ShelfMeets (ask_mesh k limits file) before now (Ok m) → OutputMeets (say_line (load_line name file m)) out told (Ok tt)
       → Meets loading (beside before out) (beside now told) (Err Starved)
   load_unnamed m ask line =
       shelf_then (ask_mesh k limits file) after_asking m (Err Starved) before now out (beside now told) ask
-      (unnamed (load_line name file m) name (record { points = m.points; triples = m.triples; labels = m.labels }) named now out told line)
+      (unnamed (load_line name file m) name (OfMesh (record { points = m.points; triples = m.triples; labels = m.labels })) named now out told line)
 
   pub load_named : (m : Soup) (after : Named) → after ≡ with_name name (record { points = m.points; triples = m.triples; labels = m.labels }) named
       → ShelfMeets (ask_mesh k limits file) before now (Ok m) → OutputMeets (say_line (load_line name file m)) out told (Ok tt)
       → Meets loading (beside before out) (beside now told) (Ok after)
   load_named m after is ask line =
       shelf_then (ask_mesh k limits file) after_asking m (Ok after) before now out (beside now told) ask
-      (named_so (load_line name file m) name (record { points = m.points; triples = m.triples; labels = m.labels }) named now out told after is line)
+      (named_so (load_line name file m) name (OfMesh (record { points = m.points; triples = m.triples; labels = m.labels })) named now out told after is line)
 
 -- the mesh of a name, which is this one, is saved
 module _ (k : ℕ) (name file : Bytes) (of m : Mesh) (named : Named) (is : of ≡ m) (before now : OnShelf) (out told : OnOutput) where
@@ -154,14 +154,14 @@ module _ (name old : Bytes) (of m : Mesh) (named : Named) (is : of ≡ m) (colla
   line_met r met = let P : ℕ → Type 0 = λ n. OutputMeets (say_line (tidy_line name old n)) out told r in subst P count met
 
   pub tidy_unsaid : (why : Why) → OutputMeets (say_line (tidy_line name old collapses)) out told (Err why) → OutputMeets (tidying of) out told (Err why)
-  tidy_unsaid why met = of_name (Err why) (λ on. unsaid line name (tidy_mesh m) named on out told why (line_met (Err why) met))
+  tidy_unsaid why met = of_name (Err why) (λ on. unsaid line name (OfMesh (tidy_mesh m)) named on out told why (line_met (Err why) met))
 
   pub tidy_unnamed : OutputMeets (say_line (tidy_line name old collapses)) out told (Ok tt) → OutputMeets (tidying of) out told (Err Starved)
-  tidy_unnamed met = of_name (Err Starved) (λ on. unnamed line name (tidy_mesh m) named on out told (line_met (Ok tt) met))
+  tidy_unnamed met = of_name (Err Starved) (λ on. unnamed line name (OfMesh (tidy_mesh m)) named on out told (line_met (Ok tt) met))
 
   pub tidy_named : (after : Named) → after ≡ with_name name (tidy_mesh m) named → OutputMeets (say_line (tidy_line name old collapses)) out told (Ok tt)
       → OutputMeets (tidying of) out told (Ok after)
-  tidy_named after same met = of_name (Ok after) (λ on. named_so line name (tidy_mesh m) named on out told after same (line_met (Ok tt) met))
+  tidy_named after same met = of_name (Ok after) (λ on. named_so line name (OfMesh (tidy_mesh m)) named on out told after same (line_met (Ok tt) met))
 
 -- an operation on two meshes is within the limit, or not, or ended otherwise
 abbrev pub Operates : Limits → Combined → Result Combined Why → Type 0
@@ -195,16 +195,16 @@ module _ (means : Meanings) (limits : Limits) (op : Op) (name left right : Bytes
       → OutputMeets combining out told (Err why)
   combine_unsaid o why operates line on =
       meets_then (give (within limits given)) after_operation o (Err why) (beside on out) (beside on out) (beside on told) (of_names (Ok o) operates (beside on out))
-      (unsaid (combine_line op name left right o) name o.mesh named on out told why line)
+      (unsaid (combine_line op name left right o) name (OfMesh o.mesh) named on out told why line)
 
   pub combine_unnamed : (o : Combined) → Operates limits (means.operation op p q) (Ok o) → OutputMeets (say_line (combine_line op name left right o)) out told (Ok tt)
       → OutputMeets combining out told (Err Starved)
   combine_unnamed o operates line on =
       meets_then (give (within limits given)) after_operation o (Err Starved) (beside on out) (beside on out) (beside on told) (of_names (Ok o) operates (beside on out))
-      (unnamed (combine_line op name left right o) name o.mesh named on out told line)
+      (unnamed (combine_line op name left right o) name (OfMesh o.mesh) named on out told line)
 
   pub combine_named : (o : Combined) (after : Named) → after ≡ with_name name o.mesh named → Operates limits (means.operation op p q) (Ok o)
       → OutputMeets (say_line (combine_line op name left right o)) out told (Ok tt) → OutputMeets combining out told (Ok after)
   combine_named o after is operates line on =
       meets_then (give (within limits given)) after_operation o (Ok after) (beside on out) (beside on out) (beside on told) (of_names (Ok o) operates (beside on out))
-      (named_so (combine_line op name left right o) name o.mesh named on out told after is line)
+      (named_so (combine_line op name left right o) name (OfMesh o.mesh) named on out told after is line)

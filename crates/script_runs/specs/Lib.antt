@@ -1,5 +1,6 @@
 pub mod Costs
 pub mod Halts
+pub mod Held
 pub mod Made
 pub mod Names
 pub mod Operations

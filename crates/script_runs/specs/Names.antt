@@ -1,29 +1,40 @@
--- The meshes of names, from a list of names with their meshes.
-use Rattle.std.specs.Prelude.{◌≡◌, List, [], ◌∷◌, if◌then◌else◌, bytes_eq, ◌⊎◌, Some, None, IsSome, IsTrue}
+-- What names hold, from a list of names with what they hold.
+use Rattle.std.specs.Prelude.{◌≡◌, List, Option, IsSome}
 use Rattle.std.specs.List.{All}
 use Rattle.mb_base.specs.declared.kernel_kind.KernelKind.{KernelKind}
 use Rattle.mesh_terms.specs.Meshes.{Mesh}
+use Rattle.outline_terms.specs.Outlines.{Outline}
 use Rattle.run_terms.specs.Files.{Bytes}
-use Rattle.play_terms.specs.Plays.{Named, State, with_name}
-use Rattle.play_terms.specs.Steps.{Step, gives, taken}
+use Rattle.play_terms.specs.Plays.{Held, Named, State, kind_held, mesh_held, outline_held, with_name, with_outline}
+use Rattle.play_terms.specs.declared.held.HeldKind.{HeldKind}
+use Rattle.play_terms.specs.declared.held.HeldKind.TheVariants as held
+use Rattle.play_terms.specs.Steps.{Step, gives, or_before, taken}
+use Rattle.script_lang.specs.Names.{beside}
 
--- the first mesh beside a name
-abbrev pub named_in : List (Bytes × Mesh) → Named
-named_in [] n = None
-named_in (e ∷ es) n = if bytes_eq n e.0 then Some e.1 else named_in es n
+-- what is held beside the first name that is this
+abbrev pub named_in : List (Bytes × Held) → Named
+named_in names = beside names
 
 -- the state of a script that chose these kernels, with these names
-abbrev pub state_in : KernelKind → List (Bytes × Mesh) → State
+abbrev pub state_in : KernelKind → List (Bytes × Held) → State
 state_in kernels names = record { kernels = kernels; named = named_in names }
 
--- each name that the step takes has a mesh
-abbrev pub HasTaken : Named → Step → Type 0
-HasTaken named step = All (λ w. IsSome (named w)) (taken step)
+-- a mesh, or an outline, is held
+abbrev pub Holds : HeldKind → Option Held → Type 0
+Holds held.Mesh h = IsSome (mesh_held h)
+Holds held.Outline h = IsSome (outline_held h)
 
--- the name has some mesh, and all others have what they had
+-- each name that the step takes has a mesh or an outline, as it takes it
+abbrev pub HasTaken : Named → Step → Type 0
+HasTaken named step = All (λ t. Holds t.0 (named t.1)) (taken step)
+
+-- the name has some mesh, or some outline, and all others have what they had
 abbrev pub IsNamed : Bytes → Named → Named → Type 0
 IsNamed name old new = (m : Mesh) × (new ≡ with_name name m old)
 
--- the names that had a mesh have one, and so has the name that the step gives one
+abbrev pub IsOutlined : Bytes → Named → Named → Type 0
+IsOutlined name old new = (o : Outline) × (new ≡ with_outline name o old)
+
+-- each name holds what the step gives it, or what it held, as far as its kind goes
 abbrev pub KeepsNames : Step → Named → Named → Type 0
-KeepsNames step old new = (w : Bytes) → IsSome (old w) ⊎ IsTrue (gives w step) → IsSome (new w)
+KeepsNames step old new = (w : Bytes) → kind_held (new w) ≡ or_before (gives w step) (kind_held (old w))

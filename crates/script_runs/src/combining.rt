@@ -11,7 +11,7 @@ ghost use Rattle.script_runs.specs.Halts.{IsHaltOfStep};
 ghost use Rattle.script_runs.specs.Names.{IsNamed, named_in};
 ghost use Rattle.script_runs.specs.Operations.{meanings};
 ghost use Rattle.script_runs.specs.Outcomes.{IsOutcome};
-ghost use Rattle.play_terms.specs.Plays.{combine_task, mesh_at, within};
+ghost use Rattle.play_terms.specs.Plays.{combine_task, mesh_at, mesh_held, within};
 
 use crate::names::Names;
 use edge_face::Kernels;
@@ -129,8 +129,8 @@ pub fn combine<'a, O: Sink, L: Ledger>(
     out: &mut O,
     steps: &mut Steps<L>,
 ) -> Result<(), Halt<'a>>
-    requires left { IsSome (named_in names.old left.now) }
-    requires right { IsSome (named_in names.old right.now) }
+    requires left { IsSome (mesh_held (named_in names.old left.now)) }
+    requires right { IsSome (mesh_held (named_in names.old right.now)) }
     ensures meets { MeetsOnOutput O.Sink (combine_task (meanings kernels) limits.now op name.now left.now right.now (named_in names.old)) out.old out.new
         (halted_by (λ _. named_in names.new) result) }
     ensures halts { IfErr result IsHaltOfStep }

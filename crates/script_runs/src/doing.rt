@@ -2,6 +2,7 @@
 ghost use Rattle.std.specs.Prelude.{◌≡◌, ◌≤◌, ◌+◌, [], map, IfErr, IsTrue, OnErr, OnOk};
 ghost use Rattle.mb_outside.specs.Seen.{MeetsOn};
 ghost use Rattle.mesh_files.specs.Halts.{halted_by};
+ghost use Rattle.script_lang.specs.Jobs.{job_step};
 ghost use Rattle.script_lang.specs.Steps.{line_of, step_of};
 ghost use Rattle.script_runs.specs.Costs.{lines_cost, step_cost};
 ghost use Rattle.script_runs.specs.Halts.{IsHaltOfStep};
@@ -17,6 +18,7 @@ use crate::making::make;
 use crate::measuring::measure_mesh;
 use crate::moving::move_mesh;
 use crate::names::Names;
+use crate::outlining::{combine2, extrude_outline, polygon};
 use crate::saving::save;
 use crate::tidying::tidy_mesh;
 use mb_base::{KernelKind, Limits};
@@ -27,7 +29,7 @@ use std::alloc::Global;
 use std::sync::ledger::Ledger;
 use steps::Steps;
 
-/// Does the step of a line of the script, an operation under the chosen kernels. Each name that it takes has a mesh.
+// Does the step of a line of the script, an operation under the chosen kernels. Each name that it takes has a mesh or an outline, as it takes it.
 fn do_step<'a, S: Shelf, O: Sink, L: Ledger>(
     alloc: Global,
     script: &'a str,
@@ -51,7 +53,40 @@ fn do_step<'a, S: Shelf, O: Sink, L: Ledger>(
     ensures kept { OnErr result (names.new ≡ names.old) }
     ensures cost { steps.new ≤ steps.old + step_cost (step_of step.now) (named_in names.old) }
 {
-    match step.job() {
+    if let Step::Polygon { name, ring } = step {
+        return polygon(alloc, name.as_str(), ring.points(), names);
+    }
+    let job = step.job();
+    do_job(
+        alloc, script, line, &job, kernels, digits, limits, names, shelf, out, steps,
+    )
+}
+
+// Does the job of a step, where that is not to make an outline. Each name that it takes has a mesh or an outline, as it takes it.
+fn do_job<'a, S: Shelf, O: Sink, L: Ledger>(
+    alloc: Global,
+    script: &'a str,
+    line: u64,
+    job: &Job<'a>,
+    kernels: KernelKind,
+    digits: u8,
+    limits: &Limits,
+    names: &mut Names<'a>,
+    shelf: &mut S,
+    out: &mut O,
+    steps: &mut Steps<L>,
+) -> Result<(), Halt<'a>>
+    requires digits { digits ≤ 6 }
+    requires taken { HasTaken (named_in names.old) (job_step job.now) }
+    requires numbers { HasNumbers (job_step job.now) }
+    ensures meets { MeetsOn S.Shelf O.Sink (step_task (meanings kernels) digits limits.now script.now line (job_step job.now) (named_in names.old))
+        (shelf.old, out.old) (shelf.new, out.new) (halted_by (λ _. named_in names.new) result) }
+    ensures halts { IfErr result IsHaltOfStep }
+    ensures named { OnOk result (KeepsNames (job_step job.now) (named_in names.old) (named_in names.new)) }
+    ensures kept { OnErr result (names.new ≡ names.old) }
+    ensures cost { steps.new ≤ steps.old + step_cost (job_step job.now) (named_in names.old) }
+{
+    match *job {
         Job::Load { name, file } => load(alloc, name, file, digits, limits, names, shelf, out),
         Job::Save { name, file } => save(name, file, digits, names, shelf, out),
         Job::Measure { name } => measure_mesh(alloc, name, names, out),
@@ -70,6 +105,20 @@ fn do_step<'a, S: Shelf, O: Sink, L: Ledger>(
             motion,
         } => move_mesh(alloc, script, line, name, source, motion, names),
         Job::Tidy { name, source } => tidy_mesh(alloc, name, source, names, out),
+        Job::Combine2 {
+            op,
+            name,
+            left,
+            right,
+        } => combine2(alloc, kernels, op, name, left, right, limits, names, out),
+        Job::Extrude {
+            name,
+            source,
+            low,
+            high,
+        } => extrude_outline(
+            alloc, script, line, name, source, low, high, limits, names, out,
+        ),
         Job::Exact => Ok(()),
     }
 }

@@ -1,4 +1,5 @@
-//! Runs the scripts of the program: the whole script is read, and then its lines load, make, move, combine, tidy, measure and save meshes one after the other.
+//! Runs the scripts of the program: the whole script is read, and then its lines load, make, move, combine, tidy, measure and save meshes, and make, combine and
+//! extrude outlines, one after the other.
 //!
 //! Each call meets its task, whatever the shelf and the output. A name may be defined again: it then has the later mesh, and the earlier is freed.
 #![tactic(auto)]
@@ -10,6 +11,7 @@ mod making;
 mod measuring;
 mod moving;
 mod names;
+mod outlining;
 mod running;
 mod saving;
 mod tidying;

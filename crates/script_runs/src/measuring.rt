@@ -4,7 +4,7 @@ ghost use Rattle.mb_outside.specs.Seen.{MeetsOnOutput};
 ghost use Rattle.mesh_files.specs.Halts.{halted_by};
 ghost use Rattle.script_runs.specs.Halts.{IsHaltOfStep};
 ghost use Rattle.script_runs.specs.Names.{named_in};
-ghost use Rattle.play_terms.specs.Plays.{measure_task, mesh_at};
+ghost use Rattle.play_terms.specs.Plays.{measure_task, mesh_at, mesh_held};
 
 use crate::names::Names;
 use mb_outside::Sink;
@@ -20,7 +20,7 @@ pub fn measure_mesh<'a, O: Sink>(
     names: &Names<'a>,
     out: &mut O,
 ) -> Result<(), Halt<'a>>
-    requires { IsSome (named_in names.now name.now) }
+    requires { IsSome (mesh_held (named_in names.now name.now)) }
     ensures meets { MeetsOnOutput O.Sink (measure_task name.now (mesh_at (named_in names.now) name.now) (named_in names.now)) out.old out.new
         (halted_by (λ _. named_in names.now) result) }
     ensures halts { IfErr result IsHaltOfStep }

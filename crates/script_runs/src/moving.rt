@@ -4,7 +4,7 @@ ghost use Rattle.mesh_files.specs.Halts.{halted_by};
 ghost use Rattle.run_terms.specs.Meets.{Meets, Seen};
 ghost use Rattle.script_runs.specs.Halts.{IsHaltOfStep};
 ghost use Rattle.script_runs.specs.Names.{IsNamed, named_in};
-ghost use Rattle.play_terms.specs.Plays.{move_task};
+ghost use Rattle.play_terms.specs.Plays.{mesh_held, move_task};
 ghost use Rattle.made_terms.specs.Motions.{IsMotion};
 
 use crate::making::halt_at;
@@ -23,7 +23,7 @@ pub fn move_mesh<'a>(
     motion: Motion,
     names: &mut Names<'a>,
 ) -> Result<(), Halt<'a>>
-    requires source { IsSome (named_in names.old source.now) }
+    requires source { IsSome (mesh_held (named_in names.old source.now)) }
     requires motion { IsMotion motion }
     ensures meets { (now : Seen) → Meets (move_task script.now line name.now source.now motion (named_in names.old)) now now
         (halted_by (λ _. named_in names.new) result) }

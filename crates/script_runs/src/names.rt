@@ -1,28 +1,38 @@
-// The meshes of the names of a script.
+// What the names of a script hold.
 ghost use Rattle.std.specs.Prelude.{◌≡◌, [], OnOk, OnErr};
 ghost use Rattle.std.specs.Option.{option_map};
 ghost use Rattle.script_runs.specs.Names.{named_in};
-ghost use Rattle.play_terms.specs.Plays.{with_name};
+ghost use Rattle.script_runs.specs.Held.{held_of};
+ghost use Rattle.play_terms.specs.Plays.{mesh_held, outline_held, with_held, with_name, with_outline};
 
 use indexmap::IndexMap;
 use mb_base::NoMemory;
 use mesh_check::Mesh;
+use outlines::Outline;
 use std::alloc::Global;
 use std::marker::Model;
 
-/// The meshes of names, which the names own. A clause sees a list of names, each with its mesh.
+/// What a name holds.
+#[derive(Drop)]
+pub enum Held {
+    Mesh(Mesh),
+    Outline(Outline),
+}
+
+/// What names hold, which the names own. A clause sees a list of names, each with what it holds.
 #[derive(Drop)]
 pub struct Names<'a> {
-    meshes: IndexMap<&'a str, Mesh>,
+    held: IndexMap<&'a str, Held>,
 }
 
 impl<'a> Model for Names<'a> {
     ghost use Rattle.std.specs.Prelude.{ℕ, List, map};
-    ghost use Rattle.mesh_terms.specs.Meshes.{Mesh as TheMesh};
+    ghost use Rattle.play_terms.specs.Plays.{Held as TheHeld};
+    ghost use Rattle.script_runs.specs.Held.{held_of};
 
-    ghost Value = { List (List ℕ × TheMesh) };
+    ghost Value = { List (List ℕ × TheHeld) };
 
-    ghost view = { λ n. map (λ e. (e.0.now, e.1)) n.meshes.entries };
+    ghost view = { λ n. map (λ e. (e.0.now, held_of e.1)) n.held.entries };
 }
 
 impl<'a> Names<'a> {
@@ -31,23 +41,54 @@ impl<'a> Names<'a> {
         ensures { result ≡ [] }
     {
         Names {
-            meshes: IndexMap::new(alloc),
+            held: IndexMap::new(alloc),
         }
     }
 
     /// The mesh of a name.
     pub fn mesh(&self, name: &'a str) -> Option<&Mesh>
-        ensures { option_map (λ mesh. mesh.now) result ≡ named_in self.now name.now }
+        ensures { option_map (λ mesh. mesh.now) result ≡ mesh_held (named_in self.now name.now) }
     {
-        self.meshes.get(&name)
+        match self.held.get(&name) {
+            Some(Held::Mesh(mesh)) => Some(mesh),
+            Some(Held::Outline(_)) => None,
+            None => None,
+        }
     }
 
-    /// Gives a name a mesh. One that it had before is freed.
+    /// The outline of a name.
+    pub fn outline(&self, name: &'a str) -> Option<&Outline>
+        ensures { option_map (λ outline. outline.now) result ≡ outline_held (named_in self.now name.now) }
+    {
+        match self.held.get(&name) {
+            Some(Held::Outline(outline)) => Some(outline),
+            Some(Held::Mesh(_)) => None,
+            None => None,
+        }
+    }
+
+    /// Gives a name a mesh. What it had before is freed.
     pub fn define(&mut self, name: &'a str, mesh: Mesh) -> Result<(), NoMemory>
         ensures named { OnOk result (named_in self.new ≡ with_name name.now mesh (named_in self.old)) }
         ensures kept { OnErr result (self.new ≡ self.old) }
     {
-        self.meshes.insert(name, mesh)?;
+        self.hold(name, Held::Mesh(mesh))
+    }
+
+    /// Gives a name an outline. What it had before is freed.
+    pub fn define_outline(&mut self, name: &'a str, outline: Outline) -> Result<(), NoMemory>
+        ensures named { OnOk result (named_in self.new ≡ with_outline name.now outline (named_in self.old)) }
+        ensures kept { OnErr result (self.new ≡ self.old) }
+    {
+        self.hold(name, Held::Outline(outline))
+    }
+
+    // Gives a name something to hold.
+    fn hold(&mut self, name: &'a str, held: Held) -> Result<(), NoMemory>
+        ensures named { OnOk result (named_in self.new ≡ with_held name.now (held_of held) (named_in self.old)) }
+        ensures kept { OnErr result (self.new ≡ self.old) }
+    {
+        self.held.insert(name, held)?;
         Ok(())
     }
 }

@@ -4,7 +4,7 @@ ghost use Rattle.mb_outside.specs.Seen.{MeetsOn};
 ghost use Rattle.mesh_files.specs.Halts.{halted_by};
 ghost use Rattle.script_runs.specs.Halts.{IsHaltOfStep};
 ghost use Rattle.script_runs.specs.Names.{named_in};
-ghost use Rattle.play_terms.specs.Plays.{mesh_at, save_task};
+ghost use Rattle.play_terms.specs.Plays.{mesh_at, mesh_held, save_task};
 
 use crate::names::Names;
 use mb_outside::{Shelf, Sink};
@@ -21,7 +21,7 @@ pub fn save<'a, S: Shelf, O: Sink>(
     out: &mut O,
 ) -> Result<(), Halt<'a>>
     requires digits { digits ≤ 6 }
-    requires named { IsSome (named_in names.now name.now) }
+    requires named { IsSome (mesh_held (named_in names.now name.now)) }
     ensures meets { MeetsOn S.Shelf O.Sink (save_task digits name.now file.now (mesh_at (named_in names.now) name.now) (named_in names.now))
         (shelf.old, out.old) (shelf.new, out.new) (halted_by (λ _. named_in names.now) result) }
     ensures halts { IfErr result IsHaltOfStep }

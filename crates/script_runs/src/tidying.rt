@@ -4,7 +4,7 @@ ghost use Rattle.mb_outside.specs.Seen.{MeetsOnOutput};
 ghost use Rattle.mesh_files.specs.Halts.{halted_by};
 ghost use Rattle.script_runs.specs.Halts.{IsHaltOfStep};
 ghost use Rattle.script_runs.specs.Names.{IsNamed, named_in};
-ghost use Rattle.play_terms.specs.Plays.{mesh_at, tidy_task};
+ghost use Rattle.play_terms.specs.Plays.{mesh_at, mesh_held, tidy_task};
 
 use crate::names::Names;
 use mb_outside::Sink;
@@ -21,7 +21,7 @@ pub fn tidy_mesh<'a, O: Sink>(
     names: &mut Names<'a>,
     out: &mut O,
 ) -> Result<(), Halt<'a>>
-    requires { IsSome (named_in names.old source.now) }
+    requires { IsSome (mesh_held (named_in names.old source.now)) }
     ensures meets { MeetsOnOutput O.Sink (tidy_task name.now source.now (mesh_at (named_in names.old) source.now) (named_in names.old)) out.old out.new
         (halted_by (λ _. named_in names.new) result) }
     ensures halts { IfErr result IsHaltOfStep }

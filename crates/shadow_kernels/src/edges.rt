@@ -38,6 +38,7 @@ pub(crate) fn edge_meet<K: Rules>(
 }
 
 /// The shadow of their answer. A value is placed by the rounding only where the boxes of the two leave that open.
+#[inline(always)]
 pub(crate) fn edge_shadow<K: Sights>(
     kernel: &K,
     edge: Edge,
@@ -63,6 +64,7 @@ pub(crate) fn edge_shadow<K: Sights>(
 }
 
 /// Whether the vertex counts as past an end of the edge in x.
+#[inline(always)]
 fn is_past<K: Rules>(kernel: &K, edge: Edge, vertex: &Corner, end: &Corner) -> bool
     ensures { result ≡ past edge (K.rule_of kernel.now) vertex.now end.now }
 {

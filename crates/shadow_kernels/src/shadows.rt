@@ -10,6 +10,7 @@ use crate::{Edge, Sights};
 use mb_base::Corner;
 
 /// The shadow of a vertex and the edge from c to d, as `meet` gives it.
+#[inline(always)]
 pub fn vertex_edge_shadow<K: Sights>(kernel: &K, p: &Corner, c: &Corner, d: &Corner) -> i8
     requires p_fine { IsFineCorner p.now }
     requires c_fine { IsFineCorner c.now }
@@ -21,6 +22,7 @@ pub fn vertex_edge_shadow<K: Sights>(kernel: &K, p: &Corner, c: &Corner, d: &Cor
 }
 
 /// The shadow of the edge from a to b and a vertex, as `meet` gives it.
+#[inline(always)]
 pub fn edge_vertex_shadow<K: Sights>(kernel: &K, a: &Corner, b: &Corner, q: &Corner) -> i8
     requires a_fine { IsFineCorner a.now }
     requires b_fine { IsFineCorner b.now }

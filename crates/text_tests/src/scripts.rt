@@ -30,6 +30,17 @@ fn words_of<'a>(step: &Step<'a>) -> (&'static str, [&'a str; 3]) {
         Step::Mirror { name, source, .. } => ("mirror", [name.as_str(), source.as_str(), ""]),
         Step::Turn { name, source, .. } => ("turn", [name.as_str(), source.as_str(), ""]),
         Step::Tidy { name, source } => ("tidy", [name.as_str(), source.as_str(), ""]),
+        Step::Polygon { name, .. } => ("polygon", [name.as_str(), "", ""]),
+        Step::Combine2 {
+            op,
+            name,
+            left,
+            right,
+        } => (
+            op2_word(*op),
+            [name.as_str(), left.as_str(), right.as_str()],
+        ),
+        Step::Extrude { name, source, .. } => ("extrude", [name.as_str(), source.as_str(), ""]),
         Step::Exact => ("exact", ["", "", ""]),
     }
 }
@@ -49,6 +60,25 @@ fn numbers_of(step: &Step<'_>) -> [i64; 6] {
         Step::Shift { by, .. } => row_of(*by, [0, 0, 0]),
         Step::Scale { factor, .. } => [i64::from(*factor), 0, 0, 0, 0, 0],
         Step::Mirror { axis, .. } | Step::Turn { axis, .. } => { [i64::from(*axis), 0, 0, 0, 0, 0] }
+        Step::Polygon { ring, .. } => ring_row(ring.points()),
+        Step::Extrude { low, high, .. } => [i64::from(*low), i64::from(*high), 0, 0, 0, 0],
+        _ => [0; 6],
+    }
+}
+
+// How many places there are, and the first and the last.
+fn ring_row(ring: &[[i32; 2]]) -> [i64; 6] {
+    match ring {
+        [[x, y], .., [u, v]] => {
+            [
+                ring.len() as i64,
+                i64::from(*x),
+                i64::from(*y),
+                i64::from(*u),
+                i64::from(*v),
+                0,
+            ]
+        }
         _ => [0; 6],
     }
 }
@@ -70,6 +100,14 @@ fn op_word(op: Op) -> &'static str {
         Op::Union => "union",
         Op::Intersect => "intersect",
         Op::Subtract => "subtract",
+    }
+}
+
+fn op2_word(op: Op) -> &'static str {
+    match op {
+        Op::Union => "union2",
+        Op::Intersect => "intersect2",
+        Op::Subtract => "subtract2",
     }
 }
 
@@ -179,6 +217,21 @@ const NUMBERED_ROWS: [Row<'static>; 9] = [
     (9, "turn", ["r", "m", ""], [2, 0, 0, 0, 0, 0]),
 ];
 
+// Outlines with their numbers, and names that hold outlines and meshes in turn.
+const OUTLINED: &[u8] =
+    b"polygon a 1 -2 3 4 5 6\nunion2 b a a\nintersect2 a a b\nsubtract2 c a b\nextrude a a -7 8\nmeasure a\npolygon a 1 2 3 4 5 6 7 8\nunion2 a a a\n";
+
+const OUTLINED_ROWS: [Row<'static>; 8] = [
+    (1, "polygon", ["a", "", ""], [3, 1, -2, 5, 6, 0]),
+    (2, "union2", ["b", "a", "a"], NONE),
+    (3, "intersect2", ["a", "a", "b"], NONE),
+    (4, "subtract2", ["c", "a", "b"], NONE),
+    (5, "extrude", ["a", "a", ""], [-7, 8, 0, 0, 0, 0]),
+    (6, "measure", ["a", "", ""], NONE),
+    (7, "polygon", ["a", "", ""], [4, 1, 2, 7, 8, 0]),
+    (8, "union2", ["a", "a", "a"], NONE),
+];
+
 // Numbers under four digits.
 const FINER: &[u8] = b"tetra t 1 .00005 -107374.1824 6e-4";
 
@@ -190,12 +243,13 @@ const FINER_ROWS: [Row<'static>; 1] = [(
 )];
 
 // Scripts, the digits of the grid, and the lines that are read.
-static READ: [(&[u8], u8, &[Row<'static>]); 6] = [
+static READ: [(&[u8], u8, &[Row<'static>]); 7] = [
     (STEPS, 0, &STEPS_ROWS),
     (COMMENTED, 0, &COMMENTED_ROWS),
     (b"", 0, &[]),
     (LONG_NAMES, 0, &LONG_NAMES_ROWS),
     (NUMBERED, 0, &NUMBERED_ROWS),
+    (OUTLINED, 0, &OUTLINED_ROWS),
     (FINER, 4, &FINER_ROWS),
 ];
 
@@ -277,6 +331,30 @@ static OPERANDS: [Refused; 22] = [
 #[test]
 fn operands_without_a_value_refuse_a_line(rt: HostRuntime) {
     refuses(&rt, rt.alloc(), &OPERANDS);
+}
+
+static OUTLINES: [Refused; 16] = [
+    (b"polygon", 1, 21),
+    (b"polygon a", 1, 21),
+    (b"polygon a 0 0 1 0", 1, 21),
+    (b"polygon a 0 0 1 0 0", 1, 21),
+    (b"polygon 1 0 0 1 0 0", 1, 21),
+    (b"polygon a 0 0 1 0 0 1 1", 1, 21),
+    (b"polygon 1 0 0 1 0 0 y", 1, 22),
+    (b"polygon a 0 0 1 0 0 y", 1, 24),
+    (b"polygon a 0 x 1 0 0 y", 1, 24),
+    (b"polygon a 0 0 1073741825 0 0 1", 1, 24),
+    (b"union2 u a", 1, 21),
+    (b"polygon a 0 0 1 0 0 1\nunion2 u a b", 2, 23),
+    (b"polygon a 0 0 1 0 0 1\nmeasure a", 2, 23),
+    (b"box a 0 0 0 1 1 1\nextrude b a 0 1", 2, 23),
+    (b"polygon a 0 0 1 0 0 1\nextrude b a 0", 2, 21),
+    (b"polygon a 0 0 1 0 0 1\nextrude b a 0 1e", 2, 24),
+];
+
+#[test]
+fn the_kind_of_a_name_and_the_count_of_places_are_asked(rt: HostRuntime) {
+    refuses(&rt, rt.alloc(), &OUTLINES);
 }
 
 static SCRIPTS: [Refused; 8] = [

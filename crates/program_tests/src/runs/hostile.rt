@@ -25,7 +25,8 @@ fn a_mesh_at_one_point_is_united_with_itself(rt: HostRuntime) -> Result<(), Fail
         &rt,
         FLAT_TETRAHEDRON,
         b"load z m.obj\nunion u z z\nmeasure u\nsubtract d z z\n",
-        b"load z m.obj: points 4, triangles 4, unused 0\nu = union z z: kept 4 4, crossings 0, forced 8\nu: points 8, triangles 8, components 2, euler 4, volume6 0\nd = subtract z z: kept 4 0, crossings 0, forced 4\n",
+        b"load z m.obj: points 4, triangles 4, unused 0\nu = union z z: kept 4 4, crossings 0, forced 8\n\
+        u: points 8, triangles 8, components 2, euler 4, volume6 0\nd = subtract z z: kept 4 0, crossings 0, forced 4\n",
     )?;
     Ok(())
 }
@@ -36,7 +37,8 @@ fn a_cube_inside_out_has_a_negative_volume(rt: HostRuntime) -> Result<(), Fail> 
         &rt,
         TURNED_CUBE,
         b"load i m.obj\nbox c 2 2 2 4 4 4\nunion u i c\nmeasure u\n",
-        b"load i m.obj: points 8, triangles 12, unused 0\nu = union i c: kept 8 16, crossings 0, forced 0\nu: points 24, triangles 36, components 3, euler 6, volume6 -5904\n",
+        b"load i m.obj: points 8, triangles 12, unused 0\nu = union i c: kept 8 16, crossings 0, forced 0\n\
+        u: points 24, triangles 36, components 3, euler 6, volume6 -5904\n",
     )?;
     Ok(())
 }
@@ -47,7 +49,9 @@ fn a_box_in_two_nested_cubes_is_counted_twice(rt: HostRuntime) -> Result<(), Fai
         &rt,
         NESTED_CUBES,
         b"load n m.obj\nbox c 4 4 4 6 6 6\nintersect k n c\nmeasure k\nsubtract d n c\nmeasure d\n",
-        b"load n m.obj: points 16, triangles 24, unused 0\nk = intersect n c: kept 0 16, crossings 0, forced 0\nk: points 16, triangles 24, components 2, euler 4, volume6 96\nd = subtract n c: kept 16 16, crossings 0, forced 0\nd: points 32, triangles 48, components 4, euler 8, volume6 7200\n",
+        b"load n m.obj: points 16, triangles 24, unused 0\nk = intersect n c: kept 0 16, crossings 0, forced 0\n\
+        k: points 16, triangles 24, components 2, euler 4, volume6 96\nd = subtract n c: kept 16 16, crossings 0, forced 0\n\
+        d: points 32, triangles 48, components 4, euler 8, volume6 7200\n",
     )?;
     Ok(())
 }

@@ -73,6 +73,13 @@ returns c =
     let triples = triples_of c.args.triples.now in
     let es = all_edges triples in
     let n = length c.args.seen.now in
-    let all : c.loop-vertex.vertex ≡ n = omega (arith, c.loop-vertex-test.false, c.loop-vertex.auto.vertex-end, c.in_ok-leave_all.ensures.full, marked_within c.args.seen.now 0 c.requires.begun.first) in
+    let all : c.loop-vertex.vertex ≡ n
+    = omega (
+      arith,
+      c.loop-vertex-test.false,
+      c.loop-vertex.auto.vertex-end,
+      c.in_ok-leave_all.ensures.full,
+      marked_within c.args.seen.now 0 c.requires.begun.first,
+    ) in
     spanning es n c.loop-vertex.seen c.loop-vertex.entrances.items (edges_below n triples c.requires.accepted.mesh.below)
     (subst (λ v. AreWalked es n v c.loop-vertex.seen c.loop-vertex.entrances.items) all c.loop-vertex.invariant)

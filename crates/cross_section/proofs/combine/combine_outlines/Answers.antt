@@ -20,38 +20,52 @@ abbrev tests : (g : Over) → g.row.K.Denot → FlatTests
 tests g k = flat_tests (g.K.Meets-2.meet_of k) (g.K.Meets-3.meet_of k) (g.K.Meets-4.meet_of k)
 
 -- the numbers that were found are of these outlines
-found : (t : FlatTests) (settle : ℤ → ℤ) (op : Op) (p q : Outline) → IsOutline p → IsOutline q → LiftEdges t (p_flat op p).corners (q_flat q).corners → (n : FlatNumbers) → n ≡ flat_numbers t settle (p_flat op p) (q_flat q) →
-    All (λ w. nat_abs w ≤ length (outline_edges q)) n.w02 → All (λ w. nat_abs w ≤ length (outline_edges p)) n.w20 → All (λ (h : FlatHit). nat_abs h.number ≤ 1) n.hits → AreNumbers p q n
+found : (t : FlatTests) (settle : ℤ → ℤ) (op : Op) (p q : Outline) → IsOutline p → IsOutline q →
+    LiftEdges t (p_flat op p).corners (q_flat q).corners → (n : FlatNumbers) → n ≡ flat_numbers t settle (p_flat op p) (q_flat q) →
+    All (λ w. nat_abs w ≤ length (outline_edges q)) n.w02 → All (λ w. nat_abs w ≤ length (outline_edges p)) n.w20 →
+    All (λ (h : FlatHit). nat_abs h.number ≤ 1) n.hits → AreNumbers p q n
 found t settle op p q p_is q_is lift n e p_size q_size small =
     subst (AreNumbers p q) (sym e) (numbers_are t settle op p q p_is q_is lift (subst (λ (m : FlatNumbers). All (λ w. nat_abs w ≤ length (outline_edges q)) m.w02) e p_size)
-    (subst (λ (m : FlatNumbers). All (λ w. nat_abs w ≤ length (outline_edges p)) m.w20) e q_size) (subst (λ (m : FlatNumbers). All (λ (h : FlatHit). nat_abs h.number ≤ 1) m.hits) e small))
+    (subst (λ (m : FlatNumbers). All (λ w. nat_abs w ≤ length (outline_edges p)) m.w20) e q_size)
+    (subst (λ (m : FlatNumbers). All (λ (h : FlatHit). nat_abs h.number ≤ 1) m.hits) e small))
 
 -- and few copies give an outline
-given : (t : FlatTests) (settle : ℤ → ℤ) (op : Op) (p q : Outline) → IsOutline p → IsOutline q → LiftEdges t (p_flat op p).corners (q_flat q).corners → (n : FlatNumbers) → n ≡ flat_numbers t settle (p_flat op p) (q_flat q) →
+given : (t : FlatTests) (settle : ℤ → ℤ) (op : Op) (p q : Outline) → IsOutline p → IsOutline q →
+    LiftEdges t (p_flat op p).corners (q_flat q).corners → (n : FlatNumbers) → n ≡ flat_numbers t settle (p_flat op p) (q_flat q) →
     length (flat_copies op p q n) ≤ most_vertices → GivesOutline op p q n
 given t settle op p q p_is q_is lift n e few =
     subst (GivesOutline op p q) (sym e) (gives_outline t settle op p q p_is q_is lift (subst (λ (m : FlatNumbers). length (flat_copies op p q m) ≤ most_vertices) e few))
 
 known : (g : Over) → (c : In_ok-numbers g) → AreNumbers c.args.p.now c.args.q.now c.in_ok-numbers.numbers
 known g c =
-    found (tests g c.args.kernels.now) (g.R.Rounding.settle_of c.args.rounding.now) c.args.op c.args.p.now c.args.q.now c.points.ensures.outline c.points-2.ensures.outline c.in_ok-numbers.ensures.lift
+    found (tests g c.args.kernels.now) (g.R.Rounding.settle_of c.args.rounding.now) c.args.op c.args.p.now
+    c.args.q.now c.points.ensures.outline c.points-2.ensures.outline c.in_ok-numbers.ensures.lift
     c.in_ok-numbers.numbers c.in_ok-numbers.ensures.value c.in_ok-numbers.ensures.p_size c.in_ok-numbers.ensures.q_size c.in_ok-numbers.ensures.small
 
 -- the copies are counted
 seen : (g : Over) → (c : After-hit_copies-crossings g) → AreNumbers c.args.p.now c.args.q.now c.in_ok-numbers.numbers → (m : FlatNumbers) → c.in_ok-numbers.numbers ≡ m →
     AreCounted (outcome_of c.args.op c.args.p.now c.args.q.now m) c.vertex_copies-p_kept.result c.vertex_copies-q_kept.result c.hit_copies-crossings.result
 seen g c are m e =
-    counted c.args.op c.args.p.now c.args.q.now c.in_ok-numbers.numbers m e are c.deref.result.now c.deref-2.result.now c.deref-3.result.now (c.deref.ensures.value ∙ ap (λ (x : FlatNumbers). x.w02) c.numbers.view_is)
-    (c.deref-2.ensures.value ∙ ap (λ (x : FlatNumbers). x.w20) c.numbers.view_is) (c.deref-3.ensures.value ∙ ap (λ (x : FlatNumbers). x.hits) c.numbers.view_is) c.vertex_copies-p_kept.result c.vertex_copies-q_kept.result
+    counted c.args.op c.args.p.now c.args.q.now c.in_ok-numbers.numbers m e are c.deref.result.now
+    c.deref-2.result.now c.deref-3.result.now (c.deref.ensures.value ∙ ap (λ (x : FlatNumbers). x.w02) c.numbers.view_is)
+    (c.deref-2.ensures.value ∙ ap (λ (x : FlatNumbers). x.w20) c.numbers.view_is)
+    (c.deref-3.ensures.value ∙ ap (λ (x : FlatNumbers). x.hits) c.numbers.view_is) c.vertex_copies-p_kept.result c.vertex_copies-q_kept.result
     c.hit_copies-crossings.result c.vertex_copies-p_kept.ensures.value c.vertex_copies-q_kept.ensures.value c.hit_copies-crossings.ensures.value
 
 -- where they are few the outline is given
 gives : (g : Over) → (c : After-hit_copies-crossings g) → AreNumbers c.args.p.now c.args.q.now c.in_ok-numbers.numbers →
-    (c.vertex_copies-p_kept.result + c.vertex_copies-q_kept.result + c.hit_copies-crossings.result) ≤ most_vertices → GivesOutline c.args.op c.args.p.now c.args.q.now c.in_ok-numbers.numbers
+    (c.vertex_copies-p_kept.result + c.vertex_copies-q_kept.result + c.hit_copies-crossings.result) ≤ most_vertices →
+    GivesOutline c.args.op c.args.p.now c.args.q.now c.in_ok-numbers.numbers
 gives g c are few =
-    given (tests g c.args.kernels.now) (g.R.Rounding.settle_of c.args.rounding.now) c.args.op c.args.p.now c.args.q.now c.points.ensures.outline c.points-2.ensures.outline c.in_ok-numbers.ensures.lift
+    given (tests g c.args.kernels.now) (g.R.Rounding.settle_of c.args.rounding.now) c.args.op c.args.p.now
+    c.args.q.now c.points.ensures.outline c.points-2.ensures.outline c.in_ok-numbers.ensures.lift
     c.in_ok-numbers.numbers c.in_ok-numbers.ensures.value
-    (omega (arith, few, all_counted c.args.op c.args.p.now c.args.q.now c.in_ok-numbers.numbers c.vertex_copies-p_kept.result c.vertex_copies-q_kept.result c.hit_copies-crossings.result (seen g c are c.in_ok-numbers.numbers refl)))
+    (omega (
+      arith,
+      few,
+      all_counted c.args.op c.args.p.now c.args.q.now c.in_ok-numbers.numbers c.vertex_copies-p_kept.result
+          c.vertex_copies-q_kept.result c.hit_copies-crossings.result (seen g c are c.in_ok-numbers.numbers refl),
+    ))
 
 pub vertex_copies-p_kept-requires-clause-small : goal.vertex_copies-p_kept-requires-clause-small
 vertex_copies-p_kept-requires-clause-small g c =
@@ -119,7 +133,14 @@ returns-clause-refused g c =
     let s = seen g at.After-hit_copies-crossings (known g at.In_ok-numbers) n c.in_ok-numbers.ensures.value in
     let most : c.from.result ≡ min c.args.limits.now.points most_vertices = c.from.ensures ∙ c.min.ensures ∙ ap (λ m. min m most_vertices) c.points-3.ensures.value in
     let sum : o.p_kept + o.q_kept + o.crossings ≡ k = λ i. sym s.of_p i + sym s.of_q i + sym s.of_hits i in
-    let made : Outcome = record { outline = c.in_ok-outline.outline; p_kept = c.vertex_copies-p_kept.result; q_kept = c.vertex_copies-q_kept.result; crossings = c.hit_copies-crossings.result } in
+    let made : Outcome
+    = record {
+      outline = c.in_ok-outline.outline;
+      p_kept = c.vertex_copies-p_kept.result;
+      q_kept
+          = c.vertex_copies-q_kept.result;
+      crossings = c.hit_copies-crossings.result;
+    } in
     all_done (outcome_fault c.args.limits.now o) made (not_too_many c.args.limits.now o k sum (omega (arith, c.if-seen-from.false, most)))
 
 pub returns-clause-value : goal.returns-clause-value
@@ -127,7 +148,8 @@ returns-clause-value g c =
     let at = goal.at.returns-clause-value g c in
     let n = flat_numbers (tests g c.args.kernels.now) (g.R.Rounding.settle_of c.args.rounding.now) (p_flat c.args.op c.args.p.now) (q_flat c.args.q.now) in
     let s = seen g at.After-hit_copies-crossings (known g at.In_ok-numbers) n c.in_ok-numbers.ensures.value in
-    let o = c.in_ok-outline.ensures ∙ ap (λ (m : FlatNumbers). outline_of c.args.p.now c.args.q.now (flat_copies c.args.op c.args.p.now c.args.q.now m)) c.in_ok-numbers.ensures.value in
+    let o = c.in_ok-outline.ensures
+    ∙ ap (λ (m : FlatNumbers). outline_of c.args.p.now c.args.q.now (flat_copies c.args.op c.args.p.now c.args.q.now m)) c.in_ok-numbers.ensures.value in
     λ i. record { outline = o i; p_kept = s.of_p i; q_kept = s.of_q i; crossings = s.of_hits i }
 
 pub returns-clause-outline : goal.returns-clause-outline

@@ -11,7 +11,8 @@ segments_of-requires-clause-copies c =
     let copies = c.in_ok-copies.copies in
     let p = c.deref.ensures.value ∙ c.in_ok-p_edges.ensures.value in
     let q = c.deref-2.ensures.value ∙ c.in_ok-q_edges.ensures.value in
-    subst (λ (x : List (ℕ × ℕ) × List (ℕ × ℕ)). AreCopies x.0 x.1 (flat_copies c.args.op c.args.p.now c.args.q.now c.args.numbers.now) copies.points.items copies.starts.items copies.ends.items)
+    subst (λ (x : List (ℕ × ℕ) × List (ℕ × ℕ)). AreCopies x.0 x.1
+    (flat_copies c.args.op c.args.p.now c.args.q.now c.args.numbers.now) copies.points.items copies.starts.items copies.ends.items)
     (λ i. (p i, q i)) c.in_ok-copies.ensures
 
 pub segments_of-requires-clause-few : goal.segments_of-requires-clause-few

@@ -8,4 +8,5 @@ segments_of_edge-requires-clause-below c = all_entries (λ v. v < length c.args.
 
 pub returns : goal.returns
 returns c =
-    edges_more c.extend_from_slice.new.self.items c.args.segments.now.items c.deref.result.now _ c.in_ok-extend_from_slice.ensures.items (ap edges_of c.deref.ensures ∙ c.in_ok-part.ensures.value)
+    edges_more c.extend_from_slice.new.self.items c.args.segments.now.items c.deref.result.now _
+    c.in_ok-extend_from_slice.ensures.items (ap edges_of c.deref.ensures ∙ c.in_ok-part.ensures.value)

@@ -18,12 +18,14 @@ bounds-ends-to c = (c.requires.between c.loop-k.k (0, 0) c.loop-k-test.true).1
 pub push_edge-requires-clause-starts : goal.push_edge-requires-clause-starts
 push_edge-requires-clause-starts c =
     let starts = ap starts_of c.deref.ensures.value ∙ c.in_ok-fill_entries.ensures.starts ∙ c.bucket.ensures in
-    subst (λ (l : List ℕ). All (λ v. v < length c.args.points.now) l) (sym starts) (c.requires.starts_below (c.args.first + c.loop-k.k) [] (omega (arith, c.loop-k-test.true, c.requires.starts)))
+    subst (λ (l : List ℕ). All (λ v. v < length c.args.points.now) l) (sym starts)
+    (c.requires.starts_below (c.args.first + c.loop-k.k) [] (omega (arith, c.loop-k-test.true, c.requires.starts)))
 
 pub push_edge-requires-clause-ends : goal.push_edge-requires-clause-ends
 push_edge-requires-clause-ends c =
     let ends = ap ends_of c.deref.ensures.value ∙ c.in_ok-fill_entries.ensures.ends ∙ c.bucket-in-loop-k.ensures in
-    subst (λ (l : List ℕ). All (λ v. v < length c.args.points.now) l) (sym ends) (c.requires.ends_below (c.args.first + c.loop-k.k) [] (omega (arith, c.loop-k-test.true, c.requires.ends)))
+    subst (λ (l : List ℕ). All (λ v. v < length c.args.points.now) l) (sym ends)
+    (c.requires.ends_below (c.args.first + c.loop-k.k) [] (omega (arith, c.loop-k-test.true, c.requires.ends)))
 
 pub push_edge-requires-clause-even : goal.push_edge-requires-clause-even
 push_edge-requires-clause-even c =
@@ -43,5 +45,6 @@ loop-k-preserved c =
     let to = c.index-ends-to.is ∙ get_or_default corners (finish es k) c.index-ends-to.result [] between.1 in
     let starts = ap starts_of c.deref.ensures.value ∙ c.in_ok-fill_entries.ensures.starts ∙ c.bucket.ensures in
     let ends = ap ends_of c.deref.ensures.value ∙ c.in_ok-fill_entries.ensures.ends ∙ c.bucket-in-loop-k.ensures in
-    grown (edges_segments corners es points lists.starts lists.ends c.args.first) k (edges_of c.args.segments.now.items) (edges_of c.loop-k.segments.items) (edges_of c.push_edge.new.segments.items) _ c.in_ok-push_edge.ensures
+    grown (edges_segments corners es points lists.starts lists.ends c.args.first) k (edges_of c.args.segments.now.items)
+    (edges_of c.loop-k.segments.items) (edges_of c.push_edge.new.segments.items) _ c.in_ok-push_edge.ensures
     c.loop-k.invariant (λ i. paired_along (from i) (to i) (place_in points) (starts i) (ends i))

@@ -48,10 +48,12 @@ lists_of-requires-clause-few_ends c =
 
 pub push_edges-requires-clause-between : goal.push_edges-requires-clause-between
 push_edges-requires-clause-between c =
-    between c.points-p_points.result.now c.args.p.now.points c.args.p_edges.now (outline_edges c.args.p.now) c.points-p_points.ensures.value c.requires.p_edges (edges_between c.args.p.now c.points-p_points.ensures.outline)
+    between c.points-p_points.result.now c.args.p.now.points c.args.p_edges.now (outline_edges c.args.p.now)
+    c.points-p_points.ensures.value c.requires.p_edges (edges_between c.args.p.now c.points-p_points.ensures.outline)
 
 pub push_edges-requires-clause-starts : goal.push_edges-requires-clause-starts
-push_edges-requires-clause-starts c = omega (arith, ap length c.in_ok-lists.ensures.starts, buckets_long c.args.copies.now.starts.items (length c.args.p_edges.now + length c.args.q_edges.now))
+push_edges-requires-clause-starts c
+    = omega (arith, ap length c.in_ok-lists.ensures.starts, buckets_long c.args.copies.now.starts.items (length c.args.p_edges.now + length c.args.q_edges.now))
 
 pub push_edges-requires-clause-starts_below : goal.push_edges-requires-clause-starts_below
 push_edges-requires-clause-starts_below c =
@@ -62,7 +64,8 @@ push_edges-requires-clause-starts_below c =
     (places_below c.args.copies.now.starts.items (length c.args.p_edges.now + length c.args.q_edges.now) (length points) (omega (arith, long, ap length c.deref.ensures.value)))
 
 pub push_edges-requires-clause-ends : goal.push_edges-requires-clause-ends
-push_edges-requires-clause-ends c = omega (arith, ap length c.in_ok-lists.ensures.ends, buckets_long c.args.copies.now.ends.items (length c.args.p_edges.now + length c.args.q_edges.now))
+push_edges-requires-clause-ends c
+    = omega (arith, ap length c.in_ok-lists.ensures.ends, buckets_long c.args.copies.now.ends.items (length c.args.p_edges.now + length c.args.q_edges.now))
 
 pub push_edges-requires-clause-ends_below : goal.push_edges-requires-clause-ends_below
 push_edges-requires-clause-ends_below c =
@@ -84,10 +87,12 @@ push_edges-requires-clause-even c =
 
 pub push_edges-requires-2-clause-between : goal.push_edges-requires-2-clause-between
 push_edges-requires-2-clause-between c =
-    between c.points-q_points.result.now c.args.q.now.points c.args.q_edges.now (outline_edges c.args.q.now) c.points-q_points.ensures.value c.requires.q_edges (edges_between c.args.q.now c.points-q_points.ensures.outline)
+    between c.points-q_points.result.now c.args.q.now.points c.args.q_edges.now (outline_edges c.args.q.now)
+    c.points-q_points.ensures.value c.requires.q_edges (edges_between c.args.q.now c.points-q_points.ensures.outline)
 
 pub push_edges-requires-2-clause-starts : goal.push_edges-requires-2-clause-starts
-push_edges-requires-2-clause-starts c = omega (arith, ap length c.in_ok-lists.ensures.starts, buckets_long c.args.copies.now.starts.items (length c.args.p_edges.now + length c.args.q_edges.now))
+push_edges-requires-2-clause-starts c
+    = omega (arith, ap length c.in_ok-lists.ensures.starts, buckets_long c.args.copies.now.starts.items (length c.args.p_edges.now + length c.args.q_edges.now))
 
 pub push_edges-requires-2-clause-starts_below : goal.push_edges-requires-2-clause-starts_below
 push_edges-requires-2-clause-starts_below c =
@@ -98,7 +103,8 @@ push_edges-requires-2-clause-starts_below c =
     (places_below c.args.copies.now.starts.items (length c.args.p_edges.now + length c.args.q_edges.now) (length points) (omega (arith, long, ap length c.deref-2.ensures.value)))
 
 pub push_edges-requires-2-clause-ends : goal.push_edges-requires-2-clause-ends
-push_edges-requires-2-clause-ends c = omega (arith, ap length c.in_ok-lists.ensures.ends, buckets_long c.args.copies.now.ends.items (length c.args.p_edges.now + length c.args.q_edges.now))
+push_edges-requires-2-clause-ends c
+    = omega (arith, ap length c.in_ok-lists.ensures.ends, buckets_long c.args.copies.now.ends.items (length c.args.p_edges.now + length c.args.q_edges.now))
 
 pub push_edges-requires-2-clause-ends_below : goal.push_edges-requires-2-clause-ends_below
 push_edges-requires-2-clause-ends_below c =
@@ -133,7 +139,10 @@ returns c =
     let q_edges = c.args.q_edges.now in
     let heads = c.in_ok-lists.lists.starts in
     let tails = c.in_ok-lists.lists.ends in
-    let first = c.in_ok-push_edges.ensures ∙ (λ i. edges_of (c.in_ok-segments.ensures.items i) ++ flat_map (edges_segments (c.points-p_points.ensures.value i) p_edges (c.deref.ensures.value i) heads tails 0) (upto (length p_edges))) in
+    let first = c.in_ok-push_edges.ensures
+    ∙ (λ i. edges_of
+    (c.in_ok-segments.ensures.items i) ++ flat_map (edges_segments (c.points-p_points.ensures.value i) p_edges (c.deref.ensures.value i) heads tails 0)
+    (upto (length p_edges))) in
     c.in_ok-push_edges-2.ensures
     ∙ (λ i. first i ++ flat_map (edges_segments (c.points-q_points.ensures.value i) q_edges (c.deref-2.ensures.value i) heads tails (length p_edges)) (upto (length q_edges)))
     ∙ given_segments c.args.op c.args.p.now c.args.q.now c.points-p_points.ensures.outline c.points-q_points.ensures.outline c.args.numbers.now c.requires.numbers

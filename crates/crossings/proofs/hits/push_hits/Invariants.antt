@@ -2,7 +2,7 @@ use Rattle.std.proofs.Common.{◌≡◌, ◌++◌, take}
 use Rattle.mb_base.specs.Boxes.{box_of}
 use Rattle.side_terms.specs.Sides.{edge_at, face_boxes}
 use Rattle.box_tree.specs.Touching.{touching_numbers}
-use Rattle.crossings.proofs.Rows.{hits_with}
+use Rattle.crossings.specs.Near.{hits_with}
 use Rattle.crossings.proofs.hits.push_hits.Given as goal
 
 abbrev pub invariant-loop-face : goal.invariant-loop-face

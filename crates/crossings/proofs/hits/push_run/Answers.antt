@@ -1,39 +1,54 @@
-use Rattle.std.proofs.Common.{◌≡◌, ◌++◌, ◌<◌, ℕ, zero, suc, Bool, true, false, List, length, refl, arith, rules, ap, sym, ◌∙◌}
-use Rattle.chain_terms.specs.Chains.{all_edges}
-use Rattle.chain_terms.specs.Ranks.{twin}
-use Rattle.mesh_terms.specs.Meshes.{Triple}
-use Rattle.side_terms.specs.Sides.{face_boxes}
-use Rattle.box_tree.specs.Touching.{touching_numbers}
+use Rattle.std.proofs.Common.{◌≡◌, ◌*◌, ◌<◌, ◌≤◌, ℕ, [], length, map, arith, ap, sym, subst, ◌∙◌}
+use Rattle.std.specs.List.{All}
+use Rattle.std.proofs.lemmas.Bool.{eqb-true}
+use Rattle.std.proofs.lemmas.List.{nil_from_length}
+use Rattle.mb_base.specs.Boxes.{box_of}
+use Rattle.side_terms.specs.Sides.{face_at}
 use Rattle.crossings.specs.Hits.{hits_along}
-use Rattle.crossings.proofs.Rows.{hits_lower, hits_upper}
-use Rattle.crossings.proofs.Passed.{passed_run}
+use Rattle.crossings.specs.Near.{hits_with}
+use Rattle.crossings.proofs.Nearby.{touching_below}
+use Rattle.crossings.proofs.Passed.{passed_run, run_within}
 use Rattle.crossings.proofs.hits.push_run.Goals as goal
-use Rattle.crossings.proofs.hits.push_run.Goals.{then-half-twin+in_ok-push_hits, else-half-twin}
 
-pub loop-half-preserved : goal.loop-half-preserved
-loop-half-preserved g c =
+pub find_boxes-requires : goal.find_boxes-requires
+find_boxes-requires g c =
+    let faces = c.args.faces.now in
+    let near = c.deref.ensures.value ∙ c.in_ok-find_few.ensures.near c.if-not-branch.false in
+    subst (All (λ f. f < length faces.triples)) (sym near) (touching_below faces c.box_round-area.result)
+
+pub push_among-requires-clause-near : goal.push_among-requires-clause-near
+push_among-requires-clause-near g c =
+    let faces = c.args.faces.now in
+    let near = c.in_ok-find_few.ensures.near c.if-not-branch.false in
+    record {
+      below = subst (All (λ f. f < length faces.triples)) (sym near) (touching_below faces c.box_round-area.result);
+      boxed = c.in_ok-find_boxes.ensures ∙ ap (map (λ f. box_of (face_at faces f))) c.deref.ensures.value;
+    }
+
+pub push_among-requires-clause-all : goal.push_among-requires-clause-all
+push_among-requires-clause-all g c h low high =
     let test = g.C.EdgeFace.crossing_of c.args.pairs.now in
     let edges = c.args.edges.now in
     let faces = c.args.faces.now in
-    let h = c.loop-half.half in
-    let same : c.twin.result ≡ twin (all_edges edges.triples) h = c.twin.ensures.value ∙ ap (λ (ts : List Triple). twin (all_edges ts) h) c.twins-twins.ensures.triples in
-    elim c.if-half-twin.branch [
-      | then-half-twin+in_ok-push_hits w ↦
-          ap (λ v. v.items) w.hits-is ∙ w.in_ok-push_hits.ensures ∙ ap (λ l. l ++ hits_along test edges faces h) c.loop-half.invariant ∙ sym (hits_lower test edges faces h (omega (arith, w.if-half-twin.true, same)))
-      | else-half-twin w ↦ ap (λ v. v.items) w.hits-is ∙ c.loop-half.invariant ∙ sym (hits_upper test edges faces h (omega (arith, w.if-half-twin.false, same)))
-    ]
+    let apart = g.met.C.EdgeFace.apart c.args.pairs.now in
+    let own = c.box_round-area.ensures in
+    let few = c.in_ok-find_few.ensures in
+    ap (hits_with test edges faces h) (few.near c.if-not-branch.false)
+    ∙ run_within test edges faces apart own.side few.side c.box_round-area.result c.args.from c.args.to c.requires.within own.round h low high
 
--- a number that makes a test true where it is not 0, of a test that is false
-is_none : (b : Bool) (n : ℕ) → (0 < n → b ≡ true) → b ≡ false → n ≡ 0
-is_none b zero h e = refl
-is_none b (suc n) h e = absurd (search (rules, sym (h (omega arith)) ∙ e))
-
-pub returns-then-not-is_near : goal.returns-then-not-is_near
-returns-then-not-is_near g c =
+pub returns-then-is_empty : goal.returns-then-is_empty
+returns-then-is_empty g c =
     let test = g.C.EdgeFace.crossing_of c.args.pairs.now in
     let edges = c.args.edges.now in
     let faces = c.args.faces.now in
-    let area = c.box_round.result in
-    let none = is_none c.is_near.result (length (touching_numbers (face_boxes faces) area)) c.is_near.ensures.near.1 c.if-not-is_near.true in
-    c.requires.before
-    ∙ passed_run test edges faces (g.met.C.EdgeFace.apart c.args.pairs.now) c.twins-twins.ensures.side c.is_near.ensures.side area c.args.from c.args.to c.requires.order c.requires.within c.box_round.ensures none
+    let apart = g.met.C.EdgeFace.apart c.args.pairs.now in
+    let own = c.box_round-area.ensures in
+    let few = c.in_ok-find_few.ensures in
+    let near = c.find_few.new.near in
+    let none : length near.items ≡ 0 = sym near.ok.0 ∙ eqb-true near.len 0 (sym c.is_empty.ensures ∙ c.if-is_empty.true) in
+    let nothing = sym (few.near c.if-not-branch.false) ∙ nil_from_length near.items none in
+    let each : (h : ℕ) → 3 * c.args.from ≤ h → h < 3 * c.args.to → hits_along test edges faces h ≡ [] =
+    λ h low high.
+    sym (run_within test edges faces apart own.side few.side c.box_round-area.result c.args.from c.args.to c.requires.within own.round h low high)
+    ∙ ap (hits_with test edges faces h) nothing in
+    c.requires.before ∙ passed_run test edges faces (3 * c.args.from) (3 * c.args.to) (omega (arith, c.requires.order)) each

@@ -49,7 +49,8 @@ returns-in-Some-over-clause-refused c =
     let at = goal.at.returns-in-Some-over-clause-refused c in
     let first = sym (asked_first at.After-flat_or_over) ∙ c.in_default.is in
     let second = sym (asked_next at.After-over) ∙ c.in-Some-over.is in
-    refused_by _ _ c.in-Some-over.fault (fault_is c.args.limits.now c.args.outline.now c.points.ensures.outline c.args.low c.args.high None (Some c.in-Some-over.fault) first second)
+    refused_by _ _ c.in-Some-over.fault
+    (fault_is c.args.limits.now c.args.outline.now c.points.ensures.outline c.args.low c.args.high None (Some c.in-Some-over.fault) first second)
 
 pub returns-clause-refused : goal.returns-clause-refused
 returns-clause-refused c =

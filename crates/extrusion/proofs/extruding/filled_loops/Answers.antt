@@ -12,7 +12,8 @@ use Rattle.extrusion.proofs.extruding.filled_loops.Goals as goal
 
 pub fill-requires-clause-loops : goal.fill-requires-clause-loops
 fill-requires-clause-loops c =
-    subst (λ (x : List (List ℕ) × List (List ℤ)). AreFillable x.0 (length x.1)) (λ i. (sym c.loops.ensures.value i, sym c.points.ensures.value i)) (outline_fillable c.args.outline.now c.points.ensures.outline)
+    subst (λ (x : List (List ℕ) × List (List ℤ)). AreFillable x.0 (length x.1))
+    (λ i. (sym c.loops.ensures.value i, sym c.points.ensures.value i)) (outline_fillable c.args.outline.now c.points.ensures.outline)
 
 pub returns-clause-value : goal.returns-clause-value
 returns-clause-value c = c.in_ok-filled.ensures.value ∙ (λ i. fill_of 2 (c.points.ensures.value i) (c.loops.ensures.value i))

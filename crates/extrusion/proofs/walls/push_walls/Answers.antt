@@ -18,4 +18,5 @@ loop-from-preserved c =
     let i = c.loop-from.from-index in
     let old = triples_of c.args.triples.now.items in
     let here = walls n (get_or es i (0, 0)) in
-    c.in_ok-push_wall.ensures ∙ ap (λ l. l ++ here) c.loop-from.invariant ∙ append_assoc old (flat_map (walls n) (take i es)) here ∙ ap (λ l. old ++ l) (sym (walls_more n es i c.loop-from-test.true))
+    c.in_ok-push_wall.ensures ∙ ap (λ l. l ++ here) c.loop-from.invariant
+    ∙ append_assoc old (flat_map (walls n) (take i es)) here ∙ ap (λ l. old ++ l) (sym (walls_more n es i c.loop-from-test.true))

@@ -17,5 +17,6 @@ returns c =
     let a = c.index-points-a.is ∙ get_or_default points t.0 c.index-points-a.result [] c.requires.a in
     let b = c.index-points-b.is ∙ get_or_default points t.1 c.index-points-b.result [] c.requires.b in
     let z = c.index-points-c.is ∙ get_or_default points t.2 c.index-points-c.result [] c.requires.c in
-    made c.range_on.result c.range_on-2.result c.range_on-3.result c.index-points-a.result c.index-points-b.result c.index-points-c.result c.range_on.ensures c.range_on-2.ensures c.range_on-3.ensures
+    made c.range_on.result c.range_on-2.result c.range_on-3.result c.index-points-a.result
+    c.index-points-b.result c.index-points-c.result c.range_on.ensures c.range_on-2.ensures c.range_on-3.ensures
     ∙ (λ i. bounds_of (a i) (b i) (z i))

@@ -16,10 +16,12 @@ abbrev seen : ℤ → ℤ
 seen z = to_z w32 (of_z w32 z)
 
 -- the least and the greatest of three small numbers, as they stand
-least_seen : (x y z a b c m n : ℤ) → x ≡ a → y ≡ b → z ≡ c → IsOnGrid a → IsOnGrid b → IsOnGrid c → m ≡ int_min (seen x) (seen y) → n ≡ int_min (seen m) (seen z) → seen n ≡ int_min (int_min a b) c
+least_seen : (x y z a b c m n : ℤ) → x ≡ a → y ≡ b → z ≡ c → IsOnGrid a → IsOnGrid b → IsOnGrid c →
+    m ≡ int_min (seen x) (seen y) → n ≡ int_min (seen m) (seen z) → seen n ≡ int_min (int_min a b) c
 least_seen x y z a b c m n e f g h k l d s = omega (arith, ints, clamps, e, f, g, h, k, l, d, s)
 
-greatest_seen : (x y z a b c m n : ℤ) → x ≡ a → y ≡ b → z ≡ c → IsOnGrid a → IsOnGrid b → IsOnGrid c → m ≡ int_max (seen x) (seen y) → n ≡ int_max (seen m) (seen z) → seen n ≡ int_max (int_max a b) c
+greatest_seen : (x y z a b c m n : ℤ) → x ≡ a → y ≡ b → z ≡ c → IsOnGrid a → IsOnGrid b → IsOnGrid c →
+    m ≡ int_max (seen x) (seen y) → n ≡ int_max (seen m) (seen z) → seen n ≡ int_max (int_max a b) c
 greatest_seen x y z a b c m n e f g h k l d s = omega (arith, ints, clamps, e, f, g, h, k, l, d, s)
 
 pub returns : goal.returns
@@ -32,6 +34,8 @@ returns c =
     let e = ap at c.at.ensures.value in
     let f = ap at c.at-2.ensures.value in
     let g = ap at c.at-3.ensures.value in
-    let low = least_seen (at c.at.result) (at c.at-2.result) (at c.at-3.result) (at c.args.a) (at c.args.b) (at c.args.c) c.min.result c.min-2.result e f g h k l c.min.ensures.value c.min-2.ensures.value in
-    let high = greatest_seen (at c.at.result) (at c.at-2.result) (at c.at-3.result) (at c.args.a) (at c.args.b) (at c.args.c) c.max.result c.max-2.result e f g h k l c.max.ensures.value c.max-2.ensures.value in
+    let low = least_seen (at c.at.result) (at c.at-2.result) (at c.at-3.result) (at c.args.a) (at c.args.b)
+    (at c.args.c) c.min.result c.min-2.result e f g h k l c.min.ensures.value c.min-2.ensures.value in
+    let high = greatest_seen (at c.at.result) (at c.at-2.result) (at c.at-3.result) (at c.args.a) (at c.args.b)
+    (at c.args.c) c.max.result c.max-2.result e f g h k l c.max.ensures.value c.max-2.ensures.value in
     λ i. record { low = low i; high = high i }

@@ -32,7 +32,8 @@ returns-then-not-are_below c =
     let q = c.args.q.now in
     let count = counted p q c.triples.result.now c.triples-2.result.now c.triples.ensures.value c.triples-2.ensures.value in
     no (λ s. false≢true (sym c.if-not-are_below.true ∙ c.are_below.ensures.1
-    (all_below (source_count p q) (length c.triples.result.now + length c.triples-2.result.now) c.args.outcome.now.source.items c.deref.result.now (sym count) (sym c.deref.ensures.value) s.faces)))
+    (all_below (source_count p q) (length c.triples.result.now + length c.triples-2.result.now)
+    c.args.outcome.now.source.items c.deref.result.now (sym count) (sym c.deref.ensures.value) s.faces)))
 
 -- what is so of two sides is so of the same two
 same_sides : (P : Side → Side → Type 0) (p q s t : Side) → s ≡ p → t ≡ q → P p q → P s t

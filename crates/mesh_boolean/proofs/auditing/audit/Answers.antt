@@ -75,7 +75,8 @@ returns g c =
       labels = c.in_ok-is_labelled.ensures.0 c.if-not-branch-3.false;
     } in
     let agreed : IfOk c.agrees_with_meshes.result (λ b. IsTrue b ↔ AgreesWithMeshes t op p q r us) =
-    subst (λ (l : List (List ℕ)). IfOk c.agrees_with_meshes.result (λ b. IsTrue b ↔ AgreesWithMeshes t op p q r (triples_of l))) c.deref-5.ensures.value c.agrees_with_meshes.ensures in
+    subst (λ (l : List (List ℕ)). IfOk c.agrees_with_meshes.result (λ b. IsTrue b ↔ AgreesWithMeshes t op p q r (triples_of l)))
+    c.deref-5.ensures.value c.agrees_with_meshes.ensures in
     record {
       sound = IfOk-weaker c.agrees_with_meshes.result (λ b. IsTrue b ↔ AgreesWithMeshes t op p q r us) (λ b. IsTrue b ↔ IsSound t op p q r)
           (λ b iff. ((λ e. sound t op p q r us known (iff.0 e)), (λ s. iff.1 (agrees t op p q r us named s)))) agreed;

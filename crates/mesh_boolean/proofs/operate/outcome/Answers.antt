@@ -15,4 +15,5 @@ returns-clause-there c = rw (← c.deref.ensures.value) c.in_ok-split.ensures.th
 pub returns-clause-clean : goal.returns-clause-clean
 returns-clause-clean c =
     let s = c.in_ok-split.split in
-    is_clean_over (length s.mesh.points) s.from.items s.mesh.triples (triples_of c.args.all.triples.items) c.triples.ensures.accepted c.in_ok-split.ensures.clean c.in_ok-split.ensures.twins c.in_ok-split.ensures.back
+    is_clean_over (length s.mesh.points) s.from.items s.mesh.triples (triples_of c.args.all.triples.items)
+    c.triples.ensures.accepted c.in_ok-split.ensures.clean c.in_ok-split.ensures.twins c.in_ok-split.ensures.back

@@ -21,7 +21,8 @@ abbrev tests : (g : Over) → g.row.K.Denot → FlatTests
 tests g k = flat_tests (g.K.Meets-2.meet_of k) (g.K.Meets-3.meet_of k) (g.K.Meets-4.meet_of k)
 
 -- what they keep at the corners of both sides
-lift_of : (g : Over) → (k : g.row.K.Denot) → (op : Op) (p q : Outline) (ps qs : FlatSide) → ps ≡ p_flat op p → qs ≡ q_flat q → AllFine ps.corners → AllFine qs.corners → LiftEdges (tests g k) (p_flat op p).corners (q_flat q).corners
+lift_of : (g : Over) → (k : g.row.K.Denot) → (op : Op) (p q : Outline) (ps qs : FlatSide) → ps ≡ p_flat op p →
+    qs ≡ q_flat q → AllFine ps.corners → AllFine qs.corners → LiftEdges (tests g k) (p_flat op p).corners (q_flat q).corners
 lift_of g k op p q ps qs e f p_fine q_fine =
     lift_edges (g.K.Meets-2.meet_of k) (g.K.Meets-3.meet_of k) (g.K.Meets-4.meet_of k) (g.met.K.Flats.lift_11 k) (p_flat op p).corners (q_flat q).corners
     (subst (λ (s : FlatSide). AllFine s.corners) e p_fine) (subst (λ (s : FlatSide). AllFine s.corners) f q_fine)
@@ -32,7 +33,8 @@ winding_numbers-requires-clause-whole g c = subst IsWhole (sym c.in_ok-p.ensures
 pub winding_numbers-requires-clause-changes : goal.winding_numbers-requires-clause-changes
 winding_numbers-requires-clause-changes g c =
     let k = c.args.kernels.now in
-    let lift = lift_of g k c.args.op c.args.p.now c.args.q.now c.in_ok-p.p c.in_ok-q.q c.in_ok-p.ensures c.in_ok-q.ensures c.corners.ensures.side.fine c.corners-2.ensures.side.fine in
+    let lift = lift_of g k c.args.op c.args.p.now c.args.q.now c.in_ok-p.p c.in_ok-q.q
+    c.in_ok-p.ensures c.in_ok-q.ensures c.corners.ensures.side.fine c.corners-2.ensures.side.fine in
     subst (λ (s : FlatSide × FlatSide). ChangesAlong (λ v e. shadow_of (g.K.Meets-2.meet_of k (v ∷ []) e)) (λ way e. count_of (g.K.Meets-4.meet_of k way e)) s.0 s.1)
     (λ i. (sym c.in_ok-p.ensures i, sym c.in_ok-q.ensures i)) (p_walk (tests g k) c.args.op c.args.p.now c.args.q.now lift)
 
@@ -42,8 +44,10 @@ winding_numbers-requires-2-clause-whole g c = subst IsWhole (sym c.in_ok-q.ensur
 pub winding_numbers-requires-2-clause-changes : goal.winding_numbers-requires-2-clause-changes
 winding_numbers-requires-2-clause-changes g c =
     let k = c.args.kernels.now in
-    let lift = lift_of g k c.args.op c.args.p.now c.args.q.now c.in_ok-p.p c.in_ok-q.q c.in_ok-p.ensures c.in_ok-q.ensures c.corners.ensures.side.fine c.corners-2.ensures.side.fine in
-    subst (λ (s : FlatSide × FlatSide). ChangesAlong (λ v e. neg_ℤ (shadow_of (g.K.Meets-3.meet_of k e (v ∷ [])))) (λ way e. neg_ℤ (count_of (g.K.Meets-4.meet_of k e way))) s.0 s.1)
+    let lift = lift_of g k c.args.op c.args.p.now c.args.q.now c.in_ok-p.p c.in_ok-q.q
+    c.in_ok-p.ensures c.in_ok-q.ensures c.corners.ensures.side.fine c.corners-2.ensures.side.fine in
+    subst (λ (s : FlatSide × FlatSide). ChangesAlong
+    (λ v e. neg_ℤ (shadow_of (g.K.Meets-3.meet_of k e (v ∷ [])))) (λ way e. neg_ℤ (count_of (g.K.Meets-4.meet_of k e way))) s.0 s.1)
     (λ i. (sym c.in_ok-q.ensures i, sym c.in_ok-p.ensures i)) (q_walk (tests g k) c.args.op c.args.p.now c.args.q.now lift)
 
 pub returns-clause-value : goal.returns-clause-value
@@ -61,7 +65,8 @@ returns-clause-value g c =
 pub returns-clause-conserved : goal.returns-clause-conserved
 returns-clause-conserved g c =
     let k = c.args.kernels.now in
-    let lift = lift_of g k c.args.op c.args.p.now c.args.q.now c.in_ok-p.p c.in_ok-q.q c.in_ok-p.ensures c.in_ok-q.ensures c.corners.ensures.side.fine c.corners-2.ensures.side.fine in
+    let lift = lift_of g k c.args.op c.args.p.now c.args.q.now c.in_ok-p.p c.in_ok-q.q
+    c.in_ok-p.ensures c.in_ok-q.ensures c.corners.ensures.side.fine c.corners-2.ensures.side.fine in
     subst (λ (n : FlatNumbers). AreConserved (outline_edges c.args.p.now) (outline_edges c.args.q.now) n) (sym (returns-clause-value g c))
     (conserved (tests g k) (g.R.Rounding.settle_of c.args.rounding.now) c.args.op c.args.p.now c.args.q.now c.points.ensures.outline c.points-2.ensures.outline lift)
 
@@ -77,9 +82,11 @@ returns-clause-small g c =
     let ps = c.in_ok-p.p in
     let qs = c.in_ok-q.q in
     let small = hits_small (tests g k) (g.R.Rounding.settle_of c.args.rounding.now) ps qs
-    (λ e f. (g.met.K.Meets-4.laws k).size (ends_of ps e) (ends_of qs f) refl refl (edge_fine ps.corners c.corners.ensures.side.fine e.0 e.1) (edge_fine qs.corners c.corners-2.ensures.side.fine f.0 f.1)) in
+    (λ e f. (g.met.K.Meets-4.laws k).size (ends_of ps e) (ends_of qs f) refl refl
+    (edge_fine ps.corners c.corners.ensures.side.fine e.0 e.1) (edge_fine qs.corners c.corners-2.ensures.side.fine f.0 f.1)) in
     subst (All (λ (h : FlatHit). nat_abs h.number ≤ 1)) (sym c.in_ok-hits.ensures) small
 
 pub returns-clause-lift : goal.returns-clause-lift
 returns-clause-lift g c =
-    lift_of g c.args.kernels.now c.args.op c.args.p.now c.args.q.now c.in_ok-p.p c.in_ok-q.q c.in_ok-p.ensures c.in_ok-q.ensures c.corners.ensures.side.fine c.corners-2.ensures.side.fine
+    lift_of g c.args.kernels.now c.args.op c.args.p.now c.args.q.now c.in_ok-p.p c.in_ok-q.q
+    c.in_ok-p.ensures c.in_ok-q.ensures c.corners.ensures.side.fine c.corners-2.ensures.side.fine

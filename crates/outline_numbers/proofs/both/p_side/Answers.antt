@@ -24,7 +24,8 @@ marks_of-requires c =
 
 pub of-requires-clause-marks : goal.of-requires-clause-marks
 of-requires-clause-marks c =
-    ap length (c.deref-2.ensures.value ∙ c.in_ok-ups.ensures) ∙ marks_long c.args.op c.points.result.now c.deref.result.now ∙ ap length (c.points.ensures.value ∙ sym c.points-2.ensures.value)
+    ap length (c.deref-2.ensures.value ∙ c.in_ok-ups.ensures) ∙ marks_long c.args.op c.points.result.now c.deref.result.now
+    ∙ ap length (c.points.ensures.value ∙ sym c.points-2.ensures.value)
 
 pub of-requires-clause-below : goal.of-requires-clause-below
 of-requires-clause-below c = subst (λ (ps : List (List ℤ)). All (IsBetween (length ps)) c.in_ok-edges.edges.items) (sym c.points-2.ensures.value) c.in_ok-edges.ensures.between

@@ -25,7 +25,8 @@ pub returns : goal.returns
 returns c =
     let o = c.args.q.now in
     let ups = c.in_ok-ups.ups.items in
-    let clone : (y : List Bool) → AllZipBelow (λ (a b : Bool). b ≡ a) (false ∷ false ∷ false ∷ []) y 3 → y ≡ false ∷ false ∷ false ∷ [] = λ y same. same_from_all_zip (λ a b. b ≡ a) (false ∷ false ∷ false ∷ []) y same.whole (λ a b e. e) in
+    let clone : (y : List Bool) → AllZipBelow (λ (a b : Bool). b ≡ a) (false ∷ false ∷ false ∷ []) y 3 →
+    y ≡ false ∷ false ∷ false ∷ [] = λ y same. same_from_all_zip (λ a b. b ≡ a) (false ∷ false ∷ false ∷ []) y same.whole (λ a b e. e) in
     let plain : ups ≡ q_marks o = c.in_ok-ups.ensures.items_if_clones_equal clone ∙ ap (λ l. replicate (length l) (false ∷ false ∷ false ∷ [])) c.points.ensures.value in
     let marks : c.deref.result.now ≡ q_marks o = c.deref.ensures.value ∙ plain in
     let whole : FlatSide = record { corners = corners_of c.points-2.result.now c.deref.result.now; edges = c.in_ok-edges.edges.items } in

@@ -10,5 +10,6 @@ returns-clause-on_grid g c =
     let fine = c.args.fine in
     let seen = to_z w64 (of_z w64 fine) in
     let on = subst IsOnGrid (sym c.settle.ensures) (settled_grid (g.R.Rounding.settle_of c.args.rounding.now)
-    (record { monotone = g.met.R.Rounding.monotone c.args.rounding.now; units = g.met.R.Rounding.units c.args.rounding.now }) seen (subst IsFine (sym (kept_fine fine c.requires)) c.requires)) in
+    (record { monotone = g.met.R.Rounding.monotone c.args.rounding.now; units = g.met.R.Rounding.units c.args.rounding.now })
+    seen (subst IsFine (sym (kept_fine fine c.requires)) c.requires)) in
     subst IsOnGrid (sym (kept_grid c.settle.result on)) on

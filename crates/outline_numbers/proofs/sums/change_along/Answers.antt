@@ -21,7 +21,8 @@ loop-number-init g c =
     let found = subst (λ (boxes : List Box3). IsPermutation (touching_numbers boxes area) c.touching-number-items.result) c.tree.ensures.value c.touching-number-items.ensures in
     let moved : IsPermutation (touching_numbers (edge_boxes side) area) near = rw c.into_iter-number-iterator.ensures.into_iter_gives found in
     let few = near_few side area near moved in
-    let none = none_beyond (pos 0) (g.T.EdgeTests.change_of c.args.tests.now) (g.met.T.EdgeTests.apart c.args.tests.now) side c.tree.ensures.side c.args.way.now c.told-way c.requires.fine c.requires.level in
+    let none = none_beyond (pos 0) (g.T.EdgeTests.change_of c.args.tests.now) (g.met.T.EdgeTests.apart c.args.tests.now)
+    side c.tree.ensures.side c.args.way.now c.told-way c.requires.fine c.requires.level in
     let whole = near_total side area near moved change (λ k low far. none k low (subst (λ b. touches (box_at (edge_boxes side) k) b ≡ false) c.box_of.ensures.value far)) in
     record {
       value = omega (arith, ints, whole);
@@ -32,7 +33,8 @@ loop-number-init g c =
 
 pub edge-requires : goal.edge-requires
 edge-requires g c =
-    let inside : ℕ → Type 0 = λ k. k < length c.args.edges.now.edges in All-head inside c.in-Some.number c.next.new.self (subst (All inside) c.in-Some.ensures.steps c.loop-number.invariant.below)
+    let inside : ℕ → Type 0 = λ k. k < length c.args.edges.now.edges in All-head inside c.in-Some.number
+    c.next.new.self (subst (All inside) c.in-Some.ensures.steps c.loop-number.invariant.below)
 
 pub loop-number-preserved : goal.loop-number-preserved
 loop-number-preserved g c =
@@ -53,7 +55,8 @@ loop-number-preserved g c =
     let after = c.loop-number.invariant.high in
     let whole : to_z w64 (of_z w64 (sum +ℤ to_z w64 (of_z w64 part))) ≡ sum +ℤ part = omega (arith, ints, few, low, high, before, after, long) in
     record {
-      value = ap (λ w. w +ℤ total value rest) whole ∙ one_less sum part (total value rest) (total value c.loop-number.number-iterator) (total (λ e. change (ends_of side e)) side.edges) (omega (arith, ints, split, here)) c.loop-number.invariant.value;
+      value = ap (λ w. w +ℤ total value rest) whole ∙ one_less sum part (total value rest) (total value c.loop-number.number-iterator)
+          (total (λ e. change (ends_of side e)) side.edges) (omega (arith, ints, split, here)) c.loop-number.invariant.value;
       below = All-tail inside c.in-Some.number rest (subst (All inside) c.in-Some.ensures.steps c.loop-number.invariant.below);
       low = omega (arith, ints, whole, low, high, before, after, long);
       high = omega (arith, ints, whole, low, high, before, after, long);

@@ -6,7 +6,8 @@ use Rattle.outline_numbers.proofs.sums.change_along.Given as goal
 
 abbrev pub invariant-loop-number : goal.invariant-loop-number
 invariant-loop-number g l = record {
-  value : (l.sum +ℤ total (λ k. g.T.EdgeTests.change_of l.tests l.way (ends_of l.edges (edge_at l.edges k))) l.number-iterator) ≡ total (λ e. g.T.EdgeTests.change_of l.tests l.way (ends_of l.edges e)) l.edges.edges;
+  value : (l.sum +ℤ total (λ k. g.T.EdgeTests.change_of l.tests l.way (ends_of l.edges (edge_at l.edges k))) l.number-iterator)
+      ≡ total (λ e. g.T.EdgeTests.change_of l.tests l.way (ends_of l.edges e)) l.edges.edges;
   below : All (λ k. k < length l.edges.edges) l.number-iterator;
   low : neg_ℤ (pos (length l.edges.edges)) ≤ℤ (l.sum -ℤ pos (length l.number-iterator));
   high : (l.sum +ℤ pos (length l.number-iterator)) ≤ℤ pos (length l.edges.edges);

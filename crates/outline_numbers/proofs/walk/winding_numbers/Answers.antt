@@ -15,31 +15,38 @@ use Rattle.outline_numbers.proofs.walk.winding_numbers.Given.{Over}
 use Rattle.outline_numbers.proofs.walk.winding_numbers.Goals as goal
 
 -- the winding number of a vertex is no greater in size than there are edges
-small_at : (g : Over) → (tests : g.row.T.Denot) → (side edges : FlatSide) → AllFine side.corners → AllFine edges.corners → (v : ℕ) → nat_abs (winding_of (g.T.EdgeTests.part_of tests) edges (corner_at side.corners v)) ≤ length edges.edges
+small_at : (g : Over) → (tests : g.row.T.Denot) → (side edges : FlatSide) → AllFine side.corners → AllFine edges.corners →
+    (v : ℕ) → nat_abs (winding_of (g.T.EdgeTests.part_of tests) edges (corner_at side.corners v)) ≤ length edges.edges
 small_at g tests side edges fine others v =
     let corner = corner_at side.corners v in
-    winding_within (g.T.EdgeTests.part_of tests) edges corner (λ e. g.met.T.EdgeTests.small tests corner (ends_of edges e) refl (corner_fine side.corners fine v) (edge_fine edges.corners others e.0 e.1))
+    winding_within (g.T.EdgeTests.part_of tests) edges corner
+    (λ e. g.met.T.EdgeTests.small tests corner (ends_of edges e) refl (corner_fine side.corners fine v) (edge_fine edges.corners others e.0 e.1))
 
 -- so are those of all
-all_small : (g : Over) → (tests : g.row.T.Denot) → (side edges : FlatSide) → AllFine side.corners → AllFine edges.corners → (numbers : List ℤ) → numbers ≡ map (winding_of (g.T.EdgeTests.part_of tests) edges) side.corners →
+all_small : (g : Over) → (tests : g.row.T.Denot) → (side edges : FlatSide) → AllFine side.corners →
+    AllFine edges.corners → (numbers : List ℤ) → numbers ≡ map (winding_of (g.T.EdgeTests.part_of tests) edges) side.corners →
     All (λ n. nat_abs n ≤ length edges.edges) numbers
 all_small g tests side edges fine others numbers is =
-    subst (All (λ n. nat_abs n ≤ length edges.edges)) (sym is) (windings_within (g.T.EdgeTests.part_of tests) edges side.corners fine others (λ c e two c_fine e_fine. g.met.T.EdgeTests.small tests c e two c_fine e_fine))
+    subst (All (λ n. nat_abs n ≤ length edges.edges)) (sym is)
+    (windings_within (g.T.EdgeTests.part_of tests) edges side.corners fine others (λ c e two c_fine e_fine. g.met.T.EdgeTests.small tests c e two c_fine e_fine))
 
 pub returns-then-is_empty-clause-value : goal.returns-then-is_empty-clause-value
 returns-then-is_empty-clause-value g c =
     let side = c.args.vertices.now in
     let number = winding_of (g.T.EdgeTests.part_of c.args.tests.now) c.args.edges.now in
     let none : length side.edges ≡ 0 = sym (ap length c.edges.ensures.value) ∙ eqb-true (length c.edges.result.now) 0 (sym c.is_empty.ensures ∙ c.if-is_empty.true) in
-    all_known number side c.requires.whole c.in_ok-numbers.numbers.items (omega (arith, c.in_ok-numbers.ensures.len, ap length c.corners-corners.ensures.value)) (λ j low. absurd (omega (arith, low, none)))
+    all_known number side c.requires.whole c.in_ok-numbers.numbers.items
+    (omega (arith, c.in_ok-numbers.ensures.len, ap length c.corners-corners.ensures.value)) (λ j low. absurd (omega (arith, low, none)))
 
 pub returns-then-is_empty-clause-size : goal.returns-then-is_empty-clause-size
-returns-then-is_empty-clause-size g c = all_small g c.args.tests.now c.args.vertices.now c.args.edges.now c.corners-corners.ensures.side.fine c.corners.ensures.side.fine c.in_ok-numbers.numbers.items (returns-then-is_empty-clause-value g c)
+returns-then-is_empty-clause-size g c = all_small g c.args.tests.now c.args.vertices.now c.args.edges.now
+    c.corners-corners.ensures.side.fine c.corners.ensures.side.fine c.in_ok-numbers.numbers.items (returns-then-is_empty-clause-value g c)
 
 pub winding_sum-number-requires : goal.winding_sum-number-requires
 winding_sum-number-requires g c =
     let first = (get_or c.edges-2.result.now 0 (0, 0)).0 in
-    subst (λ (cs : List Corner). IsFineCorner (corner_at cs first)) (sym c.corners-corners.ensures.value) (corner_fine c.args.vertices.now.corners c.corners-corners.ensures.side.fine first)
+    subst (λ (cs : List Corner). IsFineCorner (corner_at cs first)) (sym c.corners-corners.ensures.value)
+    (corner_fine c.args.vertices.now.corners c.corners-corners.ensures.side.fine first)
 
 pub loop-next-init : goal.loop-next-init
 loop-next-init g c =
@@ -65,7 +72,8 @@ overflow_add-number g c =
     let edges = c.args.edges.now in
     let here = to_z w64 c.loop-next.number-bits in
     let small : nat_abs here ≤ length edges.edges =
-    subst (λ (w : ℤ). nat_abs w ≤ length edges.edges) (sym c.loop-next.invariant.here) (small_at g c.args.tests.now c.args.vertices.now edges c.corners-corners.ensures.side.fine c.corners.ensures.side.fine c.loop-next.last) in
+    subst (λ (w : ℤ). nat_abs w ≤ length edges.edges) (sym c.loop-next.invariant.here)
+    (small_at g c.args.tests.now c.args.vertices.now edges c.corners-corners.ensures.side.fine c.corners.ensures.side.fine c.loop-next.last) in
     let few = c.corners.ensures.side.few in
     let size = c.change_along-number.ensures.size in
     omega (arith, ints, small, few, size)
@@ -94,8 +102,10 @@ loop-next-preserved g c =
     let there = c.change_along-number.result in
     let z = to_z w64 (of_z w64 (here +ℤ to_z w64 (of_z w64 there))) in
     let sum : (here +ℤ there) ≡ number next =
-    next_number part (g.T.EdgeTests.change_of tests) side edges c.requires.changes c.loop-next.last next c.way.result here there c.loop-next.invariant.here c.way.ensures.value c.change_along-number.ensures.value in
-    let small : nat_abs here ≤ length edges.edges = subst (λ (w : ℤ). nat_abs w ≤ length edges.edges) (sym c.loop-next.invariant.here) (small_at g tests side edges c.corners-corners.ensures.side.fine c.corners.ensures.side.fine c.loop-next.last) in
+    next_number part (g.T.EdgeTests.change_of tests) side edges c.requires.changes c.loop-next.last next
+    c.way.result here there c.loop-next.invariant.here c.way.ensures.value c.change_along-number.ensures.value in
+    let small : nat_abs here ≤ length edges.edges = subst (λ (w : ℤ). nat_abs w ≤ length edges.edges) (sym c.loop-next.invariant.here)
+    (small_at g tests side edges c.corners-corners.ensures.side.fine c.corners.ensures.side.fine c.loop-next.last) in
     let few = c.corners.ensures.side.few in
     let size = c.change_along-number.ensures.size in
     let whole : z ≡ (here +ℤ there) = omega (arith, ints, small, few, size) in
@@ -104,7 +114,8 @@ loop-next-preserved g c =
       last = omega (arith, low, is);
       here = whole ∙ sum;
       full = length-set old next z ∙ full;
-      known = subst (λ v. AreKnown number side.edges (k + 1) (set old v z)) (sym is) (known_more number side.edges k old z c.loop-next.invariant.known (omega (arith, low, full)) (whole ∙ sum ∙ ap number is));
+      known = subst (λ v. AreKnown number side.edges (k + 1) (set old v z)) (sym is)
+          (known_more number side.edges k old z c.loop-next.invariant.known (omega (arith, low, full)) (whole ∙ sum ∙ ap number is));
     }
 
 pub returns-clause-value : goal.returns-clause-value
@@ -115,4 +126,5 @@ returns-clause-value g c =
     (λ j low. c.loop-next.invariant.known j (omega (arith, low, c.loop-next-test.false, ap length c.edges-next-items.ensures.value)))
 
 pub returns-clause-size : goal.returns-clause-size
-returns-clause-size g c = all_small g c.args.tests.now c.args.vertices.now c.args.edges.now c.corners-corners.ensures.side.fine c.corners.ensures.side.fine c.loop-next.numbers.items (returns-clause-value g c)
+returns-clause-size g c = all_small g c.args.tests.now c.args.vertices.now c.args.edges.now
+    c.corners-corners.ensures.side.fine c.corners.ensures.side.fine c.loop-next.numbers.items (returns-clause-value g c)

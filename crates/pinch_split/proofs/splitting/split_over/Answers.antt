@@ -54,7 +54,8 @@ returns-clause-clean c =
     let first = c.in_ok-fans.fans.first.items in
     let accepted = subst (IsAccepted (length c.args.points.now)) (sym c.in_ok-twins.ensures) c.requires in
     let known = has_fans (length c.args.points.now) ts of first accepted c.in_ok-fans.ensures.fans in
-    IfOk-weaker c.split_by.result (λ s. s.mesh.triples ≡ corners of (length ts)) (λ s. IsClean (all_edges s.mesh.triples)) (λ s same. subst (λ l. IsClean (all_edges l)) (sym same) (clean_anew ts of first known)) c.split_by.ensures.triples
+    IfOk-weaker c.split_by.result (λ s. s.mesh.triples ≡ corners of (length ts)) (λ s. IsClean (all_edges s.mesh.triples))
+    (λ s same. subst (λ l. IsClean (all_edges l)) (sym same) (clean_anew ts of first known)) c.split_by.ensures.triples
 
 pub returns-clause-twins : goal.returns-clause-twins
 returns-clause-twins c =
@@ -76,7 +77,8 @@ returns-then-branch-clause-points c =
     let points = c.args.points.now in
     let ts = c.in_ok-twins.twins.triples in
     let same = unchanged points ts (subst (IsAccepted (length points)) (sym c.in_ok-twins.ensures) c.requires) (c.in_ok-are_clean.ensures.0 c.if-branch.true) in
-    IfOk-weaker c.whole.result (λ s. s.mesh.points ≡ points) (λ s. s.mesh.points ≡ split_points points (triples_of c.args.triples.items)) (λ s is. is ∙ same.same_points ∙ ap (split_points points) c.in_ok-twins.ensures) c.whole.ensures.points
+    IfOk-weaker c.whole.result (λ s. s.mesh.points ≡ points) (λ s. s.mesh.points ≡ split_points points (triples_of c.args.triples.items))
+    (λ s is. is ∙ same.same_points ∙ ap (split_points points) c.in_ok-twins.ensures) c.whole.ensures.points
 
 pub returns-then-branch-clause-triples : goal.returns-then-branch-clause-triples
 returns-then-branch-clause-triples c =
@@ -98,7 +100,8 @@ pub returns-then-branch-clause-clean : goal.returns-then-branch-clause-clean
 returns-then-branch-clause-clean c =
     let ts = c.in_ok-twins.twins.triples in
     let clean = c.in_ok-are_clean.ensures.0 c.if-branch.true in
-    IfOk-weaker c.whole.result (λ s. s.mesh.triples ≡ ts) (λ s. IsClean (all_edges s.mesh.triples)) (λ s is. subst (λ l. IsClean (all_edges l)) (sym is) clean) c.whole.ensures.triples
+    IfOk-weaker c.whole.result (λ s. s.mesh.triples ≡ ts) (λ s. IsClean (all_edges s.mesh.triples))
+    (λ s is. subst (λ l. IsClean (all_edges l)) (sym is) clean) c.whole.ensures.triples
 
 pub returns-then-branch-clause-few : goal.returns-then-branch-clause-few
 returns-then-branch-clause-few c =
@@ -107,4 +110,5 @@ returns-then-branch-clause-few c =
     let same = unchanged points ts (subst (IsAccepted (length points)) (sym c.in_ok-twins.ensures) c.requires) (c.in_ok-are_clean.ensures.0 c.if-branch.true) in
     let few = same.few in
     IfOk-weaker c.whole.result (λ s. (s.mesh.points ≡ points) × (s.mesh.triples ≡ ts)) (λ s. 2 * length s.mesh.points ≤ 3 * length s.mesh.triples)
-    (λ s is. omega (arith, few, ap length is.0, ap length is.1)) (both c.whole.result (λ s. s.mesh.points ≡ points) (λ s. s.mesh.triples ≡ ts) c.whole.ensures.points c.whole.ensures.triples)
+    (λ s is. omega (arith, few, ap length is.0, ap length is.1))
+    (both c.whole.result (λ s. s.mesh.points ≡ points) (λ s. s.mesh.triples ≡ ts) c.whole.ensures.points c.whole.ensures.triples)

@@ -55,10 +55,14 @@ returns c =
       x21 = c.deref-4.ensures.value;
     } in
     record {
-      origins = all_added (λ k. k.origin) c.args.op p q n _ _ _ _ _ _ read c.in_ok-copies.copies.origins.items c.push_vertices.new.self.origins.items c.push_vertices-2.new.self.origins.items c.push_hits.new.self.origins.items c.push_hits-2.new.self.origins.items
-          c.in_ok-copies.ensures.origins c.in_ok-push_vertices.ensures.origins c.in_ok-push_vertices-2.ensures.origins c.in_ok-push_hits.ensures.origins c.in_ok-push_hits-2.ensures.origins;
-      points = all_added (λ k. k.point) c.args.op p q n _ _ _ _ _ _ read c.in_ok-copies.copies.points.items c.push_vertices.new.self.points.items c.push_vertices-2.new.self.points.items c.push_hits.new.self.points.items c.push_hits-2.new.self.points.items
-          c.in_ok-copies.ensures.points c.in_ok-push_vertices.ensures.points c.in_ok-push_vertices-2.ensures.points c.in_ok-push_hits.ensures.points c.in_ok-push_hits-2.ensures.points;
+      origins = all_added (λ k. k.origin) c.args.op p q n _ _ _ _ _ _ read c.in_ok-copies.copies.origins.items c.push_vertices.new.self.origins.items
+          c.push_vertices-2.new.self.origins.items c.push_hits.new.self.origins.items c.push_hits-2.new.self.origins.items
+          c.in_ok-copies.ensures.origins c.in_ok-push_vertices.ensures.origins
+          c.in_ok-push_vertices-2.ensures.origins c.in_ok-push_hits.ensures.origins c.in_ok-push_hits-2.ensures.origins;
+      points = all_added (λ k. k.point) c.args.op p q n _ _ _ _ _ _ read c.in_ok-copies.copies.points.items c.push_vertices.new.self.points.items
+          c.push_vertices-2.new.self.points.items c.push_hits.new.self.points.items c.push_hits-2.new.self.points.items
+          c.in_ok-copies.ensures.points c.in_ok-push_vertices.ensures.points
+          c.in_ok-push_vertices-2.ensures.points c.in_ok-push_hits.ensures.points c.in_ok-push_hits-2.ensures.points;
       kept = c.requires.counts.kept;
       crossings = c.requires.counts.crossings;
       halfedges = c.requires.counts.halfedges;

@@ -18,5 +18,6 @@ enter_along-requires-clause-below c = subst (λ n. All (IsBelow n) (triples_of c
 
 pub loop-pass-preserved : goal.loop-pass-preserved
 loop-pass-preserved c =
-    begun_on (all_edges (triples_of c.args.triples.now)) (length c.args.seen.now) c.loop-pass.seen c.loop-pass.entrances.items c.enter_along.new.seen c.enter_along.new.entrances.items
+    begun_on (all_edges (triples_of c.args.triples.now)) (length c.args.seen.now) c.loop-pass.seen
+    c.loop-pass.entrances.items c.enter_along.new.seen c.enter_along.new.entrances.items
     c.loop-pass.invariant c.in_ok-enter_along.ensures

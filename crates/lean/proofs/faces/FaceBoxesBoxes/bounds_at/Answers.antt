@@ -20,10 +20,13 @@ returns-then-is_grid_step c =
     let xs = faces.triples.now in
     let shift = c.args.shift in
     let step : IsGridStep shift = c.is_grid_step.ensures c.if-is_grid_step.true in
-    c.face_bounds-bounds.ensures ∙ sym (ap (bounds_around shift) (box_at-boxes points xs c.args.number c.requires.number) ∙ bounds_kept shift step points faces.grid (triple_of (get_or xs c.args.number [])))
+    c.face_bounds-bounds.ensures
+    ∙ sym (ap (bounds_around shift) (box_at-boxes points xs c.args.number c.requires.number)
+    ∙ bounds_kept shift step points faces.grid (triple_of (get_or xs c.args.number [])))
 
 pub returns-else-is_grid_step : goal.returns-else-is_grid_step
 returns-else-is_grid_step c =
     let faces = c.args.self.now in
     c.around.ensures
-    ∙ ap (bounds_around c.args.shift) (c.fine_box.ensures ∙ ap fine_box c.face_bounds-bounds.ensures ∙ sym (box_at-boxes faces.points.now faces.triples.now c.args.number c.requires.number))
+    ∙ ap (bounds_around c.args.shift) (c.fine_box.ensures ∙ ap fine_box c.face_bounds-bounds.ensures
+    ∙ sym (box_at-boxes faces.points.now faces.triples.now c.args.number c.requires.number))

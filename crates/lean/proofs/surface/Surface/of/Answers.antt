@@ -14,5 +14,6 @@ invariant_of-result c =
       fine = c.in_ok-corners.ensures.fine;
       whole = c.in_ok-corners.ensures.whole;
       accepted = subst (λ n. IsAccepted n twins.triples) (sym count) (subst (IsAccepted (length c.args.mesh.now.points)) (sym triples) c.twins.ensures.accepted);
-      twinned = subst (λ (t : Twins). IsTwinned t.triples t.twins) (sym same) (subst (λ l. IsTwinned l c.twins.result.now.twins) (sym c.twins.ensures.triples) c.twins.ensures.twins);
+      twinned = subst (λ (t : Twins). IsTwinned t.triples t.twins) (sym same)
+          (subst (λ l. IsTwinned l c.twins.result.now.twins) (sym c.twins.ensures.triples) c.twins.ensures.twins);
     }

@@ -7,7 +7,8 @@ use Rattle.mesh_boolean.proofs.auditing.origins.named_triples.Goals as goal
 
 -- each triangle's vertices are below
 below : (n : ℕ) (ts : List (List ℕ)) (i : ℕ) → i < length ts → All (IsBelow n) (triples_of ts) → IsBelow n (triple_of (get_or ts i []))
-below n ts i low all = subst (IsBelow n) (get_or-map triple_of ts i [] (0, 0, 0) low) (All-get_or (IsBelow n) (triples_of ts) i (0, 0, 0) (omega (arith, low, length-map ts triple_of)) all)
+below n ts i low all = subst (IsBelow n) (get_or-map triple_of ts i [] (0, 0, 0) low)
+    (All-get_or (IsBelow n) (triples_of ts) i (0, 0, 0) (omega (arith, low, length-map ts triple_of)) all)
 
 pub bounds-from-a : goal.bounds-from-a
 bounds-from-a c = (below (length c.args.from.now) c.args.triples.now c.loop-a.a-index c.loop-a-test.true c.requires).a

@@ -5,12 +5,14 @@ use Rattle.outline_numbers.proofs.side.FlatSide.edge.Goals as goal
 pub way-requires-clause-from : goal.way-requires-clause-from
 way-requires-clause-from c =
     let side = c.args.self.now in
-    subst (λ (es : List (ℕ × ℕ)). (get_or es c.args.number (0, 0)).0 < length side.corners) (sym c.edges.ensures.value) (c.edges.ensures.side.below c.args.number (0, 0) c.requires).0
+    subst (λ (es : List (ℕ × ℕ)). (get_or es c.args.number (0, 0)).0 < length side.corners)
+    (sym c.edges.ensures.value) (c.edges.ensures.side.below c.args.number (0, 0) c.requires).0
 
 pub way-requires-clause-to : goal.way-requires-clause-to
 way-requires-clause-to c =
     let side = c.args.self.now in
-    subst (λ (es : List (ℕ × ℕ)). (get_or es c.args.number (0, 0)).1 < length side.corners) (sym c.edges.ensures.value) (c.edges.ensures.side.below c.args.number (0, 0) c.requires).1
+    subst (λ (es : List (ℕ × ℕ)). (get_or es c.args.number (0, 0)).1 < length side.corners)
+    (sym c.edges.ensures.value) (c.edges.ensures.side.below c.args.number (0, 0) c.requires).1
 
 pub returns-clause-value : goal.returns-clause-value
 returns-clause-value c =

@@ -1,0 +1,23 @@
+use Rattle.std.proofs.Common.{◌++◌, ap, sym, ◌∙◌}
+use Rattle.std.proofs.lemmas.Bool.{ltb-true, ltb-false}
+use Rattle.chain_terms.specs.Chains.{all_edges}
+use Rattle.chain_terms.specs.Ranks.{twin}
+use Rattle.crossings.specs.Hits.{hits_along}
+use Rattle.crossings.proofs.Rows.{hits_lower, hits_upper}
+use Rattle.crossings.proofs.hits.push_each.Goals as goal
+use Rattle.crossings.proofs.hits.push_each.Goals.{then-is_lower+in_ok-push_hits, else-is_lower}
+
+pub loop-half-preserved : goal.loop-half-preserved
+loop-half-preserved g c =
+    let test = g.C.EdgeFace.crossing_of c.args.pairs.now in
+    let edges = c.args.edges.now in
+    let faces = c.args.faces.now in
+    let h = c.loop-half.half in
+    let other = twin (all_edges edges.triples) h in
+    elim c.if-is_lower.branch [
+      | then-is_lower+in_ok-push_hits w ↦
+          ap (λ v. v.items) w.hits-is ∙ w.in_ok-push_hits.ensures ∙ ap (λ l. l ++ hits_along test edges faces h) c.loop-half.invariant
+          ∙ sym (hits_lower test edges faces h (ltb-true h other (sym c.is_lower.ensures ∙ w.if-is_lower.true)))
+      | else-is_lower w ↦
+          ap (λ v. v.items) w.hits-is ∙ c.loop-half.invariant ∙ sym (hits_upper test edges faces h (ltb-false h other (sym c.is_lower.ensures ∙ w.if-is_lower.false)))
+    ]
