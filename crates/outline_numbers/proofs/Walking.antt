@@ -19,7 +19,7 @@ use Rattle.outline_pair_terms.specs.Numbers.{FlatSide, FlatTests, LiftEdges, end
 use Rattle.outline_pair_laws.specs.Laws.{HasLoops}
 use Rattle.outline_pair_laws.proofs.Conserved.{edges_conserve, edges_conserve_back}
 use Rattle.outline_numbers.specs.Small.{IsSmall}
-use Rattle.outline_numbers.specs.Walks.{ChangesAlong, IsWhole, winding_of}
+use Rattle.outline_numbers.specs.Walks.{ChangesAlong, IsStartBefore, IsWhole, winding_of}
 
 module _ (number : ℕ → ℤ) (es : List (ℕ × ℕ)) where
   -- the starts of the first k edges have their numbers
@@ -41,6 +41,11 @@ module _ (number : ℕ → ℤ) (es : List (ℕ × ℕ)) where
               | inr n ↦ let here : j ≡ k = omega (arith, n, less) in absurd (other (ap (start es) here))
             ]
       ]
+
+  -- where one of these starts the number is known
+  pub known_before : (k : ℕ) (numbers : List ℤ) (v : ℕ) (d : ℤ) → AreKnown k numbers → v < length numbers → IsStartBefore es k v → get_or numbers v d ≡ number v
+  known_before k numbers v d known low is =
+      get_or_default numbers v d (pos 0) low ∙ subst (λ u. get_or numbers u (pos 0) ≡ number u) (sym is.2) (known is.0 is.1)
 
 -- where each corner starts an edge, all have their numbers in the end
 pub all_known : (number : Corner → ℤ) (side : FlatSide) → IsWhole side → (numbers : List ℤ) → length numbers ≡ length side.corners →

@@ -1,16 +1,18 @@
 // The winding numbers of all vertices of a side.
 ghost use Rattle.std.specs.Prelude.{◌≡◌, ◌≤◌, ◌<◌, ℕ, nat_abs, IfOk, length, map};
 ghost use Rattle.std.specs.List.{All};
-ghost use Rattle.outline_numbers.specs.Walks.{ChangesAlong, IsWhole, winding_of};
+ghost use Rattle.outline_terms.specs.Outlines.{IsBetween};
+ghost use Rattle.outline_numbers.specs.Walks.{ChangesAlong, IsStartBefore, IsWhole, winding_of};
 
 use crate::side::FlatSide;
 use crate::sums::{change_along, winding_sum};
 use crate::tests::EdgeTests;
-use mb_base::NoMemory;
+use mb_base::{Corner, NoMemory};
 use std::alloc::Global;
 
 /// The winding numbers of the vertices of one side in the other: one sum for the vertex at which the first edge starts. From
-/// there it goes to where the second edge starts, and so on; along each way the number changes by the way's crossings.
+/// there it goes to where the second edge starts, and so on; along each way the number changes by the way's crossings. Where
+/// another loop begins, the way to it leads from the nearest vertex of the loop before.
 pub fn winding_numbers<T: EdgeTests>(
     alloc: Global,
     vertices: &FlatSide,
@@ -26,15 +28,82 @@ pub fn winding_numbers<T: EdgeTests>(
     // Read so that what the other side keeps is known here.
     let _ = edges.corners();
     let mut numbers = vec![in alloc; 0; corners.len()]?;
-    if vertices.edges().is_empty() {
+    let list = vertices.edges();
+    if list.is_empty() {
         return Ok(numbers);
     }
-    let mut last = vertices.edges()[0].0;
-    let mut number = winding_sum(&corners[last as usize], edges, tests);
-    for (next, _) in vertices.edges() {
-        number += change_along(&vertices.way(last, *next), edges, tests);
-        numbers[*next as usize] = number;
-        last = *next;
+    let first = list[0].0;
+    numbers[first as usize] = winding_sum(&corners[first as usize], edges, tests);
+    let mut begin = 0;
+    for place in 1..list.len() {
+        let next = list[place].0;
+        let last = way_start(corners, list, begin, place);
+        let change = change_along(&vertices.way(last, next), edges, tests);
+        numbers[next as usize] = numbers[last as usize] + change;
+        begin = loop_start(list, begin, place);
     }
     Ok(numbers)
+}
+
+// Whether the loop of the edge before an edge ends there.
+fn ends_loop(list: &[(u32, u32)], place: usize) -> bool
+    requires some { 0 < place }
+    requires place { place < length list.now }
+{
+    list[place - 1].1 != list[place].0
+}
+
+// The first edge of the loop of an edge, where that of the edge before is known.
+fn loop_start(list: &[(u32, u32)], begin: usize, place: usize) -> usize
+    requires some { 0 < place }
+    requires place { place < length list.now }
+    requires begin { begin ≤ place }
+    ensures { result ≤ place }
+{
+    if ends_loop(list, place) { place } else { begin }
+}
+
+// Where the way to the start of an edge begins: where the edge before it starts; or, where another loop begins with the edge,
+// at the vertex of the loop before that is nearest.
+fn way_start(corners: &[Corner], list: &[(u32, u32)], begin: usize, place: usize) -> u32
+    requires below { All (IsBetween (length corners.now)) list.now }
+    requires some { 0 < place }
+    requires place { place < length list.now }
+    requires begin { begin ≤ place }
+    ensures { IsStartBefore list.now place result }
+{
+    if ends_loop(list, place) {
+        nearest(corners, list, begin, place)
+    } else {
+        list[place - 1].0
+    }
+}
+
+// The nearest to the start of an edge of the starts of the edges before it, from a number on.
+fn nearest(corners: &[Corner], list: &[(u32, u32)], begin: usize, place: usize) -> u32
+    requires below { All (IsBetween (length corners.now)) list.now }
+    requires some { 0 < place }
+    requires place { place < length list.now }
+    requires begin { begin ≤ place }
+    ensures { IsStartBefore list.now place result }
+{
+    let goal = &corners[list[place].0 as usize];
+    let mut best = list[place - 1].0;
+    let mut least = distance(&corners[best as usize], goal);
+    for each in begin..place {
+        let vertex = list[each].0;
+        let far = distance(&corners[vertex as usize], goal);
+        if far < least {
+            best = vertex;
+            least = far;
+        }
+    }
+    best
+}
+
+// How far two corners are from one another: the greater of the differences on x and on y.
+fn distance(one: &Corner, other: &Corner) -> u64 {
+    let x = one.at[0].abs_diff(other.at[0]);
+    let y = one.at[1].abs_diff(other.at[1]);
+    x.max(y)
 }

@@ -1,15 +1,14 @@
-use Rattle.std.proofs.Common.{◌≡◌, ◌<◌, length}
+use Rattle.std.proofs.Common.{◌≡◌, ◌≤◌, length}
 use Rattle.side_terms.specs.Corners.{corner_at}
 use Rattle.outline_numbers.specs.Walks.{winding_of}
 use Rattle.outline_numbers.proofs.Walking.{AreKnown}
 use Rattle.outline_numbers.proofs.walk.winding_numbers.Given as goal
 
-abbrev pub invariant-loop-next : goal.invariant-loop-next
-invariant-loop-next g l =
+abbrev pub invariant-loop-place : goal.invariant-loop-place
+invariant-loop-place g l =
     let number = winding_of (g.T.EdgeTests.part_of l.tests) l.edges in
     record {
-      last : l.last < length l.vertices.corners;
-      here : l.number ≡ number (corner_at l.vertices.corners l.last);
+      begun : l.begin ≤ l.place;
       full : length l.numbers.items ≡ length l.vertices.corners;
-      known : AreKnown (λ v. number (corner_at l.vertices.corners v)) l.vertices.edges l.next-index l.numbers.items;
+      known : AreKnown (λ v. number (corner_at l.vertices.corners v)) l.vertices.edges l.place l.numbers.items;
     }
