@@ -114,7 +114,7 @@ def torus(radius, tube, sides, tube_sides):
 
 
 def text(words, size, height):
-    """Block letters of five by seven squares; where squares meet in a corner alone, they have an edge in common."""
+    """Block letters of five by seven squares. Where two meet in a corner alone a neck joins them: a triangle in each of the two others there."""
     lit = set()
     for place, letter in enumerate(words.upper()):
         if letter not in FONT:
@@ -122,17 +122,43 @@ def text(words, size, height):
         for row in range(7):
             bits = int(FONT[letter][2 * row : 2 * row + 2], 16)
             lit |= {(6 * place + 4 - k, 6 - row) for k in range(5) if bits >> k & 1}
-    numbers, faces, unit = {}, [], size / 7.0
+    numbers, faces, unit, neck = {}, [], size / 7.0, 0.25
 
     def add(*corners):
         faces.append([numbers.setdefault(corner, len(numbers)) for corner in corners])
 
+    def lids(*outline):
+        add(*(p + (0,) for p in outline[::-1]))
+        add(*(p + (1,) for p in outline))
+
+    def wall(a, b):
+        add(a + (0,), b + (0,), b + (1,), a + (1,))
+
+    def has_neck(x, y):
+        """The squares round a corner are lit, dark, lit, dark."""
+        return ((x, y) in lit) == ((x - 1, y - 1) in lit) != ((x - 1, y) in lit) == ((x, y - 1) in lit)
+
     for x, y in sorted(lit):
-        add((x, y, 0), (x, y + 1, 0), (x + 1, y + 1, 0), (x + 1, y, 0))
-        add((x, y, 1), (x + 1, y, 1), (x + 1, y + 1, 1), (x, y + 1, 1))
-        for beside, a, b in (((x, y - 1), (x, y), (x + 1, y)), ((x + 1, y), (x + 1, y), (x + 1, y + 1)), ((x, y + 1), (x + 1, y + 1), (x, y + 1)), ((x - 1, y), (x, y + 1), (x, y))):
+        rim, corners = [], [(x, y), (x + 1, y), (x + 1, y + 1), (x, y + 1)]
+        for k, beside in enumerate([(x, y - 1), (x + 1, y), (x, y + 1), (x - 1, y)]):
+            a, b = corners[k], corners[(k + 1) % 4]
+            along = (neck * (b[0] - a[0]), neck * (b[1] - a[1]))
+            start, end, rim = a, b, rim + [a]
+            if has_neck(*a):
+                start, out = (a[0] + along[0], a[1] + along[1]), (a[0] + along[1], a[1] - along[0])
+                rim.append(start)
+                lids(a, out, start)
+                wall(out, start)
+            if has_neck(*b):
+                end = (b[0] - along[0], b[1] - along[1])
+                rim.append(end)
             if beside not in lit:
-                add(a + (0,), b + (0,), b + (1,), a + (1,))
+                wall(start, end)
+        if len(rim) == 4:
+            lids(*rim)
+        else:  # round the middle, since some of its corners lie on a line
+            for a, b in zip(rim, rim[1:] + rim[:1]):
+                lids(a, b, (x + 0.5, y + 0.5))
     return [(x * unit, y * unit, z * height) for x, y, z in numbers], faces
 
 

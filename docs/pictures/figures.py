@@ -1,7 +1,13 @@
-"""Draws the figures of docs/GUIDE.md and docs/METHOD.md that no mesh gives. Usage: figures.py FOLDER"""
+"""Draws the flat figures of docs/GUIDE.md and docs/METHOD.md. Usage: figures.py FOLDER BEFORE AFTER
+
+BEFORE and AFTER are the plate of "A part for the printer" without and with its line `remesh`, files that examples/flat.py reads."""
 import math, os, sys
 
-INK, SOFT, P, Q, GOOD = "#1d2733", "#8a94a0", "#2f6db3", "#c07a1e", "#3d8b40"
+sys.dont_write_bytecode = True  # beside the examples
+sys.path.insert(0, os.path.join(os.path.dirname(os.path.abspath(__file__)), "../../examples"))
+import flat
+
+INK, SOFT, P, Q, GOOD, BAD = "#1d2733", "#8a94a0", "#2f6db3", "#c07a1e", "#3d8b40", "#d00000"
 
 
 class Figure:
@@ -272,8 +278,33 @@ def pinching(folder):
     f.save(folder, "pinching.svg")
 
 
+def underside(f, left, top, unit, name):
+    """The lowest face of a mesh, as it is seen from below: its triangles, those that are folded in red, and its points."""
+    points, triangles = flat.read(name)
+    normals = [flat.normal(*(points[v] for v in t)) for t in triangles]
+    folded = set(flat.folded(points, triangles, normals))
+    low = min(p[2] for p in points)
+    face = [k for k, t in enumerate(triangles) if all(points[v][2] == low for v in t)]
+    at = [(left + float(p[0]) * unit, top + float(p[1]) * unit) for p in points]
+    for is_over, colour, fill in ((False, INK, "#dbe8f6"), (True, BAD, "#ee9c9c")):
+        for k in (k for k in face if (k in folded) == is_over):
+            f.line([at[v] for v in triangles[k]], colour, 1.5, "", fill, True)
+    for v in sorted({v for k in face for v in triangles[k]}):
+        f.dot(at[v], INK, 3)
+
+
+def printer(folder, before, after):
+    f = Figure(760, 350)
+    for left, name, words in ((50, before, "after subtract"), (430, after, "after remesh")):
+        f.text((left + 140, 24), words, size=15, bold=True)
+        underside(f, left, 40, 7, name)
+    f.text((380, 342), "The underside of the plate, seen from below. In red: two triangles that lie over half of the hole, turned over.", SOFT, 13)
+    f.save(folder, "printer.svg")
+
+
 if __name__ == "__main__":
-    if len(sys.argv) != 2:
+    if len(sys.argv) != 4:
         sys.exit(__doc__)
     for figure in (winding, shadow_of_edge, shadow_of_face, tie, pairing, filling, pinching):
         figure(sys.argv[1])
+    printer(*sys.argv[1:])

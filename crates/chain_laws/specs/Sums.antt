@@ -2,7 +2,7 @@
 use Rattle.std.specs.Prelude.{◌≡◌, ℕ, zero, suc, ◌+◌, ◌<◌, ◌≤◌, ◌*◌, ℤ, pos, negsuc, nat_abs, neg_ℤ, ◌+ℤ◌, ◌-ℤ◌, ◌≤ℤ◌, List, [], ◌∷◌, ◌++◌, length, take, get_or, map, Option, Some, None}
 use Rattle.std.specs.List.{flat_map, filter_map, cons_option, sum_by, All}
 use Rattle.std.specs.List.Sorted.{IsPermutation}
-use Rattle.std.proofs.Common.{arith, refl, add-one}
+use Rattle.std.proofs.Common.{arith, refl, add-one, ap, ◌∙◌}
 use Rattle.std.proofs.lemmas.Int.{ints}
 use Rattle.std.proofs.lemmas.List.Sums.{sum_by-cons}
 use Rattle.std.proofs.lemmas.List.Elements.{All-head, All-tail}
@@ -24,6 +24,11 @@ total-map f h (x ∷ xs) = omega (arith, ints, total-map f h xs)
 pub total-flat_map : {X Y : Type 0} (f : Y → ℤ) (h : X → List Y) → (xs : List X) → total f (flat_map h xs) ≡ total (λ x. total f (h x)) xs
 total-flat_map f h [] = omega (arith, ints)
 total-flat_map f h (x ∷ xs) = omega (arith, ints, total-append f (h x) (flat_map h xs), total-flat_map f h xs)
+
+-- lists that are the same one by one, one after the other
+pub flat_map-same : {X Y : Type 0} (g h : X → List Y) → ((x : X) → g x ≡ h x) → (xs : List X) → flat_map g xs ≡ flat_map h xs
+flat_map-same g h same [] = refl
+flat_map-same g h same (x ∷ xs) = ap (λ l. l ++ flat_map g xs) (same x) ∙ ap (λ l. h x ++ l) (flat_map-same g h same xs)
 
 -- f of what is there, else 0
 abbrev pub value_or_zero : {Y : Type 0} → (Y → ℤ) → Option Y → ℤ

@@ -42,7 +42,8 @@ impl Model for Flat {
 /// vertices, whatever the points. Loops may cross themselves and each other.
 ///
 /// `Over` comes where the result would have more vertices than the limit on points, or than any outline may have, with their
-/// number, and nowhere else. `NoMemory` may come for any outlines.
+/// number, and nowhere else. Besides `outline_numbers` it takes time in proportion to the edges and the vertices of the result,
+/// and the sorts of those along each edge and of the segments' starts. `NoMemory` may come for any outlines.
 pub fn combine_outlines<K: Flats, R: Rounding>(
     alloc: Global,
     op: Op,

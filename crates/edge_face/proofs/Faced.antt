@@ -1,5 +1,5 @@
 -- A vertex and a face, by the side of the edge and by that of the face.
-use Rattle.std.proofs.Common.{◌≡◌, refl, ap, ◌∙◌}
+use Rattle.std.proofs.Common.{◌≡◌, ap}
 use Rattle.mb_base.specs.declared.point.Corner.{Corner}
 use Rattle.shadow_kernels.specs.declared.Edge.{Edge}
 use Rattle.shadow_kernels.specs.declared.Edge.TheVariants.{OfP, OfQ}

@@ -6,6 +6,7 @@ use Rattle.std.proofs.lemmas.Grind.{flat_map-append}
 use Rattle.std.proofs.lemmas.List.Folds.{flat_map-map}
 use Rattle.chain_terms.specs.Chains.{all_edges}
 use Rattle.chain_terms.specs.Sums.{upto}
+use Rattle.chain_laws.specs.Sums.{flat_map-same}
 use Rattle.mb_base.specs.declared.results.Entry.{Entry}
 use Rattle.halfedge.proofs.Edges.{length-all_edges}
 use Rattle.assembly_terms.specs.Lists.{ListName, ends, no_copy, standing, starts}
@@ -112,11 +113,6 @@ pair_same k j =
     ap (λ s. across s (ends_of (pair_list k j))) (from_told k name (pair_list k j) tell)
     ∙ ap (across (starts_in k name)) (to_told k name (pair_list k j) tell)
     ∙ sym ((k.face.pairs j).paired (place_of k.of.copies) (starts_in k name) (ends_in k name))
-
--- lists that are the same one by one
-flat_map-same : {X Y : Type 0} (g h : X → List Y) → ((x : X) → g x ≡ h x) → (xs : List X) → flat_map g xs ≡ flat_map h xs
-flat_map-same g h same [] = refl
-flat_map-same g h same (x ∷ xs) = ap (λ l. l ++ flat_map g xs) (same x) ∙ ap (λ l. h x ++ l) (flat_map-same g h same xs)
 
 -- of all pairs
 pairs_same : (k : KnownFace) → pairs_segments (points_of k) (after 3 k.stands) ≡ flat_map (segments k) (map (λ j. k.name (3 + j)) (upto k.others))

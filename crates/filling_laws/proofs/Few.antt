@@ -17,7 +17,7 @@ use Rattle.ring_cutting.specs.Cuts.{Cut}
 use Rattle.segment_terms.specs.Segments.{all_segments, place_of, segments_of, source_count}
 use Rattle.segment_laws.proofs.Assembled.{starts_somewhere}
 use Rattle.segment_laws.proofs.FaceLists.{all_upto}
-use Rattle.segment_laws.proofs.Members.{in_all}
+use Rattle.standings.proofs.Members.{in_all}
 use Rattle.filling_terms.specs.Assembling.{CanBeAssembled}
 use Rattle.filling_terms.specs.Filled.{all_filled, all_triples, face_segments, filled_face, forced_of}
 use Rattle.filling_laws.proofs.Counted.{all_counted}

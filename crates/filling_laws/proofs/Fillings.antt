@@ -26,15 +26,15 @@ use Rattle.filling_laws.proofs.Loops.{cycles_counted, form_loops}
 
 -- loops and their filling: it has their edges' sums, three different vertices below n in each triangle, and at most five
 -- triangles for three of their vertices
-record Fills (loops : List (List ℕ)) (n : ℕ) (c : Cut) : Type 0 where
-  chain : SameChain (all_edges c.triples) (flat_map round_edges loops)
-  three : All HasThree c.triples
-  below : All (IsBelow n) c.triples
-  few : 3 * length c.triples ≤ 5 * length (concat loops)
-  forced : c.forced ≤ length c.triples
+pub record Fills (loops : List (List ℕ)) (n : ℕ) (c : Cut) : Type 0 where
+  pub chain : SameChain (all_edges c.triples) (flat_map round_edges loops)
+  pub three : All HasThree c.triples
+  pub below : All (IsBelow n) c.triples
+  pub few : 3 * length c.triples ≤ 5 * length (concat loops)
+  pub forced : c.forced ≤ length c.triples
 
 -- the filling of loops that can be filled fills them
-fills : (drop_axis : ℕ) (points : List (List ℤ)) (loops : List (List ℕ)) → AreFillable loops (length points) → Fills loops (length points) (fill_of drop_axis points loops)
+pub fills : (drop_axis : ℕ) (points : List (List ℤ)) (loops : List (List ℕ)) → AreFillable loops (length points) → Fills loops (length points) (fill_of drop_axis points loops)
 fills drop_axis points loops can =
     let at = settled_in drop_axis points loops in
     let rings = join_holes at loops in
@@ -50,7 +50,7 @@ fills drop_axis points loops can =
     }
 
 -- the edges round the cycles of a balanced list have the sums of its edges
-cycles_chain : (es : List (ℕ × ℕ)) → Balanced es → SameChain (flat_map round_edges (cycles es)) es
+pub cycles_chain : (es : List (ℕ × ℕ)) → Balanced es → SameChain (flat_map round_edges (cycles es)) es
 cycles_chain es balanced f odd = total-permutation (along f) es (flat_map round_edges (cycles es)) (cycles_edges (length es) es (omega arith) balanced)
 
 -- the filling of a face fills it

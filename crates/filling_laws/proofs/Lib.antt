@@ -1,6 +1,6 @@
 mod Counted
 mod Few
-mod Fillings
-mod Loops
+pub mod Fillings
+pub mod Loops
 mod Parts
 mod Together

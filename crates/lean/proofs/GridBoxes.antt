@@ -8,8 +8,6 @@ use Rattle.std.proofs.lemmas.Bool.{cases_lt}
 use Rattle.std.proofs.lemmas.List.{get_or-map, get_or_past, length-map}
 use Rattle.std.proofs.lemmas.List.Elements.{All-head, All-tail}
 use Rattle.mb_base.specs.declared.TheConstants.{UNIT}
-use Rattle.mb_base.specs.declared.point.Box3.{Box3}
-use Rattle.mb_base.specs.declared.point.Corner.{Corner}
 use Rattle.mb_base.specs.Boxes.{box_of}
 use Rattle.mesh_terms.specs.Meshes.{IsBelow, Triple, triple_of, triples_of}
 use Rattle.mesh_terms.specs.Points.{coordinate_of}
@@ -17,11 +15,10 @@ use Rattle.side_terms.specs.Corners.{AllFine, IsFineCorner}
 use Rattle.side_terms.specs.Fine.{IsFine}
 use Rattle.side_terms.specs.Sides.{corner_of, corners_of, face_of}
 use Rattle.box_tree.specs.declared.bounds.Range.{Range}
-use Rattle.box_tree.specs.declared.bounds.Bounds.{Bounds}
 use Rattle.box_tree.specs.Coarse.{IsExact, IsWhole, bounds_around, fine, step_above, step_below}
 use Rattle.box_tree.specs.Touching.{IsBox, box_at, no_box}
 use Rattle.box_tree.proofs.Steps.{above_whole, below_whole}
-use Rattle.lean.specs.Grid.{IsGridStep, boxes_on, face_bounds, face_box, range_on}
+use Rattle.lean.specs.Grid.{IsGridStep, boxes_on, face_bounds, face_box}
 use Rattle.lean.specs.Vectors.{AllSmall, AreSmall}
 use Rattle.lean.proofs.Corners.{corner_fine, corners_at}
 

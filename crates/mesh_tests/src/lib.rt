@@ -1,4 +1,4 @@
-//! Tests of twins, of accepted meshes and their reduction, of sides, pinches and made solids, by the public calls.
+//! Tests of twins, of accepted meshes and their reduction, of sides, pinches, made solids and remeshed results, by the public calls.
 #![tactic(auto)]
 
 #[cfg(test)]
@@ -9,6 +9,8 @@ mod lines;
 mod orders;
 #[cfg(test)]
 mod pinches;
+#[cfg(test)]
+mod remeshing;
 #[cfg(test)]
 mod sides;
 #[cfg(test)]

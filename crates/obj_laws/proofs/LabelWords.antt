@@ -1,6 +1,6 @@
 -- The words of a label: as they are read they make it again, and a label that is cut is one.
 use Rattle.std.proofs.Common.{◌≡◌, ◌≢◌, ℕ, zero, suc, ◌+◌, ◌-◌, ◌<◌, ◌≤◌, if◌then◌else◌, Bool, true, false, List, []}
-use Rattle.std.proofs.Common.{◌∷◌, ◌++◌, length, map, take, get_or, refl, sym, ap, ◌∙◌, subst, arith, append-nil}
+use Rattle.std.proofs.Common.{◌∷◌, ◌++◌, length, map, take, get_or, refl, ap, ◌∙◌, arith}
 use Rattle.std.proofs.Common.{length-append, length-take}
 use Rattle.std.specs.Prelude.{◌==◌, nat_le}
 use Rattle.std.specs.List.{All}
@@ -8,7 +8,7 @@ use Rattle.std.proofs.Math.Seq.{take-append-add}
 use Rattle.std.proofs.lemmas.Bool.Decides.{nat_tests}
 use Rattle.std.proofs.lemmas.List.{length-map, take_all, take-append-le}
 use Rattle.std.proofs.lemmas.List.Elements.{All-nil, All-cons, All-head, All-tail, All-map, All-take, All-weaker}
-use Rattle.text_terms.specs.Lines.{is_comment, last_is}
+use Rattle.text_terms.specs.Lines.{last_is}
 use Rattle.mesh_terms.specs.Labels.{IsLabelByte, IsLabelWord, IsLabel, with_blanks}
 use Rattle.obj_terms.specs.Labels.{is_bad_byte, label_byte, without_blank, label_of}
 use Rattle.obj_laws.specs.ReadWords.{IsReadWord}

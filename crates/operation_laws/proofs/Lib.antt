@@ -1,6 +1,4 @@
 pub mod FaceLabels
-pub mod FanLists
-pub mod FanNumbers
 pub mod GridNumbers
 pub mod HitPoints
 pub mod Made
@@ -9,4 +7,3 @@ mod OutlinePoints
 mod OutlinesGiven
 pub mod ReducedSides
 pub mod Results
-pub mod SplitMesh

@@ -20,35 +20,13 @@ use Rattle.assembly_terms.specs.PointLaws.{corners_points}
 use Rattle.assembly_terms.specs.Points.{points_of}
 use Rattle.mesh_boolean.specs.Operation.{reduced_mesh}
 use Rattle.made_laws.specs.Laws.{IsGiven}
-use Rattle.operation_laws.proofs.FaceLabels.{kept_labels}
+use Rattle.remesh_laws.proofs.Making.{reduced_given}
 
 -- a side at points of the grid, without opposite triples
 pub record IsKnown (side : Side) : Type 0 where
   pub kept : IsSide side
   pub apart : NoOpposite side.triples
   pub on_grid : All IsPoint (points_of side.corners)
-
--- what holds of all points holds of those that are used
-used_all : (P : List ℤ → Type 0) (ts : List Triple) (v : ℕ) (points : List (List ℤ)) → All P points → All P (used_from ts v points)
-used_all P ts v [] all = All-nil P
-used_all P ts v (p ∷ ps) all =
-    let rest = used_all P ts (suc v) ps (All-tail P p ps all) in
-    cond_both (is_used ts v) (p ∷ []) [] (λ l. All P (l ++ used_from ts (suc v) ps)) (λ _. All-cons P p (used_from ts (suc v) ps) (All-head P p ps all) rest) (λ _. rest)
-
--- as many triples under new numbers
-length-renumbered : (ts : List Triple) → length (renumbered ts) ≡ length ts
-length-renumbered ts = length-map {B = Triple} ts (λ t. (new_number ts t.0, new_number ts t.1, new_number ts t.2))
-
--- the reduced mesh is such a mesh
-pub reduced_given : (m : Mesh) → IsGiven m → IsGiven (reduced_mesh m)
-reduced_given m given = record {
-  accepted = record {
-    mesh = kept_mesh (kept_triples m.triples) m.points (kept_sound (length m.points) m.triples given.accepted.mesh);
-    closed = reduced_closed m.points m.triples m.labels given.accepted.mesh given.accepted.closed;
-  };
-  on_grid = used_all IsPoint (kept_triples m.triples) 0 m.points given.on_grid;
-  labels = subst (λ n. AreLabels n (reduced_mesh m).labels) (sym (length-renumbered (kept_triples m.triples))) (kept_labels m.triples m.labels given.labels);
-}
 
 -- a coordinate on the grid is fine in fine steps
 fine_steps : (z f : ℤ) → f ≡ UNIT *ℤ z → IsOnGrid z → IsFine f

@@ -30,7 +30,11 @@ use Rattle.operation_laws.proofs.OutlinesGiven.{outline_made, outline_result, so
 use Rattle.mesh_boolean.specs.Operation.{Outcome, face_labels, first_side, numbers_of, operation, reduced_mesh, second_side}
 use Rattle.operation_laws.specs.Kernels.{meanings_under, rule_under, tests_under, told_of}
 use Rattle.operation_laws.specs.Laws.{OperationsAreAccepted, OperationsAreReadable}
-use Rattle.operation_laws.specs.Results.{GivesMeshes, OperationsAreResults, ScriptsGiveResults}
+use Rattle.operation_laws.specs.Results.{GivesMeshes, OperationsAreResults, ScriptsGiveResults, ScriptsRemesh}
+use Rattle.remesh_laws.specs.Laws.{IsRemeshed, PatchesAreKept, RemeshingRemeshes, WeldingKeeps}
+use Rattle.remesh_laws.specs.Patches.{PatchesArePatches}
+use Rattle.remesh_terms.specs.Remesh.{remeshed}
+use Rattle.remesh_terms.specs.Welded.{welded_mesh}
 use Rattle.operation_laws.proofs.OfSides.{result_of_sides}
 use Rattle.operation_laws.proofs.GridNumbers.{are_numbers}
 use Rattle.operation_laws.proofs.Made.{AreFilled, IsMade, is_made}
@@ -114,10 +118,21 @@ meshes_readable laws k limits few lawful kernels op p q p_readable q_readable wi
     (within_of_readable k limits q lawful q_readable).given
     (ltb-false limits.halfedges (operation (tests_under kernels) op p q).halfedges within)
 
--- and so are its outlines, and its solids of these
-pub results_readable : AreFilled → OperationsAreReadable
-results_readable laws k limits few lawful kernels = record {
+-- a remeshed mesh is within the limits of the mesh: it has no more triangles, and at most three points for two of them
+remeshed_within : (limits : Limits) (m : Mesh) → IsLawful limits → IsRemeshed m (remeshed m) → IsGivenWithin limits m → IsGivenWithin limits (remeshed m).mesh
+remeshed_within limits m lawful is within = record {
+  given = is.given;
+  few_points = omega (arith, is.few, is.few_points, within.few_triples, lawful.points_enough);
+  few_triples = omega (arith, is.few, within.few_triples);
+}
+
+-- so is what it makes by remeshing; and so are its outlines, and its solids of these
+pub results_readable : AreFilled → RemeshingRemeshes → OperationsAreReadable
+results_readable laws remeshes k limits few lawful kernels = record {
   meshes = meshes_readable laws k limits few lawful kernels;
+  remeshings = λ m readable.
+      let within = within_of_readable k limits m lawful readable in
+      readable_within k limits (remeshed m).mesh few lawful (remeshed_within limits m lawful (remeshes m within.given) within);
   outlines = λ op p q p_given q_given within.
       let o = (meanings_under kernels).outlines op p q in
       outline_made kernels (lawful_under kernels) op p q p_given q_given (omega (arith, ltb-false (min limits.points most_vertices) (vertex_count o) within));
@@ -136,24 +151,38 @@ operations_are_results laws filled kernels op p q p_given q_given few =
     record { conserved = known.conserved; prescribed = refl; from = made.from; faces = made.faces; clean = made.clean; labels = refl }
 
 -- so is what a script has of an operation on the meshes of two names
-scripts_give_meshes : AreFilled → FacesAreFilled → (k : ℕ) (limits : Limits) → k ≤ 6 → IsLawful limits → (script : Bytes) → GivesMeshes k limits script
-scripts_give_meshes laws filled k limits few lawful script files lines state places is op left right within =
+scripts_give_meshes : AreFilled → FacesAreFilled → RemeshingRemeshes → (k : ℕ) (limits : Limits) → k ≤ 6 → IsLawful limits → (script : Bytes) → GivesMeshes k limits script
+scripts_give_meshes laws filled remeshes k limits few lawful script files lines state places is op left right within =
     let kernels = state.kernels in
     let p = mesh_at state.named left in
     let q = mesh_at state.named right in
-    let all = (steps_keep meanings_under k limits few lawful (results_readable laws k limits few lawful) script lines places).value files state is in
+    let all = (steps_keep meanings_under k limits few lawful (results_readable laws remeshes k limits few lawful) script lines places).value files state is in
     operations_are_results laws filled kernels op p q (within_of_readable k limits p lawful (all.meshes left)).given (within_of_readable k limits q lawful (all.meshes right)).given
     (few_halfedges limits (operation (tests_under kernels) op p q).halfedges lawful within)
 
 -- and of one on the outlines of two names, and of a solid of the outline of one
-pub scripts_give_results : AreFilled → FacesAreFilled → ScriptsGiveResults
-scripts_give_results laws filled k limits few lawful script = record {
-  meshes = scripts_give_meshes laws filled k limits few lawful script;
+pub scripts_give_results : AreFilled → FacesAreFilled → RemeshingRemeshes → ScriptsGiveResults
+scripts_give_results laws filled remeshes k limits few lawful script = record {
+  meshes = scripts_give_meshes laws filled remeshes k limits few lawful script;
   outlines = λ files lines state places is op left right few_vertices.
-      let all = (steps_keep meanings_under k limits few lawful (results_readable laws k limits few lawful) script lines places).value files state is in
+      let all = (steps_keep meanings_under k limits few lawful (results_readable laws remeshes k limits few lawful) script lines places).value files state is in
       outline_result state.kernels (lawful_under state.kernels) op (outline_at state.named left) (outline_at state.named right) (all.outlines left) (all.outlines right)
       (omega (arith, few_vertices));
   solids = λ files lines state places is old low high low_on high_on none.
-      let all = (steps_keep meanings_under k limits few lawful (results_readable laws k limits few lawful) script lines places).value files state is in
+      let all = (steps_keep meanings_under k limits few lawful (results_readable laws remeshes k limits few lawful) script lines places).value files state is in
       solid_result limits lawful (outline_at state.named old) low high (all.outlines old) low_on high_on none;
 }
+
+-- and remeshing keeps all of the mesh of a name
+pub scripts_remesh : AreFilled → WeldingKeeps → PatchesArePatches → PatchesAreKept → RemeshingRemeshes → ScriptsRemesh
+scripts_remesh laws welds patches kept remeshes k limits few lawful script files lines state places is name =
+    let m = mesh_at state.named name in
+    let all = (steps_keep meanings_under k limits few lawful (results_readable laws remeshes k limits few lawful) script lines places).value files state is in
+    let given = (within_of_readable k limits m lawful (all.meshes name)).given in
+    let w = welds m given in
+    record {
+      welded = w;
+      told = patches (welded_mesh m) w.given.accepted.mesh.three w.given.accepted.closed;
+      filled = kept (welded_mesh m) w.given;
+      remeshed = remeshes m given;
+    }

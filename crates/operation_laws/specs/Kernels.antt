@@ -1,4 +1,4 @@
--- Operations under the kernels that a script may choose.
+-- Operations under the kernels that a script may choose, and remeshing.
 use Rattle.edge_face.specs.Crossings.{Settle, edge_face_crossing, face_edge_crossing}
 use Rattle.exact_kernels.specs.Exact.{exact}
 use Rattle.mb_base.specs.declared.kernel_kind.KernelKind.{KernelKind}
@@ -10,7 +10,10 @@ use Rattle.extrusion.specs.Extruded.{extruded, filling_of}
 use Rattle.outline_pair_terms.specs.Numbers.{FlatNumbers, FlatTests, flat_numbers, p_flat, q_flat}
 use Rattle.outline_terms.specs.Outlines.{Outline}
 use Rattle.mb_base.specs.declared.op.Op.{Op}
+use Rattle.mesh_terms.specs.Meshes.{Mesh}
+use Rattle.remesh_terms.specs.Remesh.{remeshed}
 use Rattle.play_terms.specs.Combined.{Combined, Combined2}
+use Rattle.play_terms.specs.Combined as told
 use Rattle.play_terms.specs.Plays.{Meanings}
 use Rattle.shadow_kernels.specs.Rules.{Rule, grid}
 use Rattle.shadow_kernels.specs.Shadows.{edge_edge, edge_vertex, face_vertex, vertex_edge, vertex_face}
@@ -43,6 +46,10 @@ told_of o =
       halfedges = o.halfedges;
     }
 
+-- what remeshing gives of a mesh, as a script tells it
+abbrev pub told_remeshed : Mesh → told.Remeshed
+told_remeshed m = let r = remeshed m in record { mesh = r.mesh; patches = r.patches; kept = r.kept }
+
 -- the tests of outlines under a rule, with a rounding
 abbrev pub flat_tests_of : Rule → Between → FlatTests
 flat_tests_of k w = record { vertex_edge = vertex_edge k w; edge_vertex = edge_vertex k w; edge_edge = edge_edge k w }
@@ -60,6 +67,7 @@ abbrev pub meanings_under : KernelKind → Meanings
 meanings_under kernels =
     record {
       operation = λ op p q. told_of (operation (tests_under kernels) op p q);
+      remeshing = told_remeshed;
       outlines = λ op p q. told2_of (outcome_of op p q (flat_numbers_under kernels op p q));
       extrusion = λ o low high. record { mesh = extruded o low high; forced = (filling_of o).forced };
     }

@@ -15,6 +15,6 @@ OperationsAreAccepted =
     (limits : Limits) → IsLawful limits → (kernels : KernelKind) (op : Op) (p q : Mesh) → IsGiven p → IsGiven q
     → (operation (tests_under kernels) op p q).halfedges ≤ limits.halfedges → IsGivenWithin limits (told_of (operation (tests_under kernels) op p q)).mesh
 
--- and what a script makes of meshes that are read of their texts is read of its text
+-- and what a script makes by operations and remeshing of meshes that are read of their texts is read of its text
 abbrev pub OperationsAreReadable : Type 0
 OperationsAreReadable = (k : ℕ) (limits : Limits) → k ≤ 6 → IsLawful limits → (kernels : KernelKind) → ResultsReadable (meanings_under kernels) k limits

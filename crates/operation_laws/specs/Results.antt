@@ -1,4 +1,5 @@
--- What an operation gives of two meshes, or of two outlines, under the kernels that a script may choose, and an extrusion of an outline: a result of them.
+-- What an operation gives of two meshes, or of two outlines, under the kernels that a script may choose, and an extrusion of an outline: a result of them; and what
+-- remeshing keeps of the meshes of a script.
 use Rattle.std.specs.Prelude.{◌≡◌, ◌≤◌, ℕ, ℤ, pos, ◌-ℤ◌, ◌*ℤ◌, min, length, List, None, Ok, map}
 use Rattle.mb_base.specs.declared.kernel_kind.KernelKind.{KernelKind}
 use Rattle.mb_base.specs.declared.op.Op.{Op}
@@ -21,6 +22,7 @@ use Rattle.play_terms.specs.Steps.{Line}
 use Rattle.mesh_boolean.specs.Operation.{Outcome, face_labels, first_side, operation, second_side}
 use Rattle.mesh_boolean.specs.Results.{AreBounded, ConserveIn, IsCleanOver, copies_in}
 use Rattle.operation_laws.specs.Kernels.{flat_numbers_under, meanings_under, tests_under}
+use Rattle.remesh_laws.specs.Laws.{KeepsAll}
 
 -- a result of an operation on two meshes: winding numbers change along the half-edges of both, reduced, by their signed crossings; its copies
 -- are the prescribed vertices, each as often; each of its vertices comes from one of these and lies there, and each of these stays; the
@@ -84,3 +86,12 @@ pub record GivesResults (k : ℕ) (limits : Limits) (script : Bytes) : Type 0 wh
 
 abbrev pub ScriptsGiveResults : Type 0
 ScriptsGiveResults = (k : ℕ) (limits : Limits) → k ≤ 6 → IsLawful limits → (script : Bytes) → GivesResults k limits script
+
+-- and remeshing keeps all of the mesh of a name
+abbrev pub GivesRemeshed : ℕ → Limits → Bytes → Type 0
+GivesRemeshed k limits script =
+    (files : Files) (lines : List Line) (state : State) → HavePlaces lines → (steps_task meanings_under k limits script lines at_first files).result ≡ Ok state
+    → (name : Bytes) → KeepsAll (mesh_at state.named name)
+
+abbrev pub ScriptsRemesh : Type 0
+ScriptsRemesh = (k : ℕ) (limits : Limits) → k ≤ 6 → IsLawful limits → (script : Bytes) → GivesRemeshed k limits script

@@ -1,9 +1,10 @@
 //! The laws, each as the contract of a function that does nothing.
 
 ghost use Rattle.operation_laws.specs.Laws.{OperationsAreAccepted, OperationsAreReadable};
-ghost use Rattle.operation_laws.specs.Results.{OperationsAreResults, ScriptsGiveResults};
+ghost use Rattle.operation_laws.specs.Results.{OperationsAreResults, ScriptsGiveResults, ScriptsRemesh};
 
 use filling_laws::laws::{faces_are_filled, fillings_close};
+use remesh_laws::laws::{patches_are_kept, patches_are_patches, remeshing_remeshes, welding_keeps};
 
 /// Under the kernels of the grid and under exact ones an operation on two accepted meshes makes an accepted mesh, within lawful
 /// limits where its half-edges are, and what a script makes so is read of its text.
@@ -11,20 +12,26 @@ pub fn operations_are_readable()
     ensures accepted { OperationsAreAccepted }
     ensures readable { OperationsAreReadable }
 {
-    // The laws of fillings.
+    // The laws of fillings, and of remeshing.
     fillings_close();
+    remeshing_remeshes();
 }
 
 /// Under the kernels of the grid and under exact ones what an operation gives of two accepted meshes is a result of them, where its half-edges are at most
 /// `most_halfedges`, which no lawful limit passes: along each half-edge of both, reduced, the winding number in the other changes by its signed
 /// crossings; the vertices, before pinched ones are split, are the prescribed ones, each as often; the triangles of each source face are bounded
 /// by its segments and have its label; and the mesh is closed, its half-edges are paired, and each vertex has one fan. The meshes of the names of a script are such
-/// meshes, whatever lines of it were done.
+/// meshes, whatever lines of it were done; and remeshing keeps of the mesh of a name what `remesh` says.
 pub fn operations_are_results()
     ensures results { OperationsAreResults }
     ensures scripts { ScriptsGiveResults }
+    ensures remeshed { ScriptsRemesh }
 {
-    // The laws of fillings.
+    // The laws of fillings, and of remeshing.
     faces_are_filled();
     fillings_close();
+    welding_keeps();
+    patches_are_patches();
+    patches_are_kept();
+    remeshing_remeshes();
 }

@@ -2,10 +2,12 @@
 use Rattle.std.proofs.Common.{◌≡◌, ◌<◌, ◌≤◌, ◌+◌, ◌==◌, ℕ, ℤ, pos, neg_ℤ, ◌+ℤ◌, List, [], ◌∷◌, length, get_or, map, set, refl, sym, ap, ◌∙◌, subst, inl, inr, arith}
 use Rattle.std.specs.Prelude.{◌-ℤ◌, ◌*◌, nat_abs}
 use Rattle.std.specs.List.{All}
+use Rattle.std.specs.List.Sorted.{IsPermutation}
 use Rattle.std.proofs.lemmas.Bool.{cases_Bool, cases_lt, eqb-true, eqb-false}
 use Rattle.std.proofs.lemmas.Int.{ints}
 use Rattle.std.proofs.lemmas.List.{get_or-map, get_or-set_other, get_or-set_same, get_or_default, length-map, same_lists}
-use Rattle.std.proofs.lemmas.List.Elements.{All-map}
+use Rattle.std.proofs.lemmas.List.Elements.{All-map, Contains-get_or}
+use Rattle.std.proofs.lemmas.List.Sorted.{Contains-permutation}
 use Rattle.chain_terms.specs.Ranks.{start}
 use Rattle.chain_terms.specs.Sums.{total}
 use Rattle.chain_laws.specs.Sums.{size_within, total-neg, total_within}
@@ -46,6 +48,14 @@ module _ (number : ℕ → ℤ) (es : List (ℕ × ℕ)) where
   pub known_before : (k : ℕ) (numbers : List ℤ) (v : ℕ) (d : ℤ) → AreKnown k numbers → v < length numbers → IsStartBefore es k v → get_or numbers v d ≡ number v
   known_before k numbers v d known low is =
       get_or_default numbers v d (pos 0) low ∙ subst (λ u. get_or numbers u (pos 0) ≡ number u) (sym is.2) (known is.0 is.1)
+
+-- where all starts of a list have their numbers, so have those of one with the same edges
+pub known_moved : (number : ℕ → ℤ) (es fs : List (ℕ × ℕ)) → IsPermutation es fs → (numbers : List ℤ) → AreKnown number fs (length fs) numbers → AreKnown number es (length es) numbers
+known_moved number es fs moved numbers known j low =
+    let e = get_or es j (0, 0) in
+    let found = Contains-permutation es fs e moved (Contains-get_or es j (0, 0) low) in
+    let here : start fs found.0 ≡ start es j = ap (λ (d : ℕ × ℕ). d.0) (sym (get_or_default fs found.0 e (0, 0) found.1) ∙ found.2) in
+    subst (λ v. get_or numbers v (pos 0) ≡ number v) here (known found.0 found.1)
 
 -- where each corner starts an edge, all have their numbers in the end
 pub all_known : (number : Corner → ℤ) (side : FlatSide) → IsWhole side → (numbers : List ℤ) → length numbers ≡ length side.corners →

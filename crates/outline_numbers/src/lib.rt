@@ -3,12 +3,14 @@
 //! After J. M. Smith's thesis "Towards robust inexact geometric computation" and the Manifold library, one dimension lower.
 //!
 //! Pairs are found by a tree over the boxes of edges. One sum over all edges tells the first vertex's winding number; from
-//! vertex to vertex, in the order of the loops, it changes by the crossings of the way between, whether that is an edge or not.
+//! vertex to vertex, along a loop and then on to one nearby, it changes by the crossings of the way between, whether that is an
+//! edge or not.
 #![tactic(auto)]
 
 mod both;
 mod hits;
 mod marks;
+mod order;
 mod side;
 mod sums;
 mod tests;

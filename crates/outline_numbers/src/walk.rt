@@ -1,18 +1,21 @@
 // The winding numbers of all vertices of a side.
 ghost use Rattle.std.specs.Prelude.{◌≡◌, ◌≤◌, ◌<◌, ℕ, nat_abs, IfOk, length, map};
 ghost use Rattle.std.specs.List.{All};
+ghost use Rattle.std.specs.List.Sorted.{IsPermutation};
 ghost use Rattle.outline_terms.specs.Outlines.{IsBetween};
 ghost use Rattle.outline_numbers.specs.Walks.{ChangesAlong, IsStartBefore, IsWhole, winding_of};
 
+use crate::order::nearby;
 use crate::side::FlatSide;
 use crate::sums::{change_along, winding_sum};
 use crate::tests::EdgeTests;
 use mb_base::{Corner, NoMemory};
 use std::alloc::Global;
 
-/// The winding numbers of the vertices of one side in the other: one sum for the vertex at which the first edge starts. From
-/// there it goes to where the second edge starts, and so on; along each way the number changes by the way's crossings. Where
-/// another loop begins, the way to it leads from the nearest vertex of the loop before.
+/// The winding numbers of the vertices of one side in the other: one sum for one vertex. From there it goes along that vertex's
+/// loop, and on to a loop nearby, and so on; along each way the number changes by the way's crossings. The way to another loop
+/// leads from the nearest vertex of the loop before. The time is that of a sort of the edges, of the sum, and for each way that
+/// of the edges whose boxes touch its own.
 pub fn winding_numbers<T: EdgeTests>(
     alloc: Global,
     vertices: &FlatSide,
@@ -24,11 +27,29 @@ pub fn winding_numbers<T: EdgeTests>(
     ensures value { IfOk result (λ w. w.items ≡ map (winding_of (T.part_of tests.now) edges.now) vertices.now.corners) }
     ensures size { IfOk result (λ w. All (λ n. nat_abs n ≤ length edges.now.edges) w.items) }
 {
+    let list = nearby(alloc, vertices.corners(), vertices.edges())?;
+    walk(alloc, &list, vertices, edges, tests)
+}
+
+// The same by a walk over all edges in such an order.
+fn walk<T: EdgeTests>(
+    alloc: Global,
+    list: &[(u32, u32)],
+    vertices: &FlatSide,
+    edges: &FlatSide,
+    tests: &T,
+) -> Result<Vec<i64>, NoMemory>
+    requires moved { IsPermutation vertices.now.edges list.now }
+    requires below { All (IsBetween (length vertices.now.corners)) list.now }
+    requires whole { IsWhole vertices.now }
+    requires changes { ChangesAlong (T.part_of tests.now) (T.change_of tests.now) vertices.now edges.now }
+    ensures value { IfOk result (λ w. w.items ≡ map (winding_of (T.part_of tests.now) edges.now) vertices.now.corners) }
+    ensures size { IfOk result (λ w. All (λ n. nat_abs n ≤ length edges.now.edges) w.items) }
+{
     let corners = vertices.corners();
     // Read so that what the other side keeps is known here.
     let _ = edges.corners();
     let mut numbers = vec![in alloc; 0; corners.len()]?;
-    let list = vertices.edges();
     if list.is_empty() {
         return Ok(numbers);
     }

@@ -1,14 +1,13 @@
 -- Whether a simplex is above another, by exact signs: exchanges of corners keep it.
-use Rattle.std.specs.Prelude.{◌≡◌, ℤ, pos, neg_ℤ, ◌+ℤ◌, ◌-ℤ◌, ◌*ℤ◌, ◌≤ℤ◌, ◌<ℤ◌, Bool, true, false, not, ◌&&◌, ◌||◌, int_lt, if◌then◌else◌}
+use Rattle.std.specs.Prelude.{◌≡◌, ℤ, pos, neg_ℤ, ◌+ℤ◌, ◌-ℤ◌, ◌*ℤ◌, Bool, true, false, ◌&&◌, ◌||◌, int_lt, if◌then◌else◌}
 use Rattle.std.specs.Ordering.{int_eq}
-use Rattle.std.proofs.Common.{arith, refl, sym, ap, subst, ◌∙◌}
-use Rattle.std.proofs.lemmas.Int.{ints, by_lt_z}
+use Rattle.std.proofs.Common.{arith, refl, sym, ap, ◌∙◌}
+use Rattle.std.proofs.lemmas.Int.{ints}
 use Rattle.std.proofs.Math.IntN.{*ℤ_comm}
-use Rattle.chain_laws.specs.Products.{spread, mul-sub, mul-neg, neg-mul}
-use Rattle.plane_laws.specs.Signs.{Signed, Weak, like}
-use Rattle.plane_laws.specs.Areas.{Place, area}
-use Rattle.plane_laws.specs.Moved.{nonneg_mul, times_one}
-use Rattle.plane_laws.specs.Decisions.{Vector, way, cross_product, scalar, same_sign, leading, is_above, edges_normal, edges_above, face_normal, vertex_above, face_above}
+use Rattle.chain_laws.specs.Products.{spread}
+use Rattle.plane_laws.specs.Signs.{Signed, like}
+use Rattle.plane_laws.specs.Areas.{area}
+use Rattle.plane_laws.specs.Decisions.{Vector, way, scalar, same_sign, leading, is_above, edges_normal, edges_above, face_normal, vertex_above, face_above}
 use Rattle.plane_laws.specs.Heights.{flat, edges_height, face_height}
 
 -- the other way round

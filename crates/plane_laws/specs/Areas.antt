@@ -31,7 +31,7 @@ pub exchanged : (a b c : ℤ) → a *ℤ (b *ℤ c) ≡ b *ℤ (a *ℤ c)
 exchanged a b c = rw (← mul-assoc a b c, *ℤ_comm a b, mul-assoc b a c) refl
 
 -- a determinant of three columns with two equal rows is 0
-no_volume : (s t v : Place) → s.x *ℤ minor t v +ℤ t.x *ℤ minor v s +ℤ v.x *ℤ minor s t ≡ pos 0
+pub no_volume : (s t v : Place) → s.x *ℤ minor t v +ℤ t.x *ℤ minor v s +ℤ v.x *ℤ minor s t ≡ pos 0
 no_volume s t v = omega (arith, ints, times_minor s.x t v, times_minor t.x v s, times_minor v.x s t, exchanged s.x t.x v.y, exchanged t.x v.x s.y, exchanged v.x s.x t.y)
 
 -- a number times an area

@@ -18,16 +18,16 @@ use Rattle.play_terms.specs.Formats.{mesh_text}
 use Rattle.play_terms.specs.ReadingBack.{IsReadable, WritesReadable}
 use Rattle.play_laws.proofs.ReadingBack.{mesh_asked, read_again}
 use Rattle.play_terms.specs.Combined.{Combined, Combined2, Extruded}
-use Rattle.play_terms.specs.ScriptLines.{load_line, save_line, measure_line, combine_line, tidy_line, combine2_line, extrude_line}
+use Rattle.play_terms.specs.ScriptLines.{load_line, save_line, measure_line, combine_line, tidy_line, remesh_line, combine2_line, extrude_line}
 use Rattle.made_terms.specs.Making.{solid_fault, solid_mesh}
 use Rattle.made_terms.specs.Motions.{motion_fault, moved_mesh}
 use Rattle.made_terms.specs.declared.motion.Motion.{Motion}
 use Rattle.made_terms.specs.declared.solid.Solid.{Solid}
 use Rattle.play_terms.specs.Plays.{Held, Meanings, Named, OfMesh, OfOutline, with_held, with_name, with_outline, mesh_at, mesh_held, mesh_or_none, outline_at, outline_held, outline_or_none, within, made}
 use Rattle.play_terms.specs.Plays.{load_task, save_task, measure_task, combine_task, polygon_task, combine2_task, extrude_task, extruded, extrusion_fault, vertex_count, within2}
-use Rattle.play_terms.specs.Plays.{State, at_first, line_task, make_task, move_task, script_checked, script_task, state_after, step_task, steps_task, tidy_task}
+use Rattle.play_terms.specs.Plays.{State, at_first, line_task, make_task, move_task, script_checked, script_task, remesh_task, state_after, step_task, steps_task, tidy_task}
 use Rattle.play_terms.specs.Scripts.{script}
-use Rattle.play_terms.specs.Steps.{Line, Step, Load, Save, Measure, Combine, Make, Move, Tidy, Polygon, Combine2, Extrude, Exact}
+use Rattle.play_terms.specs.Steps.{Line, Step, Load, Save, Measure, Combine, Make, Move, Tidy, Remesh, Polygon, Combine2, Extrude, Exact}
 use Rattle.play_terms.specs.Sound.{HasPlaces, HavePlaces, IsRing}
 use Rattle.play_terms.proofs.Soundness.{script_sound, sound_places}
 use Rattle.mesh_terms.specs.Points.{IsOnGrid}
@@ -181,6 +181,12 @@ module _ (means : KernelKind → Meanings) (k : ℕ) (limits : Limits) (few : k 
       told_and_named (tidy_line name old (tidied m.points m.triples m.labels).collapses) name (tidy_mesh m) named all
       (readable_within k limits (tidy_mesh m) few lawful (tidied_given limits m (within_of_readable k limits m lawful such)))
 
+  remesh_keeps : (kernels : KernelKind) (name old : Bytes) (m : Mesh) (named : Named) → Names named → MeshReadable k limits m
+      → Keeps Writes Names (remesh_task (means kernels) name old m named)
+  remesh_keeps kernels name old m named all such =
+      let r = (means kernels).remeshing m in
+      told_and_named (remesh_line name old r.patches r.kept) name r.mesh named all ((results kernels).remeshings m such)
+
   polygon_keeps : (name : Bytes) (ring : List (List ℤ)) (named : Named) → IsRing ring → Names named → Keeps Writes Names (polygon_task name ring named)
   polygon_keeps name ring named such all = keeps_value Writes Names (with_outline name (ring_of ring) named) (outlined_more name (ring_of ring) named all (ring_given ring such))
 
@@ -217,6 +223,7 @@ module _ (means : KernelKind → Meanings) (k : ℕ) (limits : Limits) (few : k 
   step_keeps kernels script line (Make name solid) named places all = make_keeps script line name solid named all
   step_keeps kernels script line (Move name old motion) named places all = move_keeps script line name old motion named all
   step_keeps kernels script line (Tidy name old) named places all = tidy_keeps name old (mesh_at named old) named all (all.meshes old)
+  step_keeps kernels script line (Remesh name old) named places all = remesh_keeps kernels name old (mesh_at named old) named all (all.meshes old)
   step_keeps kernels script line (Polygon name ring) named places all = polygon_keeps name ring named places all
   step_keeps kernels script line (Combine2 op name left right) named places all = combine2_keeps kernels op name left right named all
   step_keeps kernels script line (Extrude name old low high) named places all = extrude_keeps kernels script line name old low high named places all

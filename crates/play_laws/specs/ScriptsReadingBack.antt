@@ -1,4 +1,4 @@
--- What is needed of operations, so that what a script writes can be read; and how the meshes of its names are read, saved and tidied.
+-- What is needed of operations and of remeshing, so that what a script writes can be read; and how the meshes of its names are read, saved and tidied.
 use Rattle.std.specs.Prelude.{◌≡◌, ℕ, ℤ, min, nat_lt, false, List, [], ◌∷◌, None, Ok}
 use Rattle.std.specs.List.{All}
 use Rattle.mb_base.specs.declared.op.Op.{Op}
@@ -42,10 +42,11 @@ MeshesReadable means k limits =
     (op : Op) (p q : Mesh) → MeshReadable k limits p → MeshReadable k limits q → nat_lt limits.halfedges (means.operation op p q).halfedges ≡ false
     → MeshReadable k limits (means.operation op p q).mesh
 
--- so it is of meshes; a result of two such outlines within the limits is one; and a solid of one between two heights, where it is not refused, is read where it is
--- written
+-- so it is of meshes; the remeshed mesh of one that is read where it is written is too; a result of two such outlines within the limits is one; and a solid of
+-- one between two heights, where it is not refused, is read where it is written
 pub record ResultsReadable (means : Meanings) (k : ℕ) (limits : Limits) : Type 0 where
   pub meshes : MeshesReadable means k limits
+  pub remeshings : (m : Mesh) → MeshReadable k limits m → MeshReadable k limits (means.remeshing m).mesh
   pub outlines : (op : Op) (p q : Outline) → IsGivenOutline p → IsGivenOutline q → nat_lt (min limits.points most_vertices) (vertex_count (means.outlines op p q)) ≡ false
       → IsGivenOutline (means.outlines op p q).outline
   pub solids : (o : Outline) (low high : ℤ) → IsGivenOutline o → IsOnGrid low → IsOnGrid high → extrusion_fault limits low high (means.extrusion o low high).mesh ≡ None

@@ -1,5 +1,5 @@
 -- The plays of small scripts, computed.
-use Rattle.std.specs.Prelude.{◌≡◌, ℕ, pos, List, [], ◌∷◌, ◌++◌, ◌&&◌, if◌then◌else◌, length, map, replicate, codes, bytes_eq, None, Ok, Err}
+use Rattle.std.specs.Prelude.{◌≡◌, ℕ, pos, List, [], ◌∷◌, ◌++◌, ◌&&◌, if◌then◌else◌, length, map, replicate, codes, bytes_eq, None, Ok}
 use Rattle.std.proofs.Common.{refl}
 use Rattle.std.specs.Fmt.{digits}
 use Rattle.std.specs.Char.{encode_utf8}
@@ -68,6 +68,7 @@ tabled p q =
 abbrev table : KernelKind → Meanings
 table kernels = record {
   operation = λ op p q. tabled p q;
+  remeshing = λ m. record { mesh = m; patches = 0; kept = 0 };
   outlines = λ op p q. record { outline = p; p_kept = 0; q_kept = 0; crossings = 0 };
   extrusion = λ o low high. record { mesh = record { points = []; triples = []; labels = [] }; forced = 0 };
 }
@@ -164,10 +165,11 @@ abbrev told_kept : KernelKind → ℕ → ℕ
 told_kept Grid n = n
 told_kept Exact n = 0
 
--- an operation that gives its first mesh
+-- an operation that gives its first mesh, and remeshing that gives the mesh, and tells its points as patches and its triangles as kept ones
 abbrev first : KernelKind → Meanings
 first kernels = record {
   operation = λ op p q. record { mesh = p; p_kept = told_kept kernels (length p.points); q_kept = 0; crossings = 0; forced = 0; halfedges = 36 };
+  remeshing = λ m. record { mesh = m; patches = length m.points; kept = length m.triples };
   outlines = λ op p q. record { outline = p; p_kept = told_kept kernels (length p.points); q_kept = 1; crossings = 2 };
   extrusion
       = λ o low high. record { mesh = record { points = extruded_points low high o.points; triples = []; labels = [] }; forced = 3 };
@@ -221,6 +223,10 @@ tidies : script_task first 0 program (codes "s.txt") (put (codes "t.obj") split_
     }
 unfolding digits chars is_utf8 encode_utf8
 tidies = refl
+
+remeshes : alone program (codes "tetra t 0 0 0 6\nremesh u t\n") ≡ says (codes "u = remesh t: patches 4, kept 4" ∷ [])
+unfolding digits chars is_utf8 encode_utf8 number_of number_fault
+remeshes = refl
 
 -- where the coordinates go is seen in what is saved
 saves_moved_points : (alone program (codes "tetra t 1 2 3 6\nmirror m t y\nturn a m x\nturn b a y\nsave b b.obj\n")).actions

@@ -1,5 +1,5 @@
 -- The plays of small command lines over one file, computed.
-use Rattle.std.specs.Prelude.{◌≡◌, ℕ, pos, get_or, List, [], ◌∷◌, ◌++◌, if◌then◌else◌, codes, bytes_eq, Some, None, Ok, Err}
+use Rattle.std.specs.Prelude.{◌≡◌, ℕ, pos, get_or, List, [], ◌∷◌, ◌++◌, if◌then◌else◌, codes, bytes_eq, Some, None, Ok}
 use Rattle.std.proofs.Common.{refl}
 use Rattle.std.specs.Char.{encode_utf8}
 use Rattle.std.specs.Fmt.{digits}
@@ -46,6 +46,7 @@ told = record {
   points = record { winding = λ p m. get_or p 0 (pos 0) };
   scripts = λ kernels. record {
     operation = λ op p q. record { mesh = record { points = []; triples = []; labels = [] }; p_kept = 0; q_kept = 0; crossings = 0; forced = 0; halfedges = 0 };
+    remeshing = λ m. record { mesh = m; patches = 0; kept = 0 };
     outlines = λ op p q. record { outline = p; p_kept = 0; q_kept = 0; crossings = 0 };
     extrusion = λ o low high. record { mesh = record { points = []; triples = []; labels = [] }; forced = 0 };
   };

@@ -11,7 +11,7 @@ use Rattle.made_terms.specs.declared.motion.Motion.TheVariants.{Shift, Scale, Mi
 use Rattle.made_terms.specs.declared.solid.Solid.TheVariants.{Box, Tetra, Prism, Lattice}
 use Rattle.play_terms.specs.Operands.{number_of, number_fault}
 use Rattle.play_terms.specs.Scripts.{script}
-use Rattle.play_terms.specs.Steps.{Line, Load, Save, Measure, Combine, Make, Move, Tidy, Exact}
+use Rattle.play_terms.specs.Steps.{Line, Load, Save, Measure, Combine, Make, Move, Tidy, Remesh, Exact}
 
 -- each of the scripts is refused on line n with this kind
 abbrev AreBad : ℕ → ℕ → List Bytes → Type 0
@@ -67,12 +67,13 @@ record AreMade : Type 0 where
   mirror : Gives (after_one ((2, Move (codes "m") (codes "t") (Mirror 0)) ∷ (3, Move (codes "n") (codes "m") (Mirror 1)) ∷ [])) (one (codes "mirror m t x\nmirror n m y"))
   turn : Gives (after_one ((2, Move (codes "m") (codes "t") (Turn 2)) ∷ [])) (one (codes "turn m t z"))
   tidy : Gives (after_one ((2, Tidy (codes "u") (codes "t")) ∷ (3, Tidy (codes "t") (codes "u")) ∷ [])) (one (codes "tidy u t\ntidy t u"))
+  remesh : Gives (after_one ((2, Remesh (codes "u") (codes "t")) ∷ (3, Remesh (codes "u") (codes "u")) ∷ [])) (one (codes "remesh u t\nremesh u u"))
   digits : script 4 (codes "tetra t 1 .00005 -107374.1824 6e-4")
       ≡ Ok ((1, Make (codes "t") (Tetra (point (pos 10000) (pos 1) (neg_ℤ (pos 1073741824))) (pos 6))) ∷ [])
 
 are_made : AreMade
 unfolding chars is_utf8 encode_utf8 number_of number_fault
-are_made = record { measure = refl; box = refl; tetra = refl; exact = refl; prism = refl; lattice = refl; least = refl; shift = refl; scale = refl; mirror = refl; turn = refl; tidy = refl; digits = refl }
+are_made = record { measure = refl; box = refl; tetra = refl; exact = refl; prism = refl; lattice = refl; least = refl; shift = refl; scale = refl; mirror = refl; turn = refl; tidy = refl; remesh = refl; digits = refl }
 
 -- operands that have no value, and what is asked before them: numbers, whole numbers, a factor, an axis
 record HaveNoValue : Type 0 where
@@ -81,9 +82,9 @@ record HaveNoValue : Type 0 where
   whole : AreBad 1 24 (codes "lattice l 0 0" ∷ codes "lattice l 61 0" ∷ codes "lattice l +1 0" ∷ codes "lattice l 1. 0" ∷ codes "lattice l 00000001 0" ∷ codes "lattice l 1 1000000" ∷ [])
   factors : AreBad 2 24 (one (codes "scale s t 0") ∷ one (codes "scale s t 1000001") ∷ [])
   axes : AreBad 2 24 (one (codes "mirror m t X") ∷ one (codes "turn m t w") ∷ one (codes "turn m t xy") ∷ [])
-  counts : AreBad 1 21 (codes "box a 0 0 0 1 1" ∷ codes "tetra t 0 0 0 6 6" ∷ codes "measure" ∷ codes "exact a" ∷ codes "tidy a" ∷ codes "tidy a b c" ∷ [])
+  counts : AreBad 1 21 (codes "box a 0 0 0 1 1" ∷ codes "tetra t 0 0 0 6 6" ∷ codes "measure" ∷ codes "exact a" ∷ codes "tidy a" ∷ codes "tidy a b c" ∷ codes "remesh a" ∷ [])
   name_first : AreBad 1 22 (codes "lattice 1 0 0" ∷ [])
-  old_first : AreBad 1 23 (codes "scale s t 0" ∷ codes "tidy t t" ∷ [])
+  old_first : AreBad 1 23 (codes "scale s t 0" ∷ codes "tidy t t" ∷ codes "remesh t t" ∷ [])
   old_name_first : AreBad 2 22 (one (codes "mirror m 1 w") ∷ [])
   measured : AreBad 2 23 (one (codes "measure T") ∷ [])
 

@@ -1,4 +1,4 @@
--- What an operation on two meshes, one on two outlines, and an extrusion give, as far as a script tells it.
+-- What an operation on two meshes, one on two outlines, and an extrusion give, and what remeshing does, as far as a script tells it.
 use Rattle.std.specs.Prelude.{ℕ}
 use Rattle.mesh_terms.specs.Meshes.{Mesh}
 use Rattle.outline_terms.specs.Outlines.{Outline}
@@ -12,6 +12,12 @@ pub record Combined : Type 0 where
   pub crossings : ℕ
   pub forced : ℕ
   pub halfedges : ℕ
+
+-- the mesh, how many patches there were, and how many of them stayed as they were
+pub record Remeshed : Type 0 where
+  pub mesh : Mesh
+  pub patches : ℕ
+  pub kept : ℕ
 
 -- the outline, how many vertices of each operand were kept, and how many crossings
 pub record Combined2 : Type 0 where

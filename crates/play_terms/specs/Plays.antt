@@ -13,20 +13,21 @@ use Rattle.mb_base.specs.declared.kernel_kind.KernelKind.TheVariants.{Grid}
 use Rattle.mb_base.specs.declared.op.Op.{Op}
 use Rattle.play_terms.specs.declared.held.HeldKind.{HeldKind}
 use Rattle.play_terms.specs.declared.held.HeldKind.TheVariants as held
-use Rattle.play_terms.specs.Combined.{Combined, Combined2, Extruded}
-use Rattle.play_terms.specs.ScriptLines.{load_line, save_line, measure_line, combine_line, tidy_line, combine2_line, extrude_line}
+use Rattle.play_terms.specs.Combined.{Combined, Remeshed, Combined2, Extruded}
+use Rattle.play_terms.specs.ScriptLines.{load_line, save_line, measure_line, combine_line, tidy_line, remesh_line, combine2_line, extrude_line}
 use Rattle.made_terms.specs.Making.{solid_fault, solid_mesh}
 use Rattle.made_terms.specs.Motions.{motion_fault, moved_mesh}
 use Rattle.made_terms.specs.declared.motion.Motion.{Motion}
 use Rattle.made_terms.specs.declared.solid.Solid.{Solid}
 use Rattle.play_terms.specs.Scripts.{script}
-use Rattle.play_terms.specs.Steps.{Line, Step, Load, Save, Measure, Combine, Make, Move, Tidy, Polygon, Combine2, Extrude, Exact, kernels_after}
+use Rattle.play_terms.specs.Steps.{Line, Step, Load, Save, Measure, Combine, Make, Move, Tidy, Remesh, Polygon, Combine2, Extrude, Exact, kernels_after}
 use Rattle.tidy_terms.specs.Tidy.{tidied, tidy_mesh}
 
--- what the steps need of geometry: what an operation gives of two meshes, what one gives of two outlines, and what an outline between two heights is. Solids,
--- motions, tidying and measures are definitions
+-- what the steps need of geometry: what an operation gives of two meshes, what remeshing gives of one, what an operation gives of two outlines, and what an
+-- outline between two heights is. Solids, motions, tidying and measures are definitions
 pub record Meanings : Type 0 where
   pub operation : Op → Mesh → Mesh → Combined
+  pub remeshing : Mesh → Remeshed
   pub outlines : Op → Outline → Outline → Combined2
   pub extrusion : Outline → ℤ → ℤ → Extruded
 
@@ -146,6 +147,12 @@ tidy_task name old m named =
     then_task (say_line (tidy_line name old (tidied m.points m.triples m.labels).collapses)) (λ _.
     give (Ok (with_name name (tidy_mesh m) named)))
 
+-- a name gets what remeshing gives of the mesh of a name, and that is told
+abbrev pub remesh_task : Meanings → Bytes → Bytes → Mesh → Named → Task Named
+remesh_task means name old m named =
+    then_task (say_line (remesh_line name old (means.remeshing m).patches (means.remeshing m).kept)) (λ _.
+    give (Ok (with_name name (means.remeshing m).mesh named)))
+
 -- a name gets the outline of one loop through these places, and nothing is told
 abbrev pub polygon_task : Bytes → List (List ℤ) → Named → Task Named
 polygon_task name ring named = give (Ok (with_outline name (ring_of ring) named))
@@ -191,6 +198,7 @@ step_task means k limits script line (Combine op name left right) named = combin
 step_task means k limits script line (Make name solid) named = make_task limits script line name solid named
 step_task means k limits script line (Move name old motion) named = move_task script line name old motion named
 step_task means k limits script line (Tidy name old) named = tidy_task name old (mesh_at named old) named
+step_task means k limits script line (Remesh name old) named = remesh_task means name old (mesh_at named old) named
 step_task means k limits script line (Polygon name ring) named = polygon_task name ring named
 step_task means k limits script line (Combine2 op name left right) named = combine2_task means limits op name left right named
 step_task means k limits script line (Extrude name old low high) named = extrude_task means limits script line name old low high named

@@ -11,7 +11,7 @@ use Rattle.made_terms.specs.declared.motion.Motion.TheVariants.{Shift, Scale, Mi
 use Rattle.made_terms.specs.declared.solid.Solid.{Solid}
 use Rattle.made_terms.specs.declared.solid.Solid.TheVariants.{Box, Tetra, Prism, Lattice}
 use Rattle.play_terms.specs.Operands.{Operand, NewName, OldMesh, OldOutline, FileName, Number, Within, Axis, axis, number_of}
-use Rattle.play_terms.specs.Steps.{Step, Load, Save, Measure, Combine, Make, Move, Tidy, Polygon, Combine2, Extrude, Exact}
+use Rattle.play_terms.specs.Steps.{Step, Load, Save, Measure, Combine, Make, Move, Tidy, Remesh, Polygon, Combine2, Extrude, Exact}
 
 -- a command: its word, what words stand after it where they are so many, and the step of such words under so many digits
 pub record Command : Type 0 where
@@ -58,6 +58,9 @@ combine op = record { word = op_word op; operands = λ n. NewName ∷ OldMesh �
 
 abbrev pub tidy : Command
 tidy = record { word = codes "tidy"; operands = λ n. NewName ∷ OldMesh ∷ []; step = λ k ws. Tidy (at ws 0) (at ws 1) }
+
+abbrev pub remesh : Command
+remesh = record { word = codes "remesh"; operands = λ n. NewName ∷ OldMesh ∷ []; step = λ k ws. Remesh (at ws 0) (at ws 1) }
 
 -- so many words are a name and from 3 to 64 pairs of numbers
 abbrev pub are_pairs : ℕ → Bool
@@ -148,7 +151,7 @@ outlines = polygon ∷ combine2 Union ∷ combine2 Intersect ∷ combine2 Subtra
 
 abbrev pub commands : List Command
 commands =
-    load ∷ save ∷ measure ∷ combine Union ∷ combine Intersect ∷ combine Subtract ∷ tidy ∷ exact ∷
+    load ∷ save ∷ measure ∷ combine Union ∷ combine Intersect ∷ combine Subtract ∷ tidy ∷ remesh ∷ exact ∷
     (solids ++ (motions ++ outlines))
 
 -- the first of some commands whose word is this

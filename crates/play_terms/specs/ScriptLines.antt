@@ -56,6 +56,14 @@ collapsed_text collapses = codes ": collapsed " ++ decimal collapses
 abbrev pub tidy_line : Bytes → Bytes → ℕ → Bytes
 tidy_line name old collapses = line_of (name ++ codes " = tidy " ++ old ++ collapsed_text collapses)
 
+-- : patches P, kept K
+abbrev pub remeshed_text : ℕ → ℕ → Bytes
+remeshed_text patches kept = codes ": patches " ++ decimal patches ++ codes ", kept " ++ decimal kept
+
+-- NAME = remesh OLD: patches P, kept K
+abbrev pub remesh_line : Bytes → Bytes → ℕ → ℕ → Bytes
+remesh_line name old patches kept = line_of (name ++ codes " = remesh " ++ old ++ remeshed_text patches kept)
+
 -- : kept N M, crossings X
 abbrev pub combined2_text : Combined2 → Bytes
 combined2_text o = codes ": kept " ++ decimal o.p_kept ++ codes " " ++ decimal o.q_kept ++ codes ", crossings " ++ decimal o.crossings

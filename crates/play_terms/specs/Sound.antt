@@ -6,7 +6,7 @@ use Rattle.play_terms.specs.Formats.{is_mesh_name}
 use Rattle.made_terms.specs.Making.{IsSolid}
 use Rattle.made_terms.specs.Motions.{IsMotion}
 use Rattle.play_terms.specs.Operands.{is_name}
-use Rattle.play_terms.specs.Steps.{Line, Step, Load, Save, Measure, Combine, Make, Move, Tidy, Polygon, Combine2, Extrude, Exact, files_in, is_given, names_in, taken}
+use Rattle.play_terms.specs.Steps.{Line, Step, Load, Save, Measure, Combine, Make, Move, Tidy, Remesh, Polygon, Combine2, Extrude, Exact, files_in, is_given, names_in, taken}
 
 -- from 3 to 64 places in the plane, on the grid
 pub record IsRing (ring : List (List ℤ)) : Type 0 where
@@ -23,6 +23,7 @@ HasPlaces (Combine op name left right) = Unit {0}
 HasPlaces (Make name solid) = Unit {0}
 HasPlaces (Move name old motion) = Unit {0}
 HasPlaces (Tidy name old) = Unit {0}
+HasPlaces (Remesh name old) = Unit {0}
 HasPlaces (Polygon name ring) = IsRing ring
 HasPlaces (Combine2 op name left right) = Unit {0}
 HasPlaces (Extrude name old low high) = IsOnGrid low × IsOnGrid high
@@ -41,6 +42,7 @@ HasNumbers (Combine op name left right) = Unit {0}
 HasNumbers (Make name solid) = IsSolid solid
 HasNumbers (Move name old motion) = IsMotion motion
 HasNumbers (Tidy name old) = Unit {0}
+HasNumbers (Remesh name old) = Unit {0}
 HasNumbers (Polygon name ring) = IsRing ring
 HasNumbers (Combine2 op name left right) = Unit {0}
 HasNumbers (Extrude name old low high) = IsOnGrid low × IsOnGrid high

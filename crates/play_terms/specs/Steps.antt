@@ -9,8 +9,8 @@ use Rattle.made_terms.specs.declared.solid.Solid.{Solid}
 use Rattle.play_terms.specs.declared.held.HeldKind.{HeldKind}
 use Rattle.play_terms.specs.declared.held.HeldKind.TheVariants as held
 
--- a mesh of a file gets a name, the mesh of a name is written to a file or measured, a name gets the result of an operation, a solid, or the moved or
--- tidied mesh of a name; a name gets an outline of one loop, what an operation makes of two outlines, or the solid between an outline at two heights; or
+-- a mesh of a file gets a name, the mesh of a name is written to a file or measured, a name gets the result of an operation, a solid, or the moved, tidied or
+-- remeshed mesh of a name; a name gets an outline of one loop, what an operation makes of two outlines, or the solid between an outline at two heights; or
 -- the operations after it are taken under exact kernels
 pub data Step : Type 0 where
   Load : (name file : Bytes) → Step
@@ -20,6 +20,7 @@ pub data Step : Type 0 where
   Make : (name : Bytes) → (solid : Solid) → Step
   Move : (name old : Bytes) → (motion : Motion) → Step
   Tidy : (name old : Bytes) → Step
+  Remesh : (name old : Bytes) → Step
   Polygon : (name : Bytes) → (ring : List (List ℤ)) → Step
   Combine2 : (op : Op) → (name left right : Bytes) → Step
   Extrude : (name old : Bytes) → (low high : ℤ) → Step
@@ -38,6 +39,7 @@ new_name (Combine op name left right) = Some name
 new_name (Make name solid) = Some name
 new_name (Move name old motion) = Some name
 new_name (Tidy name old) = Some name
+new_name (Remesh name old) = Some name
 new_name (Polygon name ring) = Some name
 new_name (Combine2 op name left right) = Some name
 new_name (Extrude name old low high) = Some name
@@ -52,6 +54,7 @@ draws (Combine op name left right) = false
 draws (Make name solid) = false
 draws (Move name old motion) = false
 draws (Tidy name old) = false
+draws (Remesh name old) = false
 draws (Polygon name ring) = true
 draws (Combine2 op name left right) = false
 draws (Extrude name old low high) = false
@@ -70,6 +73,7 @@ new_kind (Combine op name left right) = held.Mesh
 new_kind (Make name solid) = held.Mesh
 new_kind (Move name old motion) = held.Mesh
 new_kind (Tidy name old) = held.Mesh
+new_kind (Remesh name old) = held.Mesh
 new_kind (Polygon name ring) = held.Outline
 new_kind (Combine2 op name left right) = held.Outline
 new_kind (Extrude name old low high) = held.Mesh
@@ -120,6 +124,7 @@ taken (Combine op name left right) = mesh_of left ∷ mesh_of right ∷ []
 taken (Make name solid) = []
 taken (Move name old motion) = mesh_of old ∷ []
 taken (Tidy name old) = mesh_of old ∷ []
+taken (Remesh name old) = mesh_of old ∷ []
 taken (Polygon name ring) = []
 taken (Combine2 op name left right) = outline_of left ∷ outline_of right ∷ []
 taken (Extrude name old low high) = outline_of old ∷ []
@@ -134,6 +139,7 @@ names_in (Combine op name left right) = name ∷ left ∷ right ∷ []
 names_in (Make name solid) = name ∷ []
 names_in (Move name old motion) = name ∷ old ∷ []
 names_in (Tidy name old) = name ∷ old ∷ []
+names_in (Remesh name old) = name ∷ old ∷ []
 names_in (Polygon name ring) = name ∷ []
 names_in (Combine2 op name left right) = name ∷ left ∷ right ∷ []
 names_in (Extrude name old low high) = name ∷ old ∷ []
@@ -148,6 +154,7 @@ files_in (Combine op name left right) = []
 files_in (Make name solid) = []
 files_in (Move name old motion) = []
 files_in (Tidy name old) = []
+files_in (Remesh name old) = []
 files_in (Polygon name ring) = []
 files_in (Combine2 op name left right) = []
 files_in (Extrude name old low high) = []
@@ -163,6 +170,7 @@ kernels_after (Combine op name left right) kernels = kernels
 kernels_after (Make name solid) kernels = kernels
 kernels_after (Move name old motion) kernels = kernels
 kernels_after (Tidy name old) kernels = kernels
+kernels_after (Remesh name old) kernels = kernels
 kernels_after (Polygon name ring) kernels = kernels
 kernels_after (Combine2 op name left right) kernels = kernels
 kernels_after (Extrude name old low high) kernels = kernels

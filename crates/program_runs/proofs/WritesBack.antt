@@ -11,12 +11,12 @@ use Rattle.play_terms.specs.Words.{Command, CopyFile, Given, InsideFile, RunScri
 use Rattle.play_terms.specs.Words.{digits_of, given, inside_at, inside_of, run_of, with_more}
 use Rattle.play_laws.proofs.ReadingBack.{copy_keeps, inside_keeps, mesh_given}
 use Rattle.operation_laws.specs.Laws.{OperationsAreReadable}
-use Rattle.operation_laws.specs.Results.{ScriptsGiveResults}
+use Rattle.operation_laws.specs.Results.{ScriptsGiveResults, ScriptsRemesh}
 use Rattle.play_terms.specs.Program.{command_task}
 use Rattle.play_laws.proofs.ScriptsReadingBack.{meshes_kept, script_keeps}
 use Rattle.mesh_commands.specs.Windings.{windings}
 use Rattle.program_runs.specs.Playing.{meanings}
-use Rattle.program_runs.specs.Results.{CommandGivesResults, CommandKeepsMeshes}
+use Rattle.program_runs.specs.Results.{CommandGivesResults, CommandKeepsMeshes, CommandRemeshes}
 
 -- ---- the digits of words are at most 6
 
@@ -109,6 +109,13 @@ gives_results limits None lawful few law = tt
 gives_results limits (Some (CopyFile k from to)) lawful few law = tt
 gives_results limits (Some (InsideFile k file point)) lawful few law = tt
 gives_results limits (Some (RunScript k script)) lawful few law = law k limits few lawful script
+
+-- and what remeshing keeps, by the law of that
+pub remeshes : (limits : Limits) (what : Option Command) → IsLawful limits → digits_in what ≤ 6 → ScriptsRemesh → CommandRemeshes limits what
+remeshes limits None lawful few law = tt
+remeshes limits (Some (CopyFile k from to)) lawful few law = tt
+remeshes limits (Some (InsideFile k file point)) lawful few law = tt
+remeshes limits (Some (RunScript k script)) lawful few law = law k limits few lawful script
 
 -- how the meshes of its names are read and saved, by the law of what operations give
 pub keeps_meshes : (limits : Limits) (what : Option Command) → IsLawful limits → digits_in what ≤ 6 → OperationsAreReadable → CommandKeepsMeshes limits what

@@ -14,15 +14,16 @@ use Rattle.mesh_commands.specs.Statuses.{IsDoneOrStarved, IsUsageOrStarved, stat
 use Rattle.mesh_commands.specs.declared.status.Status.{Status}
 use Rattle.mesh_commands.specs.declared.status.Status.TheVariants.{Done, Usage, WriteFault}
 use Rattle.program_runs.specs.Playing.{IsUntroubled, RiseOn, TellsEnd, meanings}
-use Rattle.program_runs.specs.Results.{CommandGivesResults, CommandKeepsMeshes}
+use Rattle.program_runs.specs.Results.{CommandGivesResults, CommandKeepsMeshes, CommandRemeshes}
 use Rattle.program_runs.specs.Running.{IsRunOf}
 
--- whatever the files, how what the play writes is read again, what the names of a script hold, and what its operations give
+-- whatever the files, how what the play writes is read again, what the names of a script hold, what its operations give, and what remeshing keeps
 pub record IsSoundPlay (limits : Limits) (words : List Bytes) : Type 0 where
   pub mesh_back : CopiesReadable limits (command words)
   pub back : (files : Files) → All (WritesReadable (digits_in (command words)) limits) (play meanings limits words files).actions
   pub held : CommandKeepsMeshes limits (command words)
   pub results : CommandGivesResults limits (command words)
+  pub remeshed : CommandRemeshes limits (command words)
 
 -- a run on these words over a shelf, an output and standard error, with its steps and its status
 pub record IsSoundRun {S O E : Type 0} (s : OfShelf S) (o : OfSink O) (e : OfSink E) (limits : Limits) (words : List Bytes) (old new : S × O × E) (before now : ℕ) (status : Status) : Type 0 where

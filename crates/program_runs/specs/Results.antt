@@ -1,7 +1,7 @@
--- What the operations of a command give, and what its names hold.
+-- What the operations of a command give, what remeshing keeps, and what its names hold.
 use Rattle.std.specs.Prelude.{Option, Some, None}
 use Rattle.mesh_terms.specs.Limits.{Limits}
-use Rattle.operation_laws.specs.Results.{GivesResults}
+use Rattle.operation_laws.specs.Results.{GivesRemeshed, GivesResults}
 use Rattle.play_terms.specs.Words.{Command, CopyFile, InsideFile, RunScript}
 use Rattle.play_laws.specs.ScriptsReadingBack.{KeepsMeshes}
 use Rattle.program_runs.specs.Playing.{meanings}
@@ -12,6 +12,13 @@ CommandGivesResults limits None = Unit {0}
 CommandGivesResults limits (Some (CopyFile k from to)) = Unit {0}
 CommandGivesResults limits (Some (InsideFile k file p)) = Unit {0}
 CommandGivesResults limits (Some (RunScript k script)) = GivesResults k limits script
+
+-- and remeshing keeps all of the mesh of a name
+abbrev pub CommandRemeshes : Limits → Option Command → Type 0
+CommandRemeshes limits None = Unit {0}
+CommandRemeshes limits (Some (CopyFile k from to)) = Unit {0}
+CommandRemeshes limits (Some (InsideFile k file p)) = Unit {0}
+CommandRemeshes limits (Some (RunScript k script)) = GivesRemeshed k limits script
 
 -- whatever lines of the script that it does, if it does one, the mesh of each name is read of its texts, its tidied mesh
 -- is a tidy one of it, and a line that saves it writes its text; and the outline of each name is one at points of the grid

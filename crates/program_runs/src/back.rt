@@ -5,7 +5,7 @@ ghost use Rattle.play_terms.specs.Words.{command};
 ghost use Rattle.play_terms.specs.Program.{play};
 ghost use Rattle.run_terms.specs.Files.{Files};
 ghost use Rattle.program_runs.specs.Playing.{meanings};
-ghost use Rattle.program_runs.specs.Results.{CommandGivesResults, CommandKeepsMeshes};
+ghost use Rattle.program_runs.specs.Results.{CommandGivesResults, CommandKeepsMeshes, CommandRemeshes};
 
 use mb_base::{ArgList, Limits};
 use operation_laws::laws::{operations_are_readable, operations_are_results};
@@ -23,10 +23,11 @@ pub fn plays_are_readable(limits: &Limits, words: &ArgList)
     operations_are_readable();
 }
 
-/// Whatever lines of the script that the words ask for were done, over whatever files, an operation on the meshes of two names is a result of these. The
-/// contract is this law, and the call does nothing.
+/// Whatever lines of the script that the words ask for were done, over whatever files, an operation on the meshes of two names is a result of these, and
+/// remeshing keeps of the mesh of a name what it says. The contract is this law, and the call does nothing.
 pub fn plays_give_results(limits: &Limits, words: &ArgList)
     ensures results { CommandGivesResults limits.now (command words.now) }
+    ensures remeshed { CommandRemeshes limits.now (command words.now) }
 {
     // The limits are lawful, and the law of operations in scripts.
     let _ = limits.file_bytes();

@@ -4,6 +4,7 @@ mod faults;
 mod files;
 mod hostile;
 mod made;
+mod remeshed;
 mod scripts;
 mod solids;
 mod tidied;

@@ -11,5 +11,5 @@ mod tail;
 pub use report::{say_copied, say_winding, tell_halt, tell_stop};
 pub use script_report::{
     OperationCounts, OutlineCounts, say_combined, say_combined2, say_extruded, say_loaded,
-    say_measured, say_saved, say_tidied,
+    say_measured, say_remeshed, say_saved, say_tidied,
 };

@@ -4,7 +4,7 @@ ghost use Rattle.mb_outside.specs.Seen.{MeetsOnOutput};
 ghost use Rattle.play_terms.specs.Commands.{say_line};
 ghost use Rattle.play_terms.specs.Combined.{Combined, Combined2};
 ghost use Rattle.play_terms.specs.ScriptCommands.{op_word, op2_word};
-ghost use Rattle.play_terms.specs.ScriptLines.{combine2_line, combine_line, extrude_line, load_line, measure_line, save_line, tidy_line};
+ghost use Rattle.play_terms.specs.ScriptLines.{combine2_line, combine_line, extrude_line, load_line, measure_line, remesh_line, save_line, tidy_line};
 ghost use Rattle.mesh_terms.specs.Meshes.{Mesh as TheMesh};
 ghost use Rattle.mesh_files.specs.Reasons.{soup_of};
 ghost use Rattle.report_lines.specs.Counts.{counts2_of, counts_of};
@@ -14,7 +14,8 @@ ghost use Rattle.report_lines.specs.Taken.{Takes};
 
 use crate::report::say;
 use crate::script_tail::{
-    combined_tail, combined2_tail, extruded_tail, measured_tail, saved_tail, size_tail, tidied_tail,
+    combined_tail, combined2_tail, extruded_tail, measured_tail, remeshed_tail, saved_tail,
+    size_tail, tidied_tail,
 };
 use crate::tail::copied_tail;
 use mb_base::Op;
@@ -95,6 +96,23 @@ pub fn say_tidied<K: Sink>(
     let tail = tidied_tail(collapsed);
     let (name, source) = (name.as_bytes(), source.as_bytes());
     say(&[name, b" = tidy ", source, tail.as_slice()], sink)
+}
+
+/// Reports a remeshed mesh: `NAME = remesh OLD: patches P, kept K`. After `Failed`, which comes only where the sink's count rose, it has a
+/// first part of the line.
+pub fn say_remeshed<K: Sink>(
+    name: &str,
+    source: &str,
+    patches: u64,
+    kept: u64,
+    sink: &mut K,
+) -> Result<(), Failed>
+    ensures meets { MeetsOnOutput K.Sink (say_line (remesh_line name.now source.now patches kept)) sink.old sink.new (said result) }
+    ensures takes { Takes K.Sink (remesh_line name.now source.now patches kept) sink.old sink.new result }
+{
+    let tail = remeshed_tail(patches, kept);
+    let (name, source) = (name.as_bytes(), source.as_bytes());
+    say(&[name, b" = remesh ", source, tail.as_slice()], sink)
 }
 
 /// Reports an extruded outline: `NAME = extrude OLD: forced F`. After `Failed`, which comes only where the sink's count rose, it has a

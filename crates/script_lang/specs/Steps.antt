@@ -11,7 +11,7 @@ use Rattle.script_lang.specs.declared.solids.SolidCommand.{SolidCommand}
 use Rattle.script_lang.specs.declared.solids.SolidCommand.TheVariants as solids
 use Rattle.script_lang.specs.declared.steps.Line.{Line}
 use Rattle.script_lang.specs.declared.steps.Step.{Step}
-use Rattle.script_lang.specs.declared.steps.Step.TheVariants.{Load, Save, Measure, Combine, MakeBox, MakeTetra, MakePrism, MakeLattice, Shift, Scale, Mirror, Turn, Tidy, Polygon, Combine2, Extrude, Exact}
+use Rattle.script_lang.specs.declared.steps.Step.TheVariants.{Load, Save, Measure, Combine, MakeBox, MakeTetra, MakePrism, MakeLattice, Shift, Scale, Mirror, Turn, Tidy, Remesh, Polygon, Combine2, Extrude, Exact}
 
 abbrev pub making : SolidCommand → named.Command
 making solids.Box = named.box
@@ -33,6 +33,7 @@ command_of (commands.Combine op) = named.combine op
 command_of (commands.Make solid) = making solid
 command_of (commands.Move motion) = moving motion
 command_of commands.Tidy = named.tidy
+command_of commands.Remesh = named.remesh
 command_of commands.Polygon = named.polygon
 command_of (commands.Combine2 op) = named.combine2 op
 command_of commands.Extrude = named.extrude
@@ -52,6 +53,7 @@ step_of (Scale name source factor) = terms.Move name source (moves.Scale factor)
 step_of (Mirror name source axis) = terms.Move name source (moves.Mirror axis)
 step_of (Turn name source axis) = terms.Move name source (moves.Turn axis)
 step_of (Tidy name source) = terms.Tidy name source
+step_of (Remesh name source) = terms.Remesh name source
 step_of (Polygon name ring) = terms.Polygon name ring
 step_of (Combine2 op name left right) = terms.Combine2 op name left right
 step_of (Extrude name source low high) = terms.Extrude name source low high

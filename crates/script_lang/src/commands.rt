@@ -18,6 +18,7 @@ pub enum Command {
     Make(SolidCommand),
     Move(MotionCommand),
     Tidy,
+    Remesh,
     Polygon,
     Combine2(Op),
     Extrude,
@@ -43,6 +44,8 @@ impl Command {
             Some(Command::Combine(Op::Subtract))
         } else if word == b"tidy".as_slice() {
             Some(Command::Tidy)
+        } else if word == b"remesh".as_slice() {
+            Some(Command::Remesh)
         } else if word == b"exact".as_slice() {
             Some(Command::Exact)
         } else {

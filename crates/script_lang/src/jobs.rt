@@ -36,6 +36,10 @@ pub enum Job<'a> {
         name: &'a str,
         source: &'a str,
     },
+    Remesh {
+        name: &'a str,
+        source: &'a str,
+    },
     Combine2 {
         op: Op,
         name: &'a str,

@@ -1,7 +1,7 @@
 // The lines of a script, read one after the other.
 ghost use Rattle.std.specs.Prelude.{ℕ, ◌≡◌, ◌≤◌, ◌++◌, ◌∷◌, [], map, None, Some, Ok, Err, IfOk, OnOk, IfErr};
 ghost use Rattle.play_terms.specs.Operands.{old_name_fault};
-ghost use Rattle.play_terms.specs.ScriptCommands.{combine, combine2, exact, extrude, load, measure, save, tidy};
+ghost use Rattle.play_terms.specs.ScriptCommands.{combine, combine2, exact, extrude, load, measure, remesh, save, tidy};
 ghost use Rattle.play_terms.specs.Scripts.{command_step, numbered_words, script_line, script_lines, step_by};
 ghost use Rattle.play_terms.specs.Sound.{AreSound};
 ghost use Rattle.play_terms.specs.Steps.{given_kind, gives};
@@ -147,6 +147,7 @@ impl<'a> Reading<'a> {
             Command::Make(solid) => solid_step(solid, operands, digits),
             Command::Move(motion) => self.motion_step(motion, operands, digits),
             Command::Tidy => self.tidy_step(operands),
+            Command::Remesh => self.remesh_step(operands),
             Command::Polygon => unreachable!(),
             Command::Combine2(op) => self.combine2_step(op, operands),
             Command::Extrude => self.extrude_step(operands, digits),
@@ -218,6 +219,20 @@ impl<'a> Reading<'a> {
     {
         match operands {
             &[name, source] => Ok(Step::Tidy {
+                name: Word::of(name_text(name)?),
+                source: Word::of(self.mesh_text(source)?),
+            }),
+            _ => Err(WRONG_COUNT),
+        }
+    }
+
+    // The step that remeshes one.
+    fn remesh_step(&self, operands: &[&'a [u8]]) -> Result<Step<'a>, u8>
+        ensures step { (k : ℕ) → IfOk result (λ step. command_step k self.now (map (λ w. w.now) operands.now) remesh ≡ Ok (step_of step)) }
+        ensures fault { (k : ℕ) → IfErr result (λ kind. command_step k self.now (map (λ w. w.now) operands.now) remesh ≡ Err kind) }
+    {
+        match operands {
+            &[name, source] => Ok(Step::Remesh {
                 name: Word::of(name_text(name)?),
                 source: Word::of(self.mesh_text(source)?),
             }),

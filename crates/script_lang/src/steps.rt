@@ -120,6 +120,11 @@ pub enum Step<'a> {
         name: Word<'a>,
         source: Word<'a>,
     },
+    /// Gives a name the remeshed mesh of another.
+    Remesh {
+        name: Word<'a>,
+        source: Word<'a>,
+    },
     /// Gives a name the outline of one loop through these places of the plane.
     Polygon {
         name: Word<'a>,
@@ -161,6 +166,7 @@ impl<'a> Step<'a> {
             | Step::Mirror { name, .. }
             | Step::Turn { name, .. }
             | Step::Tidy { name, .. }
+            | Step::Remesh { name, .. }
             | Step::Polygon { name, .. }
             | Step::Combine2 { name, .. }
             | Step::Extrude { name, .. } => Some(name.as_str()),
@@ -223,6 +229,10 @@ impl<'a> Step<'a> {
             Step::Mirror { name, source, axis } => moved(name, source, Motion::Mirror(*axis)),
             Step::Turn { name, source, axis } => moved(name, source, Motion::Turn(*axis)),
             Step::Tidy { name, source } => Job::Tidy {
+                name: name.as_str(),
+                source: source.as_str(),
+            },
+            Step::Remesh { name, source } => Job::Remesh {
                 name: name.as_str(),
                 source: source.as_str(),
             },

@@ -1,7 +1,8 @@
 -- What names hold after steps, as far as its kind goes.
-use Rattle.std.proofs.Common.{◌≡◌, ◌++◌, Bool, true, false, List, [], ◌∷◌, Option, Some, None, IsTrue, refl, ap, sym, subst, ◌∙◌}
-use Rattle.std.specs.Prelude.{if◌then◌else◌, bytes_eq}
+use Rattle.std.proofs.Common.{◌≡◌, ◌++◌, Bool, true, false, List, [], ◌∷◌, Option, Some, None, Result, IsTrue, refl, ap, sym, subst, ◌∙◌}
+use Rattle.std.specs.Prelude.{if◌then◌else◌, bytes_eq, OnOk}
 use Rattle.std.proofs.lemmas.List.Elements.{All-head, All-tail, All-weaker}
+use Rattle.std.proofs.lemmas.Result.{on_ok_weaker}
 use Rattle.std.specs.List.{All}
 use Rattle.run_terms.specs.Files.{Bytes}
 use Rattle.play_terms.specs.Plays.{Held, Named, OfMesh, OfOutline, kind_held, with_held}
@@ -35,11 +36,15 @@ held_keeps step name h old new is kind now w =
     by false = refl
 
 -- a mesh, or an outline
-pub named_keeps : (step : Step) (name : Bytes) (old new : Named) → new_name step ≡ Some name → new_kind step ≡ held.Mesh → IsNamed name old new → KeepsNames step old new
-named_keeps step name old new is kind (m, now) = held_keeps step name (OfMesh m) old new is (ap Some kind) now
+pub mesh_keeps : {X Y : Type 0} (r : Result X Y) (old new : Named) {step job : Step} {name : Bytes} → step ≡ job → new_name job ≡ Some name → new_kind job ≡ held.Mesh →
+    OnOk r (IsNamed name old new) → OnOk r (KeepsNames step old new)
+mesh_keeps r old new {step} {job} {name} same is kind done =
+    on_ok_weaker r (λ so. held_keeps step name (OfMesh so.0) old new (ap new_name same ∙ is) (ap (λ s. Some (new_kind s)) same ∙ ap Some kind) so.1) done
 
-pub outlined_keeps : (step : Step) (name : Bytes) (old new : Named) → new_name step ≡ Some name → new_kind step ≡ held.Outline → IsOutlined name old new → KeepsNames step old new
-outlined_keeps step name old new is kind (o, now) = held_keeps step name (OfOutline o) old new is (ap Some kind) now
+pub outline_keeps : {X Y : Type 0} (r : Result X Y) (old new : Named) {step job : Step} {name : Bytes} → step ≡ job → new_name job ≡ Some name → new_kind job ≡ held.Outline →
+    OnOk r (IsOutlined name old new) → OnOk r (KeepsNames step old new)
+outline_keeps r old new {step} {job} {name} same is kind done =
+    on_ok_weaker r (λ so. held_keeps step name (OfOutline so.0) old new (ap new_name same ∙ is) (ap (λ s. Some (new_kind s)) same ∙ ap Some kind) so.1) done
 
 -- where a step gives no name anything, names that stay are kept
 pub unchanged_keeps : (step : Step) (named : Named) → new_name step ≡ None → KeepsNames step named named
@@ -80,11 +85,11 @@ has_taken named before step known sound =
     (λ t is. holds t.0 (named t.1) (known t.1 t.0 (kind_is t.0 (given_kind t.1 before) is))) _ sound.given
 
 -- a step that takes one name, or two, has what it takes
-pub taken_one : (named : Named) (step : Step) (t : HeldKind × Bytes) → taken step ≡ t ∷ [] → HasTaken named step → Holds t.0 (named t.1)
-taken_one named step t is has = let P : HeldKind × Bytes → Type 0 = λ t. Holds t.0 (named t.1) in All-head P t [] (subst (All P) is has)
+pub taken_one : (named : Named) {step job : Step} {t : HeldKind × Bytes} → step ≡ job → taken job ≡ t ∷ [] → HasTaken named step → Holds t.0 (named t.1)
+taken_one named {t = t} same is has = let P : HeldKind × Bytes → Type 0 = λ t. Holds t.0 (named t.1) in All-head P t [] (subst (All P) (ap taken same ∙ is) has)
 
-pub taken_two : (named : Named) (step : Step) (t u : HeldKind × Bytes) → taken step ≡ t ∷ u ∷ [] → HasTaken named step →
+pub taken_two : (named : Named) {step job : Step} {t u : HeldKind × Bytes} → step ≡ job → taken job ≡ t ∷ u ∷ [] → HasTaken named step →
     Holds t.0 (named t.1) × Holds u.0 (named u.1)
-taken_two named step t u is has =
+taken_two named {t = t} {u} same is has =
     let P : HeldKind × Bytes → Type 0 = λ t. Holds t.0 (named t.1) in
-    let all : All P (t ∷ u ∷ []) = subst (All P) is has in (All-head P t (u ∷ []) all, All-head P u [] (All-tail P t (u ∷ []) all))
+    let all : All P (t ∷ u ∷ []) = subst (All P) (ap taken same ∙ is) has in (All-head P t (u ∷ []) all, All-head P u [] (All-tail P t (u ∷ []) all))

@@ -10,7 +10,7 @@ use Rattle.run_terms.specs.Tasks.{Part, Refusal, Task, changed_all}
 use Rattle.play_terms.specs.Commands.{ask_file}
 use Rattle.play_terms.specs.Plays.{Meanings, Named, State, at_first, line_task, mesh_at, script_checked}
 use Rattle.play_terms.specs.Scripts.{script}
-use Rattle.play_terms.specs.Steps.{Combine, Combine2, Exact, Extrude, Line, Load, Make, Measure, Move, Polygon, Save, Step, Tidy}
+use Rattle.play_terms.specs.Steps.{Combine, Combine2, Exact, Extrude, Line, Load, Make, Measure, Move, Polygon, Remesh, Save, Step, Tidy}
 use Rattle.winding.specs.Windings.{components_of}
 
 -- an operation counts at most one for each connected component of its two reduced meshes
@@ -26,6 +26,7 @@ step_cost (Combine op name left right) named = operation_cost op (mesh_at named 
 step_cost (Make name solid) named = 0
 step_cost (Move name old motion) named = 0
 step_cost (Tidy name old) named = 0
+step_cost (Remesh name old) named = 0
 step_cost (Polygon name ring) named = 0
 step_cost (Combine2 op name left right) named = 0
 step_cost (Extrude name old low high) named = 0

@@ -138,9 +138,8 @@ pub fn combine<'a, O: Sink, L: Ledger>(
     ensures kept { OnErr result (names.new ≡ names.old) }
     ensures cost { steps.new ≤ steps.old + operation_cost op (mesh_at (named_in names.old) left.now) (mesh_at (named_in names.old) right.now) }
 {
-    let (Some(p), Some(q)) = (names.mesh(left), names.mesh(right)) else {
-        unreachable!();
-    };
+    let p = names.mesh_of(left);
+    let q = names.mesh_of(right);
     let outcome = operate(alloc, kernels, op, p, q, limits, steps)?;
     let kept = outcome.prescribed.kept;
     let counts = OperationCounts {

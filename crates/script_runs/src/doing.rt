@@ -19,6 +19,7 @@ use crate::measuring::measure_mesh;
 use crate::moving::move_mesh;
 use crate::names::Names;
 use crate::outlining::{combine2, extrude_outline, polygon};
+use crate::remeshing::remesh_mesh;
 use crate::saving::save;
 use crate::tidying::tidy_mesh;
 use mb_base::{KernelKind, Limits};
@@ -105,6 +106,7 @@ fn do_job<'a, S: Shelf, O: Sink, L: Ledger>(
             motion,
         } => move_mesh(alloc, script, line, name, source, motion, names),
         Job::Tidy { name, source } => tidy_mesh(alloc, name, source, names, out),
+        Job::Remesh { name, source } => remesh_mesh(alloc, name, source, names, out),
         Job::Combine2 {
             op,
             name,

@@ -25,9 +25,7 @@ pub fn measure_mesh<'a, O: Sink>(
         (halted_by (λ _. named_in names.now) result) }
     ensures halts { IfErr result IsHaltOfStep }
 {
-    let Some(mesh) = names.mesh(name) else {
-        unreachable!();
-    };
+    let mesh = names.mesh_of(name);
     let measure = measure(alloc, mesh)?;
     say_measured(name, &measure, out)?;
     Ok(())

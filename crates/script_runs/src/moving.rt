@@ -31,9 +31,7 @@ pub fn move_mesh<'a>(
     ensures named { OnOk result (IsNamed name.now (named_in names.old) (named_in names.new)) }
     ensures kept { OnErr result (names.new ≡ names.old) }
 {
-    let Some(mesh) = names.mesh(source) else {
-        unreachable!();
-    };
+    let mesh = names.mesh_of(source);
     let moved = match move_by(alloc, mesh, motion) {
         Ok(moved) => moved,
         Err(fault) => return Err(halt_at(script, line, fault)),

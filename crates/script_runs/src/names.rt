@@ -1,9 +1,9 @@
 // What the names of a script hold.
-ghost use Rattle.std.specs.Prelude.{◌≡◌, [], OnOk, OnErr};
+ghost use Rattle.std.specs.Prelude.{◌≡◌, [], IsSome, OnOk, OnErr};
 ghost use Rattle.std.specs.Option.{option_map};
 ghost use Rattle.script_runs.specs.Names.{named_in};
 ghost use Rattle.script_runs.specs.Held.{held_of};
-ghost use Rattle.play_terms.specs.Plays.{mesh_held, outline_held, with_held, with_name, with_outline};
+ghost use Rattle.play_terms.specs.Plays.{mesh_at, mesh_held, outline_at, outline_held, with_held, with_name, with_outline};
 
 use indexmap::IndexMap;
 use mb_base::NoMemory;
@@ -45,8 +45,8 @@ impl<'a> Names<'a> {
         }
     }
 
-    /// The mesh of a name.
-    pub fn mesh(&self, name: &'a str) -> Option<&Mesh>
+    // The mesh of a name. None where it has none.
+    fn mesh(&self, name: &'a str) -> Option<&Mesh>
         ensures { option_map (λ mesh. mesh.now) result ≡ mesh_held (named_in self.now name.now) }
     {
         match self.held.get(&name) {
@@ -56,8 +56,8 @@ impl<'a> Names<'a> {
         }
     }
 
-    /// The outline of a name.
-    pub fn outline(&self, name: &'a str) -> Option<&Outline>
+    // The outline of a name. None where it has none.
+    fn outline(&self, name: &'a str) -> Option<&Outline>
         ensures { option_map (λ outline. outline.now) result ≡ outline_held (named_in self.now name.now) }
     {
         match self.held.get(&name) {
@@ -65,6 +65,28 @@ impl<'a> Names<'a> {
             Some(Held::Mesh(_)) => None,
             None => None,
         }
+    }
+
+    /// The mesh of a name that has one.
+    pub fn mesh_of(&self, name: &'a str) -> &Mesh
+        requires { IsSome (mesh_held (named_in self.now name.now)) }
+        ensures { result.now ≡ mesh_at (named_in self.now) name.now }
+    {
+        let Some(mesh) = self.mesh(name) else {
+            unreachable!();
+        };
+        mesh
+    }
+
+    /// The outline of a name that has one.
+    pub fn outline_of(&self, name: &'a str) -> &Outline
+        requires { IsSome (outline_held (named_in self.now name.now)) }
+        ensures { result.now ≡ outline_at (named_in self.now) name.now }
+    {
+        let Some(outline) = self.outline(name) else {
+            unreachable!();
+        };
+        outline
     }
 
     /// Gives a name a mesh. What it had before is freed.

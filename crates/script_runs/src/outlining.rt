@@ -163,9 +163,8 @@ pub fn combine2<'a, O: Sink>(
     ensures named { OnOk result (IsOutlined name.now (named_in names.old) (named_in names.new)) }
     ensures kept { OnErr result (names.new ≡ names.old) }
 {
-    let (Some(p), Some(q)) = (names.outline(left), names.outline(right)) else {
-        unreachable!();
-    };
+    let p = names.outline_of(left);
+    let q = names.outline_of(right);
     let flat = operate2(alloc, kernels, op, p, q, limits)?;
     let counts = counts_of(&flat);
     say_combined2(op, name, left, right, &counts, out)?;
@@ -227,9 +226,7 @@ pub fn extrude_outline<'a, O: Sink>(
     ensures named { OnOk result (IsNamed name.now (named_in names.old) (named_in names.new)) }
     ensures kept { OnErr result (names.new ≡ names.old) }
 {
-    let Some(outline) = names.outline(source) else {
-        unreachable!();
-    };
+    let outline = names.outline_of(source);
     let extruded = solid_between(alloc, script, line, outline, low, high, limits)?;
     say_extruded(name, source, extruded.forced, out)?;
     names.define(name, extruded.mesh)?;

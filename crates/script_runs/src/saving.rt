@@ -26,9 +26,7 @@ pub fn save<'a, S: Shelf, O: Sink>(
         (shelf.old, out.old) (shelf.new, out.new) (halted_by (λ _. named_in names.now) result) }
     ensures halts { IfErr result IsHaltOfStep }
 {
-    let Some(mesh) = names.mesh(name) else {
-        unreachable!();
-    };
+    let mesh = names.mesh_of(name);
     write(mesh, file, digits, shelf)?;
     say_saved(name, file, mesh, out)?;
     Ok(())

@@ -28,9 +28,7 @@ pub fn tidy_mesh<'a, O: Sink>(
     ensures named { OnOk result (IsNamed name.now (named_in names.old) (named_in names.new)) }
     ensures kept { OnErr result (names.new ≡ names.old) }
 {
-    let Some(mesh) = names.mesh(source) else {
-        unreachable!();
-    };
+    let mesh = names.mesh_of(source);
     let tidied = tidy(alloc, mesh)?;
     say_tidied(name, source, tidied.collapsed, out)?;
     names.define(name, tidied.mesh)?;

@@ -19,9 +19,8 @@ use Rattle.assembly_terms.specs.Lists.{Copy, ListName, lists_of_p, lists_of_q, n
 use Rattle.assembly_terms.specs.Standing.{IsBalanced, StandInLists, StandsInTwo, start_count}
 use Rattle.segment_terms.specs.Naming.{AreNamed}
 use Rattle.segment_terms.specs.Segments.{all_segments, lists_of, segments_of, source_count}
+use Rattle.standings.proofs.Members.{in_some}
 use Rattle.segment_laws.proofs.Cancelling.{closed}
-use Rattle.segment_laws.proofs.FaceLists.{lists_known}
-use Rattle.segment_laws.proofs.Members.{in_some}
 use Rattle.segment_laws.proofs.OneToOne.{occurs}
 use Rattle.segment_laws.proofs.Returning.{no_return}
 
@@ -34,8 +33,7 @@ pub record StartsOn (p q : Side) (cs : List Copy) (place : ℕ → List ℤ) (v 
 starts_on : (p q : Side) (cs : List Copy) (place : ℕ → List ℤ) → IsBalanced p q cs → (v : ℕ) → v < length cs → (x : ℕ) → x < source_count p q → (names : List ListName) → lists_of p q x ≡ names →
     StandsInTwo p q names (get_or cs v no_copy) → StartsOn p q cs place v
 starts_on p q cs place balance v inside x below names are two =
-    let o = occurs p q cs place balance (lists_of p q x) (lists_known p q x below) v inside in
-    record { face = x; known = below; once = o.outs ∙ ap (λ l. start_count p q l (get_or cs v no_copy)) are ∙ two.one_start }
+    record { face = x; known = below; once = occurs p q cs place balance x below v inside ∙ ap (λ l. start_count p q l (get_or cs v no_copy)) are ∙ two.one_start }
 
 pub starts_somewhere : (p q : Side) (cs : List Copy) (place : ℕ → List ℤ) → StandInLists p q cs → IsBalanced p q cs → (v : ℕ) → v < length cs → StartsOn p q cs place v
 starts_somewhere p q cs place stand balance v inside =

@@ -20,7 +20,7 @@ use Rattle.segment_terms.specs.Segments.{all_segments, lists_of, segments_in, se
 use Rattle.segment_laws.proofs.Reversal.{pair_reverses, twin_reverses_p, twin_reverses_q}
 
 -- a sum of threes is one sum
-threes : (f : ℕ → ℤ) (m : ℕ) → total (λ k. total (λ i. f (3 * k + i)) (upto 3)) (upto m) ≡ total f (upto (3 * m))
+pub threes : (f : ℕ → ℤ) (m : ℕ) → total (λ k. total (λ i. f (3 * k + i)) (upto 3)) (upto m) ≡ total f (upto (3 * m))
 threes f zero = let none : 3 * 0 ≡ 0 = omega arith in sym (ap (λ n. total f (upto n)) none)
 threes f (suc m) =
     let one : suc m ≡ m + 1 = omega arith in
@@ -39,7 +39,7 @@ shifted f g k h j (suc n) =
     let rest = ap (λ i. total f (up_from i n)) next ∙ shifted f g k h (suc j) n in omega (arith, ints, h j, rest)
 
 -- a sum that an inverse turns
-turned_sum : (f : ℕ → ℤ) (t : ℕ → ℕ) (n : ℕ) → AreInverse t t n → ((k : ℕ) → k < n → f (t k) ≡ neg_ℤ (f k)) → total f (upto n) ≡ pos 0
+pub turned_sum : (f : ℕ → ℤ) (t : ℕ → ℕ) (n : ℕ) → AreInverse t t n → ((k : ℕ) → k < n → f (t k) ≡ neg_ℤ (f k)) → total f (upto n) ≡ pos 0
 turned_sum f t n inverse turns =
     let same = inverse_sum f t t n inverse ∙ total-upto_same (λ k. f (t k)) (λ k. neg_ℤ (f k)) n turns ∙ total-neg f (upto n) in omega (arith, ints, same)
 

@@ -1,81 +1,26 @@
 -- Each loop of a face has at least three vertices, all of them copies.
-use Rattle.std.proofs.Common.{ℕ, zero, suc, ◌<◌, ◌≤◌, ℤ, List, [], ◌∷◌, ◌++◌, length, get_or, refl, arith, ap}
-use Rattle.std.specs.List.{All, Contains, concat, flat_map}
-use Rattle.std.proofs.lemmas.List.Elements.{All-append, All-cons, All-contains, All-head, All-nil, All-tail, Contains-get_or}
-use Rattle.std.proofs.lemmas.List.Sorted.{Contains-permutation, IsPermutation-sym}
-use Rattle.chain_terms.specs.Cycles.{Balanced, cycles, cycles_within, follow}
-use Rattle.chain_terms.specs.Paths.{last_of, path, round_edges}
-use Rattle.chain_laws.proofs.Ascending.{contains_later}
-use Rattle.chain_laws.proofs.Cycles.{cycles_edges}
+use Rattle.std.proofs.Common.{ℕ, ◌<◌, ◌≤◌, ℤ, List, length, sym, subst}
+use Rattle.std.specs.List.{All, concat}
+use Rattle.chain_terms.specs.Cycles.{cycles}
 use Rattle.mesh_check.specs.Reduced.{NoOpposite}
 use Rattle.side_terms.specs.Sides.{Side, IsSide}
 use Rattle.assembly_terms.specs.Lists.{Copy}
 use Rattle.assembly_terms.specs.Standing.{IsBalanced, StandInLists}
 use Rattle.segment_terms.specs.Naming.{AreNamed}
-use Rattle.segment_terms.specs.Segments.{segments_of, source_count}
-use Rattle.segment_laws.proofs.Members.{in_all, join_copies}
-use Rattle.segment_laws.proofs.OneToOne.{one_to_one}
-use Rattle.segment_laws.proofs.Returning.{no_return}
-
--- a cycle has a vertex
-not_empty : (n : ℕ) (es : List (ℕ × ℕ)) → All (λ loop. 0 < length loop) (cycles_within n es)
-not_empty zero es = All-nil (λ loop. 0 < length loop)
-not_empty (suc n) [] = All-nil (λ loop. 0 < length loop)
-not_empty (suc n) (e ∷ es) = let r = follow (length es) e.1 es in All-cons (λ loop. 0 < length loop) (e.0 ∷ r.0) (cycles_within n r.1) (omega arith) (not_empty n r.1)
-
--- where no two edges run both ways between two vertices, a loop of them is long
-long : (es : List (ℕ × ℕ)) → ((v w : ℕ) → Contains es (v, w) → Contains es (w, v) → ⊥) → (loop : List ℕ) → 0 < length loop → ((e : ℕ × ℕ) → Contains (round_edges loop) e → Contains es e) → 3 ≤ length loop
-long es none [] some inside = absurd (omega (arith, some))
-long es none (v ∷ []) some inside = let here = inside (v, v) (0, omega arith, refl) in absurd (none v v here here)
-long es none (v ∷ w ∷ []) some inside = absurd (none v w (inside (v, w) (0, omega arith, refl)) (inside (w, v) (1, omega arith, refl)))
-long es none (v ∷ w ∷ u ∷ loop) some inside = omega arith
-
--- an edge round a cycle is one of the edges
-cycle_edge : (es : List (ℕ × ℕ)) → Balanced es → (loop : List ℕ) → Contains (cycles es) loop → (e : ℕ × ℕ) → Contains (round_edges loop) e → Contains es e
-cycle_edge es balanced loop listed e inside =
-    Contains-permutation (flat_map round_edges (cycles es)) es e (IsPermutation-sym es (flat_map round_edges (cycles es)) (cycles_edges (length es) es (omega arith) balanced))
-    (in_all round_edges (cycles es) loop e listed inside)
-
-long_cycles : (es : List (ℕ × ℕ)) → Balanced es → ((v w : ℕ) → Contains es (v, w) → Contains es (w, v) → ⊥) → All (λ loop. 3 ≤ length loop) (cycles es)
-long_cycles es balanced none k d below =
-    let loop = get_or (cycles es) k d in long es none loop (not_empty (length es) es k d below) (cycle_edge es balanced loop (Contains-get_or (cycles es) k d below))
+use Rattle.segment_terms.specs.Segments.{lists_of, segments_of, source_count}
+use Rattle.standings.proofs.LongLoops as lists
+use Rattle.segment_laws.proofs.OneToOne.{are_even, stand_once}
+use Rattle.segment_laws.proofs.Returning.{none_exchanged}
+use Rattle.segment_laws.proofs.Standing.{face_same, key_of, stand_of}
 
 pub loops_are_long : (p q : Side) (cs : List Copy) (place : ℕ → List ℤ) → IsSide p → IsSide q → NoOpposite p.triples → NoOpposite q.triples → StandInLists p q cs → IsBalanced p q cs → AreNamed p q cs →
     (x : ℕ) → x < source_count p q → All (λ loop. 3 ≤ length loop) (cycles (segments_of p q cs place x))
 loops_are_long p q cs place p_known q_known p_none q_none stand balance named x below =
-    let once = one_to_one p q cs place stand balance x below in
-    long_cycles (segments_of p q cs place x) once.balanced (no_return p q cs place p_known q_known p_none q_none named x below)
+    subst (λ es. All (λ loop. 3 ≤ length loop) (cycles es)) (sym (face_same p q cs place x))
+    (lists.loops_are_long (stand_of p q cs) (key_of p q cs place) (length cs) (lists_of p q x) (are_even p q cs balance x below) (stand_once p q cs stand x below)
+    (none_exchanged p q cs p_known q_known p_none q_none named x below))
 
--- each vertex on a path, and each of a round, starts an edge of it
-record StartsIn (es : List (ℕ × ℕ)) (v : ℕ) : Type 0 where
-  to : ℕ
-  inside : Contains es (v, to)
-
-path_starts : (x : ℕ) (r : List ℕ) (y v : ℕ) → Contains (x ∷ r) v → StartsIn (path x r ++ (last_of x r, y) ∷ []) v
-path_starts x [] y v (zero, l, e) = record { to = y; inside = (0, omega arith, ap (λ u. (u, y)) e) }
-path_starts x [] y v (suc k, l, e) = absurd (omega (arith, l))
-path_starts x (z ∷ s) y v (zero, l, e) = record { to = z; inside = (0, omega arith, ap (λ u. (u, z)) e) }
-path_starts x (z ∷ s) y v (suc k, l, e) =
-    let r = path_starts z s y v (k, omega (arith, l), e) in record { to = r.to; inside = contains_later (v, r.to) (x, z) (path z s ++ (last_of z s, y) ∷ []) r.inside }
-
-round_starts : (loop : List ℕ) (v : ℕ) → Contains loop v → StartsIn (round_edges loop) v
-round_starts [] v (k, l, e) = absurd (omega (arith, l))
-round_starts (x ∷ r) v inside = path_starts x r x v inside
-
--- what holds of all members of all lists
-all_joined : (P : ℕ → Type 0) (loops : List (List ℕ)) → All (λ loop. All P loop) loops → All P (concat loops)
-all_joined P [] h = All-nil P
-all_joined P (l ∷ ls) h = All-append P l (concat ls) (All-head (λ loop. All P loop) l ls h) (all_joined P ls (All-tail (λ loop. All P loop) l ls h))
-
--- so the vertices of the loops are copies
 pub loops_have_copies : (p q : Side) (cs : List Copy) (place : ℕ → List ℤ) → StandInLists p q cs → IsBalanced p q cs → (x : ℕ) → x < source_count p q → All (λ v. v < length cs) (concat (cycles (segments_of p q cs place x)))
 loops_have_copies p q cs place stand balance x below =
-    let es = segments_of p q cs place x in
-    let loops = cycles es in
-    let balanced = (one_to_one p q cs place stand balance x below).balanced in
-    all_joined (λ v. v < length cs) loops (λ k d k_below i c i_below.
-    let loop = get_or loops k d in
-    let v = get_or loop i c in
-    let s = round_starts loop v (Contains-get_or loop i c i_below) in
-    let inside = cycle_edge es balanced loop (Contains-get_or loops k d k_below) (v, s.to) s.inside in
-    (All-contains (λ e. (e.0 < length cs) × (e.1 < length cs)) es (v, s.to) (join_copies p q cs place x) inside).0)
+    subst (λ es. All (λ v. v < length cs) (concat (cycles es))) (sym (face_same p q cs place x))
+    (lists.loops_below (stand_of p q cs) (key_of p q cs place) (length cs) (lists_of p q x) (are_even p q cs balance x below) (stand_once p q cs stand x below))

@@ -10,11 +10,13 @@ use Rattle.mb_base.specs.declared.results.Origin.{Origin}
 use Rattle.side_terms.specs.Sides.{Side, IsSide}
 use Rattle.assembly_terms.specs.Lists.{Copy, ListName, HalfP, HalfQ, PairP, PairQ, incidence, lists_of_p, lists_of_q, no_copy, standing}
 use Rattle.segment_terms.specs.Naming.{AreNamed, NamesLower}
-use Rattle.segment_terms.specs.Segments.{lists_of, segments_in, segments_of, source_count}
+use Rattle.segment_terms.specs.Segments.{lists_of, segments_of, source_count}
+use Rattle.standings.specs.Standings.{NoneExchanged}
+use Rattle.standings.proofs.LongLoops as lists
 use Rattle.segment_laws.proofs.Distinct.{InBoth, IsOfFaceP, same_origin}
 use Rattle.segment_laws.proofs.FaceLists.{all_upto, face_case}
-use Rattle.segment_laws.proofs.Members.{in_some, segment_joins}
 use Rattle.segment_laws.proofs.OtherSide.{IsOfFaceQ, same_origin_q}
+use Rattle.segment_laws.proofs.Standing.{face_same, key_of, stand_of}
 
 -- the lists of a face are of that face
 of_face_p : (n f : ℕ) → All (IsOfFaceP n f) (lists_of_p n f)
@@ -59,30 +61,33 @@ unsigned : (b : Bool) (z : ℤ) → (cond b (neg_ℤ z) z ≡ pos 0 → ⊥) →
 unsigned true z some e = some (ap neg_ℤ e)
 unsigned false z some e = some e
 
--- a segment of a face and the one that runs back cannot both be
+-- no two copies stand in two lists of a face the one as the other does not
+pub none_exchanged : (p q : Side) (cs : List Copy) → IsSide p → IsSide q → NoOpposite p.triples → NoOpposite q.triples → AreNamed p q cs → (x : ℕ) → x < source_count p q →
+    NoneExchanged (stand_of p q cs) (length cs) (lists_of p q x)
+none_exchanged p q cs p_known q_known p_none q_none named x below one two one_listed two_listed v w v_below w_below v_starts v_ends w_ends w_starts =
+    let P = all_edges p.triples in
+    let Q = all_edges q.triples in
+    let c = get_or cs v no_copy in
+    let d = get_or cs w no_copy in
+    let apart : one ≡ two → ⊥ = λ e. one_sign (standing P Q two c) (subst (λ name. int_lt (pos 0) (standing P Q name c) ≡ true) e v_starts) v_ends in
+    let c_in : InBoth P Q one two c.origin = record {
+      first = unsigned c.negative (incidence P Q one c.origin) (above_some (standing P Q one c) v_starts);
+      second = unsigned c.negative (incidence P Q two c.origin) (below_some (standing P Q two c) v_ends);
+    } in
+    let d_in : InBoth P Q one two d.origin = record {
+      first = unsigned d.negative (incidence P Q one d.origin) (below_some (standing P Q one d) w_ends);
+      second = unsigned d.negative (incidence P Q two d.origin) (above_some (standing P Q two d) w_starts);
+    } in
+    let same = distinguish p q p_known q_known p_none q_none x below one two one_listed two_listed apart c.origin d.origin (named.lower v no_copy v_below) (named.lower w no_copy w_below) c_in d_in in
+    let signs : c.negative ≡ d.negative = named.signed v no_copy v_below ∙ ap named.sign same ∙ sym (named.signed w no_copy w_below) in
+    let alike : standing P Q one c ≡ standing P Q one d =
+    ap (λ o. cond c.negative (neg_ℤ (incidence P Q one o)) (incidence P Q one o)) same ∙ ap (λ t. cond t (neg_ℤ (incidence P Q one d.origin)) (incidence P Q one d.origin)) signs in
+    one_sign (standing P Q one d) (ap (int_lt (pos 0)) (sym alike) ∙ v_starts) w_ends
+
+-- so a segment of a face and the one that runs back cannot both be
 pub no_return : (p q : Side) (cs : List Copy) (place : ℕ → List ℤ) → IsSide p → IsSide q → NoOpposite p.triples → NoOpposite q.triples → AreNamed p q cs → (x : ℕ) → x < source_count p q →
     (v w : ℕ) → Contains (segments_of p q cs place x) (v, w) → Contains (segments_of p q cs place x) (w, v) → ⊥
 no_return p q cs place p_known q_known p_none q_none named x below v w there back =
-    let P = all_edges p.triples in
-    let Q = all_edges q.triples in
-    let names = lists_of p q x in
-    let s = in_some (segments_in p q cs place) names (v, w) there in
-    let t = in_some (segments_in p q cs place) names (w, v) back in
-    let a = segment_joins p q cs place s.from (v, w) s.inside in
-    let b = segment_joins p q cs place t.from (w, v) t.inside in
-    let c = get_or cs v no_copy in
-    let d = get_or cs w no_copy in
-    let apart : s.from ≡ t.from → ⊥ = λ e. one_sign (standing P Q t.from c) (subst (λ name. int_lt (pos 0) (standing P Q name c) ≡ true) e a.from_start) b.to_end in
-    let c_in : InBoth P Q s.from t.from c.origin = record {
-      first = unsigned c.negative (incidence P Q s.from c.origin) (above_some (standing P Q s.from c) a.from_start);
-      second = unsigned c.negative (incidence P Q t.from c.origin) (below_some (standing P Q t.from c) b.to_end);
-    } in
-    let d_in : InBoth P Q s.from t.from d.origin = record {
-      first = unsigned d.negative (incidence P Q s.from d.origin) (below_some (standing P Q s.from d) a.to_end);
-      second = unsigned d.negative (incidence P Q t.from d.origin) (above_some (standing P Q t.from d) b.from_start);
-    } in
-    let same = distinguish p q p_known q_known p_none q_none x below s.from t.from s.listed t.listed apart c.origin d.origin (named.lower v no_copy a.from_below) (named.lower w no_copy a.to_below) c_in d_in in
-    let signs : c.negative ≡ d.negative = named.signed v no_copy a.from_below ∙ ap named.sign same ∙ sym (named.signed w no_copy a.to_below) in
-    let alike : standing P Q s.from c ≡ standing P Q s.from d =
-    ap (λ o. cond c.negative (neg_ℤ (incidence P Q s.from o)) (incidence P Q s.from o)) same ∙ ap (λ t. cond t (neg_ℤ (incidence P Q s.from d.origin)) (incidence P Q s.from d.origin)) signs in
-    one_sign (standing P Q s.from d) (ap (int_lt (pos 0)) (sym alike) ∙ a.from_start) a.to_end
+    let same = face_same p q cs place x in
+    lists.no_return (stand_of p q cs) (key_of p q cs place) (length cs) (lists_of p q x) (none_exchanged p q cs p_known q_known p_none q_none named x below) v w
+    (subst (λ es. Contains es (v, w)) same there) (subst (λ es. Contains es (w, v)) same back)

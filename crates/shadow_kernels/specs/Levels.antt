@@ -5,7 +5,7 @@ use Rattle.std.proofs.Common.{arith, refl, sym, ap, subst, inl, inr, ◌∙◌}
 use Rattle.std.proofs.lemmas.List.Sorted.{IsPermutation-cons, IsPermutation-middle, IsPermutation-trans}
 use Rattle.chain_laws.specs.Squares.{less, square, triangle, Alternates, square_whole, square_weight, triangle_whole, triangle_weight}
 use Rattle.mb_base.specs.declared.point.Corner.{Corner}
-use Rattle.side_terms.specs.Corners.{axis, up_on, corner_at, AllFine}
+use Rattle.side_terms.specs.Corners.{corner_at, AllFine}
 use Rattle.shadow_kernels.specs.declared.Meet.{Meet}
 use Rattle.shadow_kernels.specs.ShadowLaws.{IsInHull}
 use Rattle.shadow_kernels.specs.Spots.{Between}

@@ -30,6 +30,7 @@ fn words_of<'a>(step: &Step<'a>) -> (&'static str, [&'a str; 3]) {
         Step::Mirror { name, source, .. } => ("mirror", [name.as_str(), source.as_str(), ""]),
         Step::Turn { name, source, .. } => ("turn", [name.as_str(), source.as_str(), ""]),
         Step::Tidy { name, source } => ("tidy", [name.as_str(), source.as_str(), ""]),
+        Step::Remesh { name, source } => ("remesh", [name.as_str(), source.as_str(), ""]),
         Step::Polygon { name, .. } => ("polygon", [name.as_str(), "", ""]),
         Step::Combine2 {
             op,
@@ -168,9 +169,9 @@ const NONE: [i64; 6] = [0; 6];
 
 // Steps in order.
 const STEPS: &[u8] =
-    b"load a cube.obj\nload b b.obj\nunion u a b\nmeasure u\nsave u u.obj\nexact # from here on\ntidy v u\ntidy v v\n";
+    b"load a cube.obj\nload b b.obj\nunion u a b\nmeasure u\nsave u u.obj\nexact # from here on\ntidy v u\ntidy v v\nremesh w v\n";
 
-const STEPS_ROWS: [Row<'static>; 8] = [
+const STEPS_ROWS: [Row<'static>; 9] = [
     (1, "load", ["a", "cube.obj", ""], NONE),
     (2, "load", ["b", "b.obj", ""], NONE),
     (3, "union", ["u", "a", "b"], NONE),
@@ -179,6 +180,7 @@ const STEPS_ROWS: [Row<'static>; 8] = [
     (6, "exact", ["", "", ""], NONE),
     (7, "tidy", ["v", "u", ""], NONE),
     (8, "tidy", ["v", "v", ""], NONE),
+    (9, "remesh", ["w", "v", ""], NONE),
 ];
 
 // A mark, comments, blanks and ends of lines, which are passed over.
@@ -263,7 +265,7 @@ fn the_steps_stand_in_order_with_their_lines_and_numbers(rt: HostRuntime) {
     }
 }
 
-static LINES: [Refused; 32] = [
+static LINES: [Refused; 34] = [
     (b"cut a b", 1, 20),
     (b"Load a c.obj", 1, 20),
     (b"measures a", 1, 20),
@@ -275,6 +277,7 @@ static LINES: [Refused; 32] = [
     (b"save", 1, 21),
     (b"tidy a", 1, 21),
     (b"tidy a b c", 1, 21),
+    (b"remesh a", 1, 21),
     (b"box a 0 0 0 1 1", 1, 21),
     (b"box a 0 0 0 1 1 1 1 1", 1, 21),
     (b"union u 1 c.ply 2", 1, 21),
@@ -290,6 +293,7 @@ static LINES: [Refused; 32] = [
     (b"union u a 1", 1, 23),
     (b"union u u u", 1, 23),
     (b"tidy a a", 1, 23),
+    (b"remesh a a", 1, 23),
     (b"load a c", 1, 25),
     (b"load a obj", 1, 25),
     (b"load a c.obj.ply", 1, 25),
@@ -333,7 +337,7 @@ fn operands_without_a_value_refuse_a_line(rt: HostRuntime) {
     refuses(&rt, rt.alloc(), &OPERANDS);
 }
 
-static OUTLINES: [Refused; 16] = [
+static OUTLINES: [Refused; 17] = [
     (b"polygon", 1, 21),
     (b"polygon a", 1, 21),
     (b"polygon a 0 0 1 0", 1, 21),
@@ -347,6 +351,7 @@ static OUTLINES: [Refused; 16] = [
     (b"union2 u a", 1, 21),
     (b"polygon a 0 0 1 0 0 1\nunion2 u a b", 2, 23),
     (b"polygon a 0 0 1 0 0 1\nmeasure a", 2, 23),
+    (b"polygon a 0 0 1 0 0 1\nremesh b a", 2, 23),
     (b"box a 0 0 0 1 1 1\nextrude b a 0 1", 2, 23),
     (b"polygon a 0 0 1 0 0 1\nextrude b a 0", 2, 21),
     (b"polygon a 0 0 1 0 0 1\nextrude b a 0 1e", 2, 24),

@@ -81,13 +81,13 @@ first_changed : (a b c : ℤ) → a *ℤ (b *ℤ c) ≡ b *ℤ (a *ℤ c)
 first_changed a b c = rw (← mul-assoc a b c, *ℤ_comm a b, mul-assoc b a c) refl
 
 -- a determinant with two equal rows
-det_first : (p q : List ℤ) → determinant p p q ≡ pos 0
+pub det_first : (p q : List ℤ) → determinant p p q ≡ pos 0
 det_first p q =
     let x = coordinate_of p 0 in let y = coordinate_of p 1 in let z = coordinate_of p 2 in
     let u = coordinate_of q 0 in let v = coordinate_of q 1 in let w = coordinate_of q 2 in
     omega (arith, ints, mul-sub x (y *ℤ w) (z *ℤ v), mul-sub y (z *ℤ u) (x *ℤ w), mul-sub z (x *ℤ v) (y *ℤ u), first_changed x y w, first_changed x z v, first_changed y z u)
 
-det_outer : (p q : List ℤ) → determinant p q p ≡ pos 0
+pub det_outer : (p q : List ℤ) → determinant p q p ≡ pos 0
 det_outer p q =
     let x = coordinate_of p 0 in let y = coordinate_of p 1 in let z = coordinate_of p 2 in
     let u = coordinate_of q 0 in let v = coordinate_of q 1 in let w = coordinate_of q 2 in
@@ -102,6 +102,50 @@ det_last p q =
     turned : (i j : ℤ) → i *ℤ j ≡ j *ℤ i
     turned i j = omega (arith, ints)
 
+-- two corners of a triangle lie at one point
+abbrev pub AtOne : List (List ℤ) → Triple → Type 0
+AtOne points t = (get_or points t.0 [] ≡ get_or points t.1 []) ⊎ ((get_or points t.1 [] ≡ get_or points t.2 []) ⊎ (get_or points t.2 [] ≡ get_or points t.0 []))
+
+-- its determinant is 0
+pub flat : (points : List (List ℤ)) (t : Triple) → AtOne points t → triangle_determinant points t ≡ pos 0
+flat points t (inl e) = ap (λ p. determinant p (get_or points t.1 []) (get_or points t.2 [])) e ∙ det_first (get_or points t.1 []) (get_or points t.2 [])
+flat points t (inr (inl e)) = ap (λ p. determinant (get_or points t.0 []) p (get_or points t.2 [])) e ∙ det_last (get_or points t.2 []) (get_or points t.0 [])
+flat points t (inr (inr e)) = ap (λ p. determinant (get_or points t.0 []) (get_or points t.1 []) p) e ∙ det_outer (get_or points t.0 []) (get_or points t.1 [])
+
+-- and it lies at no three points of which no two are one
+module _ (points : List (List ℤ)) (p q r : List ℤ) (pq : same_point p q ≡ false) (qr : same_point q r ≡ false) (rp : same_point r p ≡ false) where
+  no_lies : (x y z : List ℤ) → (x ≡ y) ⊎ ((y ≡ z) ⊎ (z ≡ x)) → lies_at p q r x y z ≡ false
+  no_lies x y z two = elim (cases_Bool (lies_at p q r x y z)) as (λ _. lies_at p q r x y z ≡ false) [
+    | inl yes_lies ↦
+        let outer = and_parts (same_point p x && same_point q y) (same_point r z) yes_lies in
+        let inner = and_parts (same_point p x) (same_point q y) outer.0 in
+        absurd (by two inner.0 inner.1 outer.1)
+    | inr m ↦ m
+  ]
+    where
+      by : (x ≡ y) ⊎ ((y ≡ z) ⊎ (z ≡ x)) → same_point p x ≡ true → same_point q y ≡ true → same_point r z ≡ true → ⊥
+      by (inl e) f g k = both_ways (same_point p q) pq (meet_there p q y (ap (same_point p) (sym e) ∙ f) g)
+      by (inr (inl e)) f g k = both_ways (same_point q r) qr (meet_there q r z (ap (same_point q) (sym e) ∙ g) k)
+      by (inr (inr e)) f g k = both_ways (same_point r p) rp (meet_there r p x (ap (same_point r) (sym e) ∙ k) f)
+
+  pub gone_elsewhere : (t : Triple) → AtOne points t → is_at points (p, q, r) t ≡ false
+  gone_elsewhere t two =
+      let x = get_or points t.0 [] in
+      let y = get_or points t.1 [] in
+      let z = get_or points t.2 [] in
+      or_from (lies_at p q r x y z || lies_at p q r y z x) (lies_at p q r z x y)
+      (or_from (lies_at p q r x y z) (lies_at p q r y z x) (no_lies x y z two) (no_lies y z x (on two))) (no_lies z x y (on' two))
+    where
+      on : AtOne points t → (get_or points t.1 [] ≡ get_or points t.2 []) ⊎ ((get_or points t.2 [] ≡ get_or points t.0 []) ⊎ (get_or points t.0 [] ≡ get_or points t.1 []))
+      on (inl e) = inr (inr e)
+      on (inr (inl e)) = inl e
+      on (inr (inr e)) = inr (inl e)
+
+      on' : AtOne points t → (get_or points t.2 [] ≡ get_or points t.0 []) ⊎ ((get_or points t.0 [] ≡ get_or points t.1 []) ⊎ (get_or points t.1 [] ≡ get_or points t.2 []))
+      on' (inl e) = inr (inl e)
+      on' (inr (inl e)) = inr (inr e)
+      on' (inr (inr e)) = inl e
+
 module _ (points : List (List ℤ)) (a b : ℕ) (apart : a ≢ b) (same : get_or points a [] ≡ get_or points b []) where
   -- the point of a vertex stays
   pub point_stays : (v : ℕ) → get_or points (merged a b v) [] ≡ get_or points v []
@@ -111,15 +155,12 @@ module _ (points : List (List ℤ)) (a b : ℕ) (apart : a ≢ b) (same : get_or
   ]
 
   -- two corners of one that goes lie at one point
-  abbrev AtOne : Triple → Type 0
-  AtOne t = (get_or points t.0 [] ≡ get_or points t.1 []) ⊎ ((get_or points t.1 [] ≡ get_or points t.2 []) ⊎ (get_or points t.2 [] ≡ get_or points t.0 []))
-
-  two_at_one : (t : Triple) → IsVertexOf t a → IsVertexOf t b → AtOne t
+  two_at_one : (t : Triple) → IsVertexOf t a → IsVertexOf t b → AtOne points t
   two_at_one t p q = by p q where
     at : (v w : ℕ) → v ≡ a → w ≡ b → get_or points v [] ≡ get_or points w []
     at v w e f = ap (λ i. get_or points i []) e ∙ same ∙ sym (ap (λ i. get_or points i []) f)
 
-    by : IsVertexOf t a → IsVertexOf t b → AtOne t
+    by : IsVertexOf t a → IsVertexOf t b → AtOne points t
     by (inl x) (inl y) = absurd (apart (sym x ∙ y))
     by (inl x) (inr (inl y)) = inl (at t.0 t.1 x y)
     by (inl x) (inr (inr y)) = inr (inr (sym (at t.0 t.2 x y)))
@@ -130,13 +171,8 @@ module _ (points : List (List ℤ)) (a b : ℕ) (apart : a ≢ b) (same : get_or
     by (inr (inr x)) (inr (inl y)) = inr (inl (sym (at t.2 t.1 x y)))
     by (inr (inr x)) (inr (inr y)) = absurd (apart (sym x ∙ y))
 
-  gone_at_one : (t : Triple) → stays a b t ≡ false → AtOne t
+  gone_at_one : (t : Triple) → stays a b t ≡ false → AtOne points t
   gone_at_one t m = let g = goes_both a b t m in two_at_one t (vertex_of t a g.first) (vertex_of t b g.second)
-
-  flat : (t : Triple) → AtOne t → triangle_determinant points t ≡ pos 0
-  flat t (inl e) = ap (λ p. determinant p (get_or points t.1 []) (get_or points t.2 [])) e ∙ det_first (get_or points t.1 []) (get_or points t.2 [])
-  flat t (inr (inl e)) = ap (λ p. determinant (get_or points t.0 []) p (get_or points t.2 [])) e ∙ det_last (get_or points t.2 []) (get_or points t.0 [])
-  flat t (inr (inr e)) = ap (λ p. determinant (get_or points t.0 []) (get_or points t.1 []) p) e ∙ det_outer (get_or points t.0 []) (get_or points t.1 [])
 
   det_stays : (t : Triple) → triangle_determinant points (renamed_triple (merged a b) t) ≡ triangle_determinant points t
   det_stays t =
@@ -147,7 +183,7 @@ module _ (points : List (List ℤ)) (a b : ℕ) (apart : a ≢ b) (same : get_or
   volume_stays [] = refl
   volume_stays (t ∷ ts) = elim (cases_Bool (stays a b t)) as (λ _. volume6_of points (collapsed a b (t ∷ ts)) ≡ volume6_of points (t ∷ ts)) [
     | inl y ↦ ap (volume6_of points) (front a b t ts true y) ∙ omega (arith, ints, volume_stays ts, det_stays t)
-    | inr m ↦ ap (volume6_of points) (front a b t ts false m) ∙ omega (arith, ints, volume_stays ts, flat t (gone_at_one t m))
+    | inr m ↦ ap (volume6_of points) (front a b t ts false m) ∙ omega (arith, ints, volume_stays ts, flat points t (gone_at_one t m))
   ]
 
   -- three points of which no two are one
@@ -156,38 +192,6 @@ module _ (points : List (List ℤ)) (a b : ℕ) (apart : a ≢ b) (same : get_or
     at_stays t =
         ap (λ x. lies_round (p, q, r) x (get_or points (merged a b t.1) []) (get_or points (merged a b t.2) [])) (point_stays t.0)
         ∙ ap (λ y. lies_round (p, q, r) (get_or points t.0 []) y (get_or points (merged a b t.2) [])) (point_stays t.1) ∙ ap (λ z. lies_round (p, q, r) (get_or points t.0 []) (get_or points t.1 []) z) (point_stays t.2)
-
-    -- no triangle with two corners at one point lies at them
-    no_lies : (x y z : List ℤ) → (x ≡ y) ⊎ ((y ≡ z) ⊎ (z ≡ x)) → lies_at p q r x y z ≡ false
-    no_lies x y z two = elim (cases_Bool (lies_at p q r x y z)) as (λ _. lies_at p q r x y z ≡ false) [
-      | inl yes_lies ↦
-          let outer = and_parts (same_point p x && same_point q y) (same_point r z) yes_lies in
-          let inner = and_parts (same_point p x) (same_point q y) outer.0 in
-          absurd (by two inner.0 inner.1 outer.1)
-      | inr m ↦ m
-    ]
-      where
-        by : (x ≡ y) ⊎ ((y ≡ z) ⊎ (z ≡ x)) → same_point p x ≡ true → same_point q y ≡ true → same_point r z ≡ true → ⊥
-        by (inl e) f g k = both_ways (same_point p q) pq (meet_there p q y (ap (same_point p) (sym e) ∙ f) g)
-        by (inr (inl e)) f g k = both_ways (same_point q r) qr (meet_there q r z (ap (same_point q) (sym e) ∙ g) k)
-        by (inr (inr e)) f g k = both_ways (same_point r p) rp (meet_there r p x (ap (same_point r) (sym e) ∙ k) f)
-
-    gone_elsewhere : (t : Triple) → AtOne t → is_at points (p, q, r) t ≡ false
-    gone_elsewhere t two =
-        let x = get_or points t.0 [] in
-        let y = get_or points t.1 [] in
-        let z = get_or points t.2 [] in
-        or_from (lies_at p q r x y z || lies_at p q r y z x) (lies_at p q r z x y) (or_from (lies_at p q r x y z) (lies_at p q r y z x) (no_lies x y z two) (no_lies y z x (on two))) (no_lies z x y (on' two))
-      where
-        on : AtOne t → (get_or points t.1 [] ≡ get_or points t.2 []) ⊎ ((get_or points t.2 [] ≡ get_or points t.0 []) ⊎ (get_or points t.0 [] ≡ get_or points t.1 []))
-        on (inl e) = inr (inr e)
-        on (inr (inl e)) = inl e
-        on (inr (inr e)) = inr (inl e)
-
-        on' : AtOne t → (get_or points t.2 [] ≡ get_or points t.0 []) ⊎ ((get_or points t.0 [] ≡ get_or points t.1 []) ⊎ (get_or points t.1 [] ≡ get_or points t.2 []))
-        on' (inl e) = inr (inl e)
-        on' (inr (inl e)) = inr (inr e)
-        on' (inr (inr e)) = inl e
 
     pub count_stays : (ts : List Triple) → count_at points (p, q, r) (collapsed a b ts) ≡ count_at points (p, q, r) ts
     count_stays [] = refl
@@ -198,5 +202,5 @@ module _ (points : List (List ℤ)) (a b : ℕ) (apart : a ≢ b) (same : get_or
           ∙ omega (arith, count_stays ts, count_by-cons (is_at points (p, q, r)) u (collapsed a b ts), count_by-cons (is_at points (p, q, r)) t ts, ap one_if (at_stays t))
       | inr m ↦
           ap (count_at points (p, q, r)) (front a b t ts false m)
-          ∙ omega (arith, count_stays ts, count_by-cons (is_at points (p, q, r)) t ts, ap one_if (gone_elsewhere t (gone_at_one t m)))
+          ∙ omega (arith, count_stays ts, count_by-cons (is_at points (p, q, r)) t ts, ap one_if (gone_elsewhere points p q r pq qr rp t (gone_at_one t m)))
     ]

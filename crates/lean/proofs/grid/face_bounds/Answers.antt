@@ -1,7 +1,6 @@
 use Rattle.std.proofs.Common.{◌≡◌, [], ℤ, List, ◌∙◌}
 use Rattle.std.proofs.lemmas.List.{get_or_default}
 use Rattle.box_tree.specs.declared.bounds.Range.{Range}
-use Rattle.box_tree.specs.declared.bounds.Bounds.{Bounds}
 use Rattle.mesh_terms.specs.Meshes.{triple_of}
 use Rattle.lean.specs.Grid.{bounds_of, range_on}
 use Rattle.lean.proofs.grid.face_bounds.Goals as goal

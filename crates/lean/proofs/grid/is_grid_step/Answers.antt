@@ -1,4 +1,4 @@
-use Rattle.std.proofs.Common.{◌≡◌, ◌*◌, ◌%◌, ◌^◌, pos, ap, ◌∙◌}
+use Rattle.std.proofs.Common.{◌*◌, ◌%◌, ◌^◌, pos, ap, ◌∙◌}
 use Rattle.std.proofs.lemmas.Bool.{eqb-true}
 use Rattle.std.proofs.lemmas.Nat.{one_shl}
 use Rattle.lean.proofs.grid.is_grid_step.Goals as goal

@@ -1,4 +1,4 @@
-use Rattle.std.proofs.Common.{arith, ◌≡◌, ◌≤◌, ◌^◌, ◌<◌, ℕ, zero, suc, ℤ, List, to_z, of_z, w32, ap, unsigned_abs}
+use Rattle.std.proofs.Common.{arith, ◌≡◌, ◌<◌, ℕ, zero, suc, ℤ, List, to_z, of_z, w32, ap}
 use Rattle.std.specs.Int.{int_max, int_min}
 use Rattle.std.proofs.lemmas.Int.{ints, clamps}
 use Rattle.mesh_terms.specs.Points.{coordinate_of, IsOnGrid, IsPoint}

@@ -18,5 +18,6 @@ returns g c =
         back = c.plays_are_readable.ensures.back;
         held = c.plays_are_readable.ensures.held;
         results = c.plays_give_results.ensures.results;
+        remeshed = c.plays_give_results.ensures.remeshed;
       };
     }

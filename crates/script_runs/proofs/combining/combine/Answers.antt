@@ -1,11 +1,10 @@
 use Rattle.std.proofs.Common.{◌≡◌, ◌∙◌, ap, sym}
 use Rattle.std.proofs.lemmas.Result.{err_from_is_err_and}
-use Rattle.std.specs.Option.{option_map}
 use Rattle.mb_outside.specs.Seen.{on_output}
 use Rattle.mesh_boolean.specs.declared.outcome.Outcome.{Outcome}
 use Rattle.report_lines.specs.Counts.{counts_of}
 use Rattle.play_terms.specs.Combined.{Combined}
-use Rattle.play_terms.specs.Plays.{mesh_at, mesh_or_none, with_name}
+use Rattle.play_terms.specs.Plays.{mesh_at, with_name}
 use Rattle.script_runs.specs.Names.{named_in}
 use Rattle.script_runs.specs.Operations.{meanings}
 use Rattle.script_runs.specs.Outcomes.{IsOutcome}
@@ -21,21 +20,22 @@ pub returns-in_err-outcome-clause-meets : goal.returns-in_err-outcome-clause-mee
 returns-in_err-outcome-clause-meets g c =
     let e = err_from_is_err_and c.from_residual.result c.from_residual.ensures.1 in
     let named = named_in c.args.names.now in
-    let is_p : mesh_at named c.args.left.now ≡ c.in-Some-Some.p.now = ap mesh_or_none (sym c.mesh.ensures ∙ ap (option_map (λ m. m.now)) c.in-Some-Some.is-0) in
-    let is_q : mesh_at named c.args.right.now ≡ c.in-Some-Some.q.now = ap mesh_or_none (sym c.mesh-2.ensures ∙ ap (option_map (λ m. m.now)) c.in-Some-Some.is-1) in
+    let is_p = sym c.mesh_of-p.ensures in
+    let is_q = sym c.mesh_of-q.ensures in
     let out = on_output g.O.Sink c.args.out.now in
     rw (e.1, e.2)
-    (combine_stopped (meanings c.args.kernels) c.args.limits.now c.args.op c.args.name.now c.args.left.now c.args.right.now c.in-Some-Some.p.now c.in-Some-Some.q.now named is_p is_q out out _ c.in_err-outcome.ensures.meets)
+    (combine_stopped (meanings c.args.kernels) c.args.limits.now c.args.op c.args.name.now c.args.left.now
+    c.args.right.now c.mesh_of-p.result.now c.mesh_of-q.result.now named is_p is_q out out _ c.in_err-outcome.ensures.meets)
 
 pub returns-in_err-say_combined-clause-meets : goal.returns-in_err-say_combined-clause-meets
 returns-in_err-say_combined-clause-meets g c =
     let e = err_from_is_err_and c.from_residual-in_err-say_combined.result c.from_residual-in_err-say_combined.ensures.1 in
     let named = named_in c.args.names.now in
-    let p = c.in-Some-Some.p.now in
-    let q = c.in-Some-Some.q.now in
+    let p = c.mesh_of-p.result.now in
+    let q = c.mesh_of-q.result.now in
     let o = (meanings c.args.kernels).operation c.args.op p q in
-    let is_p : mesh_at named c.args.left.now ≡ p = ap mesh_or_none (sym c.mesh.ensures ∙ ap (option_map (λ m. m.now)) c.in-Some-Some.is-0) in
-    let is_q : mesh_at named c.args.right.now ≡ q = ap mesh_or_none (sym c.mesh-2.ensures ∙ ap (option_map (λ m. m.now)) c.in-Some-Some.is-1) in
+    let is_p = sym c.mesh_of-p.ensures in
+    let is_q = sym c.mesh_of-q.ensures in
     let same = told o c.in_ok-outcome.outcome c.in_ok-outcome.ensures.outcome in
     let out = on_output g.O.Sink c.args.out.now in
     let after = on_output g.O.Sink c.say_combined.new.sink in
@@ -45,11 +45,11 @@ pub returns-in_err-define-clause-meets : goal.returns-in_err-define-clause-meets
 returns-in_err-define-clause-meets g c =
     let e = err_from_is_err_and c.from_residual-in_err-define.result c.from_residual-in_err-define.ensures.1 in
     let named = named_in c.args.names.now in
-    let p = c.in-Some-Some.p.now in
-    let q = c.in-Some-Some.q.now in
+    let p = c.mesh_of-p.result.now in
+    let q = c.mesh_of-q.result.now in
     let o = (meanings c.args.kernels).operation c.args.op p q in
-    let is_p : mesh_at named c.args.left.now ≡ p = ap mesh_or_none (sym c.mesh.ensures ∙ ap (option_map (λ m. m.now)) c.in-Some-Some.is-0) in
-    let is_q : mesh_at named c.args.right.now ≡ q = ap mesh_or_none (sym c.mesh-2.ensures ∙ ap (option_map (λ m. m.now)) c.in-Some-Some.is-1) in
+    let is_p = sym c.mesh_of-p.ensures in
+    let is_q = sym c.mesh_of-q.ensures in
     let same = told o c.in_ok-outcome.outcome c.in_ok-outcome.ensures.outcome in
     let out = on_output g.O.Sink c.args.out.now in
     let after = on_output g.O.Sink c.say_combined.new.sink in
@@ -58,11 +58,11 @@ returns-in_err-define-clause-meets g c =
 pub returns-clause-meets : goal.returns-clause-meets
 returns-clause-meets g c =
     let named = named_in c.args.names.now in
-    let p = c.in-Some-Some.p.now in
-    let q = c.in-Some-Some.q.now in
+    let p = c.mesh_of-p.result.now in
+    let q = c.mesh_of-q.result.now in
     let o = (meanings c.args.kernels).operation c.args.op p q in
-    let is_p : mesh_at named c.args.left.now ≡ p = ap mesh_or_none (sym c.mesh.ensures ∙ ap (option_map (λ m. m.now)) c.in-Some-Some.is-0) in
-    let is_q : mesh_at named c.args.right.now ≡ q = ap mesh_or_none (sym c.mesh-2.ensures ∙ ap (option_map (λ m. m.now)) c.in-Some-Some.is-1) in
+    let is_p = sym c.mesh_of-p.ensures in
+    let is_q = sym c.mesh_of-q.ensures in
     let same = told o c.in_ok-outcome.outcome c.in_ok-outcome.ensures.outcome in
     let out = on_output g.O.Sink c.args.out.now in
     let after = on_output g.O.Sink c.say_combined.new.sink in
@@ -75,35 +75,35 @@ returns-clause-named g c = (c.in_ok-outcome.outcome.mesh, c.in_ok-define.ensures
 pub returns-in_err-outcome-clause-cost : goal.returns-in_err-outcome-clause-cost
 returns-in_err-outcome-clause-cost g c =
     let named = named_in c.args.names.now in
-    let p = c.in-Some-Some.p.now in
-    let q = c.in-Some-Some.q.now in
-    let is_p : mesh_at named c.args.left.now ≡ p = ap mesh_or_none (sym c.mesh.ensures ∙ ap (option_map (λ m. m.now)) c.in-Some-Some.is-0) in
-    let is_q : mesh_at named c.args.right.now ≡ q = ap mesh_or_none (sym c.mesh-2.ensures ∙ ap (option_map (λ m. m.now)) c.in-Some-Some.is-1) in
+    let p = c.mesh_of-p.result.now in
+    let q = c.mesh_of-q.result.now in
+    let is_p = sym c.mesh_of-p.ensures in
+    let is_q = sym c.mesh_of-q.ensures in
     combined c.args.op (mesh_at named c.args.left.now) (mesh_at named c.args.right.now) p q c.args.steps.now c.operate.new.steps is_p is_q c.in_err-outcome.ensures.cost
 
 pub returns-in_err-say_combined-clause-cost : goal.returns-in_err-say_combined-clause-cost
 returns-in_err-say_combined-clause-cost g c =
     let named = named_in c.args.names.now in
-    let p = c.in-Some-Some.p.now in
-    let q = c.in-Some-Some.q.now in
-    let is_p : mesh_at named c.args.left.now ≡ p = ap mesh_or_none (sym c.mesh.ensures ∙ ap (option_map (λ m. m.now)) c.in-Some-Some.is-0) in
-    let is_q : mesh_at named c.args.right.now ≡ q = ap mesh_or_none (sym c.mesh-2.ensures ∙ ap (option_map (λ m. m.now)) c.in-Some-Some.is-1) in
+    let p = c.mesh_of-p.result.now in
+    let q = c.mesh_of-q.result.now in
+    let is_p = sym c.mesh_of-p.ensures in
+    let is_q = sym c.mesh_of-q.ensures in
     combined c.args.op (mesh_at named c.args.left.now) (mesh_at named c.args.right.now) p q c.args.steps.now c.operate.new.steps is_p is_q c.in_ok-outcome.ensures.cost
 
 pub returns-in_err-define-clause-cost : goal.returns-in_err-define-clause-cost
 returns-in_err-define-clause-cost g c =
     let named = named_in c.args.names.now in
-    let p = c.in-Some-Some.p.now in
-    let q = c.in-Some-Some.q.now in
-    let is_p : mesh_at named c.args.left.now ≡ p = ap mesh_or_none (sym c.mesh.ensures ∙ ap (option_map (λ m. m.now)) c.in-Some-Some.is-0) in
-    let is_q : mesh_at named c.args.right.now ≡ q = ap mesh_or_none (sym c.mesh-2.ensures ∙ ap (option_map (λ m. m.now)) c.in-Some-Some.is-1) in
+    let p = c.mesh_of-p.result.now in
+    let q = c.mesh_of-q.result.now in
+    let is_p = sym c.mesh_of-p.ensures in
+    let is_q = sym c.mesh_of-q.ensures in
     combined c.args.op (mesh_at named c.args.left.now) (mesh_at named c.args.right.now) p q c.args.steps.now c.operate.new.steps is_p is_q c.in_ok-outcome.ensures.cost
 
 pub returns-clause-cost : goal.returns-clause-cost
 returns-clause-cost g c =
     let named = named_in c.args.names.now in
-    let p = c.in-Some-Some.p.now in
-    let q = c.in-Some-Some.q.now in
-    let is_p : mesh_at named c.args.left.now ≡ p = ap mesh_or_none (sym c.mesh.ensures ∙ ap (option_map (λ m. m.now)) c.in-Some-Some.is-0) in
-    let is_q : mesh_at named c.args.right.now ≡ q = ap mesh_or_none (sym c.mesh-2.ensures ∙ ap (option_map (λ m. m.now)) c.in-Some-Some.is-1) in
+    let p = c.mesh_of-p.result.now in
+    let q = c.mesh_of-q.result.now in
+    let is_p = sym c.mesh_of-p.ensures in
+    let is_q = sym c.mesh_of-q.ensures in
     combined c.args.op (mesh_at named c.args.left.now) (mesh_at named c.args.right.now) p q c.args.steps.now c.operate.new.steps is_p is_q c.in_ok-outcome.ensures.cost

@@ -1,8 +1,7 @@
 use Rattle.std.proofs.Common.{◌≡◌, ◌∙◌, ap, sym}
 use Rattle.std.proofs.lemmas.Result.{err_from_is_err_and}
-use Rattle.std.specs.Option.{option_map}
 use Rattle.play_laws.proofs.Tasks.{meets_starved}
-use Rattle.play_terms.specs.Plays.{mesh_at, mesh_or_none, move_task, with_name}
+use Rattle.play_terms.specs.Plays.{mesh_at, move_task, with_name}
 use Rattle.script_runs.specs.Names.{named_in}
 use Rattle.script_runs.proofs.MadeMeshes.{moved_so, unmoved}
 use Rattle.script_runs.proofs.moving.move_mesh.Goals as goal
@@ -10,9 +9,9 @@ use Rattle.script_runs.proofs.moving.move_mesh.Goals as goal
 pub returns-in-Err-clause-meets : goal.returns-in-Err-clause-meets
 returns-in-Err-clause-meets c now =
     let named = named_in c.args.names.now in
-    let is : mesh_at named c.args.source.now ≡ c.in-Some.mesh.now = ap mesh_or_none (sym c.mesh.ensures ∙ ap (option_map (λ m. m.now)) c.in-Some.is) in
+    let is = sym c.mesh_of-mesh.ensures in
     rw c.halt_at.ensures.why
-    (unmoved c.args.script.now c.args.line c.args.name.now c.args.source.now c.args.motion named c.in-Some.mesh.now is _ c.in-Err.fault c.in-Err.ensures.refused now)
+    (unmoved c.args.script.now c.args.line c.args.name.now c.args.source.now c.args.motion named c.mesh_of-mesh.result.now is _ c.in-Err.fault c.in-Err.ensures.refused now)
 
 pub returns-in_err-define-clause-meets : goal.returns-in_err-define-clause-meets
 returns-in_err-define-clause-meets c now =
@@ -23,8 +22,8 @@ pub returns-clause-meets : goal.returns-clause-meets
 returns-clause-meets c now =
     let name = c.args.name.now in
     let named = named_in c.args.names.now in
-    let mesh = c.in-Some.mesh.now in
-    let is : mesh_at named c.args.source.now ≡ mesh = ap mesh_or_none (sym c.mesh.ensures ∙ ap (option_map (λ m. m.now)) c.in-Some.is) in
+    let mesh = c.mesh_of-mesh.result.now in
+    let is = sym c.mesh_of-mesh.ensures in
     let after = c.in_ok-define.ensures.named ∙ ap (λ m. with_name name m named) c.in-Ok.ensures.mesh in
     moved_so c.args.script.now c.args.line name c.args.source.now c.args.motion named mesh is c.in-Ok.moved c.in-Ok.ensures.refused (named_in c.define.new.self) after now
 

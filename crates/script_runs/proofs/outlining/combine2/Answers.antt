@@ -1,9 +1,8 @@
 use Rattle.std.proofs.Common.{◌≡◌, ◌∙◌, ap, sym}
 use Rattle.std.proofs.lemmas.Result.{err_from_is_err_and}
-use Rattle.std.specs.Option.{option_map}
 use Rattle.mb_outside.specs.Seen.{on_output}
 use Rattle.report_lines.specs.Counts.{counts2_of}
-use Rattle.play_terms.specs.Plays.{outline_at, outline_or_none, with_outline}
+use Rattle.play_terms.specs.Plays.{outline_at, with_outline}
 use Rattle.script_runs.specs.Names.{named_in}
 use Rattle.script_runs.specs.Operations.{meanings}
 use Rattle.script_runs.proofs.OutlineStages.{combine2_named, combine2_stopped, combine2_unnamed, combine2_unsaid}
@@ -13,22 +12,22 @@ pub returns-in_err-flat-clause-meets : goal.returns-in_err-flat-clause-meets
 returns-in_err-flat-clause-meets g c =
     let e = err_from_is_err_and c.from_residual.result c.from_residual.ensures.1 in
     let named = named_in c.args.names.now in
-    let is_p : outline_at named c.args.left.now ≡ c.in-Some-Some.p.now = ap outline_or_none (sym c.outline.ensures ∙ ap (option_map (λ m. m.now)) c.in-Some-Some.is-0) in
-    let is_q : outline_at named c.args.right.now ≡ c.in-Some-Some.q.now = ap outline_or_none (sym c.outline-2.ensures ∙ ap (option_map (λ m. m.now)) c.in-Some-Some.is-1) in
+    let is_p = sym c.outline_of-p.ensures in
+    let is_q = sym c.outline_of-q.ensures in
     let out = on_output g.O.Sink c.args.out.now in
     rw (e.1, e.2)
     (combine2_stopped (meanings c.args.kernels) c.args.limits.now c.args.op c.args.name.now c.args.left.now
-    c.args.right.now c.in-Some-Some.p.now c.in-Some-Some.q.now named is_p is_q out out _ c.in_err-flat.ensures.meets)
+    c.args.right.now c.outline_of-p.result.now c.outline_of-q.result.now named is_p is_q out out _ c.in_err-flat.ensures.meets)
 
 pub returns-in_err-say_combined2-clause-meets : goal.returns-in_err-say_combined2-clause-meets
 returns-in_err-say_combined2-clause-meets g c =
     let e = err_from_is_err_and c.from_residual-in_err-say_combined2.result c.from_residual-in_err-say_combined2.ensures.1 in
     let named = named_in c.args.names.now in
-    let p = c.in-Some-Some.p.now in
-    let q = c.in-Some-Some.q.now in
+    let p = c.outline_of-p.result.now in
+    let q = c.outline_of-q.result.now in
     let o = (meanings c.args.kernels).outlines c.args.op p q in
-    let is_p : outline_at named c.args.left.now ≡ p = ap outline_or_none (sym c.outline.ensures ∙ ap (option_map (λ m. m.now)) c.in-Some-Some.is-0) in
-    let is_q : outline_at named c.args.right.now ≡ q = ap outline_or_none (sym c.outline-2.ensures ∙ ap (option_map (λ m. m.now)) c.in-Some-Some.is-1) in
+    let is_p = sym c.outline_of-p.ensures in
+    let is_q = sym c.outline_of-q.ensures in
     let same = c.counts_of-counts.ensures ∙ ap counts2_of c.in_ok-flat.ensures.outcome in
     let out = on_output g.O.Sink c.args.out.now in
     let after = on_output g.O.Sink c.say_combined2.new.sink in
@@ -39,11 +38,11 @@ pub returns-in_err-define_outline-clause-meets : goal.returns-in_err-define_outl
 returns-in_err-define_outline-clause-meets g c =
     let e = err_from_is_err_and c.from_residual-in_err-define_outline.result c.from_residual-in_err-define_outline.ensures.1 in
     let named = named_in c.args.names.now in
-    let p = c.in-Some-Some.p.now in
-    let q = c.in-Some-Some.q.now in
+    let p = c.outline_of-p.result.now in
+    let q = c.outline_of-q.result.now in
     let o = (meanings c.args.kernels).outlines c.args.op p q in
-    let is_p : outline_at named c.args.left.now ≡ p = ap outline_or_none (sym c.outline.ensures ∙ ap (option_map (λ m. m.now)) c.in-Some-Some.is-0) in
-    let is_q : outline_at named c.args.right.now ≡ q = ap outline_or_none (sym c.outline-2.ensures ∙ ap (option_map (λ m. m.now)) c.in-Some-Some.is-1) in
+    let is_p = sym c.outline_of-p.ensures in
+    let is_q = sym c.outline_of-q.ensures in
     let same = c.counts_of-counts.ensures ∙ ap counts2_of c.in_ok-flat.ensures.outcome in
     let out = on_output g.O.Sink c.args.out.now in
     let after = on_output g.O.Sink c.say_combined2.new.sink in
@@ -53,11 +52,11 @@ returns-in_err-define_outline-clause-meets g c =
 pub returns-clause-meets : goal.returns-clause-meets
 returns-clause-meets g c =
     let named = named_in c.args.names.now in
-    let p = c.in-Some-Some.p.now in
-    let q = c.in-Some-Some.q.now in
+    let p = c.outline_of-p.result.now in
+    let q = c.outline_of-q.result.now in
     let o = (meanings c.args.kernels).outlines c.args.op p q in
-    let is_p : outline_at named c.args.left.now ≡ p = ap outline_or_none (sym c.outline.ensures ∙ ap (option_map (λ m. m.now)) c.in-Some-Some.is-0) in
-    let is_q : outline_at named c.args.right.now ≡ q = ap outline_or_none (sym c.outline-2.ensures ∙ ap (option_map (λ m. m.now)) c.in-Some-Some.is-1) in
+    let is_p = sym c.outline_of-p.ensures in
+    let is_q = sym c.outline_of-q.ensures in
     let same = c.counts_of-counts.ensures ∙ ap counts2_of c.in_ok-flat.ensures.outcome in
     let out = on_output g.O.Sink c.args.out.now in
     let after = on_output g.O.Sink c.say_combined2.new.sink in

@@ -1,9 +1,8 @@
 use Rattle.std.proofs.Common.{◌≡◌, ◌∙◌, ap, sym}
 use Rattle.std.proofs.lemmas.Result.{err_from_is_err_and}
-use Rattle.std.specs.Option.{option_map}
 use Rattle.extrusion.proofs.Solids.{kept_32}
 use Rattle.mb_outside.specs.Seen.{on_output}
-use Rattle.play_terms.specs.Plays.{outline_at, outline_or_none, with_name}
+use Rattle.play_terms.specs.Plays.{with_name}
 use Rattle.script_runs.specs.Names.{named_in}
 use Rattle.script_runs.specs.Operations.{meanings}
 use Rattle.script_runs.proofs.OutlineStages.{done_between, extrude_named, extrude_stopped, extrude_unnamed, extrude_unsaid, forced_as, same_between, stopped_between}
@@ -14,8 +13,8 @@ pub returns-in_err-extruded-clause-meets : goal.returns-in_err-extruded-clause-m
 returns-in_err-extruded-clause-meets g c kernels =
     let e = err_from_is_err_and c.from_residual.result c.from_residual.ensures.1 in
     let named = named_in c.args.names.now in
-    let o = c.in-Some.outline.now in
-    let is_o : outline_at named c.args.source.now ≡ o = ap outline_or_none (sym c.outline.ensures ∙ ap (option_map (λ m. m.now)) c.in-Some.is) in
+    let o = c.outline_of-outline.result.now in
+    let is_o = sym c.outline_of-outline.ensures in
     let out = on_output g.O.Sink c.args.out.now in
     rw (e.1, e.2)
     (extrude_stopped (meanings kernels) c.args.limits.now c.args.script.now c.args.line c.args.name.now c.args.source.now c.args.low c.args.high named o is_o out out _
@@ -26,8 +25,8 @@ pub returns-in_err-say_extruded-clause-meets : goal.returns-in_err-say_extruded-
 returns-in_err-say_extruded-clause-meets g c kernels =
     let e = err_from_is_err_and c.from_residual-in_err-say_extruded.result c.from_residual-in_err-say_extruded.ensures.1 in
     let named = named_in c.args.names.now in
-    let o = c.in-Some.outline.now in
-    let is_o : outline_at named c.args.source.now ≡ o = ap outline_or_none (sym c.outline.ensures ∙ ap (option_map (λ m. m.now)) c.in-Some.is) in
+    let o = c.outline_of-outline.result.now in
+    let is_o = sym c.outline_of-outline.ensures in
     let out = on_output g.O.Sink c.args.out.now in
     let after = on_output g.O.Sink c.say_extruded.new.sink in
     let low = kept_32 c.args.low c.requires.low in
@@ -43,8 +42,8 @@ pub returns-in_err-define-clause-meets : goal.returns-in_err-define-clause-meets
 returns-in_err-define-clause-meets g c kernels =
     let e = err_from_is_err_and c.from_residual-in_err-define.result c.from_residual-in_err-define.ensures.1 in
     let named = named_in c.args.names.now in
-    let o = c.in-Some.outline.now in
-    let is_o : outline_at named c.args.source.now ≡ o = ap outline_or_none (sym c.outline.ensures ∙ ap (option_map (λ m. m.now)) c.in-Some.is) in
+    let o = c.outline_of-outline.result.now in
+    let is_o = sym c.outline_of-outline.ensures in
     let out = on_output g.O.Sink c.args.out.now in
     let after = on_output g.O.Sink c.say_extruded.new.sink in
     let low = kept_32 c.args.low c.requires.low in
@@ -59,8 +58,8 @@ returns-in_err-define-clause-meets g c kernels =
 pub returns-clause-meets : goal.returns-clause-meets
 returns-clause-meets g c kernels =
     let named = named_in c.args.names.now in
-    let o = c.in-Some.outline.now in
-    let is_o : outline_at named c.args.source.now ≡ o = ap outline_or_none (sym c.outline.ensures ∙ ap (option_map (λ m. m.now)) c.in-Some.is) in
+    let o = c.outline_of-outline.result.now in
+    let is_o = sym c.outline_of-outline.ensures in
     let out = on_output g.O.Sink c.args.out.now in
     let after = on_output g.O.Sink c.say_extruded.new.sink in
     let low = kept_32 c.args.low c.requires.low in

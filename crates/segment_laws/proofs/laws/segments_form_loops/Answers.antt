@@ -1,5 +1,5 @@
 use Rattle.segment_laws.proofs.LongLoops.{loops_have_copies}
-use Rattle.segment_laws.proofs.Members.{join_copies}
+use Rattle.segment_laws.proofs.Standing.{join_copies}
 use Rattle.segment_laws.proofs.OneToOne.{one_to_one}
 use Rattle.segment_laws.proofs.laws.segments_form_loops.Goals as goal
 

@@ -1,4 +1,4 @@
-use Rattle.std.proofs.Common.{[], get_or}
+use Rattle.std.proofs.Common.{get_or}
 use Rattle.std.proofs.lemmas.List.Elements.{All-map}
 use Rattle.mesh_terms.specs.Meshes.{triples_of}
 use Rattle.box_tree.specs.Coarse.{IsExact}

@@ -1,4 +1,4 @@
-use Rattle.std.proofs.Common.{List, length, ap, sym, subst, ◌∙◌}
+use Rattle.std.proofs.Common.{length, ap, sym, subst, ◌∙◌}
 use Rattle.mesh_terms.specs.Meshes.{IsAccepted}
 use Rattle.mesh_terms.specs.Twins.{Twins, IsTwinned}
 use Rattle.lean.proofs.surface.Surface.of.Goals as goal

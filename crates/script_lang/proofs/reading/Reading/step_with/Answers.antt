@@ -36,6 +36,12 @@ returns-in-Tidy-clause-step c = rw c.in-Tidy.is (c.tidy_step.ensures.step c.args
 pub returns-in-Tidy-clause-fault : goal.returns-in-Tidy-clause-fault
 returns-in-Tidy-clause-fault c = rw c.in-Tidy.is (c.tidy_step.ensures.fault c.args.digits)
 
+pub returns-in-Remesh-clause-step : goal.returns-in-Remesh-clause-step
+returns-in-Remesh-clause-step c = rw c.in-Remesh.is (c.remesh_step.ensures.step c.args.digits)
+
+pub returns-in-Remesh-clause-fault : goal.returns-in-Remesh-clause-fault
+returns-in-Remesh-clause-fault c = rw c.in-Remesh.is (c.remesh_step.ensures.fault c.args.digits)
+
 pub returns-in-Combine2-clause-step : goal.returns-in-Combine2-clause-step
 returns-in-Combine2-clause-step c = rw c.in-Combine2.is (c.combine2_step.ensures.step c.args.digits)
 

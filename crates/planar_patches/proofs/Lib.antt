@@ -1,0 +1,13 @@
+pub mod Corners
+pub mod Firsts
+pub mod Gathering
+pub mod Growing
+pub mod Labels
+pub mod Looking
+pub mod Loops
+pub mod Numbers
+pub mod Reading
+pub mod Refills
+pub mod RimSteps
+pub mod Welds
+pub mod Whole
