@@ -50,7 +50,8 @@ module _ (number : ℕ → ℤ) (es : List (ℕ × ℕ)) where
       get_or_default numbers v d (pos 0) low ∙ subst (λ u. get_or numbers u (pos 0) ≡ number u) (sym is.2) (known is.0 is.1)
 
 -- where all starts of a list have their numbers, so have those of one with the same edges
-pub known_moved : (number : ℕ → ℤ) (es fs : List (ℕ × ℕ)) → IsPermutation es fs → (numbers : List ℤ) → AreKnown number fs (length fs) numbers → AreKnown number es (length es) numbers
+pub known_moved : (number : ℕ → ℤ) (es fs : List (ℕ × ℕ)) → IsPermutation es fs →
+    (numbers : List ℤ) → AreKnown number fs (length fs) numbers → AreKnown number es (length es) numbers
 known_moved number es fs moved numbers known j low =
     let e = get_or es j (0, 0) in
     let found = Contains-permutation es fs e moved (Contains-get_or es j (0, 0) low) in

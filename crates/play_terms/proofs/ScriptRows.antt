@@ -73,7 +73,23 @@ record AreMade : Type 0 where
 
 are_made : AreMade
 unfolding chars is_utf8 encode_utf8 number_of number_fault
-are_made = record { measure = refl; box = refl; tetra = refl; exact = refl; prism = refl; lattice = refl; least = refl; shift = refl; scale = refl; mirror = refl; turn = refl; tidy = refl; remesh = refl; digits = refl }
+are_made = record {
+  measure = refl;
+  box = refl;
+  tetra = refl;
+  exact = refl;
+  prism = refl;
+  lattice = refl;
+  least
+      = refl;
+  shift = refl;
+  scale = refl;
+  mirror = refl;
+  turn = refl;
+  tidy = refl;
+  remesh = refl;
+  digits = refl;
+}
 
 -- operands that have no value, and what is asked before them: numbers, whole numbers, a factor, an axis
 record HaveNoValue : Type 0 where

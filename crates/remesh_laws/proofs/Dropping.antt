@@ -89,7 +89,8 @@ places_from f p g k (x ∷ xs) d same =
           ap (map (λ i. f (g i))) left ∙ ap (λ y. f y ∷ map (λ i. f (g i)) (filter (λ i. p (f (g i))) (up_from (suc k) (length xs)))) here ∙ ap (λ ys. f x ∷ ys) rest ∙ sym right
       | inr not_so ↦
           let left : filter (λ i. p (f (g i))) (up_from k (length (x ∷ xs))) ≡ filter (λ i. p (f (g i))) (up_from (suc k) (length xs)) =
-          ap (λ c. cond c (k ∷ filter (λ i. p (f (g i))) (up_from (suc k) (length xs))) (filter (λ i. p (f (g i))) (up_from (suc k) (length xs)))) (ap (λ y. p (f y)) here ∙ not_so) in
+          ap (λ c. cond c (k ∷ filter (λ i. p (f (g i))) (up_from (suc k) (length xs))) (filter (λ i. p (f (g i))) (up_from (suc k) (length xs))))
+          (ap (λ y. p (f y)) here ∙ not_so) in
           let right : filter p (map f (x ∷ xs)) ≡ filter p (map f xs) = ap (λ c. cond c (f x ∷ filter p (map f xs)) (filter p (map f xs))) not_so in
           ap (map (λ i. f (g i))) left ∙ rest ∙ sym right
     ]

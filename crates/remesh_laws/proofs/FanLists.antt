@@ -58,9 +58,11 @@ module _ (es : List (ℕ × ℕ)) where
   is_listed k (suc n) z r = elim (cases_eq (start es z) k) as (λ _. Contains (fans_from es k (suc n)) z) [
     | inl e ↦
         let passes = and_from (start es z == k) (least_of_fan es z == z) (eq-eqb (start es z) k e) (eq-eqb (least_of_fan es z) z r.itself) in
-        Contains-append_left (fans_at es k) (fans_from es (suc k) n) z (kept (is_least_at es k) 0 (length es) z (record { low = omega arith; high = omega (arith, r.below); passes = passes }))
+        Contains-append_left (fans_at es k) (fans_from es (suc k) n) z
+        (kept (is_least_at es k) 0 (length es) z (record { low = omega arith; high = omega (arith, r.below); passes = passes }))
     | inr d ↦
-        Contains-append_right (fans_at es k) (fans_from es (suc k) n) z (is_listed (suc k) n z (record { low = omega (arith, r.low, d); high = omega (arith, r.high); below = r.below; itself = r.itself }))
+        Contains-append_right (fans_at es k) (fans_from es (suc k) n) z
+        (is_listed (suc k) n z (record { low = omega (arith, r.low, d); high = omega (arith, r.high); below = r.below; itself = r.itself }))
   ]
 
   -- a rising list before another, each member before those of the other
@@ -68,7 +70,8 @@ module _ (es : List (ℕ × ℕ)) where
   rises_append xs ys up later across j k less below = elim (cases_lt k (length xs)) as (λ _. IsBefore es (at j) (at k)) [
     | inl k_low ↦ rw (left j (omega (arith, less, k_low)), left k k_low) (up j k less k_low)
     | inr k_high ↦ elim (cases_lt j (length xs)) as (λ _. IsBefore es (at j) (at k)) [
-      | inl j_low ↦ rw (left j j_low, right k k_high) (across (get_or xs j 0) (get_or ys (k - length xs) 0) (member xs j j_low) (member ys (k - length xs) (omega (arith, k_high, below, full))))
+      | inl j_low ↦ rw (left j j_low, right k k_high)
+          (across (get_or xs j 0) (get_or ys (k - length xs) 0) (member xs j j_low) (member ys (k - length xs) (omega (arith, k_high, below, full))))
       | inr j_high ↦ rw (right j j_high, right k k_high) (later (j - length xs) (k - length xs) (omega (arith, less, j_high)) (omega (arith, k_high, below, full)))
     ]
   ]

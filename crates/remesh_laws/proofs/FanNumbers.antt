@@ -112,7 +112,8 @@ module _ (points : ℕ) (ts : List Triple) (accepted : IsAccepted points ts) whe
   leader_listed : (h : ℕ) → h < length es → Contains first (leader h)
   leader_listed h below =
       let inside = leader_below h below in
-      is_listed es 0 points (leader h) (record { low = omega arith; high = omega (arith, start_below points ts accepted.mesh.below (leader h) inside); below = inside; itself = itself h below })
+      is_listed es 0 points (leader h)
+      (record { low = omega arith; high = omega (arith, start_below points ts accepted.mesh.below (leader h) inside); below = inside; itself = itself h below })
 
   listed_least : (k : ℕ) → k < length first → IsLeast es 0 points (get_or first k 0)
   listed_least k low = is_least es 0 points (get_or first k 0) (member first k low)

@@ -71,7 +71,8 @@ forced_of at (suc n) r ringy long =
     ] in
     omega (arith, count_by-cons p t rest.triples, later, here)
   where
-    by : (k : ℕ) → forced_here at r ≡ k → is_left at (triple_of_place r (cut_place at r)) ≡ false → one_if (not (is_left at (triple_of_place r (cut_place at r)))) ≤ forced_here at r
+    by : (k : ℕ) → forced_here at r ≡ k → is_left at (triple_of_place r (cut_place at r)) ≡ false →
+        one_if (not (is_left at (triple_of_place r (cut_place at r)))) ≤ forced_here at r
     by zero e none = absurd (let left = (chosen at r ringy (omega (arith, long))).left e in let other = none in cc)
     by (suc k) e none = omega (arith, e, ap (λ b. one_if (not b)) none)
 
@@ -157,7 +158,8 @@ module _ (m : Mesh) (given : IsGiven m) (p : Patch) where
     areas_same =
         area_all places_at loops
         ∙ total-same_all (across places_at) (λ e. across vertices_at (renamed (λ i. get_or vs i 0) e)) (flat_map round_edges loops)
-        (All-weaker (λ (e : ℕ × ℕ). (e.0 < length halves) × (e.1 < length halves)) (λ e. across places_at e ≡ across vertices_at (renamed (λ i. get_or vs i 0) e)) across_same (flat_map round_edges loops) low_ends)
+        (All-weaker (λ (e : ℕ × ℕ). (e.0 < length halves) × (e.1 < length halves))
+        (λ e. across places_at e ≡ across vertices_at (renamed (λ i. get_or vs i 0) e)) across_same (flat_map round_edges loops) low_ends)
         ∙ sym (total-map (across vertices_at) (renamed (λ i. get_or vs i 0)) (flat_map round_edges loops)) ∙ ap (total (across vertices_at)) vertex_rounds
         ∙ total-map (across vertices_at) (renamed from) (flat_map round_edges rims) ∙ sym (area_all halves_at rims)
 

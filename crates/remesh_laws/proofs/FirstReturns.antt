@@ -83,6 +83,7 @@ return_back s t n inverse p x k y below passes is = record {
 }
 
 -- so each number with the test is the return of one, and of one alone
-pub returned_once : (s t : ℕ → ℕ) (n : ℕ) → AreInverse s t n → (p : ℕ → Bool) (x y k l z : ℕ) → x < n → y < n → p x ≡ true → p y ≡ true → IsReturn s p x k z → IsReturn s p y l z → x ≡ y
+pub returned_once : (s t : ℕ → ℕ) (n : ℕ) → AreInverse s t n → (p : ℕ → Bool) (x y k l z : ℕ) →
+    x < n → y < n → p x ≡ true → p y ≡ true → IsReturn s p x k z → IsReturn s p y l z → x ≡ y
 returned_once s t n inverse p x y k l z x_below y_below x_passes y_passes one other =
     (one_return t p z k l x y (return_back s t n inverse p x k z x_below x_passes one) (return_back s t n inverse p y l z y_below y_passes other)).1

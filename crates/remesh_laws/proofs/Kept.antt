@@ -34,7 +34,8 @@ use Rattle.ring_cutting.specs.Laws.{TurnsLeft}
 use Rattle.ring_cutting.proofs.Members.{all_in, true-in_list}
 
 -- what holds of the corners of a half-edge's triangle holds of where it starts
-corner_of : (P : ℕ → Type 0) (ts : List Triple) (h : ℕ) → h < length (all_edges ts) → P (get_or ts (h / 3) (0, 0, 0)).0 → P (get_or ts (h / 3) (0, 0, 0)).1 → P (get_or ts (h / 3) (0, 0, 0)).2 →
+corner_of : (P : ℕ → Type 0) (ts : List Triple) (h : ℕ) → h < length (all_edges ts) →
+    P (get_or ts (h / 3) (0, 0, 0)).0 → P (get_or ts (h / 3) (0, 0, 0)).1 → P (get_or ts (h / 3) (0, 0, 0)).2 →
     P (start (all_edges ts) h)
 corner_of P [] h low a b c = absurd (omega (arith, low))
 corner_of P (t ∷ ts) zero low a b c = a

@@ -298,7 +298,8 @@ module _ (ts : List Triple) (are : AreTriangles ts) (patch : List ℕ) where
       let edges_on = All-permutation (λ (e : ℕ × ℕ). On e.0) steps (flat_map round_edges (cycles steps)) moved (steps_on ts are patch) in
       let members = passing_members On is_long (cycles steps) (rounds_members On (cycles steps) edges_on) in
       record {
-        long = All-weaker (λ loop. is_long loop ≡ true) (λ loop. 3 ≤ length loop) (λ loop h. leb-true 3 (length loop) h) (rim_loops ts patch) (filter_passes is_long (cycles steps));
+        long = All-weaker (λ loop. is_long loop ≡ true) (λ loop. 3 ≤ length loop)
+            (λ loop h. leb-true 3 (length loop) h) (rim_loops ts patch) (filter_passes is_long (cycles steps));
         different = different_from_often (concat (rim_loops ts patch))
             (λ v. omega (arith, passing_often is_long (cycles steps) v, often_once (concat (cycles steps)) (different_vertices steps once) v));
         low = All-weaker On (λ h. h < length (all_edges ts)) (λ h is. is.low) (concat (rim_loops ts patch)) members;

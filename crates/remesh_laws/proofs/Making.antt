@@ -50,7 +50,8 @@ pub record IsMadeOf (points : List (List ℤ)) (ts : List Triple) (w : Mesh) : T
   pub volume : volume6_of w.points w.triples ≡ volume6_of points ts
   pub at_points : (ps : List ℤ × List ℤ × List ℤ) → count_at w.points ps w.triples ≡ count_at points ps ts
 
-made_of : (points : List (List ℤ)) (ts : List Triple) (labels : List (List ℕ)) → All IsPoint points → IsSound (length points) ts → IsClosed (all_edges ts) → AreLabels (length ts) labels →
+made_of : (points : List (List ℤ)) (ts : List Triple) (labels : List (List ℕ)) → All IsPoint points →
+    IsSound (length points) ts → IsClosed (all_edges ts) → AreLabels (length ts) labels →
     IsMadeOf points ts (record { points = used_from ts 0 points; triples = renumbered ts; labels = labels })
 made_of points ts labels on sound closed are = record {
   given = record {

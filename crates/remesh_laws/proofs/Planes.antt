@@ -138,7 +138,8 @@ pub plane_determinant : (n : List ℤ) (d : ℤ) (drop_axis : ℕ) (a b c : List
 plane_determinant n d zero a b c axis a_in b_in c_in =
     let on : List ℤ → ℕ → ℤ = coordinate_of in
     let same = opened (on a 1) (on a 2) (on a 0) (on b 1) (on b 2) (on b 0) (on c 1) (on c 2) (on c 0) in
-    let turned : determinant a b c ≡ (on a 0 *ℤ minor (place (on b 1) (on b 2)) (place (on c 1) (on c 2)) +ℤ on b 0 *ℤ minor (place (on c 1) (on c 2)) (place (on a 1) (on a 2))) +ℤ on c 0 *ℤ minor (place (on a 1) (on a 2)) (place (on b 1) (on b 2)) = omega (arith, ints, same) in
+    let turned : determinant a b c ≡ (on a 0 *ℤ minor (place (on b 1) (on b 2)) (place (on c 1) (on c 2)) +ℤ on b 0 *ℤ minor (place (on c 1) (on c 2))
+    (place (on a 1) (on a 2))) +ℤ on c 0 *ℤ minor (place (on a 1) (on a 2)) (place (on b 1) (on b 2)) = omega (arith, ints, same) in
     ap (λ z. on n 0 *ℤ z) turned
     ∙ in_plane (on n 0) (on n 1) (on n 2) d (place (on a 1) (on a 2)) (place (on b 1) (on b 2)) (place (on c 1) (on c 2)) (on a 0) (on b 0) (on c 0)
     (omega (arith, ints, a_in)) (omega (arith, ints, b_in)) (omega (arith, ints, c_in))
@@ -146,7 +147,8 @@ plane_determinant n d zero a b c axis a_in b_in c_in =
 plane_determinant n d (suc zero) a b c axis a_in b_in c_in =
     let on : List ℤ → ℕ → ℤ = coordinate_of in
     let same = opened (on a 2) (on a 0) (on a 1) (on b 2) (on b 0) (on b 1) (on c 2) (on c 0) (on c 1) in
-    let turned : determinant a b c ≡ (on a 1 *ℤ minor (place (on b 2) (on b 0)) (place (on c 2) (on c 0)) +ℤ on b 1 *ℤ minor (place (on c 2) (on c 0)) (place (on a 2) (on a 0))) +ℤ on c 1 *ℤ minor (place (on a 2) (on a 0)) (place (on b 2) (on b 0)) = omega (arith, ints, same) in
+    let turned : determinant a b c ≡ (on a 1 *ℤ minor (place (on b 2) (on b 0)) (place (on c 2) (on c 0)) +ℤ on b 1 *ℤ minor (place (on c 2) (on c 0))
+    (place (on a 2) (on a 0))) +ℤ on c 1 *ℤ minor (place (on a 2) (on a 0)) (place (on b 2) (on b 0)) = omega (arith, ints, same) in
     ap (λ z. on n 1 *ℤ z) turned
     ∙ in_plane (on n 1) (on n 2) (on n 0) d (place (on a 2) (on a 0)) (place (on b 2) (on b 0)) (place (on c 2) (on c 0)) (on a 1) (on b 1) (on c 1)
     (omega (arith, ints, a_in)) (omega (arith, ints, b_in)) (omega (arith, ints, c_in))
@@ -194,7 +196,8 @@ all_none x y z e =
 
 -- the dropped axis is one on which the normal is not 0, where it is not 0 on all
 pub drop_counts : (a b c : List ℤ) → (cross_product a b c ≡ pos 0 ∷ pos 0 ∷ pos 0 ∷ [] → ⊥) → coordinate_of (cross_product a b c) (plane_drop a b c) ≡ pos 0 → ⊥
-drop_counts a b c some zero_there = let none = all_none (cross_x a b c) (cross_y a b c) (cross_z a b c) zero_there in let x = none.x_none in let y = none.y_none in let z = none.z_none in some cc
+drop_counts a b c some zero_there = let none = all_none (cross_x a b c) (cross_y a b c) (cross_z a b c)
+    zero_there in let x = none.x_none in let y = none.y_none in let z = none.z_none in some cc
 
 pub drop_below : (a b c : List ℤ) → plane_drop a b c < 3
 drop_below a b c =
@@ -241,7 +244,8 @@ module _ (points : List (List ℤ)) (n : List ℤ) (d : ℤ) (drop_axis : ℕ) (
   all_triangles ts on =
       let k = coordinate_of n drop_axis in
       sym (total-times k (triangle_determinant points) ts)
-      ∙ total-same_all (λ t. k *ℤ triangle_determinant points t) (λ t. d *ℤ orientation u w t) ts (All-weaker (LieIn points n d) (λ t. k *ℤ triangle_determinant points t ≡ d *ℤ orientation u w t) one_triangle ts on)
+      ∙ total-same_all (λ t. k *ℤ triangle_determinant points t) (λ t. d *ℤ orientation u w t) ts
+      (All-weaker (LieIn points n d) (λ t. k *ℤ triangle_determinant points t ≡ d *ℤ orientation u w t) one_triangle ts on)
       ∙ total-times d (orientation u w) ts ∙ ap (λ z. d *ℤ z) (sym (areas_of_triangles u w ts))
 
   -- triangles of one plane with one chain have one volume: the coordinate of the normal can be divided out

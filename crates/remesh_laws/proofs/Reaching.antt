@@ -109,7 +109,8 @@ module _ (ts : List Triple) (closed : IsClosed (all_edges ts)) where
     pub pair_some : (h : ℕ) → h < length es → passes (h / 3) ≡ true → passes (twin es h / 3) ≡ true → 0 < dir pairs (h / 3) (twin es h / 3)
     pair_some h low one_passes other_passes =
         let hs = filter both (upto (length es)) in
-        let found = kept both 0 (length es) h (record { low = omega arith; high = omega (arith, low); passes = and_from (passes (h / 3)) (passes (twin es h / 3)) one_passes other_passes }) in
+        let found = kept both 0 (length es) h
+        (record { low = omega arith; high = omega (arith, low); passes = and_from (passes (h / 3)) (passes (twin es h / 3)) one_passes other_passes }) in
         let e : ℕ × ℕ = (h / 3, twin es h / 3) in
         let pair : ℕ → ℕ × ℕ = λ g. (g / 3, twin es g / 3) in
         dir_some pairs (h / 3) (twin es h / 3) (found.0, omega (arith, found.1, length-map hs pair), get_or-map pair hs found.0 h e found.1 ∙ ap pair found.2)

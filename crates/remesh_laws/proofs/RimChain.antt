@@ -45,7 +45,8 @@ pub listed_sum : (g : ℕ → ℤ) (k : ℕ) (xs : List ℕ) → AreDifferent xs
 listed_sum g k [] different below = total-zero (upto k)
 listed_sum g k (x ∷ xs) different below =
     let rest = listed_sum g k xs (λ i j a b. different (suc i) (suc j) (omega (arith, a)) (omega (arith, b))) (All-tail (λ t. t < k) x xs below) in
-    let each = total-same (λ t. cond (in_list t (x ∷ xs)) (g t) (pos 0)) (λ t. where_same t x (g t) +ℤ cond (in_list t xs) (g t) (pos 0)) (one_more g x xs (none_behind x xs different)) (upto k) in
+    let each = total-same (λ t. cond (in_list t (x ∷ xs)) (g t) (pos 0))
+    (λ t. where_same t x (g t) +ℤ cond (in_list t xs) (g t) (pos 0)) (one_more g x xs (none_behind x xs different)) (upto k) in
     let split = total-add (λ t. where_same t x (g t)) (λ t. cond (in_list t xs) (g t) (pos 0)) (upto k) in
     omega (arith, ints, rest, each, split, one_hit_of g x k (All-head (λ t. t < k) x xs below))
 
@@ -103,7 +104,8 @@ module _ (ts : List Triple) (are : AreTriangles ts) (patch : List ℕ) (f : ℕ 
   rim_sum : total (λ h. cond (is_rim ts patch h) (value h) (pos 0)) (upto (3 * length ts)) ≡ total (λ h. cond (inside h) (value h) (pos 0)) (upto (3 * length ts))
   rim_sum =
       let all = upto (3 * length ts) in
-      let each = total-same (λ h. cond (inside h) (value h) (pos 0)) (λ h. cond (is_rim ts patch h) (value h) (pos 0) +ℤ inner h) (λ h. told (inside h) (inside (twin es h)) (value h)) all in
+      let each = total-same (λ h. cond (inside h) (value h) (pos 0))
+      (λ h. cond (is_rim ts patch h) (value h) (pos 0) +ℤ inner h) (λ h. told (inside h) (inside (twin es h)) (value h)) all in
       omega (arith, ints, each, total-add (λ h. cond (is_rim ts patch h) (value h) (pos 0)) inner all, inner_sum)
 
   -- these are the edges of the triangles of the list
@@ -113,7 +115,8 @@ module _ (ts : List Triple) (are : AreTriangles ts) (patch : List ℕ) (f : ℕ 
       let first : (3 * t + 0) / 3 ≡ t = omega arith in
       let second : (3 * t + 1) / 3 ≡ t = omega arith in
       let third : (3 * t + 2) / 3 ≡ t = omega arith in
-      let all : (b : Bool) → cond b (value (3 * t + 0)) (pos 0) +ℤ (cond b (value (3 * t + 1)) (pos 0) +ℤ (cond b (value (3 * t + 2)) (pos 0) +ℤ pos 0)) ≡ cond b (total (λ i. value (3 * t + i)) (upto 3)) (pos 0) = together in
+      let all : (b : Bool) → cond b (value (3 * t + 0)) (pos 0) +ℤ (cond b (value (3 * t + 1)) (pos 0) +ℤ (cond b (value (3 * t + 2)) (pos 0) +ℤ pos 0))
+      ≡ cond b (total (λ i. value (3 * t + i)) (upto 3)) (pos 0) = together in
       omega (
         arith,
         ints,
@@ -124,7 +127,8 @@ module _ (ts : List Triple) (are : AreTriangles ts) (patch : List ℕ) (f : ℕ 
         ap (λ z. cond (in_list t patch) z (pos 0)) (of_triangle f ts t below),
       )
     where
-      together : (b : Bool) → cond b (value (3 * t + 0)) (pos 0) +ℤ (cond b (value (3 * t + 1)) (pos 0) +ℤ (cond b (value (3 * t + 2)) (pos 0) +ℤ pos 0)) ≡ cond b (total (λ i. value (3 * t + i)) (upto 3)) (pos 0)
+      together : (b : Bool) → cond b (value (3 * t + 0)) (pos 0) +ℤ
+          (cond b (value (3 * t + 1)) (pos 0) +ℤ (cond b (value (3 * t + 2)) (pos 0) +ℤ pos 0)) ≡ cond b (total (λ i. value (3 * t + i)) (upto 3)) (pos 0)
       together true = refl
       together false = refl
 

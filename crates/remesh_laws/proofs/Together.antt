@@ -139,7 +139,16 @@ module _ (m : Mesh) (given : IsGiven m) where
       let ones : ℕ → ℤ = λ t. pos 1 in
       let less = total_less (λ p. total one (patch_triangles m p)) (λ (p : Patch). total ones p.triangles) all (λ k d low.
       let p = get_or all k d in omega (arith, ints, total_ones (patch_triangles m p), total_ones p.triangles, (kept k d low).few)) in
-      omega (arith, ints, pieces_total m all seeds_low one, less, told_total m given.accepted.closed ones, total_ones refilled, total_ones (upto (length m.triples)), length-up_from 0 (length m.triples))
+      omega (
+        arith,
+        ints,
+        pieces_total m all seeds_low one,
+        less,
+        told_total m given.accepted.closed ones,
+        total_ones refilled,
+        total_ones (upto (length m.triples)),
+        length-up_from 0 (length m.triples),
+      )
 
   -- what holds of the triangles of patches, and of those of the mesh, holds of all
   all_refilled : (P : Triple → Type 0) → All (λ p. All P (patch_triangles m p)) all → All P m.triples → All P refilled

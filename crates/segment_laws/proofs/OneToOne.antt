@@ -25,7 +25,8 @@ are_even p q cs balance x below =
 pub occurs : (p q : Side) (cs : List Copy) (place : ℕ → List ℤ) → IsBalanced p q cs → (x : ℕ) → x < source_count p q → (v : ℕ) → v < length cs →
     out (segments_of p q cs place x) v ≡ start_count p q (lists_of p q x) (get_or cs v no_copy)
 occurs p q cs place balance x below v inside =
-    ap (λ es. out es v) (face_same p q cs place x) ∙ (lists.occurs (stand_of p q cs) (key_of p q cs place) (length cs) (lists_of p q x) (are_even p q cs balance x below) v inside).outs
+    ap (λ es. out es v) (face_same p q cs place x)
+    ∙ (lists.occurs (stand_of p q cs) (key_of p q cs place) (length cs) (lists_of p q x) (are_even p q cs balance x below) v inside).outs
 
 -- a copy is a start of as many lists of a face as it is an end of, and of one at most
 record StandsEvenly (p q : Side) (c : Copy) (names : List ListName) : Type 0 where
@@ -36,7 +37,8 @@ evenly : (p q : Side) (names : List ListName) (c : Copy) → StandsInNone p q na
 evenly p q names c (inl n) = record { even = omega (arith, n.no_start, n.no_end); few = omega (arith, n.no_start) }
 evenly p q names c (inr t) = record { even = omega (arith, t.one_start, t.one_end); few = omega (arith, t.one_start) }
 
-stands_evenly : (p q : Side) (cs : List Copy) → StandInLists p q cs → (x : ℕ) → x < source_count p q → (v : ℕ) → v < length cs → StandsEvenly p q (get_or cs v no_copy) (lists_of p q x)
+stands_evenly : (p q : Side) (cs : List Copy) → StandInLists p q cs → (x : ℕ) → x < source_count p q →
+    (v : ℕ) → v < length cs → StandsEvenly p q (get_or cs v no_copy) (lists_of p q x)
 stands_evenly p q cs stand x below v inside =
     let c = get_or cs v no_copy in
     let m = length p.triples in

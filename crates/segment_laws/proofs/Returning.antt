@@ -78,14 +78,16 @@ none_exchanged p q cs p_known q_known p_none q_none named x below one two one_li
       first = unsigned d.negative (incidence P Q one d.origin) (below_some (standing P Q one d) w_ends);
       second = unsigned d.negative (incidence P Q two d.origin) (above_some (standing P Q two d) w_starts);
     } in
-    let same = distinguish p q p_known q_known p_none q_none x below one two one_listed two_listed apart c.origin d.origin (named.lower v no_copy v_below) (named.lower w no_copy w_below) c_in d_in in
+    let same = distinguish p q p_known q_known p_none q_none x below one two one_listed two_listed
+    apart c.origin d.origin (named.lower v no_copy v_below) (named.lower w no_copy w_below) c_in d_in in
     let signs : c.negative ≡ d.negative = named.signed v no_copy v_below ∙ ap named.sign same ∙ sym (named.signed w no_copy w_below) in
     let alike : standing P Q one c ≡ standing P Q one d =
     ap (λ o. cond c.negative (neg_ℤ (incidence P Q one o)) (incidence P Q one o)) same ∙ ap (λ t. cond t (neg_ℤ (incidence P Q one d.origin)) (incidence P Q one d.origin)) signs in
     one_sign (standing P Q one d) (ap (int_lt (pos 0)) (sym alike) ∙ v_starts) w_ends
 
 -- so a segment of a face and the one that runs back cannot both be
-pub no_return : (p q : Side) (cs : List Copy) (place : ℕ → List ℤ) → IsSide p → IsSide q → NoOpposite p.triples → NoOpposite q.triples → AreNamed p q cs → (x : ℕ) → x < source_count p q →
+pub no_return : (p q : Side) (cs : List Copy) (place : ℕ → List ℤ) → IsSide p → IsSide q →
+    NoOpposite p.triples → NoOpposite q.triples → AreNamed p q cs → (x : ℕ) → x < source_count p q →
     (v w : ℕ) → Contains (segments_of p q cs place x) (v, w) → Contains (segments_of p q cs place x) (w, v) → ⊥
 no_return p q cs place p_known q_known p_none q_none named x below v w there back =
     let same = face_same p q cs place x in

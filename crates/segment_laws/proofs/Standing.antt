@@ -35,7 +35,8 @@ key_of p q cs place (PairP f g) = key_across p q cs place (PairP f g)
 key_of p q cs place (PairQ g f) = key_across p q cs place (PairQ g f)
 
 -- the segments of a list, and those of a face
-list_same : (p q : Side) (cs : List Copy) (place : ℕ → List ℤ) (name : ListName) → segments_in p q cs place name ≡ lists.segments_in (stand_of p q cs) (key_of p q cs place) (length cs) name
+list_same : (p q : Side) (cs : List Copy) (place : ℕ → List ℤ) (name : ListName) →
+    segments_in p q cs place name ≡ lists.segments_in (stand_of p q cs) (key_of p q cs place) (length cs) name
 list_same p q cs place (HalfP h) = refl
 list_same p q cs place (HalfQ h) = refl
 list_same p q cs place (PairP f g) = refl
