@@ -6,6 +6,7 @@ pub mod Labels
 pub mod Looking
 pub mod Loops
 pub mod Numbers
+pub mod OneTriangle
 pub mod Reading
 pub mod Refills
 pub mod RimSteps

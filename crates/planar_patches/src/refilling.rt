@@ -81,10 +81,15 @@ fn push_patch(
     ensures { OnOk result (IsAdded mesh.now (patch_at mesh.now patch) all.old all.new) }
 {
     let seed = patches.seeds[patch as usize];
+    let old = patches.triangles.bucket(patch as usize);
+    if old.len() == 1 {
+        // Its rim is one loop of three half-edges, which is filled by the triangle itself: nothing is allocated.
+        return push_triple(all, mesh.triples()[seed as usize], seed);
+    }
     let filled = refilled(alloc, mesh, patches, patch)?;
     match filled {
         Some(new) => push_new(all, &new, seed),
-        None => push_old(all, mesh, patches.triangles.bucket(patch as usize), seed),
+        None => push_old(all, mesh, old, seed),
     }
 }
 
