@@ -7,7 +7,7 @@ ghost use Rattle.face_plane.specs.Rings.{IsRing, Three};
 mod table;
 
 use crate::rows::{Kind, expect_rows};
-use crate::words::{is_filling, parts_of, points_of, vertices_of};
+use crate::words::{is_filling, number_of, parts_of, points_of, vertices_of};
 use face_plane::FacePlane;
 use loop_ring::Ring;
 use mb_base::Point;
@@ -65,18 +65,17 @@ fn can_be_cut(ring: &[u32], count: usize) -> bool
     some && are_apart(ring) && has_third(ring) && are_below(ring, count)
 }
 
-// The triangles of a ring, cut in the plane of a sign, as a short ring or as a long one.
+// The triangles of a ring, cut in the plane as it is or turned, as a short ring or as a long one.
 fn cut(
     rt: &impl Abort,
     alloc: Global,
-    sign: &str,
+    turned: bool,
     points: &[Point],
     places: &[u32],
     is_long: bool,
 ) -> Filled {
     assert!(rt; can_be_cut(places, points.len()));
     let plane = FacePlane { drop: 2 };
-    let turned = sign == "~";
     let ring = Ring::of(alloc, places).expect(rt, "a ring");
     if is_long {
         cut_ring_long_from(alloc, plane, turned, ring, points, 3).expect(rt, "memory")
@@ -87,16 +86,17 @@ fn cut(
 
 /// Whether a ring is cut into the triangles of its line, as a short ring and as a long one.
 pub fn agrees(rt: &impl Abort, alloc: Global, line: &str) -> bool {
-    let parts = parts_of(rt, alloc, line, " : ");
-    let [sign, points, ring, triples, forced] = parts.as_slice() else {
+    let parts = parts_of(rt, alloc, line);
+    let [turned, points, ring, triples, forced] = parts.as_slice() else {
         return false;
     };
+    let turned = number_of(rt, turned) == 1;
     let points = points_of(rt, alloc, points, 2);
     let places = vertices_of(rt, alloc, ring);
     let wanted = vertices_of(rt, alloc, triples);
-    let forced = forced.parse::<u32>().expect(rt, "a number") as u64;
-    let short = cut(rt, alloc, sign, &points, &places, false);
-    let long = cut(rt, alloc, sign, &points, &places, true);
+    let forced = number_of(rt, forced) as u64;
+    let short = cut(rt, alloc, turned, &points, &places, false);
+    let long = cut(rt, alloc, turned, &points, &places, true);
     is_filling(rt, alloc, &short, &wanted, forced) && is_filling(rt, alloc, &long, &wanted, forced)
 }
 

@@ -1,24 +1,37 @@
 // Segments whose loops are known.
-ghost use Rattle.std.specs.Prelude.{◌≡◌, ◌&&◌, IsTrue};
+ghost use Rattle.std.specs.Prelude.{◌≡◌, ◌==◌, ◌&&◌, IsTrue, count_by};
 ghost use Rattle.std.specs.List.{list_all};
 ghost use Rattle.face_loops.specs.Segments.{edges_of, is_once, IsOneToOne};
 
 mod table;
 
 use crate::rows::{Kind, expect_rows};
-use crate::words::vertices_of;
+use crate::words::{parts_of, vertices_of};
 use face_loops::loops;
 use mb_base::Segment;
 use std::alloc::Global;
 use std::process::Abort;
 use table::ROWS;
 
+// How many of the segments start at the vertex.
+fn start_count(segments: &[Segment], vertex: u32) -> usize
+    ensures { result ≡ count_by (λ s. s.from == vertex) segments.now }
+{
+    segments.iter().filter(|s| s.from == vertex).count()
+}
+
+// How many end there.
+fn end_count(segments: &[Segment], vertex: u32) -> usize
+    ensures { result ≡ count_by (λ s. s.to == vertex) segments.now }
+{
+    segments.iter().filter(|s| s.to == vertex).count()
+}
+
 // Whether the vertex starts one of the segments and ends one.
 fn is_once(segments: &[Segment], vertex: u32) -> bool
     ensures { result ≡ is_once segments.now vertex }
 {
-    segments.iter().filter(|s| s.from == vertex).count() == 1
-        && segments.iter().filter(|s| s.to == vertex).count() == 1
+    start_count(segments, vertex) == 1 && end_count(segments, vertex) == 1
 }
 
 // Whether the ends of each segment do.
@@ -40,13 +53,17 @@ fn is_one_to_one(segments: &[Segment]) -> bool
 // The segments whose ends are the numbers, two by two.
 fn segments_of(rt: &impl Abort, alloc: Global, numbers: &[u32]) -> Vec<Segment> {
     let mut segments = Vec::new(alloc);
-    for pair in numbers.chunks(2) {
-        if let [from, to] = pair {
-            let (from, to) = (*from, *to);
+    let mut from = 0u32;
+    let mut is_second = false;
+    for number in numbers {
+        let to = *number;
+        if is_second {
             segments
                 .push(Segment { from, to })
                 .expect(rt, "room for a segment");
         }
+        from = to;
+        is_second = !is_second;
     }
     segments
 }
@@ -68,7 +85,10 @@ fn listed(rt: &impl Abort, alloc: Global, segments: &[Segment]) -> Vec<u32> {
 
 /// Whether the loops of a line are those of its segments.
 pub fn agrees(rt: &impl Abort, alloc: Global, line: &str) -> bool {
-    let (segments, wanted) = line.split_once(':').expect(rt, "two parts");
+    let parts = parts_of(rt, alloc, line);
+    let [segments, wanted] = parts.as_slice() else {
+        return false;
+    };
     let segments = segments_of(rt, alloc, &vertices_of(rt, alloc, segments));
     let list = listed(rt, alloc, &segments);
     list.as_slice() == vertices_of(rt, alloc, wanted).as_slice()

@@ -35,16 +35,20 @@ fn are_below(entries: &[Entry], points: &[Point]) -> bool
     entries.iter().all(|e| (e.vertex as usize) < points.len())
 }
 
-// The entries of a text: of each its vertex, and 1 where it is a start.
-fn entries_of(rt: &impl Abort, alloc: Global, text: &str) -> Vec<Entry> {
+// The entries of these numbers: of each its vertex, and 1 where it is a start.
+fn entries_of(rt: &impl Abort, alloc: Global, numbers: &[u32]) -> Vec<Entry> {
     let mut entries = Vec::new(alloc);
-    for pair in vertices_of(rt, alloc, text).chunks(2) {
-        if let [vertex, start] = pair {
-            let (vertex, start) = (*vertex, *start == 1);
+    let mut vertex = 0u32;
+    let mut is_second = false;
+    for number in numbers {
+        if is_second {
+            let start = *number == 1;
             entries
                 .push(Entry { vertex, start })
                 .expect(rt, "room for an entry");
         }
+        vertex = *number;
+        is_second = !is_second;
     }
     entries
 }
@@ -78,12 +82,12 @@ fn found(
 
 /// Whether the segments of a line are those of its entries.
 pub fn agrees(rt: &impl Abort, alloc: Global, line: &str) -> bool {
-    let parts = parts_of(rt, alloc, line, "|");
+    let parts = parts_of(rt, alloc, line);
     let [edge, entries, points, wanted] = parts.as_slice() else {
         return false;
     };
     let edge = points_of(rt, alloc, edge, 3);
-    let entries = entries_of(rt, alloc, entries);
+    let entries = entries_of(rt, alloc, &vertices_of(rt, alloc, entries));
     let points = points_of(rt, alloc, points, 3);
     let list = found(rt, alloc, &edge, &entries, &points);
     list.as_slice() == vertices_of(rt, alloc, wanted).as_slice()

@@ -1,6 +1,8 @@
 // Planes, turns and distances of given points, at the ends of the grid too; values by hand.
+use crate::words::point;
 use face_plane::{FacePlane, FlatPoint};
 use mb_base::Point;
+use std::process::Abort;
 
 // The size of the greatest coordinate.
 const END: i32 = 1 << 30;
@@ -33,42 +35,51 @@ const TURNS: [([[i32; 2]; 3], [bool; 3], u64); 5] = [
     ),
 ];
 
-fn is_plane(at: [[i32; 3]; 3], drop: u8, second: [i64; 2]) -> Option<bool> {
-    let [[ax, ay, az], [bx, by, bz], [cx, cy, cz]] = at;
-    let b = Point::of(bx, by, bz)?;
-    let plane = FacePlane::of(Point::of(ax, ay, az)?, b, Point::of(cx, cy, cz)?);
-    let (flat, turned) = (plane.flat(false, b), plane.flat(true, b));
-    let straight = flat.u() == second[0] && flat.v() == second[1];
-    let exchanged = turned.u() == second[1] && turned.v() == second[0];
-    Some(plane.drop == drop && straight && exchanged)
+// Whether a place has these coordinates.
+fn is_at(place: FlatPoint, u: i64, v: i64) -> bool {
+    place.u() == u && place.v() == v
+}
+
+// Whether the plane of three points drops this axis, and whether the second one is there, and with u and v exchanged.
+fn is_plane(a: Point, b: Point, c: Point, drop: u8, second: [i64; 2]) -> bool {
+    let plane = FacePlane::of(a, b, c);
+    let [u, v] = second;
+    plane.drop == drop && is_at(plane.flat(false, b), u, v) && is_at(plane.flat(true, b), v, u)
 }
 
 #[test]
 fn a_plane_drops_the_greatest_axis(rt: HostRuntime) {
     for (at, drop, second) in PLANES {
-        assert!(rt; is_plane(at, drop, second) == Some(true), "at {at:?}");
+        let (a, b, c) = (point(&rt, at[0]), point(&rt, at[1]), point(&rt, at[2]));
+        assert!(rt; is_plane(a, b, c, drop, second), "at {at:?}");
     }
 }
 
-fn at(place: [i32; 2]) -> Option<FlatPoint> {
+// The place of a point with these two coordinates.
+fn at(rt: &impl Abort, [u, v]: [i32; 2]) -> FlatPoint {
     let plane = FacePlane { drop: 2 };
-    Some(plane.flat(false, Point::of(place[0], place[1], 0)?))
+    plane.flat(false, point(rt, [u, v, 0]))
 }
 
-fn agrees(places: [[i32; 2]; 3], turns: [bool; 3], far: u64) -> Option<bool> {
-    let (a, b, c) = (at(places[0])?, at(places[1])?, at(places[2])?);
+// Whether three places turn so, and whether the first two are so far from each other.
+fn agrees(a: FlatPoint, b: FlatPoint, c: FlatPoint, turns: [bool; 3], far: u64) -> bool {
     let left = FlatPoint::turns_left(a, b, c) == turns[0];
     let right = FlatPoint::turns_right(a, b, c) == turns[1];
     let kept = FlatPoint::keeps_left(a, b, c) == turns[2];
-    Some(left && right && kept && FlatPoint::squared_distance(a, b) == far)
+    left && right && kept && FlatPoint::squared_distance(a, b) == far
+}
+
+// Whether the wedge of two places is this.
+fn has_wedge(a: FlatPoint, b: FlatPoint, wanted: i64) -> bool {
+    FlatPoint::wedge(a, b) == wanted
 }
 
 #[test]
 fn turns_are_exact_at_the_ends_of_the_grid(rt: HostRuntime) {
     for (places, turns, far) in TURNS {
-        assert!(rt; agrees(places, turns, far) == Some(true), "at {places:?}");
+        let (a, b, c) = (at(&rt, places[0]), at(&rt, places[1]), at(&rt, places[2]));
+        assert!(rt; agrees(a, b, c, turns, far), "at {places:?}");
     }
-    let a = at([END, -END]).expect(&rt, "a corner");
-    let b = at([END, END]).expect(&rt, "a corner");
-    assert!(rt; FlatPoint::wedge(a, b) == 1 << 61);
+    let (a, b) = (at(&rt, [END, -END]), at(&rt, [END, END]));
+    assert!(rt; has_wedge(a, b, 1 << 61));
 }

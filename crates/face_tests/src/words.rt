@@ -1,4 +1,4 @@
-// What the words of tables stand for.
+// What the rows of tables stand for.
 ghost use Rattle.std.specs.Prelude.{◌<◌};
 
 use mb_base::Point;
@@ -6,57 +6,157 @@ use ring_cutting::Filled;
 use std::alloc::Global;
 use std::process::Abort;
 
-/// The parts of a text with marks between them.
-pub fn parts_of<'a>(rt: &impl Abort, alloc: Global, text: &'a str, mark: &str) -> Vec<&'a str> {
-    let mut parts = Vec::new(alloc);
-    for part in text.split(mark) {
-        parts.push(part).expect(rt, "room for a part");
-    }
-    parts
+// What a colon between two parts is among the numbers of a row: more than any vertex.
+const COLON: u64 = 0x2_0000_0000;
+
+/// What a stroke between two loops is.
+pub const STROKE: u64 = 0x3_0000_0000;
+
+// A number that is read: its digits so far, of which there may be none, after a minus sign or not.
+#[derive(Clone, Copy, Drop)]
+struct Word {
+    size: u64,
+    is_some: bool,
+    is_minus: bool,
 }
 
-/// The whole numbers of a text with marks between them.
-pub fn numbers_of(rt: &impl Abort, alloc: Global, text: &str, mark: &str) -> Vec<i32> {
+// The number after one more digit.
+fn grown(word: &Word, byte: u8) -> Word {
+    let digit = byte.wrapping_sub(b'0') as u64;
+    Word {
+        size: word.size.wrapping_mul(10).wrapping_add(digit),
+        is_some: true,
+        is_minus: word.is_minus,
+    }
+}
+
+// Adds a number where its digits end, one below 0 as its complement in 32 bits.
+fn end(rt: &impl Abort, numbers: &mut Vec<u64>, word: &Word) {
+    if word.is_some {
+        numbers
+            .push(if word.is_minus {
+                0x1_0000_0000u64.wrapping_sub(word.size)
+            } else {
+                word.size
+            })
+            .expect(rt, "room for a number");
+    }
+}
+
+// Adds what a sign that is no digit stands for: a letter is a number by itself, a is 0.
+fn add_sign(rt: &impl Abort, numbers: &mut Vec<u64>, byte: u8) {
+    if byte == b':' {
+        numbers.push(COLON).expect(rt, "room for a colon");
+    } else if byte == b'/' {
+        numbers.push(STROKE).expect(rt, "room for a stroke");
+    } else if byte >= b'a' {
+        numbers
+            .push(byte.wrapping_sub(b'a') as u64)
+            .expect(rt, "room for a number");
+    }
+}
+
+// The numbers of a row, with the marks between its parts and loops.
+fn numbers_of(rt: &impl Abort, alloc: Global, row: &str) -> Vec<u64> {
     let mut numbers = Vec::new(alloc);
-    for word in text.split(mark) {
-        if !word.is_empty() {
-            let number = word.parse::<i32>().expect(rt, "a number");
-            numbers.push(number).expect(rt, "room for a number");
+    let mut word = Word {
+        size: 0,
+        is_some: false,
+        is_minus: false,
+    };
+    for byte in row.as_bytes() {
+        if *byte >= b'0' && *byte <= b'9' {
+            word = grown(&word, *byte);
+        } else {
+            end(rt, &mut numbers, &word);
+            add_sign(rt, &mut numbers, *byte);
+            word = Word {
+                size: 0,
+                is_some: false,
+                is_minus: *byte == b'-',
+            };
         }
     }
+    end(rt, &mut numbers, &word);
     numbers
 }
 
-/// The vertices of a text with blanks between them.
-pub fn vertices_of(rt: &impl Abort, alloc: Global, text: &str) -> Vec<u32> {
-    let mut vertices = Vec::new(alloc);
-    for word in text.split(" ") {
-        if !word.is_empty() {
-            let vertex = word.parse::<u32>().expect(rt, "a vertex");
-            vertices.push(vertex).expect(rt, "room for a vertex");
+// The lists between the marks of one.
+fn cut(rt: &impl Abort, alloc: Global, numbers: &[u64], mark: u64) -> Vec<Vec<u64>> {
+    let mut lists = Vec::new(alloc);
+    let mut list = Vec::new(alloc);
+    for number in numbers {
+        if *number == mark {
+            lists.push(list).expect(rt, "room for a list");
+            list = Vec::new(alloc);
+        } else {
+            list.push(*number).expect(rt, "room for a number");
         }
+    }
+    lists.push(list).expect(rt, "room for a list");
+    lists
+}
+
+/// The numbers of the parts of a row, which have colons between them.
+pub fn parts_of(rt: &impl Abort, alloc: Global, row: &str) -> Vec<Vec<u64>> {
+    cut(rt, alloc, &numbers_of(rt, alloc, row), COLON)
+}
+
+/// The lists of a part, which have strokes between them.
+pub fn lists_of(rt: &impl Abort, alloc: Global, numbers: &[u64]) -> Vec<Vec<u64>> {
+    cut(rt, alloc, numbers, STROKE)
+}
+
+// A number that is no mark.
+fn plain(rt: &impl Abort, number: u64) -> u32 {
+    u32::try_from(number).expect(rt, "no mark")
+}
+
+/// The number of a part that has one.
+pub fn number_of(rt: &impl Abort, numbers: &[u64]) -> u32 {
+    assert!(rt; numbers.len() == 1, "one number");
+    plain(rt, numbers[0])
+}
+
+/// The numbers as vertices.
+pub fn vertices_of(rt: &impl Abort, alloc: Global, numbers: &[u64]) -> Vec<u32> {
+    let mut vertices = Vec::new(alloc);
+    for number in numbers {
+        vertices
+            .push(plain(rt, *number))
+            .expect(rt, "room for a vertex");
     }
     vertices
 }
 
-/// The point with these coordinates; two are u and v in the plane that drops the last axis.
-pub fn point_of(rt: &impl Abort, coordinates: &[i32]) -> Point {
-    let point = match coordinates {
-        [u, v] => Point::of(*u, *v, 0),
-        [x, y, z] => Point::of(*x, *y, *z),
-        _ => None,
-    };
-    point.expect(rt, "a point of the grid")
+// A number as a coordinate.
+fn coordinate(rt: &impl Abort, number: u64) -> i32 {
+    plain(rt, number).cast_signed()
 }
 
-/// The points of a text, whose coordinates have blanks between them and are so many for each. It fails where a point lacks a coordinate.
-pub fn points_of(rt: &impl Abort, alloc: Global, text: &str, axes: usize) -> Vec<Point>
+/// The point with these coordinates.
+pub fn point(rt: &impl Abort, [x, y, z]: [i32; 3]) -> Point {
+    Point::of(x, y, z).expect(rt, "a point of the grid")
+}
+
+// The point of these numbers; two are u and v in the plane that drops the last axis.
+fn point_of(rt: &impl Abort, numbers: &[u64]) -> Point {
+    let [x, y, z] = match numbers {
+        [u, v] => [*u, *v, 0],
+        [x, y, z] => [*x, *y, *z],
+        _ => [COLON; 3],
+    };
+    let (x, y, z) = (coordinate(rt, x), coordinate(rt, y), coordinate(rt, z));
+    point(rt, [x, y, z])
+}
+
+/// The points with these coordinates, so many for each. It fails where a point lacks a coordinate.
+pub fn points_of(rt: &impl Abort, alloc: Global, numbers: &[u64], axes: usize) -> Vec<Point>
     requires { 0 < axes }
 {
-    let numbers = numbers_of(rt, alloc, text, " ");
-    assert!(rt; numbers.len() % axes == 0, "a point lacks a coordinate");
     let mut points = Vec::new(alloc);
     for part in numbers.chunks(axes) {
+        assert!(rt; part.len() == axes, "a point lacks a coordinate");
         points
             .push(point_of(rt, part))
             .expect(rt, "room for a point");

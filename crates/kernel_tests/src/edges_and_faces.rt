@@ -1,5 +1,5 @@
 // Crossings against a table, and under the roundings that go farthest.
-ghost use Rattle.std.specs.Prelude.{◌≡◌, ◌∷◌, [], IfSome};
+ghost use Rattle.std.specs.Prelude.{◌≡◌, ◌∷◌, []};
 ghost use Rattle.side_terms.specs.Corners.{IsFineCorner, AllFine};
 ghost use Rattle.edge_face.specs.Crossings.{number_of};
 
@@ -32,73 +32,77 @@ fn at(x: u8, y: u8, z: u8, up: [bool; 3]) -> Corner
     }
 }
 
+/// The byte at a place of a line, or a blank beyond its end.
+fn byte_at(line: &[u8], place: usize) -> u8 {
+    match line.get(place) {
+        Some(byte) => *byte,
+        None => b' ',
+    }
+}
+
+/// The word of a line with this number. Each has six signs, and there is a blank between them.
+fn word(line: &[u8], number: usize) -> [u8; 6] {
+    let first = number.wrapping_mul(7);
+    [
+        byte_at(line, first),
+        byte_at(line, first.wrapping_add(1)),
+        byte_at(line, first.wrapping_add(2)),
+        byte_at(line, first.wrapping_add(3)),
+        byte_at(line, first.wrapping_add(4)),
+        byte_at(line, first.wrapping_add(5)),
+    ]
+}
+
 /// The number of a digit.
-fn digit(byte: u8) -> Option<u8> {
-    if byte < b'0' {
-        return None;
-    }
-    Some(byte - b'0')
+fn digit(byte: u8) -> u8 {
+    byte.wrapping_sub(b'0')
 }
 
-/// A corner from a word as `210xz`.
-fn corner(word: &str) -> Option<Corner>
-    ensures { IfSome result (λ c. IsFineCorner c) }
+/// A corner from a word as `210x-z`.
+fn corner(word: [u8; 6]) -> Corner
+    ensures { IsFineCorner result }
 {
-    let [x, y, z, letters @ ..] = word.as_bytes() else {
-        return None;
-    };
-    let up = [
-        letters.contains(&b'x'),
-        letters.contains(&b'y'),
-        letters.contains(&b'z'),
-    ];
-    Some(at(digit(*x)?, digit(*y)?, digit(*z)?, up))
+    let [x, y, z, up_x, up_y, up_z] = word;
+    let up = [up_x == b'x', up_y == b'y', up_z == b'z'];
+    at(digit(x), digit(y), digit(z), up)
 }
 
-/// A crossing from a word as `-1:122`, or none from a dot.
-fn crossing(word: &str) -> Option<Option<Cross>> {
-    if word == "." {
-        return Some(None);
-    }
-    let (number, point) = word.split_once(':')?;
-    let [x, y, z, ..] = point.as_bytes() else {
+/// Three corners from the word with this number on.
+fn three(line: &[u8], first: usize) -> [Corner; 3]
+    ensures { AllFine result }
+{
+    [
+        corner(word(line, first)),
+        corner(word(line, first.wrapping_add(1))),
+        corner(word(line, first.wrapping_add(2))),
+    ]
+}
+
+/// A crossing from a word as `-1:122`, or none from dots.
+fn crossing(word: [u8; 6]) -> Option<Cross> {
+    let [sign, b'1', b':', x, y, z] = word else {
         return None;
     };
-    let [x, y, z] = [digit(*x)?, digit(*y)?, digit(*z)?];
-    Some(cross_at(number.parse::<i8>().ok()?, x as i32, y as i32, z as i32))
+    let number = if sign == b'-' { -1 } else { 1 };
+    cross_at(number, digit(x) as i32, digit(y) as i32, digit(z) as i32)
 }
 
 /// The row of a line.
-fn read_row(line: &str) -> Option<Row> {
-    let mut words = line.split_whitespace();
-    let p = [
-        corner(words.next()?)?,
-        corner(words.next()?)?,
-        corner(words.next()?)?,
-    ];
-    let q = [
-        corner(words.next()?)?,
-        corner(words.next()?)?,
-        corner(words.next()?)?,
-    ];
-    let edge_face = crossing(words.next()?)?;
-    let face_edge = crossing(words.next()?)?;
-    Some(Row {
-        p,
-        q,
-        edge_face,
-        face_edge,
-    })
+fn read_row(line: &[u8]) -> Row {
+    Row {
+        p: three(line, 0),
+        q: three(line, 3),
+        edge_face: crossing(word(line, 6)),
+        face_edge: crossing(word(line, 7)),
+    }
 }
 
 /// Whether the crossings of a line are those that kernels find for its corners.
 pub(crate) fn agrees<K: Kernels>(kernels: &K, line: &str) -> bool {
-    let Some(row) = read_row(line) else {
-        return false;
-    };
+    let row = read_row(line.as_bytes());
     let edge_face = kernels.cross(&[row.p[0], row.p[1]], &row.q);
     let face_edge = kernels.cross(&row.p, &[row.q[0], row.q[1]]);
-    edge_face == row.edge_face && face_edge == row.face_edge
+    line.len() == 55 && edge_face == row.edge_face && face_edge == row.face_edge
 }
 
 /// The number of the edge from a to b and a face, asked of the edge from b to a: right for any lawful kernels, by their
@@ -117,15 +121,13 @@ fn number_back<K: Kernels>(kernels: &K, a: &Corner, b: &Corner, q: &[Corner; 3])
 
 /// Whether the edge of a line, asked the other way round, has the line's number turned.
 pub(crate) fn turns<K: Kernels>(kernels: &K, line: &str) -> bool {
-    let Some(row) = read_row(line) else {
-        return false;
-    };
+    let row = read_row(line.as_bytes());
     let number = match row.edge_face {
         None => 0,
         Some(c) => c.number as i64,
     };
     let edge = [row.p[0], row.p[1]];
-    number_back(kernels, &edge[0], &edge[1], &row.q) == number
+    line.len() == 55 && number_back(kernels, &edge[0], &edge[1], &row.q) == number
 }
 
 #[test]
@@ -174,18 +176,18 @@ fn a_cube_crosses_a_post(rt: HostRuntime) {
 // Lines as in the table, with the answers of an independent program of the same definitions, in fine steps of 1/256 of a grid
 // step, under the two roundings that go farthest. All but the last differ from what rounding to the nearest gives.
 static LOW_ROWS: [&str; 4] = [
-    "024z 442y 100xy 213 231 444 1:442 1:213",
-    "424yz 131xz 402xz 030 212 234 1:231 .",
-    "013z 331yz 021xz 033 313 220 . -1:033",
-    "031xy 415x 453yz 555 142 100 1:131 1:142",
+    "024--z 442-y- 100xy- 213--- 231--- 444--- +1:442 +1:213",
+    "424-yz 131x-z 402x-z 030--- 212--- 234--- +1:231 ......",
+    "013--z 331-yz 021x-z 033--- 313--- 220--- ...... -1:033",
+    "031xy- 415x-- 453-yz 555--- 142--- 100--- +1:131 +1:142",
 ];
 
 static HIGH_ROWS: [&str; 4] = [
-    "424yz 131xz 402xz 030 212 234 -1:224 -1:212",
-    "402xyz 011z 441z 144 000 014 1:011 1:000",
-    "110x 132xz 013y 021 212 231 1:132 .",
+    "424-yz 131x-z 402x-z 030--- 212--- 234--- -1:224 -1:212",
+    "402xyz 011--z 441--z 144--- 000--- 014--- +1:011 +1:000",
+    "110x-- 132x-z 013-y- 021--- 212--- 231--- +1:132 ......",
     // Four of the five pairs of the face of P and the edge of Q have a count.
-    "751xyz 400y 374 142 653 507 . -1:353",
+    "751xyz 400-y- 374--- 142--- 653--- 507--- ...... -1:353",
 ];
 
 #[test]

@@ -33,9 +33,12 @@ fn at(x: u8, y: u8) -> Corner
     }
 }
 
-// The count of an answer, and whether it is above.
-fn told(met: Option<Meet>) -> Option<(i8, bool)> {
-    met.map(|m| (m.count, m.above))
+// Whether there is an answer, with this count, above or not.
+fn is_met(met: Option<Meet>, count: i8, above: bool) -> bool {
+    match met {
+        Some(m) => m.count == count && m.above == above,
+        None => false,
+    }
 }
 
 // Over the slope from (0, 0) to (3, 1) the corner (2, 1) is a third of a step above it, which rounding loses; and its foot
@@ -46,8 +49,8 @@ fn a_slope_is_not_rounded(rt: HostRuntime) {
     let exact = Exact { rounding: Nearest };
     let slope = [at(0, 0), at(3, 1)];
     let (over, foot) = ([at(2, 1)], [at(0, 0)]);
-    assert!(rt; told(grid.meet(&over, &slope)) == Some((1, false)));
-    assert!(rt; told(exact.meet(&over, &slope)) == Some((1, true)));
-    assert!(rt; told(grid.meet(&foot, &slope)).is_none());
-    assert!(rt; told(exact.meet(&foot, &slope)) == Some((1, false)));
+    assert!(rt; is_met(grid.meet(&over, &slope), 1, false));
+    assert!(rt; is_met(exact.meet(&over, &slope), 1, true));
+    assert!(rt; grid.meet(&foot, &slope).is_none());
+    assert!(rt; is_met(exact.meet(&foot, &slope), 1, false));
 }

@@ -1,58 +1,55 @@
 // Remeshed meshes.
 mod table;
 
+use crate::lines::are_same;
 use mesh_check::Mesh;
 use planar_patches::remesh;
 use std::alloc::Global;
 use std::process::Abort;
-use std::test::Fail;
 use table::ROWS;
 use test_tables::read_meshes;
 
-// The numbers of patches and of those that stayed, behind a line's four words.
+// The numbers of patches and of those that stayed, which end a line: the first of one or two digits, the second of one. A blank is 0.
 fn counts_of(line: &str) -> Option<(u64, u64)> {
-    let mut words = line.split_whitespace().skip(4);
-    let patches = words.next()?.parse().ok()?;
-    let kept = words.next()?.parse().ok()?;
-    Some((patches, kept))
-}
-
-// Whether two meshes have the same points and triangles.
-fn are_same(p: &Mesh, q: &Mesh) -> bool {
-    p.points() == q.points() && p.triples() == q.triples()
-}
-
-// Compares what remeshing gives of the first mesh of a line with the second, and the counts.
-fn expect_row(rt: &impl Abort, alloc: Global, line: &str) -> Result<(), Fail> {
-    let (mesh, expected) = read_meshes(alloc, line)?;
-    let done = remesh(alloc, &mesh)?;
-    assert!(rt; are_same(&done.mesh, &expected), "{line}");
-    assert!(rt;
-        Some((done.patches, done.kept)) == counts_of(line),
-        "{line}"
-    );
-    Ok(())
-}
-
-// Compares so many lines of the table from one on.
-fn expect_rows(rt: &impl Abort, alloc: Global, from: usize, count: usize) -> Result<(), Fail> {
-    for line in ROWS.lines().skip(from).take(count) {
-        expect_row(rt, alloc, line)?;
+    match line.as_bytes() {
+        [.., tens, ones, b' ', kept] => {
+            let (tens, ones) = ((*tens & 15) as u64, (*ones & 15) as u64);
+            Some((10 * tens + ones, (*kept & 15) as u64))
+        }
+        _ => None,
     }
-    Ok(())
+}
+
+// Whether remeshing makes this of a mesh, and counts so many patches and so many that stayed.
+fn is_remeshed_to(
+    rt: &impl Abort,
+    alloc: Global,
+    mesh: &Mesh,
+    wanted: &Mesh,
+    counts: (u64, u64),
+) -> bool {
+    let done = remesh(alloc, mesh).expect(rt, "memory");
+    are_same(&done.mesh, wanted) && done.patches == counts.0 && done.kept == counts.1
+}
+
+// Whether the first mesh of a line is remeshed to the second, with the line's counts.
+fn agrees(rt: &impl Abort, alloc: Global, line: &str) -> bool {
+    let counts = counts_of(line).expect(rt, "two counts");
+    let (mesh, wanted) = read_meshes(alloc, line).expect(rt, "two meshes");
+    is_remeshed_to(rt, alloc, &mesh, &wanted, counts)
+}
+
+// Each mesh of so many lines is remeshed as its line says.
+fn expect_lines(rt: &impl Abort, alloc: Global, lines: &str, wanted: u32) {
+    let mut count = 0u32;
+    for line in lines.lines() {
+        assert!(rt; agrees(rt, alloc, line), "{line}");
+        count = count.saturating_add(1);
+    }
+    assert!(rt; count == wanted);
 }
 
 #[test]
-fn a_hundred_results_are_remeshed(rt: HostRuntime) -> Result<(), Fail> {
-    expect_rows(&rt, rt.alloc(), 0, 100)
-}
-
-#[test]
-fn a_second_hundred_is(rt: HostRuntime) -> Result<(), Fail> {
-    expect_rows(&rt, rt.alloc(), 100, 100)
-}
-
-#[test]
-fn a_third_hundred_is(rt: HostRuntime) -> Result<(), Fail> {
-    expect_rows(&rt, rt.alloc(), 200, 100)
+fn three_hundred_results_are_remeshed(rt: HostRuntime) {
+    expect_lines(&rt, rt.alloc(), ROWS, 300);
 }

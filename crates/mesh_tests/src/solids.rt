@@ -21,10 +21,10 @@ fn point(rt: &impl Abort, row: [i32; 3]) -> Point {
 fn measures(rt: &impl Abort, alloc: Global, mesh: &Mesh) -> [i128; 5] {
     let measure = measure(alloc, mesh).expect(rt, "memory");
     [
-        i128::from(measure.points),
-        i128::from(measure.triangles),
-        i128::from(measure.components),
-        i128::from(measure.euler),
+        measure.points as i128,
+        measure.triangles as i128,
+        measure.components as i128,
+        measure.euler as i128,
         measure.volume6,
     ]
 }
@@ -78,12 +78,22 @@ fn prism(rt: &impl Abort, alloc: Global) -> Mesh {
     prism_of(rt, alloc, 4, 5)
 }
 
-// The prism twice as large, mirrored along x, turned about z and shifted.
-fn moved_prism(rt: &impl Abort, alloc: Global) -> Mesh {
+// The prism twice as large.
+fn large_prism(rt: &impl Abort, alloc: Global) -> Mesh {
     let prism = prism(rt, alloc);
-    let larger = scale(alloc, &prism, 2).expect(rt, "it stays on the grid");
-    let mirrored = mirrored(rt, alloc, &larger, 0);
-    let turned = turned(rt, alloc, &mirrored, 2);
+    scale(alloc, &prism, 2).expect(rt, "it stays on the grid")
+}
+
+// A mesh mirrored along x and turned about z.
+fn mirrored_and_turned(rt: &impl Abort, alloc: Global, mesh: &Mesh) -> Mesh {
+    let mirrored = mirrored(rt, alloc, mesh, 0);
+    turned(rt, alloc, &mirrored, 2)
+}
+
+// The large prism mirrored along x, turned about z and shifted.
+fn moved_prism(rt: &impl Abort, alloc: Global) -> Mesh {
+    let large = large_prism(rt, alloc);
+    let turned = mirrored_and_turned(rt, alloc, &large);
     shifted(rt, alloc, &turned, [1, 2, 3])
 }
 
@@ -226,13 +236,13 @@ static FLAT: [[i32; 3]; 4] = [[0, 1, 1], [1, 0, 1], [1, 1, 0], [1, -1, 1]];
 fn flat_solids_are_refused_first(rt: HostRuntime) {
     for high in &FLAT {
         let fault = box_fault(&rt, rt.alloc(), [0, 0, 0], *high, &Limits::program());
-        assert!(rt; fault == Some(MakeFault::FlatSolid));
+        assert!(rt; matches!(fault, Some(MakeFault::FlatSolid)));
     }
     let corner = [GRID_END, 0, 0];
     let fault = prism_fault(&rt, rt.alloc(), corner, 1, 0);
-    assert!(rt; fault == Some(MakeFault::FlatSolid));
+    assert!(rt; matches!(fault, Some(MakeFault::FlatSolid)));
     let fault = tetra_fault(&rt, rt.alloc(), corner, 1);
-    assert!(rt; fault == Some(MakeFault::OutOfGrid));
+    assert!(rt; matches!(fault, Some(MakeFault::OutOfGrid)));
 }
 
 // Why the mesh can't be shifted so.
@@ -244,25 +254,29 @@ fn shift_fault(alloc: Global, mesh: &Mesh, by: [i32; 3]) -> Option<MakeFault> {
 fn motions_stay_on_the_grid(rt: HostRuntime) {
     let mesh = box_of(&rt, rt.alloc(), [0, 0, 0], [1, 1, 1]);
     let far = shift_fault(rt.alloc(), &mesh, [GRID_END, 0, 0]);
-    assert!(rt; far == Some(MakeFault::OutOfGrid));
+    assert!(rt; matches!(far, Some(MakeFault::OutOfGrid)));
     let large = shifted(&rt, rt.alloc(), &mesh, [GRID_END - 1, 0, 0]);
     let larger = scale(rt.alloc(), &large, 2).err();
-    assert!(rt; larger == Some(MakeFault::OutOfGrid));
+    assert!(rt; matches!(larger, Some(MakeFault::OutOfGrid)));
     assert!(rt; volume6(&large) == 6);
+}
+
+// Whether there would be so many of these, more than the limits allow.
+fn is_over(fault: Option<MakeFault>, counted: Counted, count: u64) -> bool {
+    match fault {
+        Some(MakeFault::Over { what, seen }) => what == counted && seen == count,
+        _ => false,
+    }
 }
 
 #[test]
 fn limits_are_asked_in_order(rt: HostRuntime) {
     let narrow = Limits::of(1 << 20, 7, 4, 0).expect(&rt, "few points");
     let over = box_fault(&rt, rt.alloc(), [0, 0, 0], [1, 1, 1], &narrow);
-    let what = Counted::Points;
-    assert!(rt; over == Some(MakeFault::Over { what, seen: 8 }));
+    assert!(rt; is_over(over, Counted::Points, 8));
     let low = Limits::of(1 << 20, 16, 10, 0).expect(&rt, "few triangles");
     let over = box_fault(&rt, rt.alloc(), [0, 0, 0], [1, 1, 1], &low);
-    let what = Counted::Triangles;
-    assert!(rt; over == Some(MakeFault::Over { what, seen: 12 }));
+    assert!(rt; is_over(over, Counted::Triangles, 12));
     let over = make_lattice(rt.alloc(), 60, 0, &low).err();
-    let what = Counted::Points;
-    let seen = 1_728_000;
-    assert!(rt; over == Some(MakeFault::Over { what, seen }));
+    assert!(rt; is_over(over, Counted::Points, 1_728_000));
 }

@@ -64,12 +64,20 @@ fn second_side(alloc: Global, mesh: &Mesh) -> Result<Side, NoRow>
     Ok(side)
 }
 
+// What the numbers of a line give for two sides.
+fn written_of(rt: &impl Abort, alloc: Global, op: Op, p: &Side, q: &Side, numbers: &str) -> String
+    requires p_apart { NoOpposite p.now.triples }
+    requires q_apart { NoOpposite q.now.triples }
+{
+    let (windings, hits) = read_numbers(alloc, numbers).expect(rt, "numbers");
+    written(rt, alloc, op, p, q, &windings, &hits)
+}
+
 // What two meshes and the numbers of a line give.
 fn answer(rt: &impl Abort, alloc: Global, op: Op, p: &Mesh, q: &Mesh, numbers: &str) -> String {
     let p = first_side(alloc, p, op).expect(rt, "the first side");
     let q = second_side(alloc, q).expect(rt, "the second side");
-    let (windings, hits) = read_numbers(alloc, numbers).expect(rt, "numbers");
-    written(rt, alloc, op, &p, &q, &windings, &hits)
+    written_of(rt, alloc, op, &p, &q, numbers)
 }
 
 /// Compares what the meshes of a line and the numbers of the next give with the third line.

@@ -58,13 +58,18 @@ const OPERATIONS: [(Op, &str); 3] = [
     (Op::Subtract, "abccccccddddddddefghijklABEEEFGGGHIIJKLL"),
 ];
 
+// Compares the labels of what an operation gives with a text.
+fn expect_given(rt: &impl Abort, alloc: Global, op: Op, p: &Mesh, q: &Mesh, labels: &str) {
+    let outcome = to_the_nearest(rt, alloc, op, p, q);
+    expect_labels(rt, alloc, &outcome.mesh, labels);
+}
+
 #[test]
 fn a_triangle_has_the_label_of_its_source_face(rt: HostRuntime) {
     let p = read(&rt, rt.alloc(), BOX_WITH_SHEET);
     let q = read(&rt, rt.alloc(), POST);
     for (op, labels) in OPERATIONS {
-        let outcome = to_the_nearest(&rt, rt.alloc(), op, &p, &q);
-        expect_labels(&rt, rt.alloc(), &outcome.mesh, labels);
+        expect_given(&rt, rt.alloc(), op, &p, &q, labels);
     }
 }
 
@@ -82,16 +87,35 @@ fn is_union_of(
     audit(alloc, Op::Union, p, q, &kernels, &outcome).expect(rt, "memory")
 }
 
+// What an audit says of the union of a body and a post with labels, as that of these, of one of them with one of two others
+// without labels, and of the union of those as that of these.
+fn answers(
+    rt: &impl Abort,
+    alloc: Global,
+    labelled: (&Mesh, &Mesh),
+    plain: (&Mesh, &Mesh),
+) -> [bool; 4] {
+    let ((body, post), (plain_body, plain_post)) = (labelled, plain);
+    [
+        is_union_of(rt, alloc, labelled, labelled),
+        is_union_of(rt, alloc, labelled, (plain_body, post)),
+        is_union_of(rt, alloc, labelled, (body, plain_post)),
+        is_union_of(rt, alloc, plain, labelled),
+    ]
+}
+
+// That of the body and the post of this module, and two others.
+fn answers_beside(rt: &impl Abort, alloc: Global, plain: (&Mesh, &Mesh)) -> [bool; 4] {
+    let body = read(rt, alloc, BODY);
+    let post = read(rt, alloc, POST);
+    answers(rt, alloc, (&body, &post), plain)
+}
+
 #[test]
 fn an_audit_asks_for_labels(rt: HostRuntime) {
-    let body = read(&rt, rt.alloc(), BODY);
-    let post = read(&rt, rt.alloc(), POST);
-    let plain = read_meshes(rt.alloc(), POST_IN_BOX).expect(&rt, "two meshes");
-    let labelled = (&body, &post);
-    assert!(rt; is_union_of(&rt, rt.alloc(), labelled, labelled));
-    assert!(rt; !is_union_of(&rt, rt.alloc(), labelled, (&plain.0, &post)));
-    assert!(rt; !is_union_of(&rt, rt.alloc(), labelled, (&body, &plain.1)));
-    assert!(rt; !is_union_of(&rt, rt.alloc(), (&plain.0, &plain.1), labelled));
+    let (body, post) = read_meshes(rt.alloc(), POST_IN_BOX).expect(&rt, "two meshes");
+    let answers = answers_beside(&rt, rt.alloc(), (&body, &post));
+    assert!(rt; answers == [true, false, false, false]);
 }
 
 // How many triangles have this label.
@@ -105,26 +129,63 @@ fn count_of(mesh: &Mesh, label: &[u8]) -> usize {
     count
 }
 
+// How many triangles of the body less another mesh have its label, and how many have none.
+fn counts_of_rest(rt: &impl Abort, alloc: Global, other: &Mesh) -> (usize, usize) {
+    let body = read(rt, alloc, BODY);
+    let rest = to_the_nearest(rt, alloc, Op::Subtract, &body, other);
+    (count_of(&rest.mesh, b"body"), count_of(&rest.mesh, b""))
+}
+
 #[test]
 fn faces_of_a_mesh_without_labels_stay_without(rt: HostRuntime) {
-    let body = read(&rt, rt.alloc(), BODY);
     let (_, post) = read_meshes(rt.alloc(), POST_IN_BOX).expect(&rt, "two meshes");
-    let rest = to_the_nearest(&rt, rt.alloc(), Op::Subtract, &body, &post);
-    assert!(rt; count_of(&rest.mesh, b"body") == 24);
-    assert!(rt; count_of(&rest.mesh, b"") == 16);
+    let (of_body, without) = counts_of_rest(&rt, rt.alloc(), &post);
+    assert!(rt; of_body == 24);
+    assert!(rt; without == 16);
+}
+
+// The labels of the box with a sheet.
+const LABELS: &str = "xabcdefyghijkl";
+
+fn expect_kept_by_copy(rt: &impl Abort, alloc: Global, mesh: &Mesh) {
+    let copy = mesh.clone().expect(rt, "a copy");
+    expect_labels(rt, alloc, &copy, LABELS);
+}
+
+fn expect_kept_by_shift(rt: &impl Abort, alloc: Global, mesh: &Mesh) {
+    let shifted = shift(alloc, mesh, [1, 2, 3]).expect(rt, "it stays on the grid");
+    expect_labels(rt, alloc, &shifted, LABELS);
+}
+
+fn expect_kept_by_scale(rt: &impl Abort, alloc: Global, mesh: &Mesh) {
+    let scaled = scale(alloc, mesh, 3).expect(rt, "it stays on the grid");
+    expect_labels(rt, alloc, &scaled, LABELS);
+}
+
+fn expect_kept_by_mirror(rt: &impl Abort, alloc: Global, mesh: &Mesh) {
+    let mirrored = mirror(alloc, mesh, 1).expect(rt, "it stays on the grid");
+    expect_labels(rt, alloc, &mirrored, LABELS);
+}
+
+fn expect_kept_by_turn(rt: &impl Abort, alloc: Global, mesh: &Mesh) {
+    let turned = quarter_turn(alloc, mesh, 2).expect(rt, "it stays on the grid");
+    expect_labels(rt, alloc, &turned, LABELS);
+}
+
+// A reduced mesh has lost its sheet.
+fn expect_kept_by_reduction(rt: &impl Abort, alloc: Global, mesh: &Mesh) {
+    let reduced = reduce(alloc, mesh).expect(rt, "memory");
+    expect_labels(rt, alloc, &reduced, "abcdefghijkl");
 }
 
 #[test]
 fn reduction_and_motions_keep_labels(rt: HostRuntime) {
     let mesh = read(&rt, rt.alloc(), BOX_WITH_SHEET);
-    let copy = mesh.clone().expect(&rt, "a copy");
-    let shifted = shift(rt.alloc(), &mesh, [1, 2, 3]).expect(&rt, "it stays on the grid");
-    let scaled = scale(rt.alloc(), &mesh, 3).expect(&rt, "it stays on the grid");
-    let mirrored = mirror(rt.alloc(), &mesh, 1).expect(&rt, "it stays on the grid");
-    let turned = quarter_turn(rt.alloc(), &mesh, 2).expect(&rt, "it stays on the grid");
-    let reduced = reduce(rt.alloc(), &mesh).expect(&rt, "memory");
-    for mesh in &[&mesh, &copy, &shifted, &scaled, &mirrored, &turned] {
-        expect_labels(&rt, rt.alloc(), mesh, "xabcdefyghijkl");
-    }
-    expect_labels(&rt, rt.alloc(), &reduced, "abcdefghijkl");
+    expect_labels(&rt, rt.alloc(), &mesh, LABELS);
+    expect_kept_by_copy(&rt, rt.alloc(), &mesh);
+    expect_kept_by_shift(&rt, rt.alloc(), &mesh);
+    expect_kept_by_scale(&rt, rt.alloc(), &mesh);
+    expect_kept_by_mirror(&rt, rt.alloc(), &mesh);
+    expect_kept_by_turn(&rt, rt.alloc(), &mesh);
+    expect_kept_by_reduction(&rt, rt.alloc(), &mesh);
 }

@@ -1,6 +1,6 @@
 // What numbers prescribe, on boxes and on pairs of small meshes.
 mod table;
-mod text;
+pub(crate) mod text;
 
 use crate::handed::are_of_sides;
 use crate::rows::{Kind, expect_rows};
@@ -14,7 +14,22 @@ use table::PAIRS;
 use test_tables::{POST_IN_BOX, plain_side, read_meshes, read_numbers, read_pair};
 use text::text_of;
 
-// What the numbers of a line prescribe for two meshes without marks.
+// What the numbers of a line prescribe for two sides.
+fn answer_of_sides(
+    rt: &impl Abort,
+    alloc: Global,
+    op: Op,
+    p: &Side,
+    q: &Side,
+    numbers: &str,
+    limits: &Limits,
+) -> Result<Prescribed, PrescribeFault> {
+    let (windings, hits) = read_numbers(alloc, numbers).expect(rt, "numbers");
+    assert!(rt; are_of_sides(p, q, &windings, &hits));
+    prescribe(alloc, op, p, q, &windings, &hits, limits)
+}
+
+// What they prescribe for two meshes without marks.
 fn answer(
     rt: &impl Abort,
     alloc: Global,
@@ -26,9 +41,7 @@ fn answer(
 ) -> Result<Prescribed, PrescribeFault> {
     let p = plain_side(alloc, p).expect(rt, "the first side");
     let q = plain_side(alloc, q).expect(rt, "the second side");
-    let (windings, hits) = read_numbers(alloc, numbers).expect(rt, "numbers");
-    assert!(rt; are_of_sides(&p, &q, &windings, &hits));
-    prescribe(alloc, op, &p, &q, &windings, &hits, limits)
+    answer_of_sides(rt, alloc, op, &p, &q, numbers, limits)
 }
 
 /// Compares what a pair prescribes with the line of a table.

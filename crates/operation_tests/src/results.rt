@@ -2,7 +2,7 @@
 ghost use Rattle.std.specs.Prelude.{◌≡◌, ◌<◌};
 
 mod table;
-pub(crate) mod text;
+mod text;
 mod volume;
 
 use crate::rows::{Kind, expect_rows};
@@ -18,16 +18,14 @@ use std::marker::Brand;
 use std::process::Abort;
 use std::sync::ledger::{Blank, Ledger};
 use steps::Steps;
-use table::{FARTHEST, LOOSE, SOLIDS, WORKED};
+use table::{FARTHEST, WORKED};
+pub use table::{LOOSE, SOLIDS};
 use test_tables::{POST_IN_BOX, read_meshes, read_pair};
 use text::text_of;
 use volume::volume6;
 
-/// The tables of solids and of loose parts.
-pub const PAIRS: [&str; 2] = [SOLIDS, LOOSE];
-
-/// The pairs that are worked out by hand, of whose results an audit has to say yes.
-pub const SOUND: &str = WORKED;
+/// The pairs that are worked out by hand, of whose results an audit has to say yes, with their numbers.
+pub const SOUND: [(&str, [i128; 7]); 18] = WORKED;
 
 // What an operation gives under any kernels.
 fn answer<K: Kernels, L: Ledger>(
@@ -59,8 +57,8 @@ pub fn operated<K: Kernels>(
     answer::<K, Brand>(alloc, op, p, q, kernels, limits, Blank::new(1))
 }
 
-// Compares what it gives, as the tables write it, with a line.
-fn expect_text<K: Kernels>(
+/// Compares what it gives, as the tables write it, with a line.
+pub fn expect_text<K: Kernels>(
     rt: &impl Abort,
     alloc: Global,
     op: Op,
@@ -116,48 +114,57 @@ fn agrees_under_the_farthest_roundings(rt: HostRuntime) {
     expect_rows(&rt, rt.alloc(), &Kind::Farthest, FARTHEST, 20);
 }
 
-// The numbers of what an operation gives.
-fn numbers_of(rt: &impl Abort, alloc: Global, all: &Outcome) -> String {
-    let [p, q] = all.prescribed.kept;
-    let (crossings, forced) = (all.prescribed.crossings, all.forced);
-    let (points, triangles) = (all.mesh.points().len(), all.mesh.triples().len());
-    let volume = volume6(&all.mesh).expect(rt, "a small volume");
-    let numbers = format!(in alloc; " {p} {q} {crossings} {forced} {points} {triangles} {volume}");
-    numbers.expect(rt, "a text")
-}
-
 /// What an operation gives to the nearest.
 pub fn to_the_nearest(rt: &impl Abort, alloc: Global, op: Op, p: &Mesh, q: &Mesh) -> Outcome {
     let kernels = Grid { rounding: Nearest };
     operated(alloc, op, p, q, &kernels, &Limits::program()).expect(rt, "few half-edges")
 }
 
-// Compares the numbers of a pair with the end of its line.
-fn expect_numbers(rt: &impl Abort, alloc: Global, line: &str) {
-    let (op, p, q) = read_pair(alloc, line).expect(rt, "a pair");
-    let outcome = to_the_nearest(rt, alloc, op, &p, &q);
-    let numbers = numbers_of(rt, alloc, &outcome);
-    assert!(rt; line.ends_with(numbers.as_str()), "{line}: {numbers}");
+// The numbers of what an operation gives: how many vertices are kept of each mesh, the crossings, the forced triangles, the
+// points and triangles, and six times the volume.
+fn numbers_of(rt: &impl Abort, all: &Outcome) -> [i128; 7] {
+    let [p, q] = all.prescribed.kept;
+    let volume = volume6(&all.mesh).expect(rt, "points of all triangles");
+    [
+        p as i128,
+        q as i128,
+        all.prescribed.crossings as i128,
+        all.forced as i128,
+        all.mesh.points().len() as i128,
+        all.mesh.triples().len() as i128,
+        volume,
+    ]
+}
+
+// Those of an operation to the nearest.
+fn numbers_to_the_nearest(rt: &impl Abort, alloc: Global, op: Op, p: &Mesh, q: &Mesh) -> [i128; 7] {
+    let outcome = to_the_nearest(rt, alloc, op, p, q);
+    numbers_of(rt, &outcome)
 }
 
 #[test]
 fn has_the_numbers_worked_out(rt: HostRuntime) {
-    for line in WORKED.lines() {
-        expect_numbers(&rt, rt.alloc(), line);
+    for (meshes, numbers) in WORKED {
+        let (op, p, q) = read_pair(rt.alloc(), meshes).expect(&rt, "a pair");
+        let found = numbers_to_the_nearest(&rt, rt.alloc(), op, &p, &q);
+        assert!(rt; found == numbers, "{meshes}");
     }
 }
 
-// How a union of a post and a box ends where so many half-edges are the limit, if it has no result.
-fn fault_of(rt: &impl Abort, alloc: Global, halfedges: u32) -> Option<PrescribeFault> {
+// How many half-edges a union of a post and a box has too many for a result where so many are the limit; 0 where it has one.
+fn seen_of(rt: &impl Abort, alloc: Global, halfedges: u32) -> u64 {
     let (p, q) = read_meshes(alloc, POST_IN_BOX).expect(rt, "two meshes");
     let limits = Limits::of(22_470, 210, 140, halfedges).expect(rt, "limits");
     let kernels = Grid { rounding: Nearest };
-    operated(alloc, Op::Union, &p, &q, &kernels, &limits).err()
+    match operated(alloc, Op::Union, &p, &q, &kernels, &limits) {
+        Ok(_) => 0,
+        Err(PrescribeFault::TooLarge { seen }) => seen,
+        Err(PrescribeFault::NoMemory) => panic!(rt; "no memory"),
+    }
 }
 
 #[test]
 fn half_edges_above_the_limit_are_too_many(rt: HostRuntime) {
-    let fault = PrescribeFault::TooLarge { seen: 84 };
-    assert!(rt; fault_of(&rt, rt.alloc(), 83) == Some(fault));
-    assert!(rt; fault_of(&rt, rt.alloc(), 84).is_none());
+    assert!(rt; seen_of(&rt, rt.alloc(), 83) == 84);
+    assert!(rt; seen_of(&rt, rt.alloc(), 84) == 0);
 }

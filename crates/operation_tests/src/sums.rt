@@ -52,23 +52,7 @@ fn most_sums(alloc: Global, op: Op, p: &Mesh, q: &Mesh) -> Result<u64, Fail>
     Ok(first.checked_add(second).ok_or("too many components")?)
 }
 
-// What an operation gives, and the most by which it raises the counter.
-fn operated<L: Ledger>(
-    alloc: Global,
-    op: Op,
-    p: &Mesh,
-    q: &Mesh,
-    steps: &mut Steps<L>,
-) -> Result<(Mesh, u64), Fail>
-    ensures { IfOk result (λ r. steps.new ≤ steps.old + r.1) }
-{
-    let most = most_sums(alloc, op, p, q)?;
-    let kernels = Grid { rounding: Nearest };
-    let outcome = boolean(alloc, op, p, q, &kernels, &Limits::program(), steps)?;
-    Ok((outcome.mesh, most))
-}
-
-// The same with the number of its points in place of the mesh.
+// How many points an operation gives, and the most by which it raises the counter.
 fn counted<L: Ledger>(
     alloc: Global,
     op: Op,
@@ -78,8 +62,12 @@ fn counted<L: Ledger>(
 ) -> Result<(usize, u64), Fail>
     ensures { IfOk result (λ r. steps.new ≤ steps.old + r.1) }
 {
-    let (mesh, most) = operated(alloc, op, p, q, steps)?;
-    Ok((mesh.points().len(), most))
+    let most = most_sums(alloc, op, p, q)?;
+    let kernels = Grid { rounding: Nearest };
+    match boolean(alloc, op, p, q, &kernels, &Limits::program(), steps) {
+        Ok(outcome) => Ok((outcome.mesh.points().len(), most)),
+        Err(_) => Err("few half-edges".into()),
+    }
 }
 
 fn box_of(alloc: Global, low: [i32; 3], high: [i32; 3]) -> Result<Mesh, Fail> {

@@ -113,10 +113,10 @@ fn measures(alloc: Global, low: i32, high: i32) -> Result<[i128; 5], Fail>
     };
     let measure = measure(alloc, &solid.mesh)?;
     Ok([
-        i128::from(measure.points),
-        i128::from(measure.triangles),
-        i128::from(solid.forced),
-        i128::from(measure.components),
+        measure.points as i128,
+        measure.triangles as i128,
+        solid.forced as i128,
+        measure.components as i128,
         measure.volume6,
     ])
 }

@@ -12,15 +12,47 @@ use std::alloc::Global;
 use std::process::Abort;
 use std::test::Fail;
 
-/// The whole numbers of a text.
-pub fn numbers_of(alloc: Global, text: &str) -> Result<Vec<i64>, Fail> {
+// The value of a digit.
+fn digit(byte: u8) -> Result<i64, Fail> {
+    if byte < b'0' || byte > b'9' {
+        return Err("no digit".into());
+    }
+    Ok((byte - b'0') as i64)
+}
+
+// Adds a number of this size, above 0 or below, if one has begun.
+fn push_number(numbers: &mut Vec<i64>, size: Option<i64>, is_below: bool) -> Result<(), Fail> {
+    if let Some(size) = size {
+        numbers.push(if is_below { size.wrapping_neg() } else { size })?;
+    }
+    Ok(())
+}
+
+// The whole numbers of a line, and how many of them stand before its sign =.
+fn numbers_of(alloc: Global, line: &str) -> Result<(Vec<i64>, usize), Fail> {
     let mut numbers = Vec::new(alloc);
-    for word in text.split(" ") {
-        if !word.is_empty() {
-            numbers.push(word.parse::<i64>()?)?;
+    let mut before = 0usize;
+    let mut size = None;
+    let mut is_below = false;
+    for byte in line.as_bytes() {
+        if *byte == b' ' {
+            push_number(&mut numbers, size, is_below)?;
+            size = None;
+            is_below = false;
+        } else if *byte == b'=' {
+            before = numbers.len();
+        } else if *byte == b'-' {
+            is_below = true;
+        } else {
+            size = Some(
+                size.unwrap_or(0)
+                    .wrapping_mul(10)
+                    .wrapping_add(digit(*byte)?),
+            );
         }
     }
-    Ok(numbers)
+    push_number(&mut numbers, size, is_below)?;
+    Ok((numbers, before))
 }
 
 // A count as a row has it.
@@ -75,15 +107,22 @@ fn places_from(
     if at >= numbers.len() {
         return Err("a row".into());
     }
-    for pair in numbers[at + 1..].chunks(2) {
-        if signed(rt, places.len() as u64) == numbers[at] {
+    for [x, y] in numbers[at + 1..].as_chunks::<2>().0 {
+        if places.len() as i64 == numbers[at] {
             break;
         }
-        if let [x, y] = pair {
-            places.push([coordinate(rt, *x), coordinate(rt, *y)])?;
-        }
+        places.push([coordinate(rt, *x), coordinate(rt, *y)])?;
     }
     Ok(places)
+}
+
+// Where the list of places ends that begins at a place with how many there are.
+fn end_from(rt: &impl Abort, numbers: &[i64], at: usize) -> Result<usize, Fail> {
+    if at >= numbers.len() {
+        return Err("a row".into());
+    }
+    let count = usize::try_from(numbers[at]).expect(rt, "a count");
+    Ok(at.wrapping_add(1).wrapping_add(count.wrapping_mul(2)))
 }
 
 // Adds a point's x and y.
@@ -166,8 +205,8 @@ fn given<K: Flats>(
     if row.len() < 6 {
         return Err("a row".into());
     }
-    let second = 4 + 2 * places_from(rt, alloc, row, 3)?.len();
-    let third = second + 1 + 2 * places_from(rt, alloc, row, second)?.len();
+    let second = end_from(rt, row, 3)?;
+    let third = end_from(rt, row, second)?;
     let first = first_two(rt, alloc, row, second, kernels)?;
     let last = ring_at(rt, alloc, row, third)?;
     told(rt, alloc, op_of(row[1]), &first.outline, &last, kernels)
@@ -219,9 +258,14 @@ fn told<K: Flats>(
         &outline_numbers(alloc, op, p, q, kernels, &Nearest)?,
     )?;
     let flat = combined(alloc, op, p, q, kernels)?;
-    push_flat(rt, &mut out, &flat)?;
-    push_solid(rt, &mut out, &extruded(alloc, &flat.outline)?)?;
+    push_made(rt, alloc, &mut out, &flat)?;
     Ok(out)
+}
+
+// Adds what an operation gave, and the solid of it.
+fn push_made(rt: &impl Abort, alloc: Global, out: &mut Vec<i64>, flat: &Flat) -> Result<(), Fail> {
+    push_flat(rt, out, flat)?;
+    push_solid(rt, out, &extruded(alloc, &flat.outline)?)
 }
 
 // The solid from -1 to 4.
@@ -234,18 +278,23 @@ fn extruded(alloc: Global, outline: &Outline) -> Result<Extruded, Fail> {
 
 /// Whether a row gives what it tells.
 pub fn agrees(rt: &impl Abort, alloc: Global, line: &str) -> Result<bool, Fail> {
-    let Some((row, wanted)) = line.split_once(" = ") else {
-        return Err("two parts".into());
-    };
-    let row = numbers_of(alloc, row)?;
-    let wanted = numbers_of(alloc, wanted)?;
-    if row.len() < 3 {
+    let (numbers, before) = numbers_of(alloc, line)?;
+    if before < 3 || before > numbers.len() {
         return Err("a row".into());
     }
-    let found = if row[2] == 0 {
-        given(rt, alloc, &row, &Grid { rounding: Nearest })?
+    let (row, wanted) = numbers.split_at(before);
+    let found = found_of(rt, alloc, row)?;
+    Ok(found.as_slice() == wanted)
+}
+
+// What a row's operations give under its kernels.
+fn found_of(rt: &impl Abort, alloc: Global, row: &[i64]) -> Result<Vec<i64>, Fail> {
+    if row.len() < 6 {
+        return Err("a row".into());
+    }
+    if row[2] == 0 {
+        given(rt, alloc, row, &Grid { rounding: Nearest })
     } else {
-        given(rt, alloc, &row, &Exact { rounding: Nearest })?
-    };
-    Ok(found.as_slice() == wanted.as_slice())
+        given(rt, alloc, row, &Exact { rounding: Nearest })
+    }
 }

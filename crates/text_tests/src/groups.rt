@@ -71,9 +71,14 @@ fn is_written(rt: &impl Abort, alloc: Global, line: &[u8], wanted: &[u8], limits
     }
 }
 
+// Limits that allow no more than the triangles.
+fn limits(rt: &impl Abort) -> Limits {
+    Limits::of(321, 3, 2, 0).expect(rt, "these limits are lawful")
+}
+
 #[test]
 fn groups_are_written_as_they_were_read(rt: HostRuntime) {
-    let limits = Limits::of(321, 3, 2, 0).expect(&rt, "these limits are lawful");
+    let limits = limits(&rt);
     for (line, wanted) in &GROUPS {
         assert!(rt;
             is_written(&rt, rt.alloc(), line, wanted, &limits),
@@ -94,15 +99,21 @@ fn are_two(labels: &Labels, second: &[u8]) -> bool {
         && labels.get(2).is_empty()
 }
 
+// Whether labels and their copy are an empty one and this one.
+fn are_copied(rt: &impl Abort, alloc: Global, labels: &Labels, second: &[u8]) -> bool {
+    let copy = labels.copy(alloc).expect(rt, "a copy");
+    are_two(labels, second) && are_two(&copy, second)
+}
+
+// What is read where this line stands between the triangles.
+fn soup_between(rt: &impl Abort, alloc: Global, line: &[u8]) -> Soup {
+    read_between(rt, alloc, line, &limits(rt)).expect(rt, "this is read")
+}
+
 #[test]
 fn labels_stand_by_their_triangles(rt: HostRuntime) {
-    let limits = Limits::of(321, 3, 2, 0).expect(&rt, "these limits are lawful");
-    let plain = read_between(&rt, rt.alloc(), b"g\n", &limits).expect(&rt, "this is read");
-    assert!(rt; plain.labels().is_none());
-    let grouped = read_between(&rt, rt.alloc(), b"g red  blue\n", &limits);
-    let grouped = grouped.expect(&rt, "this is read");
+    assert!(rt; soup_between(&rt, rt.alloc(), b"g\n").labels().is_none());
+    let grouped = soup_between(&rt, rt.alloc(), b"g red  blue\n");
     let labels = grouped.labels().expect(&rt, "one has a label");
-    assert!(rt; are_two(labels, b"red blue"));
-    let copy = labels.copy(rt.alloc()).expect(&rt, "a copy");
-    assert!(rt; are_two(&copy, b"red blue"));
+    assert!(rt; are_copied(&rt, rt.alloc(), labels, b"red blue"));
 }

@@ -67,28 +67,52 @@ const SHARED: [(u32, u32, bool); 7] = [
     (4, 9, true),
 ];
 
-#[test]
-fn labels_are_added_at_the_end(rt: HostRuntime) {
-    let none = labels_of(&rt, rt.alloc(), &[]);
-    assert!(rt; are(&none, &[]) && none.shares(0, 1));
-    let labels = labels_of(&rt, rt.alloc(), &[0, 1, 1, 2]);
-    assert!(rt; are(&labels, &FOUR));
+// The four labels.
+fn four(rt: &impl Abort, alloc: Global) -> Labels {
+    labels_of(rt, alloc, &[0, 1, 1, 2])
+}
+
+// Whether labels are shared as the table says.
+fn share(rt: &impl Abort, labels: &Labels) {
     for (t, other, shared) in &SHARED {
         assert!(rt; labels.shares(*t, *other) == *shared, "{t} and {other}");
     }
 }
 
 #[test]
+fn labels_are_added_at_the_end(rt: HostRuntime) {
+    let none = labels_of(&rt, rt.alloc(), &[]);
+    assert!(rt; are(&none, &[]) && none.shares(0, 1));
+    let labels = four(&rt, rt.alloc());
+    assert!(rt; are(&labels, &FOUR));
+    share(&rt, &labels);
+}
+
+// Whether one more label of the source is added.
+fn grows(labels: &mut Labels, source: &Soup, triangle: u32) -> bool {
+    match source.labels() {
+        Some(source) => labels.push(source.get(triangle)).is_ok(),
+        None => false,
+    }
+}
+
+// Whether a copy and then its original grow, each alone.
+fn grow_apart(labels: &mut Labels, copy: &mut Labels, source: &Soup) -> bool {
+    are(copy, &FOUR)
+        && grows(copy, source, 3)
+        && are(copy, &FOUR_AND_C)
+        && are(labels, &FOUR)
+        && grows(labels, source, 2)
+        && are(copy, &FOUR_AND_C)
+        && are(labels, &FOUR_AND_B)
+}
+
+#[test]
 fn a_copy_and_its_original_grow_apart(rt: HostRuntime) {
-    let soup = source(&rt, rt.alloc());
-    let source = soup.labels().expect(&rt, "the source has labels");
-    let mut labels = labels_of(&rt, rt.alloc(), &[0, 1, 1, 2]);
+    let mut labels = four(&rt, rt.alloc());
     let mut copy = labels.copy(rt.alloc()).expect(&rt, "a copy");
-    assert!(rt; are(&copy, &FOUR));
-    push_all(&mut copy, source, &[3]).expect(&rt, "one more");
-    assert!(rt; are(&copy, &FOUR_AND_C) && are(&labels, &FOUR));
-    push_all(&mut labels, source, &[2]).expect(&rt, "another one");
-    assert!(rt; are(&copy, &FOUR_AND_C) && are(&labels, &FOUR_AND_B));
+    let source = source(&rt, rt.alloc());
+    assert!(rt; grow_apart(&mut labels, &mut copy, &source));
 }
 
 // Faces of two lists, the first of three faces with one label, the second with three labels.
@@ -98,11 +122,16 @@ const THEIRS: [&[u8]; 12] = [
     b"b", b"a", b"", b"c", b"", b"", b"", b"", b"", b"a", b"a", b"c",
 ];
 
+// The labels of the faces.
+fn labels_of_faces(rt: &impl Abort, alloc: Global) -> Labels {
+    let first = labels_of(rt, alloc, &[1]);
+    let second = labels_of(rt, alloc, &[2, 0, 3]);
+    Labels::of_faces(alloc, &first, &second, 3, &FACES).expect(rt, "labels")
+}
+
 #[test]
 fn faces_of_two_lists_have_their_labels(rt: HostRuntime) {
-    let first = labels_of(&rt, rt.alloc(), &[1]);
-    let second = labels_of(&rt, rt.alloc(), &[2, 0, 3]);
-    let labels = Labels::of_faces(rt.alloc(), &first, &second, 3, &FACES).expect(&rt, "labels");
+    let labels = labels_of_faces(&rt, rt.alloc());
     assert!(rt; are(&labels, &THEIRS));
     // A run keeps its place; the two past the end of the first list are one.
     assert!(rt; labels.shares(9, 10) && labels.shares(4, 5) && !labels.shares(8, 9));
@@ -139,20 +168,36 @@ fn has(mesh: &Mesh, wanted: &[&[u8]]) -> bool {
     all
 }
 
+// Whether a soup has these labels.
+fn is_labelled(soup: &Soup, wanted: &[&[u8]]) -> bool {
+    match soup.labels() {
+        Some(labels) => are(labels, wanted),
+        None => false,
+    }
+}
+
+// The mesh of that soup with two labels.
+fn labelled_mesh(rt: &impl Abort, alloc: Global) -> Mesh {
+    let two = labels_of(rt, alloc, &[1, 2]);
+    let soup = labelled(alloc, two).expect(rt, "lists");
+    let soup = soup.expect(rt, "these are a soup");
+    assert!(rt; is_labelled(&soup, &[b"a", b"b"]));
+    Mesh::check(alloc, soup).expect(rt, "a triangle and its reverse are closed")
+}
+
+// A mesh with the labels of these triangles of the source.
+fn with_labels_of(rt: &impl Abort, alloc: Global, mesh: Mesh, triangles: &[u32]) -> Mesh {
+    let labels = labels_of(rt, alloc, triangles);
+    relabelled(mesh, labels).expect(rt, "it has as many triangles")
+}
+
 #[test]
 fn triangles_past_the_labels_have_empty_ones(rt: HostRuntime) {
-    let two = labels_of(&rt, rt.alloc(), &[1, 2]);
-    let soup = labelled(rt.alloc(), two)
-        .expect(&rt, "lists")
-        .expect(&rt, "these are a soup");
-    let given = soup.labels().expect(&rt, "it has labels");
-    assert!(rt; are(given, &[b"a", b"b"]));
-    let mesh = Mesh::check(rt.alloc(), soup).expect(&rt, "a triangle and its reverse are closed");
+    let mesh = labelled_mesh(&rt, rt.alloc());
     assert!(rt; has(&mesh, &[b"a", b"b", b"", b""]));
-    let others = labels_of(&rt, rt.alloc(), &[3, 0, 1]);
-    let mesh = relabelled(mesh, others).expect(&rt, "it has four triangles");
+    let mesh = with_labels_of(&rt, rt.alloc(), mesh, &[3, 0, 1]);
     assert!(rt; has(&mesh, &[b"c", b"", b"a", b""]));
-    let mesh = relabelled(mesh, Labels::start(rt.alloc())).expect(&rt, "it has four triangles");
+    let mesh = with_labels_of(&rt, rt.alloc(), mesh, &[]);
     assert!(rt; has(&mesh, &[EMPTY; 4]));
 }
 
@@ -169,12 +214,21 @@ fn through_stl(rt: &impl Abort, alloc: Global, mesh: &Mesh) -> Soup {
     read_stl(alloc, sink.bytes(), 0, &Limits::program()).expect(rt, "it is read")
 }
 
+// The mesh of a soup.
+fn accepted(rt: &impl Abort, alloc: Global, soup: Soup) -> Mesh {
+    Mesh::check(alloc, soup).expect(rt, "the squares are closed")
+}
+
+// The mesh of the squares.
+fn squares(rt: &impl Abort, alloc: Global) -> Mesh {
+    let soup = read_obj(alloc, SQUARES, 0, &Limits::program()).expect(rt, "it is read");
+    accepted(rt, alloc, soup)
+}
+
 #[test]
 fn both_halves_of_a_square_have_its_label_until_it_is_stl(rt: HostRuntime) {
-    let soup = read_obj(rt.alloc(), SQUARES, 0, &Limits::program()).expect(&rt, "it is read");
-    let mesh = Mesh::check(rt.alloc(), soup).expect(&rt, "the squares are closed");
+    let mesh = squares(&rt, rt.alloc());
     assert!(rt; has(&mesh, &HALVES));
-    let soup = through_stl(&rt, rt.alloc(), &mesh);
-    let again = Mesh::check(rt.alloc(), soup).expect(&rt, "they still are");
+    let again = accepted(&rt, rt.alloc(), through_stl(&rt, rt.alloc(), &mesh));
     assert!(rt; has(&again, &[EMPTY; 8]));
 }

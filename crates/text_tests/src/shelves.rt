@@ -129,15 +129,18 @@ pub fn holds(shelf: &MemoryShelf, name: &str, wanted: &[u8]) -> bool {
     is_text(shelf.get(name), wanted)
 }
 
+// Whether a file can be put in the place of another.
+fn is_put(shelf: &mut MemoryShelf) -> bool {
+    shelf.put("old", b"now").is_ok() && holds(shelf, "old", b"now")
+}
+
 #[test]
 fn a_file_in_memory_is_written_in_pieces(rt: HostRuntime) {
     let fails = vec![in rt.alloc(); 3].expect(&rt, "one number");
     let mut shelf = shelf_with(&rt, rt.alloc(), 1, 6, 4, fails, "old", b"12345678");
     assert!(rt; answers(&mut shelf, &IN_PIECES, &mut [], b""));
-    assert!(rt; holds(&shelf, "new", b"abcdef"));
-    assert!(rt; shelf.get("third").is_none());
-    shelf.put("old", b"now").expect(&rt, "it is put");
-    assert!(rt; holds(&shelf, "old", b"now"));
+    assert!(rt; holds(&shelf, "new", b"abcdef") && shelf.get("third").is_none());
+    assert!(rt; is_put(&mut shelf));
 }
 
 static SURE: [(Call, Answer); 10] = [
@@ -160,14 +163,18 @@ static SURE_AGAIN: [(Call, Answer); 4] = [
     (Call::Size("old"), Ok(Some(8))),
 ];
 
+// Whether a sure shelf takes what its spare has room for, and again after it is begun once more.
+fn takes_what_fits(shelf: &mut SureShelf) -> bool {
+    let mut into = *b"....";
+    answers(shelf, &SURE, &mut into, b"78..")
+        && is_text(shelf.get("new"), b"abcdef")
+        && answers(shelf, &SURE_AGAIN, &mut into, b"78..")
+}
+
 #[test]
 fn a_sure_shelf_takes_what_its_spare_has_room_for(rt: HostRuntime) {
     let shelf = SureShelf::of(rt.alloc(), "old", b"12345678", "new", 6);
-    let mut shelf = shelf.expect(&rt, "a shelf");
-    let mut into = *b"....";
-    assert!(rt; answers(&mut shelf, &SURE, &mut into, b"78.."));
-    assert!(rt; is_text(shelf.get("new"), b"abcdef"));
-    assert!(rt; answers(&mut shelf, &SURE_AGAIN, &mut into, b"78.."));
+    assert!(rt; takes_what_fits(&mut shelf.expect(&rt, "a shelf")));
 }
 
 static TAKEN: [(&[u8], Answer); 4] = [
@@ -177,12 +184,18 @@ static TAKEN: [(&[u8], Answer); 4] = [
     (b"de", Ok(Some(2))),
 ];
 
+// A sink for so many bytes, which takes so many at a time, and whose second write fails.
+pub fn failing_sink(rt: &impl Abort, alloc: Global, room: usize, most: usize) -> MemorySink
+    requires { 0 < most }
+{
+    let fails = vec![in alloc; 2].expect(rt, "one number");
+    MemorySink::of(alloc, room, most, fails).expect(rt, "a sink")
+}
+
 #[test]
 fn a_sink_in_memory_takes_what_fits(rt: HostRuntime) {
-    let fails = vec![in rt.alloc(); 2].expect(&rt, "one number");
-    let mut sink = MemorySink::of(rt.alloc(), 5, 3, fails).expect(&rt, "a sink");
-    assert!(rt; takes(&mut sink, &TAKEN));
-    assert!(rt; sink.bytes() == b"abcde".as_slice());
+    let mut sink = failing_sink(&rt, rt.alloc(), 5, 3);
+    assert!(rt; takes(&mut sink, &TAKEN) && sink.bytes() == b"abcde".as_slice());
 }
 
 static KEPT: [(Call, Answer); 6] = [
@@ -241,21 +254,20 @@ static SAID: [(&[u8], Answer); 3] = [
 
 static READ_BACK: [(Call, Answer); 1] = [(Call::Read("out.txt", 0), Ok(Some(11)))];
 
+// Whether the file holds what was said.
+fn is_kept(rt: &HostRuntime) -> bool {
+    let mut into = *b"............";
+    let mut shelf = FolderShelf::of(rt);
+    answers(&mut shelf, &READ_BACK, &mut into, b"said, done\n.")
+}
+
 #[test]
 fn a_writer_of_std_gets_what_was_written(rt: HostRuntime) {
-    let mut sink = StdSink::over(fs::create(&rt, "out.txt").expect(&rt, "a file is made"));
-    assert!(rt; takes(&mut sink, &SAID));
-    let mut into = *b"............";
-    assert!(rt;
-        answers(
-            &mut FolderShelf::of(&rt),
-            &READ_BACK,
-            &mut into,
-            b"said, done\n."
-        )
-    );
-    let mut closed = StdSink::over(fs::open(&rt, "out.txt").expect(&rt, "the file is there"));
-    assert!(rt; closed.write(b"more").is_err());
+    let file = fs::create(&rt, "out.txt").expect(&rt, "a file is made");
+    assert!(rt; takes(&mut StdSink::over(file), &SAID));
+    assert!(rt; is_kept(&rt));
+    let file = fs::open(&rt, "out.txt").expect(&rt, "the file is there");
+    assert!(rt; StdSink::over(file).write(b"more").is_err());
     fs::remove_file(&rt, "out.txt").expect(&rt, "the file is there");
 }
 
@@ -293,16 +305,25 @@ fn reads_back<S: Shelf>(shelf: &mut S, name: &str, text: &[u8]) -> bool {
     all
 }
 
+// Whether a file is begun and has no bytes.
+fn is_begun<S: Shelf>(shelf: &mut S, name: &str) -> bool {
+    shelf.begin(name).is_ok() && matches!(shelf.size(name), Ok(Some(0)))
+}
+
+// Whether a file holds a text of 200,000 bytes after it is written in pieces.
+fn keeps<S: Shelf>(shelf: &mut S, name: &str, text: &[u8]) -> bool {
+    appends(shelf, name, text)
+        && matches!(shelf.size(name), Ok(Some(200_000)))
+        && reads_back(shelf, name, text)
+}
+
 #[test]
 fn a_long_file_of_the_folder_is_read_back(rt: HostRuntime) {
     let text = long_text(rt.alloc()).expect(&rt, "a text");
     let mut shelf = FolderShelf::of(&rt);
-    assert!(rt; shelf.begin("long.txt").is_ok());
-    assert!(rt; appends(&mut shelf, "long.txt", &text));
-    assert!(rt; shelf.size("long.txt") == Ok(Some(200_000)));
-    assert!(rt; reads_back(&mut shelf, "long.txt", &text));
-    assert!(rt; shelf.begin("long.txt").is_ok());
-    assert!(rt; shelf.size("long.txt") == Ok(Some(0)));
+    assert!(rt; is_begun(&mut shelf, "long.txt"));
+    assert!(rt; keeps(&mut shelf, "long.txt", &text));
+    assert!(rt; is_begun(&mut shelf, "long.txt"));
     // A folder has a size.
     assert!(rt; matches!(shelf.size("."), Ok(Some(_))));
     fs::remove_file(&rt, "long.txt").expect(&rt, "the file is there");

@@ -2,7 +2,7 @@
 ghost use Rattle.std.specs.Prelude.{◌≤◌};
 
 use crate::lists::{point_at, points_at};
-use crate::shelves::holds;
+use crate::shelves::{failing_sink, holds};
 use mb_base::{NoMemory, Point, Soup};
 use mb_outside::{Failed, MemoryShelf, MemorySink, Shelf, Sink};
 use mesh_check::Mesh;
@@ -66,14 +66,8 @@ static TEXTS: [(bool, &[u8]); 2] = [(false, TEXT), (true, SOLID)];
 fn the_text_goes_to_a_sink_and_to_a_file(rt: HostRuntime) {
     let mesh = tetrahedron(&rt, rt.alloc());
     for (solid, text) in &TEXTS {
-        assert!(rt;
-            goes_to_a_sink(&rt, rt.alloc(), &mesh, *solid, text),
-            "solid {solid}"
-        );
-        assert!(rt;
-            goes_to_a_file(&rt, rt.alloc(), &mesh, *solid, text),
-            "solid {solid}"
-        );
+        assert!(rt; goes_to_a_sink(&rt, rt.alloc(), &mesh, *solid, text));
+        assert!(rt; goes_to_a_file(&rt, rt.alloc(), &mesh, *solid, text));
     }
 }
 
@@ -116,11 +110,19 @@ fn taken_at_once(
 ) -> Option<usize>
     requires { digits ≤ 6 }
 {
-    let fails = vec![in alloc; 2].expect(rt, "one number");
-    let mut sink = MemorySink::of(alloc, 10_000, 10_000, fails).expect(rt, "a sink");
+    let mut sink = failing_sink(rt, alloc, 10_000, 10_000);
     match write(mesh, solid, digits, &mut sink) {
         Ok(()) => None,
         Err(_) => Some(sink.bytes().len()),
+    }
+}
+
+// Whether so many bytes go out at once of the flat triangles.
+fn has_a_page_of(rt: &impl Abort, alloc: Global, solid: bool, wide: i32, length: usize) -> bool {
+    let mesh = flat_triangles(rt, alloc, wide);
+    match taken_at_once(rt, alloc, &mesh, solid, 0) {
+        Some(taken) => taken == length,
+        None => false,
     }
 }
 
@@ -132,9 +134,8 @@ fn a_page_goes_out_where_fewer_than_128_bytes_are_free(rt: HostRuntime) {
     // After 248 lines of OBJ 128 bytes are free, or 127 where one line is longer. Of a solid with so many bytes fewer than 128 are
     // free for the first time after a line.
     for (solid, wide, length) in &PAGES {
-        let mesh = flat_triangles(&rt, rt.alloc(), *wide);
         assert!(rt;
-            taken_at_once(&rt, rt.alloc(), &mesh, *solid, 0) == Some(*length),
+            has_a_page_of(&rt, rt.alloc(), *solid, *wide, *length),
             "at {length}"
         );
     }
@@ -143,10 +144,6 @@ fn a_page_goes_out_where_fewer_than_128_bytes_are_free(rt: HostRuntime) {
 #[test]
 fn a_text_that_fits_a_page_goes_out_in_one_write(rt: HostRuntime) {
     let mesh = tetrahedron(&rt, rt.alloc());
-    for solid in &[false, true] {
-        assert!(rt;
-            taken_at_once(&rt, rt.alloc(), &mesh, *solid, 4).is_none(),
-            "solid {solid}"
-        );
-    }
+    assert!(rt; taken_at_once(&rt, rt.alloc(), &mesh, false, 4).is_none());
+    assert!(rt; taken_at_once(&rt, rt.alloc(), &mesh, true, 4).is_none());
 }

@@ -1,17 +1,30 @@
 // Rings after joining against two tables.
+ghost use Rattle.std.specs.Prelude.{◌<◌, length};
+ghost use Rattle.std.specs.List.{All};
+ghost use Rattle.face_plane.specs.Rings.{IsRing};
+
 use super::joined_rows::{MANY_HOLES, RANDOM_ROWS, ROWS};
-use super::{can_fill, loops_of, points_of};
+use super::{can_fill, loops_of};
 use crate::rings::has;
 use crate::rows::{Kind, expect_rows};
-use crate::words::parts_of;
+use crate::words::{number_of, parts_of, points_of};
 use face_loops::Loop;
 use mb_base::Point;
 use std::alloc::Global;
 use std::process::Abort;
 use triangulate::{FacePlane, Joined, Ring, join_holes};
 
-// Loops that can be filled, joined.
-fn joined(rt: &impl Abort, alloc: Global, drop: u32, loops: &[Loop], points: &[Point]) -> Joined {
+/// Loops that can be filled, joined.
+pub(crate) fn joined(
+    rt: &impl Abort,
+    alloc: Global,
+    drop: u32,
+    loops: &[Loop],
+    points: &[Point],
+) -> Joined
+    ensures ringy { All IsRing result.rings.items }
+    ensures below { All (λ ring. All (λ v. v < length points.now) ring) result.rings.items }
+{
     assert!(rt; drop < 3 && can_fill(alloc, loops, points.len()).expect(rt, "memory"));
     join_holes(alloc, FacePlane { drop: drop as u8 }, loops, points).expect(rt, "memory")
 }
@@ -27,19 +40,18 @@ fn are_rings(rings: Vec<Ring>, wanted: &[Loop]) -> bool {
     same
 }
 
-/// Whether joining gives the rings of a line, in the plane of its sign.
+/// Whether joining gives the rings of a line, in the plane turned as it tells.
 pub fn agrees(rt: &impl Abort, alloc: Global, line: &str) -> bool {
-    let parts = parts_of(rt, alloc, line, " : ");
-    let [drop, points, loops, rings] = parts.as_slice() else {
+    let parts = parts_of(rt, alloc, line);
+    let [drop, points, loops, turned, rings] = parts.as_slice() else {
         return false;
     };
-    let (sign, rings) = rings.split_once(" ").expect(rt, "a sign");
-    let drop = drop.parse::<u32>().expect(rt, "a number");
-    let points = points_of(rt, alloc, points, " ");
-    let loops = loops_of(rt, alloc, loops, false);
-    let wanted = loops_of(rt, alloc, rings, false);
+    let drop = number_of(rt, drop);
+    let points = points_of(rt, alloc, points, 3);
+    let loops = loops_of(rt, alloc, loops);
+    let wanted = loops_of(rt, alloc, rings);
     let joined = joined(rt, alloc, drop, &loops, &points);
-    joined.turned == (sign == "~") && are_rings(joined.rings, &wanted)
+    joined.turned == (number_of(rt, turned) == 1) && are_rings(joined.rings, &wanted)
 }
 
 #[test]

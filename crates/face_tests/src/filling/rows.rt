@@ -1,338 +1,339 @@
 // Fillings by a program written apart from this one, which follows the rule word for word. A line is the axis that is
-// dropped, the points, the loops, three letters for each triangle, and how many were forced. A point is three digits or
-// three numbers with commas, a vertex a letter, a the first.
+// dropped, the points, the loops, three letters for each triangle, and how many were forced. A vertex is a letter, a the
+// first.
 
 // Loops that are hard to fill: two of equal points; two bridges at one place; holes that start on a ring's vertex or edge; a
 // ring within a hole; equal distances, in one ring and between two; a vertex in three places; a bow tie; there and back on a
 // line; a comb; a spiral; a hole outside; the ends of the grid; areas that add up to less than 0; a hole within a hole;
 // vertices that block and stand twice, or are cut; bridges that would cross or touch others; cones that decide; a triangle
 // with a hole; four equal points.
-pub const HARD: &str = "2 330;330;330;330;330;330;330;330 abcde/fgh eabebccdefgh 4
-2 000;20,0,0;20,20,0;0,20,0;17,18,0;15,15,0;14,17,0;18,14,0;15,11,0;16,14,0 abcd/efg/hij dabbchbhidbidijjhcjcejefdjfdfgdgeecd 0
-2 000;800;880;080;800;620;510 abcd/egf cdacabcbecegcgfcfeebc 5
-2 000;800;880;080;840;630;440;650 abcd/efgh befabfafgdagdghcdhcheebc 1
-2 000;16,0,0;16,16,0;0,16,0;220;2,14,0;14,14,0;14,2,0;440;12,4,0;12,12,0;4,12,0;660;6,10,0;10,6,0 abcd/efgh/ijkl/mno bcgbghabhahedaedefdfggcdijoiomlimlmnojknoknkl 0
-2 000;400;440;040;320;210;120;230 abcd/efgh befabfafgdagdghebchechcd 0
-2 220;420;440;240;000;12,0,0;12,4,0;12,12,0;0,12,0;110;150;550;510;840;730;750 abcd/efghi/jklm/nop dabbcdfgnfnooplolmfomefmemjiejijkiklilppngipgghi 0
-2 000;30,0,0;30,30,0;0,30,0;26,24,0;20,20,0;24,26,0;24,29,0;18,29,0;18,27,0;29,22,0;27,15,0;29,15,0 abcd/efg/hji/kml dabbckbkmbmldbllkelefdlffghfhjdfjdjidihhgehekhkchcd 0
-2 000;220;200;020 abcd dabbcd 1
-2 000;200;400;600;400;200 abcdef fabfbcfcddef 4
-2 000;200;400;420;440;240;040;020 abcdefgh habhbchcdhdeheffgh 0
-2 000;800;830;710;630;410;230;110;030 abcdefghi bcdabddefadffghafhahi 0
-2 330;530;550;150;110;710;770;870;800;000;060;660 abcdefghijkl fghfhiefieijdejdjkcdkcklbclabl 1
-2 000;400;040;990;870;780 abc/def cabcbdcdecefcfddbc 3
-2 -1073741824,-1073741824,0;1073741824,-1073741824,0;-1073741824,1073741824,0;1073741824,1073741824,0;1073741824,1073741822,0;1073741822,1073741823,0 abc/def cabcbdcdecefcfddbc 3
-2 110;210;120;000;050;550;500 abc/defg dcagdagabgbccdegceefg 0
-2 000;200;240;040;600;800;840;640;420;310;330 abcd/efgh/ijk dabbcddbidijdjkdkiibdheffgh 4
-2 000;12,0,0;12,12,0;0,12,0;220;2,10,0;10,10,0;10,2,0;440;570;850 abcd/efgh/ijk bcgbghabhahkfgcfcdefdedaeakekieijejkkhe 2
-2 450;250;410;460;230;550;300;560;310;030 hfad/gic/jeb bjefacicaiadhbehebbhfhbfhfchcghgiidh 6
-2 10,0,0;8,11,0;0,10,0;5,10,0;2,10,0;340 abcdef fabdefbcdbdf 0
-2 000;800;880;080;130;340;320;150;440;240 abcd/efg/hij bifbfgabgagedaeibchichcdhdejhejeffij 1
-2 050;030;340;240;350;340;540;640;650 gih/ecd/bfa abfafiaieaecacdadegifaeiaihahggfa 9
-2 000;800;880;080;330;420;430;410 abcd/efgh efgbcddagbdgbghabhaheega 2
-2 000;10,0,0;10,10,0;520;640;720 abc/def abfafdadecaeceffbc 0
-2 7,-3,0;7,-3,0;7,-3,0;7,-3,0 abcd dabbcd 2";
+pub const HARD: &str = "\
+2 : 3,3,0;3,3,0;3,3,0;3,3,0;3,3,0;3,3,0;3,3,0;3,3,0 : abcde/fgh : eabebccdefgh : 4
+2 : 0,0,0;20,0,0;20,20,0;0,20,0;17,18,0;15,15,0;14,17,0;18,14,0;15,11,0;16,14,0 : abcd/efg/hij : dabbchbhidbidijjhcjcejefdjfdfgdgeecd : 0
+2 : 0,0,0;8,0,0;8,8,0;0,8,0;8,0,0;6,2,0;5,1,0 : abcd/egf : cdacabcbecegcgfcfeebc : 5
+2 : 0,0,0;8,0,0;8,8,0;0,8,0;8,4,0;6,3,0;4,4,0;6,5,0 : abcd/efgh : befabfafgdagdghcdhcheebc : 1
+2 : 0,0,0;16,0,0;16,16,0;0,16,0;2,2,0;2,14,0;14,14,0;14,2,0;4,4,0;12,4,0;12,12,0;4,12,0;6,6,0;6,10,0;10,6,0 : abcd/efgh/ijkl/mno : bcgbghabhahedaedefdfggcdijoiomlimlmnojknoknkl : 0
+2 : 0,0,0;4,0,0;4,4,0;0,4,0;3,2,0;2,1,0;1,2,0;2,3,0 : abcd/efgh : befabfafgdagdghebchechcd : 0
+2 : 2,2,0;4,2,0;4,4,0;2,4,0;0,0,0;12,0,0;12,4,0;12,12,0;0,12,0;1,1,0;1,5,0;5,5,0;5,1,0;8,4,0;7,3,0;7,5,0 : abcd/efghi/jklm/nop : dabbcdfgnfnooplolmfomefmemjiejijkiklilppngipgghi : 0
+2 : 0,0,0;30,0,0;30,30,0;0,30,0;26,24,0;20,20,0;24,26,0;24,29,0;18,29,0;18,27,0;29,22,0;27,15,0;29,15,0 : abcd/efg/hji/kml : dabbckbkmbmldbllkelefdlffghfhjdfjdjidihhgehekhkchcd : 0
+2 : 0,0,0;2,2,0;2,0,0;0,2,0 : abcd : dabbcd : 1
+2 : 0,0,0;2,0,0;4,0,0;6,0,0;4,0,0;2,0,0 : abcdef : fabfbcfcddef : 4
+2 : 0,0,0;2,0,0;4,0,0;4,2,0;4,4,0;2,4,0;0,4,0;0,2,0 : abcdefgh : habhbchcdhdeheffgh : 0
+2 : 0,0,0;8,0,0;8,3,0;7,1,0;6,3,0;4,1,0;2,3,0;1,1,0;0,3,0 : abcdefghi : bcdabddefadffghafhahi : 0
+2 : 3,3,0;5,3,0;5,5,0;1,5,0;1,1,0;7,1,0;7,7,0;8,7,0;8,0,0;0,0,0;0,6,0;6,6,0 : abcdefghijkl : fghfhiefieijdejdjkcdkcklbclabl : 1
+2 : 0,0,0;4,0,0;0,4,0;9,9,0;8,7,0;7,8,0 : abc/def : cabcbdcdecefcfddbc : 3
+2 : -1073741824,-1073741824,0;1073741824,-1073741824,0;-1073741824,1073741824,0;1073741824,1073741824,0;1073741824,1073741822,0;1073741822,1073741823,0 : abc/def : cabcbdcdecefcfddbc : 3
+2 : 1,1,0;2,1,0;1,2,0;0,0,0;0,5,0;5,5,0;5,0,0 : abc/defg : dcagdagabgbccdegceefg : 0
+2 : 0,0,0;2,0,0;2,4,0;0,4,0;6,0,0;8,0,0;8,4,0;6,4,0;4,2,0;3,1,0;3,3,0 : abcd/efgh/ijk : dabbcddbidijdjkdkiibdheffgh : 4
+2 : 0,0,0;12,0,0;12,12,0;0,12,0;2,2,0;2,10,0;10,10,0;10,2,0;4,4,0;5,7,0;8,5,0 : abcd/efgh/ijk : bcgbghabhahkfgcfcdefdedaeakekieijejkkhe : 2
+2 : 4,5,0;2,5,0;4,1,0;4,6,0;2,3,0;5,5,0;3,0,0;5,6,0;3,1,0;0,3,0 : hfad/gic/jeb : bjefacicaiadhbehebbhfhbfhfchcghgiidh : 6
+2 : 10,0,0;8,11,0;0,10,0;5,10,0;2,10,0;3,4,0 : abcdef : fabdefbcdbdf : 0
+2 : 0,0,0;8,0,0;8,8,0;0,8,0;1,3,0;3,4,0;3,2,0;1,5,0;4,4,0;2,4,0 : abcd/efg/hij : bifbfgabgagedaeibchichcdhdejhejeffij : 1
+2 : 0,5,0;0,3,0;3,4,0;2,4,0;3,5,0;3,4,0;5,4,0;6,4,0;6,5,0 : gih/ecd/bfa : abfafiaieaecacdadegifaeiaihahggfa : 9
+2 : 0,0,0;8,0,0;8,8,0;0,8,0;3,3,0;4,2,0;4,3,0;4,1,0 : abcd/efgh : efgbcddagbdgbghabhaheega : 2
+2 : 0,0,0;10,0,0;10,10,0;5,2,0;6,4,0;7,2,0 : abc/def : abfafdadecaeceffbc : 0
+2 : 7,-3,0;7,-3,0;7,-3,0;7,-3,0 : abcd : dabbcd : 2";
 
 // Random loops on small grids, so that ties abound: of any kind, and polygons with up to three holes, numbered, begun and
 // ordered at random, some turned.
-pub const RANDOM: &str =
-    "1 797;515;009;242;930;636;596;633;808;103;090;949 kcle/bgf/jadhi clicijkcjjadkjdekdedhehiilebgf 0
-0 311;133;450;255;843;600;223;105;722;721;044;241;334;431 bek/jlg/fhdc/imna fhgfgjcfjcjlghdgdkgkblgbclbcbecekkdcimnina 0
-2 252;315;315;418;322;240;333;416;548;007;023;306;426;338;434;448;559 ohbg/enm/kjliqa/dfpc akjipoiompiqfpqfqafajfjlflifimfmefenfnmgopfmofohfhbfbgfgppcdpdf 10
-0 290;599;509;800 cdab bcddab 0
-2 012;012;113;113;104;101;003;107;106;007;011 biah/gdjf/cke hbiiahfgddjfcke 3
-2 094;250;554;995;574;004;778;756;901;775;790;870;269;352 nbm/afid/ejhc/klg idlmncmceklddafdfidildlgdgjdjhdhcdcndnbdbmdmedejdjggkd 13
-2 020;015;222;103;102;113 badfec cbacadcdffec 3
-1 242;473;293;545;312;560;010;205;363;005;241 cih/kea/gjbdf gjhghccieceagcagakfgkfkefeifihbdfjbfhjf 1
-1 500;505;010;095 acdb baccdb 0
-1 900;009;070;317;929 acbde eaccbdcde 0
-1 180;141;130;100;261;232;040;152;241;032 ijabhc/fegd cijcjacabbhcegdfed 5
-1 303;476;030;424;564;315;475;546;586;730;304;555;464;717;067;375;366 pqhl/fgmk/jnoac/dbie acjajnanhahiaieaedadgagmamkoakokfofgogdodbnobnbinihnhlqhnnlppqn 16
-0 134;209;490;723;624;800;998;468;244;742;266;224;076;322;199;833 khm/ijnl/fcgob/deap cgmcmkckiciacapcpdikhhmghgohobihbbfcbcdbdebeabailibnlbbijjnb 6
-2 279;168;002;076;166;522;704;622;649;259;154;774;175;429 fih/jkma/ebn/ldcg neanajnjknkmnmanaeebngligihghffilfldfdcfcg 5
-2 057;522;006;551;210;330;509;314 dbacg/efh bafbfhefaeachechcgbhgdbg 1
-2 416;121;003;251;211;552;050;126;506 hbea/dfgci ahbbeagcigiddfg 2
-1 140;190;000;111;191;051;001;110;071;081;050;121;180;070;021;120;120;191;010;100 dokrb/jsane/phfqt/clgmi bdobokkrbejsesaanetphthffqticlilggmi 11
-1 818;972;461;597;791;657;226;881;752;366;640;546;961;074;969;090;939;907 oqrkpn/fdl/biem/caghj afdlfacarcrkckpjcpjpnnoqqranqanadndlnlanagnghnhbnbiniebhjnemnmbbjn 8
-0 341;040;844;410;710 eadbc ceaadbabc 2
-0 367;869;685;747;999;866;784;609;600;056;290;732 adb/lfjcg/ehik ebaecglfjjcekeakadkdbkbekegkgljehljhlhilik 4
-1 061;051;100;010;190;010;141;080 haef/cbdg fhaaefgcbbdg 2
-0 788;500;340;439;086;509;376;268;467;399;047;778;592;787;648;837 gle/fbcmjd/hani/pko dfbdbcdcmmjamanmnemegdmglenajddgladlalnaniihapko 3
-0 245;650;700;723;343;455;152;453;225;443;723;032;805 mcbf/aek/jdi/glh fmcfcbbfafbahfahaehejhjdhdihijhjelheleklkalaflfhhgl 14
-2 204;050;043;140;504;020;004;151;552 hdc/agfbie hdcagfeafefbbie 0
-1 251;090;080;252;261;140;081;042;171;192;132;190;141;110;011;220 lanmfg/bcp/ehko/idj glagangnmmfgbcpoehhkoidj 6
-1 171;472;474;321;112;204;077;662;080;737;770 cbh/ade/gjkfi defdfcdcbdbhigjijkikfifeieaiadidhihccfi 7
-0 841;236;522;921;400;407;211;431;370;377;261;942;722;215 nbk/efjmi/gdc/lha nbkiefifjijmimcicgigdidcicmimlilhihaiallmi 8
-1 751;772;049;414;581;462;246;722;563;970;909;020;664 kclj/iae/bgh/fdm ljalaeiajijmmjkmkcdmcdclfdlflefeiimfbgh 2
-2 031;537;120;243;051;005;220;509;554 gcd/afhbie eadcdacafgcfgfhdghdhbedbbie 0
-2 014;008;459;965;467;611;993;734;890;309;354;832 jbaigd/cke/lfh djbdbadaiigdckelfh 0
-2 220;345;002;135;502;331;143;050;215;550;311;321;226 kial/gbfd/mejhc ejbebfeflelkekilfdgbjgjhdghdhccmeceiciaaldadc 1
-1 970;574;040;542;479;120;762;237;064;229;339;929 cfalei/dbg/jkh icfifaagdiadidbgalbgliblileekhiehihjijkkei 2
-1 031;091;180;060;091;160 dfa/ebc dfaebc 1
-0 132;623;200;032;921;423;922;910;133;812;500 kigjc/fdheab ckigjcigcbfdbdhbheeab 4
-0 900;505;755;750;921;431;032 cdab/egf bcddabegf 0
-2 113;112;000;200;008;129;105;209;105 efa/dcg/ihb dcgbihhbfbhfbfabaeefb 7
-0 743;009;500;733;574;199;090;244;709;852;972 cbgfi/dha/jek gekgkjjhajadhjeegfheficbibghfidhiigjjdi 4
-1 007;727;720;266;336;000;215 dge/abcf aedfadfdgfgeeabfebbcf 0
-2 774;711;004;705;242;071;704;601 cgaef/dbh cgacaecefdbh 0
-2 094;907;581;318;004;477;527;579;516;993 fhc/gid/aebj fhcjaebgiebieidjedjdggbj 0
-0 147;500;466;841;850;753;967;105;251;977;270;845;315;541;343;655;457 ncm/hbekjg/aqpl/ofid ncmkfiekibeibidhbdhdohoffkjfjggqpfgpfplhflghlglaaqg 2
-1 301;005;313;402;545;362;511;560;394;060 dif/gca/hjbe beijbijicdieehjejcecaeagdegfdggcigif 5
-0 035;753;200;477;354;615;234;870;807;021 bjf/gae/ichd hdehebhbjchjicjijfdifbegaedadfgaffbg 1
-2 774;619;008;622;718;560;091;575;901;994;764;728 hakf/deb/cijlg ijaiakikfhajjledeldlgbdgbgcbciebieifefhhje 2
-0 603;413;222;221;233;310;431;501;403 cfh/aebdig cfhgaebdigebbig 3
-1 070;172;113;022;020;073;082;243;273;031 jidb/ghfcea aghdbjahiaidadjajiaihahfafccea 9
-1 090;567;939;564;079;595;960;724;427;455;775;283 laecg/bij/kfdh laeecbebileilijbkfjbfljflfdgldgdhghkkbckcg 0
-2 126;225;347;055;006;323;503;559;121;142 jbi/ghde/fac ghcgcfegfefbjbfchdebieijdejcdjcjffac 3
-1 950;019;030;979 dbca adbbca 0
-2 666;001;995;567;091;908;585 dga/cebf fcafadgacgcedgefdeebf 0
-1 214;191;040 bac bac 0
-0 543;321;400;022;523;642;163;412;770;941;807;662;813;377 ickn/emhd/lgf/bja nignganaenemdeadabhdbagflgifliknmkmhckhchbcbjicjfijjaf 1
-1 413;030;122;362;095;211;233;222;171;251;471;182;575;301;171;540 pmeb/kfga/cdno/hjil pmagamgmebpabadbdhbhjbjibilblhbhdcdafgebdnbnobocebcecaeakkfe 12
-1 413;555;010;152;243;525;072;445;530;373;301;281;331 ajk/ledm/bficgh hajhjeghegedcgdlejhbfhfiahiaicacdadmamlaljjka 5
-0 209;641;100;883;122;620;521;599;887;564;219;591;357;142 bneg/khlfca/djmi khlaklalnaneaegbnlblfgbfagffcaidjjmi 0
-1 930;113;849;151;019;749;758;633;684;010;949;854;309;261 hil/jakem/fgc/ndb jndjdbnjabnaalhbahbhilakilkbikmjbmbkkemfgc 2
-0 714;305;534;324;041;801;200;255;643;941;923;732;850;644;741;342;732;621 piedl/hfmgb/okr/nacqj lpilinlnalaclcqlqjkdlljnlnilieledldklkrklrrokbhffmgfgb 13
-1 180;090;505;232;323;452;035;543;055;274;481;284 kel/jfd/gbahci kfdlkdldjljfkelfklbahbhcigbbci 5
-2 019;011;112;003;109;008;011;110 agdcb/hef bagbgdbdcbchbhebefbfhhcb 8
-2 441;377;536;773;564;222;150;101;704;462;139;540;003;033;113 bnmhid/gokcf/laje dbedeldlckclklakajjebkjbkbnoknfgocfoonmcomcmhchicid 0
-0 132;432;800;501;913;212;130;622;911;932;613;232;711 hfk/mje/gclb/aid khffkekfekemkmjjekbgcclbaid 8
-0 227;009;126;700;116;090;999 gbdf/eca fgbbdfeca 0
-0 156;133;136;713;354;424;500;234;433;777;114;644;270;307;856;823 hcoe/bplaf/idk/mjng fbifidfdkfkifibfbpfplflafaofoefehfhcfcooafgmjjng 13
-1 247;620;983;969;447;909;035;010;465;275 ajie/dcbhgf cbhchgfdcfcgfgefeafajgfjgjiieg 5
-0 800;712;711 abc abc 0
-2 342;558;051;003;230;247;505;226 dgbch/fea hdghgbbchfea 0
-1 124;565;412;382;392;471;020;474;361;035;223;303;510;284;242;282 kleo/igmbj/hfca/pnd igmmbhklhhbjjimjmhjhljlejedjdpjpnhjnhndhdeheohokkhfkfchkccah 13
-1 270;252;081;162;351;143;292;083 edba/cghf aeddbafcgghf 2
-0 625;151;615;200;555;144;144;910;213;125;323;105;432;314;323 ejldhb/akic/omgnf ldhhbehejhjahakhkilhiliclcaajlfomfmggnf 8
-1 979;101;694;813;900;934;020;864;009;170;241;623 cldh/iaefg/kjb giaahcgacgclglddhagdafgaaefkjb 2
-0 935;832;755;834;823;405;514;533;900;125;732;443;315;912;813;050;914 ghlk/pcfia/mjeo/dbnq pclapldhldlcajealkakgaghqdcahdadbabnanqaqcacfafiiaeaieaeoaommja 13
-1 142;060;282;022;292 adecb badbdeecb 3
-1 231;022;042;082;121;260;032;041;291;161;010;241;070;111;090;292 fcjeak/plmn/ghibdo kfckcjkjekeakapkplklmkmnknppakoghohioibbdo 14
-2 479;778;707;073;009 dbcae bcaaeddba 1
-2 055;403;028;000;129;010;117;543;558 efg/hiacdb efgbhibiabaccdb 0
-0 535;550;912;600;324;805;222;755 ceg/fadbh aeghfahagbhgbgcadbbceeab 3
-2 006;021;430;235;433;503;553;254;458;524;452;550;331 mic/dhke/lgbafj bafbfjjlijikjkejedbjdbdhbhkbkibicbcmbmibillgb 9
-0 212;834;907;477;836;732;855;570;600;635 jeg/fab/dcih hdghgjhjbhbfhfaabjajeegdedcaecaciaih 0
-2 841;958;552;997;002;534;940;752;908;739;093 fjhc/diek/bga kdhkhckcfjhdjdifjifiefekbga 0
-0 302;610;322;102;500;121;500;600;821;312;301 agjdi/hbkfec iagigjijcichihbecjibkikfejdifeedi 9
-0 701;221;121;501;220;411;300;101;420;302;801;720 cgalh/kjd/fbie hcghgaalhkjdefbbie 6
-2 348;508;116;106;332;256;005;226;039;532;557;217 hcl/eaj/igdbkf hclfigfgdajkakfeafefdedbjebbkj 1
-1 003;001;352;000;101;030;190;322;341;240 icdh/ebfjga hiccdhebfaefgaffjg 4
-0 330;911;213;702;321;431;332;000;713;630 djcb/eafhgi djcdcbieaiafhgifhi 2
-2 037;133;339;108;306;111;035;132;035;023;022;124 kjb/egfac/ldih kjbcegcgffacldilih 3
-0 411;110;110;200;400;711;200;110;000;310;211;711;211;810;200;810;400 ldca/qbekn/hgmi/fojp alkaknanqaqbabeaekaklalddcaihggmipfoojp 12
-0 900;330;521;220;350;710;255;205 fdc/aebgh fdcbghbhaaeb 1
-1 989;089;895;900;816;020;458;946 badfg/ehc gbagaddfgehc 0
-1 461;173;023;180;122;070;181;513;474;463;292;525;462;372;255;252;192;333 bep/olhdfc/mjrn/iagqk collhjljrmjhhdffcbfbefepbclblrbrnpbnfpnfnmmhfkiakaggqk 1
-1 091;303;554;473;454;760;593;767;532;057;050;421;501;433;341;485 mipnc/gde/obl/ahjkf blmbmicmlclocobcbicigcgdcdecegipncgiincahjkfaajk 10
-1 767;295;113;097;326;345;246;603;020;102;666;332;606;750 nadi/ljc/gefb/mkh adenaenefnflinliljijcclfcfbcbggedcgdcdimkh 1
-2 117;205;126;220;231;335;224;039;220;037;214;020 djc/alki/efhgb djclkialibeffhgfgb 2
-2 226;138;311;320;420;110;054;332;008;154;415;354;500;555;122;219 oapf/dekc/hbjl/gimn mekimkikccdacapicpipfgifgfoemndennlhdnhadhoahohbgobgbjngjjln 2
-0 624;300;832;820;620;812;534;513;440 dhabi/cfeg idhabihaicfeceg 3
-2 843;946;821;737;038;804;624;991;934;006;896;926 idb/jflhke/acg ejfhkahacakeeflelbaebabiaidadbablalhgahhcg 6
-1 465;077;386;481;753;740;573;040;304;717;775;545;585 dcim/lgek/fhabj mdcmciimkmikmklmlgmgeekmjfhjhaabj 8
-1 253;433;223;254;322;383;324;565;530;323;104;295;373;005;282;123;473;050 coj/nhirl/bef/padk/mqg hgdhdkqghqhiqirlnhlhklkplpaladrldrdgrgmrmjrjcrcoqroqojjmqbef 10
-2 111;106;116;101 badc cbaadc 2
-1 774;059;992;064;752;030;919;900 ghdfb/aec bgabaecagbecbcgbghbhddfb 3
-0 300;201;940;152;335;555 acdfeb bacbcdbdffeb 0
-0 822;923;903;020;121 cabed edcecaabe 1
-2 502;029;008;348;059;551;230;332 ghd/ecbaf ghdbafbfeecb 1
-1 110;161;141;160 dacb bdaacb 2
-2 007;012;010;010 abdc cabbdc 2
-1 161;392;412;035;595;000;211;580;292;381;211;462 calbg/kji/hfde jibehcecaealelbebideifdifikfkjhfjhjbgchbgh 7
-2 229;115;228;114;011;218;218;002;011;229;021;027;105;129 bknm/jgcl/aeihdf ljnlnmlmblbklknlnjljggcldfadaedeiihd 9
-2 405;712;277;154;774;052;007;273;259 dic/ebagfh ebaeagheghgffhchfchcdhdiich 7
-2 000;662;617;140;429;680;847;992;528;902;512;466;098;487 kci/jamh/nlbf/gde mhfmfnmnllbglgdmldamdadeaeiaikjakjkcjciiegjighjghgbbfh 0
-2 247;009;247;558;058;134;504 cfa/bgde cfaebggde 1
-0 821;922;122;010;502;101 dafcbe edaeafefccbe 3
-2 148;439;035;005;909;420;231;248;326;139;099;349;334;990;332 iobf/cja/lmgh/denk cjaebfdefdfilbelenhlnhnkghkgkdgdigiogobblmbmg 3
-0 801;310;111;511;610;910;111;001 facbh/dge hfahaccbhdge 3
-2 151;549;777;367;736;203;513;458;017;161;355;174;003 feclim/dkaj/bhg mfemeccldcdkmckmkamajjdlmjllimbhg 0
-2 056;553;008;558;336;505;536 cfba/dge acfafbabdadgageaeddba 6
-2 003;016;113;001;008;017;016;006;008;012;113;000;000;017;110;010;104;009;101;113 dklpi/tnsq/beafg/cjrmho idkikllpiqtnnsqgbegeaafgocjojrormmho 12
-0 701;911;203;220;303;112;822;713;203;220;821;702 ihf/lbcjak/gde ihfbcjbjalbalakgde 1
-2 206;107;021;025;208;009 ebafdc cebcbacaffdc 4
-1 352;525;373;324;240;422;481;373;020;252;462;463;590;403;035;221 gfjp/hnd/cakl/meiob eioobdbmebeobodbdhbhnbnlblcdbcdcadakdkfdfjdjpdpgdgfdfkdkllnd 17
-0 311;101;501;701;600;700;301;911;300 hac/igdfeb hacbigbgdbdffeb 5
-2 408;337;003;240;323;008 dfecba adfafeaeccba 3
-1 363;332;060;540;183;192;505;233;262;035;382 feb/cdgj/ihak dgahaghgjihjjcdjdajakjkbjbfjfeijeiebbki 7
-0 165;324;200;199;009;290;064;685;354;487;775;925;634 gia/khj/cedf/lbm giacelclbfcbfbmfmlfleedjejkfekfkhfhjjdf 0
-0 722;100;802;012;522;802;922;622;822;212;712;100;812;412;112 edmb/jngfco/alhik beddmbojnongogffcokalklhhik 9
-0 055;909;090;036;356;900;163;254;435;253;485;499 eaid/gjh/bfclk clkckgfcgfgjfjhgeahgafhafaibfibidbdekbeegk 0
-2 135;507;005;127;325;459;550;058;431;334 eda/cbgh/jfi bgfbfibijbjecbecedhcdhdahaehejhjffgh 1
-2 078;620;001;428;447;779;641;705 hfac/egbd hfghgbchbcbdcdeegfefaeac 0
-0 859;437;343;899;609;134;390;833;544;600;657;839 hfic/blak/jgde gdagakgkigicjgcjchejhehfefiikbeibeblelaade 2
-0 026;007;100;463;743;122;052;625;361;924;535;077;441;154;970 blfoc/mide/ahk/jng cbacahchkablkalklfckffocjndjdegjengenemnmiidn 3
-1 900;999;757;069;557;010;585 egc/afdb afddbcdcedegadgagcacb 0
-0 590;269;400;264;387;274;062;099;489;322;909;567;323;272;612 ngdf/hkca/elbi/moj ahiaieaefafnangdfedelcagcgdcdlclbkcbkbiihkmoj 2
-1 530;403;243;124;010;535;404;025;204 igbdc/ehfa cigcgbbdcaehhfa 1
-1 522;402;342;602;546;706;000;601;067;797;321;594;760;581 fel/anhd/kbc/gijm ijfifegiegelldalablbcglcgckmgkkbakanmknmnhmhddlfmdffjm 1
-0 207;370;913;025;732;954;477;652;200;215;417 agbic/ehf/dkj akjcajcjdcdfcfefdkiceiehbihbhfgbfgfkkag 1
-1 449;677;807;929;337;591;020;140;782;562;645;923;835;257;258;711;042 jipf/cmkb/oen/daqghl ldclcmlmkbcdbdakbakaekenlknoeaaqgaghlipjiljlnfjnahlfnofoafallpf 4
-2 672;743;140;065;777;000;321;304;125 icg/eadfhb beabadfhgfgidfidicbdcbcgghb 0
-2 021;013;103;120;019;011;027;016;005;201 gbf/ejac/hdi fgdfdifihfhdfdggbfejaeac 7
-2 423;131;002;700;613;211;411;110;778;077 ijcd/bfh/gae cdecegcgfcfhjchjhbijbibffgaifaiaeied 0
-1 112;042;413;081;000;124;263;132;073;102;094;072;090;384 dkamh/jlg/bfcien hdkhkaamhgjllgnglnnbfgnfgfcgcingiien 9
-0 639;690;509;900;927;428;538;138;628;299;837 cdbj/haf/keig jcddbjfhgfgkfkefeifigfghhaf 6
-0 422;234;450;633;643;823;634;133;100;455;805 akicj/bfd/ehg aehahgakieaieicecjgejagjbfd 1
-0 814;524;123;132;750;521;313;512;311;031;805;634;800;124;655 lbih/okmne/gac/fjd lbcacbhlchcghgahabbihkmnoknonefjd 4
-1 020;180;160;031;020;061;090;191;161;040 ehfcb/jigad behbhffcbdjidiggad 6
-2 315;311;014;237;128;302;039;028;335 fbhdie/acg hdihiebhefbeacg 1
-1 020;969;079;900 bcad dbccad 0
-2 007;118;112;117;005;008;107;014;116;006;101;106;111;115 fdhnba/ekmg/ijlc afdadhahnnbagekkmgcijjlc 7
-1 010;781;570;057;521;777;360;691;561;082;767;522 ebl/fgajdk/cih gajgjdkfggdkhcihilhlehebhbllih 7
-2 170;632;538;909;653;653;432;097;847;994;717;008;279;190 nam/hjdl/fikc/gbe lhnlnalamjdljlmjmnnhjcfecegcgbkcbikbibeefi 6
-0 410;011;611;510;511;810;501;411;900;201;400;000;710;201;110;310 hmef/koanlb/djigcp fhcfcpfpdfdjfjifigfgcfchfhmmefbkonlbboaanb 13
-0 901;801;101;511;500 caebd dcadaeebd 3
-1 051;161;110;161;051 debca adeaebbca 2
-0 159;954;934;306;514;755;531;500;330;115;799;344;693;851;532 himkad/cej/ngo/fbl hinhnghgomkamafmfbmblmlcmcejcljlfjfajadejdedhehoeonmennim 1
-0 510;832;333 cab cab 0
-0 811;101;411;310;001;201;301;701;000;910;100;910;411;601;400;711;900 cpih/dmgaj/qeokb/fln hcppihjdmjmggajbqebeookbfln 7
-0 311;700;210;300;710;500;810;300;200;211;900;610;410;410 dkniba/fmj/hglec adkaknaniibafmjchgcgllec 7
-1 230;434;433;094;042;243;141;272;444;182;392;333;173;100;401;113;432;231;182;113;474 qdlfac/mis/nebukh/gjrotp dlfacqsmpspgsgjsjrsrosotstpspmmdfsmfsfamisdmssaqqdshnehebhbuukh 12
-2 004;014;011;109;119;018;005;107 gbfdc/hea cgbcbffdchea 3
-1 011;040;495;354;243;383;380;244;005;433;535;540;395 aiklgb/deh/mfjc jckjklfjlflgfgbmfbmbamaimikkcmdeh 2
-0 666;621;177;400;007;050;425;005;670 abg/ehdfic cehficfcafabdfbhdbhbgchggac 0
-2 775;077;701;233;450;004;438 deg/cabf caecegfcgfgdeabdebdbf 0
-2 119;101;105;103;002;018;009;003;015;003;002;107;019;105;001;012 kaohdp/bgmfln/jcie pkapaopohphdpdbpbgpgmpmfpflplnpnbbdpejccie 13
-0 705;112;933;550;632;200;355;514;713 gafdh/iceb hgahafichihfbifbfdebdceddhc 1
-1 484;243;284;051;473;504;040;200;355;525 ijfhgd/acbe ijfifaiaceafefhbehbhgcbgcgdicd 1
-2 305;450;230;432;352;224;553;235;007;425;553;036 hfj/egkail/dbc lebaillbclchlhfalfafjajhahcacdadbabeaeggka 9
-0 692;799;300;905;669;370 dcfabe edcecfefaabe 0
-1 275;213;737;770;323;057;090 bae/dcfg gebfgbfbacfadcadaedeg 0
-1 314;492;040;065;244;404;500;293;575;472;412 ajh/cdig/ekfb ajhgcddigbekkfb 2
-0 661;536;290;367;942;541;200;993;238;599;449;872;836;014;256;303;485 iob/mndlq/fea/kpgchj ioddlqqmnqndqdoqobqbiidqjkpjpggcagafgfejgejeaachahj 4
-0 703;074;075;875;155;077;210;054;800;647 hbde/iajfcg giagajgjfgfcgcdgdegehghbgbddcg 6
-1 062;090;221 bca bca 0
-1 010;170;021;021;151;100;111;150;111;190;051;070;041;141 gbl/kfadn/mcjhie lgelemlmclcjljhlhilieleggblnkfnfaadn 9
-0 212;812;802;621 dbca adbbca 2
-2 533;774;621;005;521;076;545;535;345;703;165;244;540;634;243;146;541;646;646 ipk/lgoaq/scem/nrh/djbf qliqipqpkqkiqilqlgqgooaqhnrhrshschcehemhmssrhfdjjbf 14
-1 080;940;969;059 badc cbaadc 0
-2 015;208;017;115;226;024;222;009;111;010;023;207;210;012;013;002;214;107 rciabk/hqo/djg/lpmnef krckciiabibkhqoflpfpmfmnfnefegfgdfdjfjggef 12
-0 630;202;831;210;603 cebda aceaebbda 0
-1 042;200;021;200;222;120;060;031;020;042;001;181 kfbagi/dlh/cje kfbkbaikaagihdlhlehechcjhjeelh 8
-0 300;710;810;911;900;601;810;100;610;111;900;200;110;101;011;801;300;201;800;401;001 biqjm/puan/sofetd/glcrhk npuuandsodojdjmdmbdbidiqdqjdjodofdfeetdkglklckcrrhk 17
-2 519;119;318;008;777;704;537;333;073 achg/ebidf bidbdffgafacbfcbchgfehgeebh 1
-1 114;394;124;303;101;285;132;481;381;000;155;103;191;383;520;192;310;045;112;515 qhi/trjof/cbngm/seap/dlk qhicbfftrfrjfjoofbfobfbnfndfdlflkcfkckdcdnngmnmcpseeap 13
-2 642;999;099;543;553;009;460;900 bcfgh/dea cfgbcghadahbeabebgeghhde 1
-1 465;316;790;040;136;521;447;207;513;785;255;164;575;787;067 donfc/jmi/hkag/bel njmgbeagnfcdfdofonfnmfmifijanfkaffjnfngfgekfehkehelhlbbgh 10
-1 515;090;065;500 bcad dbccad 0
-0 432;300;322;933;123;924;950;913;005;812;322;655;300;632;832 jhdn/bgmli/ake/foc ibgigmimlildidninoiocicflifdlfdfodondnadakdkedeadandnjjhd 17
-2 441;320;143;006 dbca bcadba 1
-1 545;303;314;534;071;140;090;395;542 bdc/ehaifg gehhadhdcghcgcbgbdifgigddai 1
-0 044;267;524;130;521;714;443;077;013;412;343;775;227;600;232;125;416;132;507;515;426;835 tfc/qmu/oavpg/hldnsb/keijr qmubhlbldsbvsvpsptnstntfdnfdfcctpdcppgodpobdoboaavbrkereiijr 2
-1 757;031;337;536;757;237;594;285;293;343;744;040;275;400;367 foh/eacbln/imj/dkg kgjjgdblnneknkjnjibnibimbmjbjdbdkbkebeabacbcobohbhfbfoocb 11
-2 238;308;223;309;338;325;100;335;206;011;312;020;121;121;036 khc/emgoi/djn/bfla ckfhcfhflhlahabhbdhdjhjnhndhdbhbffkhiemimggoi 11
-1 017;939;096;089;833;900;117;070 agc/bfehd agcbfedbeehd 0
-0 101;000;911;401;610 acbed cbedacced 2
-0 214;077;335;651;333;215;500;156;407;852;570;771;934;717;213 fnc/bigkh/oame/djl gklgldgdjkhcamcacfnchnhbnbinigfngafgoagogjeojmejmjlkcmlkm 2
-1 790;564;536;737;604;040;676;057;700 gcbe/hdaif hdghgcfhcfcbfbeegdfedfdaaif 3
-1 372;010;183;062;233;330;003;031;323;263;220;110;181;273;070;300;192;303;332 amef/bdckpg/nhrli/sjoq ckpgbdgdccpginhihrrliqsaqamqmeqefqfaqasqsjjoq 12
-1 260;280;120;051 bdca abddca 1
-1 005;413;253;224;510;565;050;203 hfega/bdc ahdgadgdcgcbegbfebfbddhf 4
-0 743;968;590;647;628;348;569;076;109;747;799;900;537;958 ehda/kcli/mjf/bng ehdedakclifmlimlmjkljkjfkfibng 0
-2 005;034;202;004;443;046;303;013;121;248;222;026 jdkcel/bgafhi kcgljdldklkglgalaflfhlhilibcellbggcl 8
-2 801;990;448;936;262;853;004;282;014;363;264;499;677;651;247 cko/lbdagi/ejh/mnf lmnjhljlbbdaagiilninfaifbafbfmbmlblhbhebekbkojbojocjckkej 8
-0 311;522;201;012;211 cdabe ecdedaabe 3
-0 715;533;634;355;140;553;343;745;204;233;200;755 cfj/aikedl/bhg aikakelaeledldhlhglgblbhlhdldflfjljclcffdl 12
-1 151;292;343;080;023;171;041 dfgc/bea abcacdadfafgbeaagccba 6
-2 504;555;335;002;328;422;059 dabg/ecf dafdfegdegecfabcfbcbg 0
-2 018;115;116;011;009;019;008;018;015;105;114;105 ldgkja/efcibh aldadgagkkjahefhfchciibh 7
-2 119;101;206;121;018;009 acfebd febdacbdccfb 2
-1 490;738;928;399;357;091;975;339;929;090;537;796 dek/lcb/jfhiga ajficbgafgfhghdgdegekgkdgdhhibghbgblglccig 8
-0 632;404;055;431;110;545;721;250;400 biehcf/gad fbifiehadehdedgfegfgafahhcf 0
-1 060;197;011;602;655;583;120;737;566;502;797;525 hkgacb/lei/dfj gacgcbgbigilglegefgfjgjddfebhkibkikgigddei 3
-0 300;702;220;320;420;611;000;502;000;612;801;900;020;822 ikdjf/lbegnh/cma djfkdfikfhlbhbegnheghcma 5
-0 701;910;110;200;510;500;811;610;411;611;501;811;010;701;110;200;901;811;910 lgbk/cafmpn/iej/rshdoq klggbkncanafnfmmpniejqrsqshqhddoq 9
-1 031;071;200;232;202;201;102;041;041;122;171;192;171;282;241;212;050;232 raoi/ldcjh/nqkgef/mpb irpipbibmimpipriraaoihldhdccjhfnqfqkfkggef 10
-2 111;113;010;012;100;102;115;103;115 gihe/fdcab egiihebfdbdccab 5
-0 967;461;490;145;814;563;899;964;155;447;900;653;157;109;238 jdim/boe/hfl/ngcak hflnoeknekebonggcaogaoamomjbojimakbjkjdkdiiak 2
-1 437;692;485;682;047;371;173;102;720;465;275;297;675;405;020;781;787;573 nalk/hfbg/oeqpi/drmcj lkgaqmmqpmpiioeieqiqamiamalmlgmghmhfmfbmbgdrmmgkmknmnaamcmacmcjjdm 16
-0 910;500;200;501 adbc caddbc 2
-1 204;092;091;431;440;321 dfbcea fbcfcedfedea 1
-1 133;361;362;000;142;202;484;025;223;360;561;525;550 kcb/jdhlm/ifega hlghgadhaaifafedaejdeegcecbjebmjbmbkkcgkglklm 1
-2 456;443;507;004;000;236;139;313;429;557;414;052;247;342 fgm/dcejl/hik/nba jlmjmfgmlldcejfefgeglcelanbhibhbaabiaikkha 5
-2 009;112;103 bca bca 0
-0 199;573;183;785;428;185;888;557;653;823;068;263;354;490;809;600 hkei/fcb/lmjg/pdnao hkeheinaglmjjgajaojopljplpdldflfclcbglbgbfgfddng 6
-0 955;127;154;774;299;964;027;063;848;163;964;874;790;609;300;665 akc/dhpig/nome/lbjf hpihigdhgenoomeflbfbjjfkfjkfkcfcaakf 8
-2 422;647;226;523;778;531;700;530;522;010;323;070;141;004 mbc/hdk/ljnge/fia jnggebmbemelmljcmjcjgcgbcbfcfhchdcdkbckbkhbhfbfibiaafb 9
-1 880;632;944;969;030;899;078;734;624 gfdcae/hib egfefddchdhiedieibbhcbcabae 0
-1 020;446;685;037;730;405;546;747 ecadh/fbg hechcaadhfbg 0
-0 374;670;244;222;907;445;800;140;477;935;456;255;147;854;437 fmoj/bghei/dkc/lna heihibbghcdkcklclnalkfmkfkcjfccnacakckmcmoojc 6
-1 300;133;201;051;352;170 cbe/daf cbedaf 0
-1 780;020;456;313;405;067;606;737 gec/fbadh badfbdcghchfcfdecdgeddhg 1
-0 750;812;613;133;114;613;522;632;200;834;805;722;055;925;624;734 iknma/lhjo/dpec/fbg aikaknanjajpapeaecacfafbabgagfafcacdmadmdpmpjmjojnmhjmmollhm 16
-1 030;090;071;080;031;130 baedfc cbacaeceddfc 3
-2 204;212;012;228;013;100;127;027;200;116;123;103;005;009;223;016;020;025;013;113;114;002 kvsjqh/rclabi/udgo/tmnfpe rclirlilaabioudodgogkokvovsosjojqoqhohkkgoetmemnenffpe 16
-2 008;017;105;015;110;116;109;019;000;113;109;000;118;012;006;011;003;110;009;108;015 ohgd/qskbuc/imrfj/laenpt dohhgdcqscskckbbucjimjmrrfjtlataetennpt 13
-1 236;575;050;645;773;047;543;540;777;565;416;534;254;780 djl/mka/geb/fhinc ikadkicfhchiciacamcmkckdcdjcjbcbgcgencenebdinldnnbjjln 10
-1 040;100;020;110;111;070;191;061;030;101 dhba/jeigcf adhhbafjefeifiggcf 5
-0 211;633;012;112;210;611 cebdaf fcefebfbddaf 4
-0 506;143;541;920;922;721;200;577;721;477;511;417 eik/bfc/alhjdg eikgabgbfgfcbaldgcdcbdbldlhhjd 4
-2 216;904;004;996;636;844;342;554;360;091;218;147 djchb/aefk/lig higchgcgljcljlidjidihdhbkaeefk 2
-1 264;433;392;410;580;511;484;020;133;401;534;432;554;372;252;595;013;305;434;364 saol/ktn/fdj/icgb/ehqrpm fdjehqmeqmqrmrppmgmpgmgsmsamaomolmlsmsggbimgimicmcggmkmgkmktmtnnkm 19
-2 143;216;120;114;037;003;318;236;548;507;053;127;229;439;243;552;319;331 hon/racqg/ipkefj/dlmb racgrccqgjinjnhjhmjmbjbdlmhlhoonioipopklokdlkdkedefdfj 2
-0 809;218;876;948;386;622;890;500;872;278;199;064 dfbli/cej/hakg dfbblidbighaakjajcgacgceejkekg 1
-0 594;064;375;445;599;604;265;747;027;746;649;450;555;669;174;400 hki/alpfne/bocg/dmj eacecgocaoalbolgblglpgpfihjijdmjhmhkmknmnemegmgfdmfdfndnkkid 2
-2 870;402;416;777;998;791;890;031;000;904;308;091 ejilh/dagf/cbk ageaejdajdjifdiheghgfhfiilhcbk 3
-1 334;536;079;900;896;554;393;366;080;246;939;511 ejg/afbh/dickl ldickecebcbhfbeliclchlhalaflfelejkljkjggek 6
-0 949;409;684;500;923;356;818;599;726;316;390;076;526;377 cme/lfn/dakhb/jgi ecmemieijejgegiimebdakhnknlaklfnhbalfhblfb 8
-2 709;850;647;649;023;247;899;458;130;557;995;627;944;564;720;231;846;006 ramkge/col/dbq/pif/hjn eraaolealoammbqomqbmkbkgbgeelcecoeoqeqddbehfphjnfhnnhpnpiifn 5
-0 541;644;840;730;230;442;942;744;133;622;133;740 iebd/ljgk/fhac dieebdkljjgkcfhhac 5
-0 721;321;220;421;912;202 dbcafe edbebcafecae 3
-0 514;334;813;254;105;733;700;053;833;642;655;650 dih/bacf/eklgj ekbebaeacbkdlgjjecjcfjfbjbdjdijihljhlhddkl 6
-0 236;913;220;929;499;205;111;221;100;846;947;091 ajk/icledf/bhg ajkichihgfigfgbhclbhlfblfleedf 0
-1 171;211;281;001;092;191 fdcbea afdadcacbbea 3
-1 990;939;091;191;030;039;060 ecd/bagf ecdfbaagf 0
-1 120;142;061 bca bca 0
-1 202;053;380;353;272;033;250;081;303;020;023;372 ljgfea/bhdkic aljajgagffeacbhchdcdkkic 7
-2 243;056;558;231;003;057;435;442;501 icbfe/ahgd ichihgeigegdedaahceacecbbfe 3
-1 514;466;007;026;790;415;576;595;625;787;700;090 kldcje/bfg/ahi dcjjgbdjbldblbflfglgjeklljeahi 1
-2 007;516;520;073;779;416;709 bcf/aged bcfdagged 0
-0 742;507;422;532;553;070;536;852;463;145;177;300;256;133 hdne/kjblf/mgaic fkefehfhdneknkjnjbdnbdbldlfcmggaigic 1
-0 255;355;716;100;763;407;270;735;777;214;624 kjc/gifde/abh egieifdekdkjfdjfjcefcckeabh 1
-0 132;012;710;730;023;931;812;031;010;100;421;823;422 maic/hljf/egdbk fhafaificfcmfmafahfhlljfkegkgddbk 10
-0 401;801;200;100;010;200;210;211;201;101;901;511;710;400;611 feo/blh/ckjid/amgn ofeoegognonaoamomggeoblhdckdkjjid 11
-2 808;013;002;687;996;277;952;480;299 ageibc/dhf cagcgeceiibcdhf 0
-0 832;210;333;630;932;212;402;820;912;930 bgdj/cfeaih hcfhfeheahaiihdhidhdjhjbhbggdh 9
-0 177;670;344;352;200;753;215;725;217;945;632;734;754;707 gih/anfeb/dkl/jmc fmcnfcncjklhkhgihlildidfbanbnjbjmbmfbfdbdkfebbkgbgiifb 6
-1 737;070;700;047 dbca adbbca 0
-0 142;746;700;936;064;462;932;756;170;507;316;262;041;977;636;814;331;764 oehkp/rla/cindj/bfgqm gqmkpokoekerkrlklfkfgkgmkmbkbfkflhklhlaharrehjciindidj 11
-0 107;477;200;234;270 cebda cebcbdcda 0
-1 794;787;097;073;440;060 dcbaef dcbfdbfbaaef 0
-2 440;101;225;340;027 dbace aceedbbae 1
-1 686;535;090;237;764;564;111;162;074;714;110;216;745;777;202;396 ogh/pal/kendic/jfbm palkogckgcghndiichihoiokikeiemimjijfifbnibnbmmen 7
-0 533;545;943;442;150;222;205;955;243;000;223;244 fkid/lca/ehbgj ehbeblalbabgjeljlcjcijidjdfjfkgjkagkakiica 6
-2 075;070;345;542;705;532;333;774;007 cdfg/habie ehdedfefgcdhiegigcichihaabi 3
-1 070;272;132;191;021;120 dbcfea dbcadcfeacfa 1
-2 559;002;055;501 cadb bcaadb 0
-1 067;700;372;462;797;050;391 dgc/bfae dgcebffae 0
-0 215;605;822;410;100;211;050;032;055;844;035;913;432;143;734;133;633;144 kalp/moc/rnq/ebdig/jfh qroqocqcmqmoqorqrjqjfqfhqhjqjrkrnqrkqkaqalqlpqpkknqebddigedg 16
-0 550;015;411;205;813;231;655;643;344;435;814;800;005;533 jneb/khcfi/dmlag ikhhcfijnfinfneihfifeiebbjilaggdmmlg 5
-0 008;200;491;799;469;860 cdeabf fcdfdefeaabf 0
-1 191;162;201;222;112;230;170;041;001;151 eaf/jgb/ihdc bjggbebgebeabaffebcihhdc 7
-2 705;741;004;075;730;547;637;425;772;453;443 ahidc/geb/kjf cahchfcfkckjfhijfijidjdcgeb 0
-2 010;129;339 abc abc 0
-0 920;505;205;230;950;500;431;555 gad/bcfeh gadfehhbccfh 1
-0 823;143;524;010;833 abced edaceaabc 1
-1 505;005;040;510 badc cbaadc 0
-0 870;500;931;743;321;122;077;607;865;363 cef/aghb/ijd agiaijajdadcbacbcebeffcdfdifigfghfhb 0
-2 224;215;008;126;115;139;124 gcd/feba gcdafeeba 1
-0 800;202;821;700;520;400;322;300;820;412 hbcgd/iejfa cgjbcjaieaejajgagdadhahbabjjfa 8
-1 140;808;002;212;524;543;920;969;010;142;119 aickhg/jdfeb aicgacckhchbcbjgcjgjdgdfgfegebbhg 0
-2 846;374;780;903;851;005;259;649;708;354;660;097;650;765;997 iodfl/haem/gjb/ckn ckbocbjbkjknnemjnmjmhgjhencecoaeoaodhadghdlioloblbggdfgfl 1
-0 877;824;406;522;100;161;745;037;970;776;351;653;072;573;652;743;541;953 nmol/krf/eijahc/bqgpd eifefkcekjahjhcckrcrfcficinjcnjnmjmojoljlnnijdbqpdqqgp 10
-0 001;000;711;801;000;410;511;210;100;301;711 fdbij/khagec jfdjdbbijckhchacaggec 7
-1 504;010;059;999;980;726;894 fag/edcb fagbeddcb 0
-0 432;603;632;312;930 dcbae edcecbbae 2
-0 477;031;970;353;244;542;651;553;252;434;133;152;554;033;353;945;007;800 mhn/jep/dlf/iaqrc/gbko jepmaqciacamcmhchocogcgbrcbqrbqbkqkonmqqohqhdqdlqlfqfdqdhhnq 13
-1 121;180;440;244;212;303;051;353;303;311;162 agjhf/idbkec fagfgjjhfcidecdedbbke 4
-2 337;052;415;433;335;508;317;410;559;314;002;110;236;142 dcj/fibk/algm/hne fiddibkfdkdckchkhnbknbnedbejdejehhcjalgagm 7
-2 247;773;003;620;532;707;078;268 cgbf/aehd fcggbfdaeehd 1
-1 390;133;130 bca bca 0
-2 771;437;074;548;442;006;532;700 gbed/cfha hadhdgfhgfgbcfbcbeaceeda 0
-1 080;283;074;300;104;241;252;154;422;411;061;193;293;253;372 jhbdek/lif/ncagom jifkjfkflklikijkjhkhbdekbdkcagcgomnccom 7
-2 348;098;900;007;991;461;813 dceb/fag bdccebfag 0
-0 168;300;951;833;253;556;731;758;609;028;499;666;490 fhal/kijbm/ecgd mkamalmlfmfemecmcgdefdfhhakhkihijdhjgdjgjbgbm 0
-2 233;558;052;006;132;506;244 age/cdfb agebcddfb 0";
+pub const RANDOM: &str = "\
+1 : 7,9,7;5,1,5;0,0,9;2,4,2;9,3,0;6,3,6;5,9,6;6,3,3;8,0,8;1,0,3;0,9,0;9,4,9 : kcle/bgf/jadhi : clicijkcjjadkjdekdedhehiilebgf : 0
+0 : 3,1,1;1,3,3;4,5,0;2,5,5;8,4,3;6,0,0;2,2,3;1,0,5;7,2,2;7,2,1;0,4,4;2,4,1;3,3,4;4,3,1 : bek/jlg/fhdc/imna : fhgfgjcfjcjlghdgdkgkblgbclbcbecekkdcimnina : 0
+2 : 2,5,2;3,1,5;3,1,5;4,1,8;3,2,2;2,4,0;3,3,3;4,1,6;5,4,8;0,0,7;0,2,3;3,0,6;4,2,6;3,3,8;4,3,4;4,4,8;5,5,9 : ohbg/enm/kjliqa/dfpc : akjipoiompiqfpqfqafajfjlflifimfmefenfnmgopfmofohfhbfbgfgppcdpdf : 10
+0 : 2,9,0;5,9,9;5,0,9;8,0,0 : cdab : bcddab : 0
+2 : 0,1,2;0,1,2;1,1,3;1,1,3;1,0,4;1,0,1;0,0,3;1,0,7;1,0,6;0,0,7;0,1,1 : biah/gdjf/cke : hbiiahfgddjfcke : 3
+2 : 0,9,4;2,5,0;5,5,4;9,9,5;5,7,4;0,0,4;7,7,8;7,5,6;9,0,1;7,7,5;7,9,0;8,7,0;2,6,9;3,5,2 : nbm/afid/ejhc/klg : idlmncmceklddafdfidildlgdgjdjhdhcdcndnbdbmdmedejdjggkd : 13
+2 : 0,2,0;0,1,5;2,2,2;1,0,3;1,0,2;1,1,3 : badfec : cbacadcdffec : 3
+1 : 2,4,2;4,7,3;2,9,3;5,4,5;3,1,2;5,6,0;0,1,0;2,0,5;3,6,3;0,0,5;2,4,1 : cih/kea/gjbdf : gjhghccieceagcagakfgkfkefeifihbdfjbfhjf : 1
+1 : 5,0,0;5,0,5;0,1,0;0,9,5 : acdb : baccdb : 0
+1 : 9,0,0;0,0,9;0,7,0;3,1,7;9,2,9 : acbde : eaccbdcde : 0
+1 : 1,8,0;1,4,1;1,3,0;1,0,0;2,6,1;2,3,2;0,4,0;1,5,2;2,4,1;0,3,2 : ijabhc/fegd : cijcjacabbhcegdfed : 5
+1 : 3,0,3;4,7,6;0,3,0;4,2,4;5,6,4;3,1,5;4,7,5;5,4,6;5,8,6;7,3,0;3,0,4;5,5,5;4,6,4;7,1,7;0,6,7;3,7,5;3,6,6 : pqhl/fgmk/jnoac/dbie : acjajnanhahiaieaedadgagmamkoakokfofgogdodbnobnbinihnhlqhnnlppqn : 16
+0 : 1,3,4;2,0,9;4,9,0;7,2,3;6,2,4;8,0,0;9,9,8;4,6,8;2,4,4;7,4,2;2,6,6;2,2,4;0,7,6;3,2,2;1,9,9;8,3,3 : khm/ijnl/fcgob/deap : cgmcmkckiciacapcpdikhhmghgohobihbbfcbcdbdebeabailibnlbbijjnb : 6
+2 : 2,7,9;1,6,8;0,0,2;0,7,6;1,6,6;5,2,2;7,0,4;6,2,2;6,4,9;2,5,9;1,5,4;7,7,4;1,7,5;4,2,9 : fih/jkma/ebn/ldcg : neanajnjknkmnmanaeebngligihghffilfldfdcfcg : 5
+2 : 0,5,7;5,2,2;0,0,6;5,5,1;2,1,0;3,3,0;5,0,9;3,1,4 : dbacg/efh : bafbfhefaeachechcgbhgdbg : 1
+2 : 4,1,6;1,2,1;0,0,3;2,5,1;2,1,1;5,5,2;0,5,0;1,2,6;5,0,6 : hbea/dfgci : ahbbeagcigiddfg : 2
+1 : 1,4,0;1,9,0;0,0,0;1,1,1;1,9,1;0,5,1;0,0,1;1,1,0;0,7,1;0,8,1;0,5,0;1,2,1;1,8,0;0,7,0;0,2,1;1,2,0;1,2,0;1,9,1;0,1,0;1,0,0 : dokrb/jsane/phfqt/clgmi : bdobokkrbejsesaanetphthffqticlilggmi : 11
+1 : 8,1,8;9,7,2;4,6,1;5,9,7;7,9,1;6,5,7;2,2,6;8,8,1;7,5,2;3,6,6;6,4,0;5,4,6;9,6,1;0,7,4;9,6,9;0,9,0;9,3,9;9,0,7 : oqrkpn/fdl/biem/caghj : afdlfacarcrkckpjcpjpnnoqqranqanadndlnlanagnghnhbnbiniebhjnemnmbbjn : 8
+0 : 3,4,1;0,4,0;8,4,4;4,1,0;7,1,0 : eadbc : ceaadbabc : 2
+0 : 3,6,7;8,6,9;6,8,5;7,4,7;9,9,9;8,6,6;7,8,4;6,0,9;6,0,0;0,5,6;2,9,0;7,3,2 : adb/lfjcg/ehik : ebaecglfjjcekeakadkdbkbekegkgljehljhlhilik : 4
+1 : 0,6,1;0,5,1;1,0,0;0,1,0;1,9,0;0,1,0;1,4,1;0,8,0 : haef/cbdg : fhaaefgcbbdg : 2
+0 : 7,8,8;5,0,0;3,4,0;4,3,9;0,8,6;5,0,9;3,7,6;2,6,8;4,6,7;3,9,9;0,4,7;7,7,8;5,9,2;7,8,7;6,4,8;8,3,7 : gle/fbcmjd/hani/pko : dfbdbcdcmmjamanmnemegdmglenajddgladlalnaniihapko : 3
+0 : 2,4,5;6,5,0;7,0,0;7,2,3;3,4,3;4,5,5;1,5,2;4,5,3;2,2,5;4,4,3;7,2,3;0,3,2;8,0,5 : mcbf/aek/jdi/glh : fmcfcbbfafbahfahaehejhjdhdihijhjelheleklkalaflfhhgl : 14
+2 : 2,0,4;0,5,0;0,4,3;1,4,0;5,0,4;0,2,0;0,0,4;1,5,1;5,5,2 : hdc/agfbie : hdcagfeafefbbie : 0
+1 : 2,5,1;0,9,0;0,8,0;2,5,2;2,6,1;1,4,0;0,8,1;0,4,2;1,7,1;1,9,2;1,3,2;1,9,0;1,4,1;1,1,0;0,1,1;2,2,0 : lanmfg/bcp/ehko/idj : glagangnmmfgbcpoehhkoidj : 6
+1 : 1,7,1;4,7,2;4,7,4;3,2,1;1,1,2;2,0,4;0,7,7;6,6,2;0,8,0;7,3,7;7,7,0 : cbh/ade/gjkfi : defdfcdcbdbhigjijkikfifeieaiadidhihccfi : 7
+0 : 8,4,1;2,3,6;5,2,2;9,2,1;4,0,0;4,0,7;2,1,1;4,3,1;3,7,0;3,7,7;2,6,1;9,4,2;7,2,2;2,1,5 : nbk/efjmi/gdc/lha : nbkiefifjijmimcicgigdidcicmimlilhihaiallmi : 8
+1 : 7,5,1;7,7,2;0,4,9;4,1,4;5,8,1;4,6,2;2,4,6;7,2,2;5,6,3;9,7,0;9,0,9;0,2,0;6,6,4 : kclj/iae/bgh/fdm : ljalaeiajijmmjkmkcdmcdclfdlflefeiimfbgh : 2
+2 : 0,3,1;5,3,7;1,2,0;2,4,3;0,5,1;0,0,5;2,2,0;5,0,9;5,5,4 : gcd/afhbie : eadcdacafgcfgfhdghdhbedbbie : 0
+2 : 0,1,4;0,0,8;4,5,9;9,6,5;4,6,7;6,1,1;9,9,3;7,3,4;8,9,0;3,0,9;3,5,4;8,3,2 : jbaigd/cke/lfh : djbdbadaiigdckelfh : 0
+2 : 2,2,0;3,4,5;0,0,2;1,3,5;5,0,2;3,3,1;1,4,3;0,5,0;2,1,5;5,5,0;3,1,1;3,2,1;2,2,6 : kial/gbfd/mejhc : ejbebfeflelkekilfdgbjgjhdghdhccmeceiciaaldadc : 1
+1 : 9,7,0;5,7,4;0,4,0;5,4,2;4,7,9;1,2,0;7,6,2;2,3,7;0,6,4;2,2,9;3,3,9;9,2,9 : cfalei/dbg/jkh : icfifaagdiadidbgalbgliblileekhiehihjijkkei : 2
+1 : 0,3,1;0,9,1;1,8,0;0,6,0;0,9,1;1,6,0 : dfa/ebc : dfaebc : 1
+0 : 1,3,2;6,2,3;2,0,0;0,3,2;9,2,1;4,2,3;9,2,2;9,1,0;1,3,3;8,1,2;5,0,0 : kigjc/fdheab : ckigjcigcbfdbdhbheeab : 4
+0 : 9,0,0;5,0,5;7,5,5;7,5,0;9,2,1;4,3,1;0,3,2 : cdab/egf : bcddabegf : 0
+2 : 1,1,3;1,1,2;0,0,0;2,0,0;0,0,8;1,2,9;1,0,5;2,0,9;1,0,5 : efa/dcg/ihb : dcgbihhbfbhfbfabaeefb : 7
+0 : 7,4,3;0,0,9;5,0,0;7,3,3;5,7,4;1,9,9;0,9,0;2,4,4;7,0,9;8,5,2;9,7,2 : cbgfi/dha/jek : gekgkjjhajadhjeegfheficbibghfidhiigjjdi : 4
+1 : 0,0,7;7,2,7;7,2,0;2,6,6;3,3,6;0,0,0;2,1,5 : dge/abcf : aedfadfdgfgeeabfebbcf : 0
+2 : 7,7,4;7,1,1;0,0,4;7,0,5;2,4,2;0,7,1;7,0,4;6,0,1 : cgaef/dbh : cgacaecefdbh : 0
+2 : 0,9,4;9,0,7;5,8,1;3,1,8;0,0,4;4,7,7;5,2,7;5,7,9;5,1,6;9,9,3 : fhc/gid/aebj : fhcjaebgiebieidjedjdggbj : 0
+0 : 1,4,7;5,0,0;4,6,6;8,4,1;8,5,0;7,5,3;9,6,7;1,0,5;2,5,1;9,7,7;2,7,0;8,4,5;3,1,5;5,4,1;3,4,3;6,5,5;4,5,7 : ncm/hbekjg/aqpl/ofid : ncmkfiekibeibidhbdhdohoffkjfjggqpfgpfplhflghlglaaqg : 2
+1 : 3,0,1;0,0,5;3,1,3;4,0,2;5,4,5;3,6,2;5,1,1;5,6,0;3,9,4;0,6,0 : dif/gca/hjbe : beijbijicdieehjejcecaeagdegfdggcigif : 5
+0 : 0,3,5;7,5,3;2,0,0;4,7,7;3,5,4;6,1,5;2,3,4;8,7,0;8,0,7;0,2,1 : bjf/gae/ichd : hdehebhbjchjicjijfdifbegaedadfgaffbg : 1
+2 : 7,7,4;6,1,9;0,0,8;6,2,2;7,1,8;5,6,0;0,9,1;5,7,5;9,0,1;9,9,4;7,6,4;7,2,8 : hakf/deb/cijlg : ijaiakikfhajjledeldlgbdgbgcbciebieifefhhje : 2
+0 : 6,0,3;4,1,3;2,2,2;2,2,1;2,3,3;3,1,0;4,3,1;5,0,1;4,0,3 : cfh/aebdig : cfhgaebdigebbig : 3
+1 : 0,7,0;1,7,2;1,1,3;0,2,2;0,2,0;0,7,3;0,8,2;2,4,3;2,7,3;0,3,1 : jidb/ghfcea : aghdbjahiaidadjajiaihahfafccea : 9
+1 : 0,9,0;5,6,7;9,3,9;5,6,4;0,7,9;5,9,5;9,6,0;7,2,4;4,2,7;4,5,5;7,7,5;2,8,3 : laecg/bij/kfdh : laeecbebileilijbkfjbfljflfdgldgdhghkkbckcg : 0
+2 : 1,2,6;2,2,5;3,4,7;0,5,5;0,0,6;3,2,3;5,0,3;5,5,9;1,2,1;1,4,2 : jbi/ghde/fac : ghcgcfegfefbjbfchdebieijdejcdjcjffac : 3
+1 : 9,5,0;0,1,9;0,3,0;9,7,9 : dbca : adbbca : 0
+2 : 6,6,6;0,0,1;9,9,5;5,6,7;0,9,1;9,0,8;5,8,5 : dga/cebf : fcafadgacgcedgefdeebf : 0
+1 : 2,1,4;1,9,1;0,4,0 : bac : bac : 0
+0 : 5,4,3;3,2,1;4,0,0;0,2,2;5,2,3;6,4,2;1,6,3;4,1,2;7,7,0;9,4,1;8,0,7;6,6,2;8,1,3;3,7,7 : ickn/emhd/lgf/bja : nignganaenemdeadabhdbagflgifliknmkmhckhchbcbjicjfijjaf : 1
+1 : 4,1,3;0,3,0;1,2,2;3,6,2;0,9,5;2,1,1;2,3,3;2,2,2;1,7,1;2,5,1;4,7,1;1,8,2;5,7,5;3,0,1;1,7,1;5,4,0 : pmeb/kfga/cdno/hjil : pmagamgmebpabadbdhbhjbjibilblhbhdcdafgebdnbnobocebcecaeakkfe : 12
+1 : 4,1,3;5,5,5;0,1,0;1,5,2;2,4,3;5,2,5;0,7,2;4,4,5;5,3,0;3,7,3;3,0,1;2,8,1;3,3,1 : ajk/ledm/bficgh : hajhjeghegedcgdlejhbfhfiahiaicacdadmamlaljjka : 5
+0 : 2,0,9;6,4,1;1,0,0;8,8,3;1,2,2;6,2,0;5,2,1;5,9,9;8,8,7;5,6,4;2,1,9;5,9,1;3,5,7;1,4,2 : bneg/khlfca/djmi : khlaklalnaneaegbnlblfgbfagffcaidjjmi : 0
+1 : 9,3,0;1,1,3;8,4,9;1,5,1;0,1,9;7,4,9;7,5,8;6,3,3;6,8,4;0,1,0;9,4,9;8,5,4;3,0,9;2,6,1 : hil/jakem/fgc/ndb : jndjdbnjabnaalhbahbhilakilkbikmjbmbkkemfgc : 2
+0 : 7,1,4;3,0,5;5,3,4;3,2,4;0,4,1;8,0,1;2,0,0;2,5,5;6,4,3;9,4,1;9,2,3;7,3,2;8,5,0;6,4,4;7,4,1;3,4,2;7,3,2;6,2,1 : piedl/hfmgb/okr/nacqj : lpilinlnalaclcqlqjkdlljnlnilieledldklkrklrrokbhffmgfgb : 13
+1 : 1,8,0;0,9,0;5,0,5;2,3,2;3,2,3;4,5,2;0,3,5;5,4,3;0,5,5;2,7,4;4,8,1;2,8,4 : kel/jfd/gbahci : kfdlkdldjljfkelfklbahbhcigbbci : 5
+2 : 0,1,9;0,1,1;1,1,2;0,0,3;1,0,9;0,0,8;0,1,1;1,1,0 : agdcb/hef : bagbgdbdcbchbhebefbfhhcb : 8
+2 : 4,4,1;3,7,7;5,3,6;7,7,3;5,6,4;2,2,2;1,5,0;1,0,1;7,0,4;4,6,2;1,3,9;5,4,0;0,0,3;0,3,3;1,1,3 : bnmhid/gokcf/laje : dbedeldlckclklakajjebkjbkbnoknfgocfoonmcomcmhchicid : 0
+0 : 1,3,2;4,3,2;8,0,0;5,0,1;9,1,3;2,1,2;1,3,0;6,2,2;9,1,1;9,3,2;6,1,3;2,3,2;7,1,1 : hfk/mje/gclb/aid : khffkekfekemkmjjekbgcclbaid : 8
+0 : 2,2,7;0,0,9;1,2,6;7,0,0;1,1,6;0,9,0;9,9,9 : gbdf/eca : fgbbdfeca : 0
+0 : 1,5,6;1,3,3;1,3,6;7,1,3;3,5,4;4,2,4;5,0,0;2,3,4;4,3,3;7,7,7;1,1,4;6,4,4;2,7,0;3,0,7;8,5,6;8,2,3 : hcoe/bplaf/idk/mjng : fbifidfdkfkifibfbpfplflafaofoefehfhcfcooafgmjjng : 13
+1 : 2,4,7;6,2,0;9,8,3;9,6,9;4,4,7;9,0,9;0,3,5;0,1,0;4,6,5;2,7,5 : ajie/dcbhgf : cbhchgfdcfcgfgefeafajgfjgjiieg : 5
+0 : 8,0,0;7,1,2;7,1,1 : abc : abc : 0
+2 : 3,4,2;5,5,8;0,5,1;0,0,3;2,3,0;2,4,7;5,0,5;2,2,6 : dgbch/fea : hdghgbbchfea : 0
+1 : 1,2,4;5,6,5;4,1,2;3,8,2;3,9,2;4,7,1;0,2,0;4,7,4;3,6,1;0,3,5;2,2,3;3,0,3;5,1,0;2,8,4;2,4,2;2,8,2 : kleo/igmbj/hfca/pnd : igmmbhklhhbjjimjmhjhljlejedjdpjpnhjnhndhdeheohokkhfkfchkccah : 13
+1 : 2,7,0;2,5,2;0,8,1;1,6,2;3,5,1;1,4,3;2,9,2;0,8,3 : edba/cghf : aeddbafcgghf : 2
+0 : 6,2,5;1,5,1;6,1,5;2,0,0;5,5,5;1,4,4;1,4,4;9,1,0;2,1,3;1,2,5;3,2,3;1,0,5;4,3,2;3,1,4;3,2,3 : ejldhb/akic/omgnf : ldhhbehejhjahakhkilhiliclcaajlfomfmggnf : 8
+1 : 9,7,9;1,0,1;6,9,4;8,1,3;9,0,0;9,3,4;0,2,0;8,6,4;0,0,9;1,7,0;2,4,1;6,2,3 : cldh/iaefg/kjb : giaahcgacgclglddhagdafgaaefkjb : 2
+0 : 9,3,5;8,3,2;7,5,5;8,3,4;8,2,3;4,0,5;5,1,4;5,3,3;9,0,0;1,2,5;7,3,2;4,4,3;3,1,5;9,1,2;8,1,3;0,5,0;9,1,4 : ghlk/pcfia/mjeo/dbnq : pclapldhldlcajealkakgaghqdcahdadbabnanqaqcacfafiiaeaieaeoaommja : 13
+1 : 1,4,2;0,6,0;2,8,2;0,2,2;2,9,2 : adecb : badbdeecb : 3
+1 : 2,3,1;0,2,2;0,4,2;0,8,2;1,2,1;2,6,0;0,3,2;0,4,1;2,9,1;1,6,1;0,1,0;2,4,1;0,7,0;1,1,1;0,9,0;2,9,2 : fcjeak/plmn/ghibdo : kfckcjkjekeakapkplklmkmnknppakoghohioibbdo : 14
+2 : 4,7,9;7,7,8;7,0,7;0,7,3;0,0,9 : dbcae : bcaaeddba : 1
+2 : 0,5,5;4,0,3;0,2,8;0,0,0;1,2,9;0,1,0;1,1,7;5,4,3;5,5,8 : efg/hiacdb : efgbhibiabaccdb : 0
+0 : 5,3,5;5,5,0;9,1,2;6,0,0;3,2,4;8,0,5;2,2,2;7,5,5 : ceg/fadbh : aeghfahagbhgbgcadbbceeab : 3
+2 : 0,0,6;0,2,1;4,3,0;2,3,5;4,3,3;5,0,3;5,5,3;2,5,4;4,5,8;5,2,4;4,5,2;5,5,0;3,3,1 : mic/dhke/lgbafj : bafbfjjlijikjkejedbjdbdhbhkbkibicbcmbmibillgb : 9
+0 : 2,1,2;8,3,4;9,0,7;4,7,7;8,3,6;7,3,2;8,5,5;5,7,0;6,0,0;6,3,5 : jeg/fab/dcih : hdghgjhjbhbfhfaabjajeegdedcaecaciaih : 0
+2 : 8,4,1;9,5,8;5,5,2;9,9,7;0,0,2;5,3,4;9,4,0;7,5,2;9,0,8;7,3,9;0,9,3 : fjhc/diek/bga : kdhkhckcfjhdjdifjifiefekbga : 0
+0 : 3,0,2;6,1,0;3,2,2;1,0,2;5,0,0;1,2,1;5,0,0;6,0,0;8,2,1;3,1,2;3,0,1 : agjdi/hbkfec : iagigjijcichihbecjibkikfejdifeedi : 9
+0 : 7,0,1;2,2,1;1,2,1;5,0,1;2,2,0;4,1,1;3,0,0;1,0,1;4,2,0;3,0,2;8,0,1;7,2,0 : cgalh/kjd/fbie : hcghgaalhkjdefbbie : 6
+2 : 3,4,8;5,0,8;1,1,6;1,0,6;3,3,2;2,5,6;0,0,5;2,2,6;0,3,9;5,3,2;5,5,7;2,1,7 : hcl/eaj/igdbkf : hclfigfgdajkakfeafefdedbjebbkj : 1
+1 : 0,0,3;0,0,1;3,5,2;0,0,0;1,0,1;0,3,0;1,9,0;3,2,2;3,4,1;2,4,0 : icdh/ebfjga : hiccdhebfaefgaffjg : 4
+0 : 3,3,0;9,1,1;2,1,3;7,0,2;3,2,1;4,3,1;3,3,2;0,0,0;7,1,3;6,3,0 : djcb/eafhgi : djcdcbieaiafhgifhi : 2
+2 : 0,3,7;1,3,3;3,3,9;1,0,8;3,0,6;1,1,1;0,3,5;1,3,2;0,3,5;0,2,3;0,2,2;1,2,4 : kjb/egfac/ldih : kjbcegcgffacldilih : 3
+0 : 4,1,1;1,1,0;1,1,0;2,0,0;4,0,0;7,1,1;2,0,0;1,1,0;0,0,0;3,1,0;2,1,1;7,1,1;2,1,1;8,1,0;2,0,0;8,1,0;4,0,0 : ldca/qbekn/hgmi/fojp : alkaknanqaqbabeaekaklalddcaihggmipfoojp : 12
+0 : 9,0,0;3,3,0;5,2,1;2,2,0;3,5,0;7,1,0;2,5,5;2,0,5 : fdc/aebgh : fdcbghbhaaeb : 1
+1 : 9,8,9;0,8,9;8,9,5;9,0,0;8,1,6;0,2,0;4,5,8;9,4,6 : badfg/ehc : gbagaddfgehc : 0
+1 : 4,6,1;1,7,3;0,2,3;1,8,0;1,2,2;0,7,0;1,8,1;5,1,3;4,7,4;4,6,3;2,9,2;5,2,5;4,6,2;3,7,2;2,5,5;2,5,2;1,9,2;3,3,3 : bep/olhdfc/mjrn/iagqk : collhjljrmjhhdffcbfbefepbclblrbrnpbnfpnfnmmhfkiakaggqk : 1
+1 : 0,9,1;3,0,3;5,5,4;4,7,3;4,5,4;7,6,0;5,9,3;7,6,7;5,3,2;0,5,7;0,5,0;4,2,1;5,0,1;4,3,3;3,4,1;4,8,5 : mipnc/gde/obl/ahjkf : blmbmicmlclocobcbicigcgdcdecegipncgiincahjkfaajk : 10
+1 : 7,6,7;2,9,5;1,1,3;0,9,7;3,2,6;3,4,5;2,4,6;6,0,3;0,2,0;1,0,2;6,6,6;3,3,2;6,0,6;7,5,0 : nadi/ljc/gefb/mkh : adenaenefnflinliljijcclfcfbcbggedcgdcdimkh : 1
+2 : 1,1,7;2,0,5;1,2,6;2,2,0;2,3,1;3,3,5;2,2,4;0,3,9;2,2,0;0,3,7;2,1,4;0,2,0 : djc/alki/efhgb : djclkialibeffhgfgb : 2
+2 : 2,2,6;1,3,8;3,1,1;3,2,0;4,2,0;1,1,0;0,5,4;3,3,2;0,0,8;1,5,4;4,1,5;3,5,4;5,0,0;5,5,5;1,2,2;2,1,9 : oapf/dekc/hbjl/gimn : mekimkikccdacapicpipfgifgfoemndennlhdnhadhoahohbgobgbjngjjln : 2
+0 : 6,2,4;3,0,0;8,3,2;8,2,0;6,2,0;8,1,2;5,3,4;5,1,3;4,4,0 : dhabi/cfeg : idhabihaicfeceg : 3
+2 : 8,4,3;9,4,6;8,2,1;7,3,7;0,3,8;8,0,4;6,2,4;9,9,1;9,3,4;0,0,6;8,9,6;9,2,6 : idb/jflhke/acg : ejfhkahacakeeflelbaebabiaidadbablalhgahhcg : 6
+1 : 4,6,5;0,7,7;3,8,6;4,8,1;7,5,3;7,4,0;5,7,3;0,4,0;3,0,4;7,1,7;7,7,5;5,4,5;5,8,5 : dcim/lgek/fhabj : mdcmciimkmikmklmlgmgeekmjfhjhaabj : 8
+1 : 2,5,3;4,3,3;2,2,3;2,5,4;3,2,2;3,8,3;3,2,4;5,6,5;5,3,0;3,2,3;1,0,4;2,9,5;3,7,3;0,0,5;2,8,2;1,2,3;4,7,3;0,5,0 : coj/nhirl/bef/padk/mqg : hgdhdkqghqhiqirlnhlhklkplpaladrldrdgrgmrmjrjcrcoqroqojjmqbef : 10
+2 : 1,1,1;1,0,6;1,1,6;1,0,1 : badc : cbaadc : 2
+1 : 7,7,4;0,5,9;9,9,2;0,6,4;7,5,2;0,3,0;9,1,9;9,0,0 : ghdfb/aec : bgabaecagbecbcgbghbhddfb : 3
+0 : 3,0,0;2,0,1;9,4,0;1,5,2;3,3,5;5,5,5 : acdfeb : bacbcdbdffeb : 0
+0 : 8,2,2;9,2,3;9,0,3;0,2,0;1,2,1 : cabed : edcecaabe : 1
+2 : 5,0,2;0,2,9;0,0,8;3,4,8;0,5,9;5,5,1;2,3,0;3,3,2 : ghd/ecbaf : ghdbafbfeecb : 1
+1 : 1,1,0;1,6,1;1,4,1;1,6,0 : dacb : bdaacb : 2
+2 : 0,0,7;0,1,2;0,1,0;0,1,0 : abdc : cabbdc : 2
+1 : 1,6,1;3,9,2;4,1,2;0,3,5;5,9,5;0,0,0;2,1,1;5,8,0;2,9,2;3,8,1;2,1,1;4,6,2 : calbg/kji/hfde : jibehcecaealelbebideifdifikfkjhfjhjbgchbgh : 7
+2 : 2,2,9;1,1,5;2,2,8;1,1,4;0,1,1;2,1,8;2,1,8;0,0,2;0,1,1;2,2,9;0,2,1;0,2,7;1,0,5;1,2,9 : bknm/jgcl/aeihdf : ljnlnmlmblbklknlnjljggcldfadaedeiihd : 9
+2 : 4,0,5;7,1,2;2,7,7;1,5,4;7,7,4;0,5,2;0,0,7;2,7,3;2,5,9 : dic/ebagfh : ebaeagheghgffhchfchcdhdiich : 7
+2 : 0,0,0;6,6,2;6,1,7;1,4,0;4,2,9;6,8,0;8,4,7;9,9,2;5,2,8;9,0,2;5,1,2;4,6,6;0,9,8;4,8,7 : kci/jamh/nlbf/gde : mhfmfnmnllbglgdmldamdadeaeiaikjakjkcjciiegjighjghgbbfh : 0
+2 : 2,4,7;0,0,9;2,4,7;5,5,8;0,5,8;1,3,4;5,0,4 : cfa/bgde : cfaebggde : 1
+0 : 8,2,1;9,2,2;1,2,2;0,1,0;5,0,2;1,0,1 : dafcbe : edaeafefccbe : 3
+2 : 1,4,8;4,3,9;0,3,5;0,0,5;9,0,9;4,2,0;2,3,1;2,4,8;3,2,6;1,3,9;0,9,9;3,4,9;3,3,4;9,9,0;3,3,2 : iobf/cja/lmgh/denk : cjaebfdefdfilbelenhlnhnkghkgkdgdigiogobblmbmg : 3
+0 : 8,0,1;3,1,0;1,1,1;5,1,1;6,1,0;9,1,0;1,1,1;0,0,1 : facbh/dge : hfahaccbhdge : 3
+2 : 1,5,1;5,4,9;7,7,7;3,6,7;7,3,6;2,0,3;5,1,3;4,5,8;0,1,7;1,6,1;3,5,5;1,7,4;0,0,3 : feclim/dkaj/bhg : mfemeccldcdkmckmkamajjdlmjllimbhg : 0
+2 : 0,5,6;5,5,3;0,0,8;5,5,8;3,3,6;5,0,5;5,3,6 : cfba/dge : acfafbabdadgageaeddba : 6
+2 : 0,0,3;0,1,6;1,1,3;0,0,1;0,0,8;0,1,7;0,1,6;0,0,6;0,0,8;0,1,2;1,1,3;0,0,0;0,0,0;0,1,7;1,1,0;0,1,0;1,0,4;0,0,9;1,0,1;1,1,3 : dklpi/tnsq/beafg/cjrmho : idkikllpiqtnnsqgbegeaafgocjojrormmho : 12
+0 : 7,0,1;9,1,1;2,0,3;2,2,0;3,0,3;1,1,2;8,2,2;7,1,3;2,0,3;2,2,0;8,2,1;7,0,2 : ihf/lbcjak/gde : ihfbcjbjalbalakgde : 1
+2 : 2,0,6;1,0,7;0,2,1;0,2,5;2,0,8;0,0,9 : ebafdc : cebcbacaffdc : 4
+1 : 3,5,2;5,2,5;3,7,3;3,2,4;2,4,0;4,2,2;4,8,1;3,7,3;0,2,0;2,5,2;4,6,2;4,6,3;5,9,0;4,0,3;0,3,5;2,2,1 : gfjp/hnd/cakl/meiob : eioobdbmebeobodbdhbhnbnlblcdbcdcadakdkfdfjdjpdpgdgfdfkdkllnd : 17
+0 : 3,1,1;1,0,1;5,0,1;7,0,1;6,0,0;7,0,0;3,0,1;9,1,1;3,0,0 : hac/igdfeb : hacbigbgdbdffeb : 5
+2 : 4,0,8;3,3,7;0,0,3;2,4,0;3,2,3;0,0,8 : dfecba : adfafeaeccba : 3
+1 : 3,6,3;3,3,2;0,6,0;5,4,0;1,8,3;1,9,2;5,0,5;2,3,3;2,6,2;0,3,5;3,8,2 : feb/cdgj/ihak : dgahaghgjihjjcdjdajakjkbjbfjfeijeiebbki : 7
+0 : 1,6,5;3,2,4;2,0,0;1,9,9;0,0,9;2,9,0;0,6,4;6,8,5;3,5,4;4,8,7;7,7,5;9,2,5;6,3,4 : gia/khj/cedf/lbm : giacelclbfcbfbmfmlfleedjejkfekfkhfhjjdf : 0
+0 : 7,2,2;1,0,0;8,0,2;0,1,2;5,2,2;8,0,2;9,2,2;6,2,2;8,2,2;2,1,2;7,1,2;1,0,0;8,1,2;4,1,2;1,1,2 : edmb/jngfco/alhik : beddmbojnongogffcokalklhhik : 9
+0 : 0,5,5;9,0,9;0,9,0;0,3,6;3,5,6;9,0,0;1,6,3;2,5,4;4,3,5;2,5,3;4,8,5;4,9,9 : eaid/gjh/bfclk : clkckgfcgfgjfjhgeahgafhafaibfibidbdekbeegk : 0
+2 : 1,3,5;5,0,7;0,0,5;1,2,7;3,2,5;4,5,9;5,5,0;0,5,8;4,3,1;3,3,4 : eda/cbgh/jfi : bgfbfibijbjecbecedhcdhdahaehejhjffgh : 1
+2 : 0,7,8;6,2,0;0,0,1;4,2,8;4,4,7;7,7,9;6,4,1;7,0,5 : hfac/egbd : hfghgbchbcbdcdeegfefaeac : 0
+0 : 8,5,9;4,3,7;3,4,3;8,9,9;6,0,9;1,3,4;3,9,0;8,3,3;5,4,4;6,0,0;6,5,7;8,3,9 : hfic/blak/jgde : gdagakgkigicjgcjchejhehfefiikbeibeblelaade : 2
+0 : 0,2,6;0,0,7;1,0,0;4,6,3;7,4,3;1,2,2;0,5,2;6,2,5;3,6,1;9,2,4;5,3,5;0,7,7;4,4,1;1,5,4;9,7,0 : blfoc/mide/ahk/jng : cbacahchkablkalklfckffocjndjdegjengenemnmiidn : 3
+1 : 9,0,0;9,9,9;7,5,7;0,6,9;5,5,7;0,1,0;5,8,5 : egc/afdb : afddbcdcedegadgagcacb : 0
+0 : 5,9,0;2,6,9;4,0,0;2,6,4;3,8,7;2,7,4;0,6,2;0,9,9;4,8,9;3,2,2;9,0,9;5,6,7;3,2,3;2,7,2;6,1,2 : ngdf/hkca/elbi/moj : ahiaieaefafnangdfedelcagcgdcdlclbkcbkbiihkmoj : 2
+1 : 5,3,0;4,0,3;2,4,3;1,2,4;0,1,0;5,3,5;4,0,4;0,2,5;2,0,4 : igbdc/ehfa : cigcgbbdcaehhfa : 1
+1 : 5,2,2;4,0,2;3,4,2;6,0,2;5,4,6;7,0,6;0,0,0;6,0,1;0,6,7;7,9,7;3,2,1;5,9,4;7,6,0;5,8,1 : fel/anhd/kbc/gijm : ijfifegiegelldalablbcglcgckmgkkbakanmknmnhmhddlfmdffjm : 1
+0 : 2,0,7;3,7,0;9,1,3;0,2,5;7,3,2;9,5,4;4,7,7;6,5,2;2,0,0;2,1,5;4,1,7 : agbic/ehf/dkj : akjcajcjdcdfcfefdkiceiehbihbhfgbfgfkkag : 1
+1 : 4,4,9;6,7,7;8,0,7;9,2,9;3,3,7;5,9,1;0,2,0;1,4,0;7,8,2;5,6,2;6,4,5;9,2,3;8,3,5;2,5,7;2,5,8;7,1,1;0,4,2 : jipf/cmkb/oen/daqghl : ldclcmlmkbcdbdakbakaekenlknoeaaqgaghlipjiljlnfjnahlfnofoafallpf : 4
+2 : 6,7,2;7,4,3;1,4,0;0,6,5;7,7,7;0,0,0;3,2,1;3,0,4;1,2,5 : icg/eadfhb : beabadfhgfgidfidicbdcbcgghb : 0
+2 : 0,2,1;0,1,3;1,0,3;1,2,0;0,1,9;0,1,1;0,2,7;0,1,6;0,0,5;2,0,1 : gbf/ejac/hdi : fgdfdifihfhdfdggbfejaeac : 7
+2 : 4,2,3;1,3,1;0,0,2;7,0,0;6,1,3;2,1,1;4,1,1;1,1,0;7,7,8;0,7,7 : ijcd/bfh/gae : cdecegcgfcfhjchjhbijbibffgaifaiaeied : 0
+1 : 1,1,2;0,4,2;4,1,3;0,8,1;0,0,0;1,2,4;2,6,3;1,3,2;0,7,3;1,0,2;0,9,4;0,7,2;0,9,0;3,8,4 : dkamh/jlg/bfcien : hdkhkaamhgjllgnglnnbfgnfgfcgcingiien : 9
+0 : 6,3,9;6,9,0;5,0,9;9,0,0;9,2,7;4,2,8;5,3,8;1,3,8;6,2,8;2,9,9;8,3,7 : cdbj/haf/keig : jcddbjfhgfgkfkefeifigfghhaf : 6
+0 : 4,2,2;2,3,4;4,5,0;6,3,3;6,4,3;8,2,3;6,3,4;1,3,3;1,0,0;4,5,5;8,0,5 : akicj/bfd/ehg : aehahgakieaieicecjgejagjbfd : 1
+0 : 8,1,4;5,2,4;1,2,3;1,3,2;7,5,0;5,2,1;3,1,3;5,1,2;3,1,1;0,3,1;8,0,5;6,3,4;8,0,0;1,2,4;6,5,5 : lbih/okmne/gac/fjd : lbcacbhlchcghgahabbihkmnoknonefjd : 4
+1 : 0,2,0;1,8,0;1,6,0;0,3,1;0,2,0;0,6,1;0,9,0;1,9,1;1,6,1;0,4,0 : ehfcb/jigad : behbhffcbdjidiggad : 6
+2 : 3,1,5;3,1,1;0,1,4;2,3,7;1,2,8;3,0,2;0,3,9;0,2,8;3,3,5 : fbhdie/acg : hdihiebhefbeacg : 1
+1 : 0,2,0;9,6,9;0,7,9;9,0,0 : bcad : dbccad : 0
+2 : 0,0,7;1,1,8;1,1,2;1,1,7;0,0,5;0,0,8;1,0,7;0,1,4;1,1,6;0,0,6;1,0,1;1,0,6;1,1,1;1,1,5 : fdhnba/ekmg/ijlc : afdadhahnnbagekkmgcijjlc : 7
+1 : 0,1,0;7,8,1;5,7,0;0,5,7;5,2,1;7,7,7;3,6,0;6,9,1;5,6,1;0,8,2;7,6,7;5,2,2 : ebl/fgajdk/cih : gajgjdkfggdkhcihilhlehebhbllih : 7
+2 : 1,7,0;6,3,2;5,3,8;9,0,9;6,5,3;6,5,3;4,3,2;0,9,7;8,4,7;9,9,4;7,1,7;0,0,8;2,7,9;1,9,0 : nam/hjdl/fikc/gbe : lhnlnalamjdljlmjmnnhjcfecegcgbkcbikbibeefi : 6
+0 : 4,1,0;0,1,1;6,1,1;5,1,0;5,1,1;8,1,0;5,0,1;4,1,1;9,0,0;2,0,1;4,0,0;0,0,0;7,1,0;2,0,1;1,1,0;3,1,0 : hmef/koanlb/djigcp : fhcfcpfpdfdjfjifigfgcfchfhmmefbkonlbboaanb : 13
+0 : 9,0,1;8,0,1;1,0,1;5,1,1;5,0,0 : caebd : dcadaeebd : 3
+1 : 0,5,1;1,6,1;1,1,0;1,6,1;0,5,1 : debca : adeaebbca : 2
+0 : 1,5,9;9,5,4;9,3,4;3,0,6;5,1,4;7,5,5;5,3,1;5,0,0;3,3,0;1,1,5;7,9,9;3,4,4;6,9,3;8,5,1;5,3,2 : himkad/cej/ngo/fbl : hinhnghgomkamafmfbmblmlcmcejcljlfjfajadejdedhehoeonmennim : 1
+0 : 5,1,0;8,3,2;3,3,3 : cab : cab : 0
+0 : 8,1,1;1,0,1;4,1,1;3,1,0;0,0,1;2,0,1;3,0,1;7,0,1;0,0,0;9,1,0;1,0,0;9,1,0;4,1,1;6,0,1;4,0,0;7,1,1;9,0,0 : cpih/dmgaj/qeokb/fln : hcppihjdmjmggajbqebeookbfln : 7
+0 : 3,1,1;7,0,0;2,1,0;3,0,0;7,1,0;5,0,0;8,1,0;3,0,0;2,0,0;2,1,1;9,0,0;6,1,0;4,1,0;4,1,0 : dkniba/fmj/hglec : adkaknaniibafmjchgcgllec : 7
+1 : 2,3,0;4,3,4;4,3,3;0,9,4;0,4,2;2,4,3;1,4,1;2,7,2;4,4,4;1,8,2;3,9,2;3,3,3;1,7,3;1,0,0;4,0,1;1,1,3;4,3,2;2,3,1;1,8,2;1,1,3;4,7,4 : qdlfac/mis/nebukh/gjrotp : dlfacqsmpspgsgjsjrsrosotstpspmmdfsmfsfamisdmssaqqdshnehebhbuukh : 12
+2 : 0,0,4;0,1,4;0,1,1;1,0,9;1,1,9;0,1,8;0,0,5;1,0,7 : gbfdc/hea : cgbcbffdchea : 3
+1 : 0,1,1;0,4,0;4,9,5;3,5,4;2,4,3;3,8,3;3,8,0;2,4,4;0,0,5;4,3,3;5,3,5;5,4,0;3,9,5 : aiklgb/deh/mfjc : jckjklfjlflgfgbmfbmbamaimikkcmdeh : 2
+0 : 6,6,6;6,2,1;1,7,7;4,0,0;0,0,7;0,5,0;4,2,5;0,0,5;6,7,0 : abg/ehdfic : cehficfcafabdfbhdbhbgchggac : 0
+2 : 7,7,5;0,7,7;7,0,1;2,3,3;4,5,0;0,0,4;4,3,8 : deg/cabf : caecegfcgfgdeabdebdbf : 0
+2 : 1,1,9;1,0,1;1,0,5;1,0,3;0,0,2;0,1,8;0,0,9;0,0,3;0,1,5;0,0,3;0,0,2;1,0,7;0,1,9;1,0,5;0,0,1;0,1,2 : kaohdp/bgmfln/jcie : pkapaopohphdpdbpbgpgmpmfpflplnpnbbdpejccie : 13
+0 : 7,0,5;1,1,2;9,3,3;5,5,0;6,3,2;2,0,0;3,5,5;5,1,4;7,1,3 : gafdh/iceb : hgahafichihfbifbfdebdceddhc : 1
+1 : 4,8,4;2,4,3;2,8,4;0,5,1;4,7,3;5,0,4;0,4,0;2,0,0;3,5,5;5,2,5 : ijfhgd/acbe : ijfifaiaceafefhbehbhgcbgcgdicd : 1
+2 : 3,0,5;4,5,0;2,3,0;4,3,2;3,5,2;2,2,4;5,5,3;2,3,5;0,0,7;4,2,5;5,5,3;0,3,6 : hfj/egkail/dbc : lebaillbclchlhfalfafjajhahcacdadbabeaeggka : 9
+0 : 6,9,2;7,9,9;3,0,0;9,0,5;6,6,9;3,7,0 : dcfabe : edcecfefaabe : 0
+1 : 2,7,5;2,1,3;7,3,7;7,7,0;3,2,3;0,5,7;0,9,0 : bae/dcfg : gebfgbfbacfadcadaedeg : 0
+1 : 3,1,4;4,9,2;0,4,0;0,6,5;2,4,4;4,0,4;5,0,0;2,9,3;5,7,5;4,7,2;4,1,2 : ajh/cdig/ekfb : ajhgcddigbekkfb : 2
+0 : 6,6,1;5,3,6;2,9,0;3,6,7;9,4,2;5,4,1;2,0,0;9,9,3;2,3,8;5,9,9;4,4,9;8,7,2;8,3,6;0,1,4;2,5,6;3,0,3;4,8,5 : iob/mndlq/fea/kpgchj : ioddlqqmnqndqdoqobqbiidqjkpjpggcagafgfejgejeaachahj : 4
+0 : 7,0,3;0,7,4;0,7,5;8,7,5;1,5,5;0,7,7;2,1,0;0,5,4;8,0,0;6,4,7 : hbde/iajfcg : giagajgjfgfcgcdgdegehghbgbddcg : 6
+1 : 0,6,2;0,9,0;2,2,1 : bca : bca : 0
+1 : 0,1,0;1,7,0;0,2,1;0,2,1;1,5,1;1,0,0;1,1,1;1,5,0;1,1,1;1,9,0;0,5,1;0,7,0;0,4,1;1,4,1 : gbl/kfadn/mcjhie : lgelemlmclcjljhlhilieleggblnkfnfaadn : 9
+0 : 2,1,2;8,1,2;8,0,2;6,2,1 : dbca : adbbca : 2
+2 : 5,3,3;7,7,4;6,2,1;0,0,5;5,2,1;0,7,6;5,4,5;5,3,5;3,4,5;7,0,3;1,6,5;2,4,4;5,4,0;6,3,4;2,4,3;1,4,6;5,4,1;6,4,6;6,4,6 : ipk/lgoaq/scem/nrh/djbf : qliqipqpkqkiqilqlgqgooaqhnrhrshschcehemhmssrhfdjjbf : 14
+1 : 0,8,0;9,4,0;9,6,9;0,5,9 : badc : cbaadc : 0
+2 : 0,1,5;2,0,8;0,1,7;1,1,5;2,2,6;0,2,4;2,2,2;0,0,9;1,1,1;0,1,0;0,2,3;2,0,7;2,1,0;0,1,2;0,1,3;0,0,2;2,1,4;1,0,7 : rciabk/hqo/djg/lpmnef : krckciiabibkhqoflpfpmfmnfnefegfgdfdjfjggef : 12
+0 : 6,3,0;2,0,2;8,3,1;2,1,0;6,0,3 : cebda : aceaebbda : 0
+1 : 0,4,2;2,0,0;0,2,1;2,0,0;2,2,2;1,2,0;0,6,0;0,3,1;0,2,0;0,4,2;0,0,1;1,8,1 : kfbagi/dlh/cje : kfbkbaikaagihdlhlehechcjhjeelh : 8
+0 : 3,0,0;7,1,0;8,1,0;9,1,1;9,0,0;6,0,1;8,1,0;1,0,0;6,1,0;1,1,1;9,0,0;2,0,0;1,1,0;1,0,1;0,1,1;8,0,1;3,0,0;2,0,1;8,0,0;4,0,1;0,0,1 : biqjm/puan/sofetd/glcrhk : npuuandsodojdjmdmbdbidiqdqjdjodofdfeetdkglklckcrrhk : 17
+2 : 5,1,9;1,1,9;3,1,8;0,0,8;7,7,7;7,0,4;5,3,7;3,3,3;0,7,3 : achg/ebidf : bidbdffgafacbfcbchgfehgeebh : 1
+1 : 1,1,4;3,9,4;1,2,4;3,0,3;1,0,1;2,8,5;1,3,2;4,8,1;3,8,1;0,0,0;1,5,5;1,0,3;1,9,1;3,8,3;5,2,0;1,9,2;3,1,0;0,4,5;1,1,2;5,1,5 : qhi/trjof/cbngm/seap/dlk : qhicbfftrfrjfjoofbfobfbnfndfdlflkcfkckdcdnngmnmcpseeap : 13
+2 : 6,4,2;9,9,9;0,9,9;5,4,3;5,5,3;0,0,9;4,6,0;9,0,0 : bcfgh/dea : cfgbcghadahbeabebgeghhde : 1
+1 : 4,6,5;3,1,6;7,9,0;0,4,0;1,3,6;5,2,1;4,4,7;2,0,7;5,1,3;7,8,5;2,5,5;1,6,4;5,7,5;7,8,7;0,6,7 : donfc/jmi/hkag/bel : njmgbeagnfcdfdofonfnmfmifijanfkaffjnfngfgekfehkehelhlbbgh : 10
+1 : 5,1,5;0,9,0;0,6,5;5,0,0 : bcad : dbccad : 0
+0 : 4,3,2;3,0,0;3,2,2;9,3,3;1,2,3;9,2,4;9,5,0;9,1,3;0,0,5;8,1,2;3,2,2;6,5,5;3,0,0;6,3,2;8,3,2 : jhdn/bgmli/ake/foc : ibgigmimlildidninoiocicflifdlfdfodondnadakdkedeadandnjjhd : 17
+2 : 4,4,1;3,2,0;1,4,3;0,0,6 : dbca : bcadba : 1
+1 : 5,4,5;3,0,3;3,1,4;5,3,4;0,7,1;1,4,0;0,9,0;3,9,5;5,4,2 : bdc/ehaifg : gehhadhdcghcgcbgbdifgigddai : 1
+0 : 0,4,4;2,6,7;5,2,4;1,3,0;5,2,1;7,1,4;4,4,3;0,7,7;0,1,3;4,1,2;3,4,3;7,7,5;2,2,7;6,0,0;2,3,2;1,2,5;4,1,6;1,3,2;5,0,7;5,1,5;4,2,6;8,3,5 : tfc/qmu/oavpg/hldnsb/keijr : qmubhlbldsbvsvpsptnstntfdnfdfcctpdcppgodpobdoboaavbrkereiijr : 2
+1 : 7,5,7;0,3,1;3,3,7;5,3,6;7,5,7;2,3,7;5,9,4;2,8,5;2,9,3;3,4,3;7,4,4;0,4,0;2,7,5;4,0,0;3,6,7 : foh/eacbln/imj/dkg : kgjjgdblnneknkjnjibnibimbmjbjdbdkbkebeabacbcobohbhfbfoocb : 11
+2 : 2,3,8;3,0,8;2,2,3;3,0,9;3,3,8;3,2,5;1,0,0;3,3,5;2,0,6;0,1,1;3,1,2;0,2,0;1,2,1;1,2,1;0,3,6 : khc/emgoi/djn/bfla : ckfhcfhflhlahabhbdhdjhjnhndhdbhbffkhiemimggoi : 11
+1 : 0,1,7;9,3,9;0,9,6;0,8,9;8,3,3;9,0,0;1,1,7;0,7,0 : agc/bfehd : agcbfedbeehd : 0
+0 : 1,0,1;0,0,0;9,1,1;4,0,1;6,1,0 : acbed : cbedacced : 2
+0 : 2,1,4;0,7,7;3,3,5;6,5,1;3,3,3;2,1,5;5,0,0;1,5,6;4,0,7;8,5,2;5,7,0;7,7,1;9,3,4;7,1,7;2,1,3 : fnc/bigkh/oame/djl : gklgldgdjkhcamcacfnchnhbnbinigfngafgoagogjeojmejmjlkcmlkm : 2
+1 : 7,9,0;5,6,4;5,3,6;7,3,7;6,0,4;0,4,0;6,7,6;0,5,7;7,0,0 : gcbe/hdaif : hdghgcfhcfcbfbeegdfedfdaaif : 3
+1 : 3,7,2;0,1,0;1,8,3;0,6,2;2,3,3;3,3,0;0,0,3;0,3,1;3,2,3;2,6,3;2,2,0;1,1,0;1,8,1;2,7,3;0,7,0;3,0,0;1,9,2;3,0,3;3,3,2 : amef/bdckpg/nhrli/sjoq : ckpgbdgdccpginhihrrliqsaqamqmeqefqfaqasqsjjoq : 12
+1 : 2,6,0;2,8,0;1,2,0;0,5,1 : bdca : abddca : 1
+1 : 0,0,5;4,1,3;2,5,3;2,2,4;5,1,0;5,6,5;0,5,0;2,0,3 : hfega/bdc : ahdgadgdcgcbegbfebfbddhf : 4
+0 : 7,4,3;9,6,8;5,9,0;6,4,7;6,2,8;3,4,8;5,6,9;0,7,6;1,0,9;7,4,7;7,9,9;9,0,0;5,3,7;9,5,8 : ehda/kcli/mjf/bng : ehdedakclifmlimlmjkljkjfkfibng : 0
+2 : 0,0,5;0,3,4;2,0,2;0,0,4;4,4,3;0,4,6;3,0,3;0,1,3;1,2,1;2,4,8;2,2,2;0,2,6 : jdkcel/bgafhi : kcgljdldklkglgalaflfhlhilibcellbggcl : 8
+2 : 8,0,1;9,9,0;4,4,8;9,3,6;2,6,2;8,5,3;0,0,4;2,8,2;0,1,4;3,6,3;2,6,4;4,9,9;6,7,7;6,5,1;2,4,7 : cko/lbdagi/ejh/mnf : lmnjhljlbbdaagiilninfaifbafbfmbmlblhbhebekbkojbojocjckkej : 8
+0 : 3,1,1;5,2,2;2,0,1;0,1,2;2,1,1 : cdabe : ecdedaabe : 3
+0 : 7,1,5;5,3,3;6,3,4;3,5,5;1,4,0;5,5,3;3,4,3;7,4,5;2,0,4;2,3,3;2,0,0;7,5,5 : cfj/aikedl/bhg : aikakelaeledldhlhglgblbhlhdldflfjljclcffdl : 12
+1 : 1,5,1;2,9,2;3,4,3;0,8,0;0,2,3;1,7,1;0,4,1 : dfgc/bea : abcacdadfafgbeaagccba : 6
+2 : 5,0,4;5,5,5;3,3,5;0,0,2;3,2,8;4,2,2;0,5,9 : dabg/ecf : dafdfegdegecfabcfbcbg : 0
+2 : 0,1,8;1,1,5;1,1,6;0,1,1;0,0,9;0,1,9;0,0,8;0,1,8;0,1,5;1,0,5;1,1,4;1,0,5 : ldgkja/efcibh : aldadgagkkjahefhfchciibh : 7
+2 : 1,1,9;1,0,1;2,0,6;1,2,1;0,1,8;0,0,9 : acfebd : febdacbdccfb : 2
+1 : 4,9,0;7,3,8;9,2,8;3,9,9;3,5,7;0,9,1;9,7,5;3,3,9;9,2,9;0,9,0;5,3,7;7,9,6 : dek/lcb/jfhiga : ajficbgafgfhghdgdegekgkdgdhhibghbgblglccig : 8
+0 : 6,3,2;4,0,4;0,5,5;4,3,1;1,1,0;5,4,5;7,2,1;2,5,0;4,0,0 : biehcf/gad : fbifiehadehdedgfegfgafahhcf : 0
+1 : 0,6,0;1,9,7;0,1,1;6,0,2;6,5,5;5,8,3;1,2,0;7,3,7;5,6,6;5,0,2;7,9,7;5,2,5 : hkgacb/lei/dfj : gacgcbgbigilglegefgfjgjddfebhkibkikgigddei : 3
+0 : 3,0,0;7,0,2;2,2,0;3,2,0;4,2,0;6,1,1;0,0,0;5,0,2;0,0,0;6,1,2;8,0,1;9,0,0;0,2,0;8,2,2 : ikdjf/lbegnh/cma : djfkdfikfhlbhbegnheghcma : 5
+0 : 7,0,1;9,1,0;1,1,0;2,0,0;5,1,0;5,0,0;8,1,1;6,1,0;4,1,1;6,1,1;5,0,1;8,1,1;0,1,0;7,0,1;1,1,0;2,0,0;9,0,1;8,1,1;9,1,0 : lgbk/cafmpn/iej/rshdoq : klggbkncanafnfmmpniejqrsqshqhddoq : 9
+1 : 0,3,1;0,7,1;2,0,0;2,3,2;2,0,2;2,0,1;1,0,2;0,4,1;0,4,1;1,2,2;1,7,1;1,9,2;1,7,1;2,8,2;2,4,1;2,1,2;0,5,0;2,3,2 : raoi/ldcjh/nqkgef/mpb : irpipbibmimpipriraaoihldhdccjhfnqfqkfkggef : 10
+2 : 1,1,1;1,1,3;0,1,0;0,1,2;1,0,0;1,0,2;1,1,5;1,0,3;1,1,5 : gihe/fdcab : egiihebfdbdccab : 5
+0 : 9,6,7;4,6,1;4,9,0;1,4,5;8,1,4;5,6,3;8,9,9;9,6,4;1,5,5;4,4,7;9,0,0;6,5,3;1,5,7;1,0,9;2,3,8 : jdim/boe/hfl/ngcak : hflnoeknekebonggcaogaoamomjbojimakbjkjdkdiiak : 2
+1 : 4,3,7;6,9,2;4,8,5;6,8,2;0,4,7;3,7,1;1,7,3;1,0,2;7,2,0;4,6,5;2,7,5;2,9,7;6,7,5;4,0,5;0,2,0;7,8,1;7,8,7;5,7,3 : nalk/hfbg/oeqpi/drmcj : lkgaqmmqpmpiioeieqiqamiamalmlgmghmhfmfbmbgdrmmgkmknmnaamcmacmcjjdm : 16
+0 : 9,1,0;5,0,0;2,0,0;5,0,1 : adbc : caddbc : 2
+1 : 2,0,4;0,9,2;0,9,1;4,3,1;4,4,0;3,2,1 : dfbcea : fbcfcedfedea : 1
+1 : 1,3,3;3,6,1;3,6,2;0,0,0;1,4,2;2,0,2;4,8,4;0,2,5;2,2,3;3,6,0;5,6,1;5,2,5;5,5,0 : kcb/jdhlm/ifega : hlghgadhaaifafedaejdeegcecbjebmjbmbkkcgkglklm : 1
+2 : 4,5,6;4,4,3;5,0,7;0,0,4;0,0,0;2,3,6;1,3,9;3,1,3;4,2,9;5,5,7;4,1,4;0,5,2;2,4,7;3,4,2 : fgm/dcejl/hik/nba : jlmjmfgmlldcejfefgeglcelanbhibhbaabiaikkha : 5
+2 : 0,0,9;1,1,2;1,0,3 : bca : bca : 0
+0 : 1,9,9;5,7,3;1,8,3;7,8,5;4,2,8;1,8,5;8,8,8;5,5,7;6,5,3;8,2,3;0,6,8;2,6,3;3,5,4;4,9,0;8,0,9;6,0,0 : hkei/fcb/lmjg/pdnao : hkeheinaglmjjgajaojopljplpdldflfclcbglbgbfgfddng : 6
+0 : 9,5,5;1,2,7;1,5,4;7,7,4;2,9,9;9,6,4;0,2,7;0,6,3;8,4,8;1,6,3;9,6,4;8,7,4;7,9,0;6,0,9;3,0,0;6,6,5 : akc/dhpig/nome/lbjf : hpihigdhgenoomeflbfbjjfkfjkfkcfcaakf : 8
+2 : 4,2,2;6,4,7;2,2,6;5,2,3;7,7,8;5,3,1;7,0,0;5,3,0;5,2,2;0,1,0;3,2,3;0,7,0;1,4,1;0,0,4 : mbc/hdk/ljnge/fia : jnggebmbemelmljcmjcjgcgbcbfcfhchdcdkbckbkhbhfbfibiaafb : 9
+1 : 8,8,0;6,3,2;9,4,4;9,6,9;0,3,0;8,9,9;0,7,8;7,3,4;6,2,4 : gfdcae/hib : egfefddchdhiedieibbhcbcabae : 0
+1 : 0,2,0;4,4,6;6,8,5;0,3,7;7,3,0;4,0,5;5,4,6;7,4,7 : ecadh/fbg : hechcaadhfbg : 0
+0 : 3,7,4;6,7,0;2,4,4;2,2,2;9,0,7;4,4,5;8,0,0;1,4,0;4,7,7;9,3,5;4,5,6;2,5,5;1,4,7;8,5,4;4,3,7 : fmoj/bghei/dkc/lna : heihibbghcdkcklclnalkfmkfkcjfccnacakckmcmoojc : 6
+1 : 3,0,0;1,3,3;2,0,1;0,5,1;3,5,2;1,7,0 : cbe/daf : cbedaf : 0
+1 : 7,8,0;0,2,0;4,5,6;3,1,3;4,0,5;0,6,7;6,0,6;7,3,7 : gec/fbadh : badfbdcghchfcfdecdgeddhg : 1
+0 : 7,5,0;8,1,2;6,1,3;1,3,3;1,1,4;6,1,3;5,2,2;6,3,2;2,0,0;8,3,4;8,0,5;7,2,2;0,5,5;9,2,5;6,2,4;7,3,4 : iknma/lhjo/dpec/fbg : aikaknanjajpapeaecacfafbabgagfafcacdmadmdpmpjmjojnmhjmmollhm : 16
+1 : 0,3,0;0,9,0;0,7,1;0,8,0;0,3,1;1,3,0 : baedfc : cbacaeceddfc : 3
+2 : 2,0,4;2,1,2;0,1,2;2,2,8;0,1,3;1,0,0;1,2,7;0,2,7;2,0,0;1,1,6;1,2,3;1,0,3;0,0,5;0,0,9;2,2,3;0,1,6;0,2,0;0,2,5;0,1,3;1,1,3;1,1,4;0,0,2 : kvsjqh/rclabi/udgo/tmnfpe : rclirlilaabioudodgogkokvovsosjojqoqhohkkgoetmemnenffpe : 16
+2 : 0,0,8;0,1,7;1,0,5;0,1,5;1,1,0;1,1,6;1,0,9;0,1,9;0,0,0;1,1,3;1,0,9;0,0,0;1,1,8;0,1,2;0,0,6;0,1,1;0,0,3;1,1,0;0,0,9;1,0,8;0,1,5 : ohgd/qskbuc/imrfj/laenpt : dohhgdcqscskckbbucjimjmrrfjtlataetennpt : 13
+1 : 2,3,6;5,7,5;0,5,0;6,4,5;7,7,3;0,4,7;5,4,3;5,4,0;7,7,7;5,6,5;4,1,6;5,3,4;2,5,4;7,8,0 : djl/mka/geb/fhinc : ikadkicfhchiciacamcmkckdcdjcjbcbgcgencenebdinldnnbjjln : 10
+1 : 0,4,0;1,0,0;0,2,0;1,1,0;1,1,1;0,7,0;1,9,1;0,6,1;0,3,0;1,0,1 : dhba/jeigcf : adhhbafjefeifiggcf : 5
+0 : 2,1,1;6,3,3;0,1,2;1,1,2;2,1,0;6,1,1 : cebdaf : fcefebfbddaf : 4
+0 : 5,0,6;1,4,3;5,4,1;9,2,0;9,2,2;7,2,1;2,0,0;5,7,7;7,2,1;4,7,7;5,1,1;4,1,7 : eik/bfc/alhjdg : eikgabgbfgfcbaldgcdcbdbldlhhjd : 4
+2 : 2,1,6;9,0,4;0,0,4;9,9,6;6,3,6;8,4,4;3,4,2;5,5,4;3,6,0;0,9,1;2,1,8;1,4,7 : djchb/aefk/lig : higchgcgljcljlidjidihdhbkaeefk : 2
+1 : 2,6,4;4,3,3;3,9,2;4,1,0;5,8,0;5,1,1;4,8,4;0,2,0;1,3,3;4,0,1;5,3,4;4,3,2;5,5,4;3,7,2;2,5,2;5,9,5;0,1,3;3,0,5;4,3,4;3,6,4 : saol/ktn/fdj/icgb/ehqrpm : fdjehqmeqmqrmrppmgmpgmgsmsamaomolmlsmsggbimgimicmcggmkmgkmktmtnnkm : 19
+2 : 1,4,3;2,1,6;1,2,0;1,1,4;0,3,7;0,0,3;3,1,8;2,3,6;5,4,8;5,0,7;0,5,3;1,2,7;2,2,9;4,3,9;2,4,3;5,5,2;3,1,9;3,3,1 : hon/racqg/ipkefj/dlmb : racgrccqgjinjnhjhmjmbjbdlmhlhoonioipopklokdlkdkedefdfj : 2
+0 : 8,0,9;2,1,8;8,7,6;9,4,8;3,8,6;6,2,2;8,9,0;5,0,0;8,7,2;2,7,8;1,9,9;0,6,4 : dfbli/cej/hakg : dfbblidbighaakjajcgacgceejkekg : 1
+0 : 5,9,4;0,6,4;3,7,5;4,4,5;5,9,9;6,0,4;2,6,5;7,4,7;0,2,7;7,4,6;6,4,9;4,5,0;5,5,5;6,6,9;1,7,4;4,0,0 : hki/alpfne/bocg/dmj : eacecgocaoalbolgblglpgpfihjijdmjhmhkmknmnemegmgfdmfdfndnkkid : 2
+2 : 8,7,0;4,0,2;4,1,6;7,7,7;9,9,8;7,9,1;8,9,0;0,3,1;0,0,0;9,0,4;3,0,8;0,9,1 : ejilh/dagf/cbk : ageaejdajdjifdiheghgfhfiilhcbk : 3
+1 : 3,3,4;5,3,6;0,7,9;9,0,0;8,9,6;5,5,4;3,9,3;3,6,6;0,8,0;2,4,6;9,3,9;5,1,1 : ejg/afbh/dickl : ldickecebcbhfbeliclchlhalaflfelejkljkjggek : 6
+0 : 9,4,9;4,0,9;6,8,4;5,0,0;9,2,3;3,5,6;8,1,8;5,9,9;7,2,6;3,1,6;3,9,0;0,7,6;5,2,6;3,7,7 : cme/lfn/dakhb/jgi : ecmemieijejgegiimebdakhnknlaklfnhbalfhblfb : 8
+2 : 7,0,9;8,5,0;6,4,7;6,4,9;0,2,3;2,4,7;8,9,9;4,5,8;1,3,0;5,5,7;9,9,5;6,2,7;9,4,4;5,6,4;7,2,0;2,3,1;8,4,6;0,0,6 : ramkge/col/dbq/pif/hjn : eraaolealoammbqomqbmkbkgbgeelcecoeoqeqddbehfphjnfhnnhpnpiifn : 5
+0 : 5,4,1;6,4,4;8,4,0;7,3,0;2,3,0;4,4,2;9,4,2;7,4,4;1,3,3;6,2,2;1,3,3;7,4,0 : iebd/ljgk/fhac : dieebdkljjgkcfhhac : 5
+0 : 7,2,1;3,2,1;2,2,0;4,2,1;9,1,2;2,0,2 : dbcafe : edbebcafecae : 3
+0 : 5,1,4;3,3,4;8,1,3;2,5,4;1,0,5;7,3,3;7,0,0;0,5,3;8,3,3;6,4,2;6,5,5;6,5,0 : dih/bacf/eklgj : ekbebaeacbkdlgjjecjcfjfbjbdjdijihljhlhddkl : 6
+0 : 2,3,6;9,1,3;2,2,0;9,2,9;4,9,9;2,0,5;1,1,1;2,2,1;1,0,0;8,4,6;9,4,7;0,9,1 : ajk/icledf/bhg : ajkichihgfigfgbhclbhlfblfleedf : 0
+1 : 1,7,1;2,1,1;2,8,1;0,0,1;0,9,2;1,9,1 : fdcbea : afdadcacbbea : 3
+1 : 9,9,0;9,3,9;0,9,1;1,9,1;0,3,0;0,3,9;0,6,0 : ecd/bagf : ecdfbaagf : 0
+1 : 1,2,0;1,4,2;0,6,1 : bca : bca : 0
+1 : 2,0,2;0,5,3;3,8,0;3,5,3;2,7,2;0,3,3;2,5,0;0,8,1;3,0,3;0,2,0;0,2,3;3,7,2 : ljgfea/bhdkic : aljajgagffeacbhchdcdkkic : 7
+2 : 2,4,3;0,5,6;5,5,8;2,3,1;0,0,3;0,5,7;4,3,5;4,4,2;5,0,1 : icbfe/ahgd : ichihgeigegdedaahceacecbbfe : 3
+1 : 5,1,4;4,6,6;0,0,7;0,2,6;7,9,0;4,1,5;5,7,6;5,9,5;6,2,5;7,8,7;7,0,0;0,9,0 : kldcje/bfg/ahi : dcjjgbdjbldblbflfglgjeklljeahi : 1
+2 : 0,0,7;5,1,6;5,2,0;0,7,3;7,7,9;4,1,6;7,0,9 : bcf/aged : bcfdagged : 0
+0 : 7,4,2;5,0,7;4,2,2;5,3,2;5,5,3;0,7,0;5,3,6;8,5,2;4,6,3;1,4,5;1,7,7;3,0,0;2,5,6;1,3,3 : hdne/kjblf/mgaic : fkefehfhdneknkjnjbdnbdbldlfcmggaigic : 1
+0 : 2,5,5;3,5,5;7,1,6;1,0,0;7,6,3;4,0,7;2,7,0;7,3,5;7,7,7;2,1,4;6,2,4 : kjc/gifde/abh : egieifdekdkjfdjfjcefcckeabh : 1
+0 : 1,3,2;0,1,2;7,1,0;7,3,0;0,2,3;9,3,1;8,1,2;0,3,1;0,1,0;1,0,0;4,2,1;8,2,3;4,2,2 : maic/hljf/egdbk : fhafaificfcmfmafahfhlljfkegkgddbk : 10
+0 : 4,0,1;8,0,1;2,0,0;1,0,0;0,1,0;2,0,0;2,1,0;2,1,1;2,0,1;1,0,1;9,0,1;5,1,1;7,1,0;4,0,0;6,1,1 : feo/blh/ckjid/amgn : ofeoegognonaoamomggeoblhdckdkjjid : 11
+2 : 8,0,8;0,1,3;0,0,2;6,8,7;9,9,6;2,7,7;9,5,2;4,8,0;2,9,9 : ageibc/dhf : cagcgeceiibcdhf : 0
+0 : 8,3,2;2,1,0;3,3,3;6,3,0;9,3,2;2,1,2;4,0,2;8,2,0;9,1,2;9,3,0 : bgdj/cfeaih : hcfhfeheahaiihdhidhdjhjbhbggdh : 9
+0 : 1,7,7;6,7,0;3,4,4;3,5,2;2,0,0;7,5,3;2,1,5;7,2,5;2,1,7;9,4,5;6,3,2;7,3,4;7,5,4;7,0,7 : gih/anfeb/dkl/jmc : fmcnfcncjklhkhgihlildidfbanbnjbjmbmfbfdbdkfebbkgbgiifb : 6
+1 : 7,3,7;0,7,0;7,0,0;0,4,7 : dbca : adbbca : 0
+0 : 1,4,2;7,4,6;7,0,0;9,3,6;0,6,4;4,6,2;9,3,2;7,5,6;1,7,0;5,0,7;3,1,6;2,6,2;0,4,1;9,7,7;6,3,6;8,1,4;3,3,1;7,6,4 : oehkp/rla/cindj/bfgqm : gqmkpokoekerkrlklfkfgkgmkmbkbfkflhklhlaharrehjciindidj : 11
+0 : 1,0,7;4,7,7;2,0,0;2,3,4;2,7,0 : cebda : cebcbdcda : 0
+1 : 7,9,4;7,8,7;0,9,7;0,7,3;4,4,0;0,6,0 : dcbaef : dcbfdbfbaaef : 0
+2 : 4,4,0;1,0,1;2,2,5;3,4,0;0,2,7 : dbace : aceedbbae : 1
+1 : 6,8,6;5,3,5;0,9,0;2,3,7;7,6,4;5,6,4;1,1,1;1,6,2;0,7,4;7,1,4;1,1,0;2,1,6;7,4,5;7,7,7;2,0,2;3,9,6 : ogh/pal/kendic/jfbm : palkogckgcghndiichihoiokikeiemimjijfifbnibnbmmen : 7
+0 : 5,3,3;5,4,5;9,4,3;4,4,2;1,5,0;2,2,2;2,0,5;9,5,5;2,4,3;0,0,0;2,2,3;2,4,4 : fkid/lca/ehbgj : ehbeblalbabgjeljlcjcijidjdfjfkgjkagkakiica : 6
+2 : 0,7,5;0,7,0;3,4,5;5,4,2;7,0,5;5,3,2;3,3,3;7,7,4;0,0,7 : cdfg/habie : ehdedfefgcdhiegigcichihaabi : 3
+1 : 0,7,0;2,7,2;1,3,2;1,9,1;0,2,1;1,2,0 : dbcfea : dbcadcfeacfa : 1
+2 : 5,5,9;0,0,2;0,5,5;5,0,1 : cadb : bcaadb : 0
+1 : 0,6,7;7,0,0;3,7,2;4,6,2;7,9,7;0,5,0;3,9,1 : dgc/bfae : dgcebffae : 0
+0 : 2,1,5;6,0,5;8,2,2;4,1,0;1,0,0;2,1,1;0,5,0;0,3,2;0,5,5;8,4,4;0,3,5;9,1,3;4,3,2;1,4,3;7,3,4;1,3,3;6,3,3;1,4,4 : kalp/moc/rnq/ebdig/jfh : qroqocqcmqmoqorqrjqjfqfhqhjqjrkrnqrkqkaqalqlpqpkknqebddigedg : 16
+0 : 5,5,0;0,1,5;4,1,1;2,0,5;8,1,3;2,3,1;6,5,5;6,4,3;3,4,4;4,3,5;8,1,4;8,0,0;0,0,5;5,3,3 : jneb/khcfi/dmlag : ikhhcfijnfinfneihfifeiebbjilaggdmmlg : 5
+0 : 0,0,8;2,0,0;4,9,1;7,9,9;4,6,9;8,6,0 : cdeabf : fcdfdefeaabf : 0
+1 : 1,9,1;1,6,2;2,0,1;2,2,2;1,1,2;2,3,0;1,7,0;0,4,1;0,0,1;1,5,1 : eaf/jgb/ihdc : bjggbebgebeabaffebcihhdc : 7
+2 : 7,0,5;7,4,1;0,0,4;0,7,5;7,3,0;5,4,7;6,3,7;4,2,5;7,7,2;4,5,3;4,4,3 : ahidc/geb/kjf : cahchfcfkckjfhijfijidjdcgeb : 0
+2 : 0,1,0;1,2,9;3,3,9 : abc : abc : 0
+0 : 9,2,0;5,0,5;2,0,5;2,3,0;9,5,0;5,0,0;4,3,1;5,5,5 : gad/bcfeh : gadfehhbccfh : 1
+0 : 8,2,3;1,4,3;5,2,4;0,1,0;8,3,3 : abced : edaceaabc : 1
+1 : 5,0,5;0,0,5;0,4,0;5,1,0 : badc : cbaadc : 0
+0 : 8,7,0;5,0,0;9,3,1;7,4,3;3,2,1;1,2,2;0,7,7;6,0,7;8,6,5;3,6,3 : cef/aghb/ijd : agiaijajdadcbacbcebeffcdfdifigfghfhb : 0
+2 : 2,2,4;2,1,5;0,0,8;1,2,6;1,1,5;1,3,9;1,2,4 : gcd/feba : gcdafeeba : 1
+0 : 8,0,0;2,0,2;8,2,1;7,0,0;5,2,0;4,0,0;3,2,2;3,0,0;8,2,0;4,1,2 : hbcgd/iejfa : cgjbcjaieaejajgagdadhahbabjjfa : 8
+1 : 1,4,0;8,0,8;0,0,2;2,1,2;5,2,4;5,4,3;9,2,0;9,6,9;0,1,0;1,4,2;1,1,9 : aickhg/jdfeb : aicgacckhchbcbjgcjgjdgdfgfegebbhg : 0
+2 : 8,4,6;3,7,4;7,8,0;9,0,3;8,5,1;0,0,5;2,5,9;6,4,9;7,0,8;3,5,4;6,6,0;0,9,7;6,5,0;7,6,5;9,9,7 : iodfl/haem/gjb/ckn : ckbocbjbkjknnemjnmjmhgjhencecoaeoaodhadghdlioloblbggdfgfl : 1
+0 : 8,7,7;8,2,4;4,0,6;5,2,2;1,0,0;1,6,1;7,4,5;0,3,7;9,7,0;7,7,6;3,5,1;6,5,3;0,7,2;5,7,3;6,5,2;7,4,3;5,4,1;9,5,3 : nmol/krf/eijahc/bqgpd : eifefkcekjahjhcckrcrfcficinjcnjnmjmojoljlnnijdbqpdqqgp : 10
+0 : 0,0,1;0,0,0;7,1,1;8,0,1;0,0,0;4,1,0;5,1,1;2,1,0;1,0,0;3,0,1;7,1,1 : fdbij/khagec : jfdjdbbijckhchacaggec : 7
+1 : 5,0,4;0,1,0;0,5,9;9,9,9;9,8,0;7,2,6;8,9,4 : fag/edcb : fagbeddcb : 0
+0 : 4,3,2;6,0,3;6,3,2;3,1,2;9,3,0 : dcbae : edcecbbae : 2
+0 : 4,7,7;0,3,1;9,7,0;3,5,3;2,4,4;5,4,2;6,5,1;5,5,3;2,5,2;4,3,4;1,3,3;1,5,2;5,5,4;0,3,3;3,5,3;9,4,5;0,0,7;8,0,0 : mhn/jep/dlf/iaqrc/gbko : jepmaqciacamcmhchocogcgbrcbqrbqbkqkonmqqohqhdqdlqlfqfdqdhhnq : 13
+1 : 1,2,1;1,8,0;4,4,0;2,4,4;2,1,2;3,0,3;0,5,1;3,5,3;3,0,3;3,1,1;1,6,2 : agjhf/idbkec : fagfgjjhfcidecdedbbke : 4
+2 : 3,3,7;0,5,2;4,1,5;4,3,3;3,3,5;5,0,8;3,1,7;4,1,0;5,5,9;3,1,4;0,0,2;1,1,0;2,3,6;1,4,2 : dcj/fibk/algm/hne : fiddibkfdkdckchkhnbknbnedbejdejehhcjalgagm : 7
+2 : 2,4,7;7,7,3;0,0,3;6,2,0;5,3,2;7,0,7;0,7,8;2,6,8 : cgbf/aehd : fcggbfdaeehd : 1
+1 : 3,9,0;1,3,3;1,3,0 : bca : bca : 0
+2 : 7,7,1;4,3,7;0,7,4;5,4,8;4,4,2;0,0,6;5,3,2;7,0,0 : gbed/cfha : hadhdgfhgfgbcfbcbeaceeda : 0
+1 : 0,8,0;2,8,3;0,7,4;3,0,0;1,0,4;2,4,1;2,5,2;1,5,4;4,2,2;4,1,1;0,6,1;1,9,3;2,9,3;2,5,3;3,7,2 : jhbdek/lif/ncagom : jifkjfkflklikijkjhkhbdekbdkcagcgomnccom : 7
+2 : 3,4,8;0,9,8;9,0,0;0,0,7;9,9,1;4,6,1;8,1,3 : dceb/fag : bdccebfag : 0
+0 : 1,6,8;3,0,0;9,5,1;8,3,3;2,5,3;5,5,6;7,3,1;7,5,8;6,0,9;0,2,8;4,9,9;6,6,6;4,9,0 : fhal/kijbm/ecgd : mkamalmlfmfemecmcgdefdfhhakhkihijdhjgdjgjbgbm : 0
+2 : 2,3,3;5,5,8;0,5,2;0,0,6;1,3,2;5,0,6;2,4,4 : age/cdfb : agebcddfb : 0";

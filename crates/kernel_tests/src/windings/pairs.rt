@@ -25,29 +25,31 @@ fn answers_of<R: Rounding + Copy>(
     Ok(write_numbers(alloc, &windings, &hits)?)
 }
 
-// Whether two sides have these answers under a rounding.
-fn have_answers_by<R: Rounding + Copy>(
-    alloc: Global,
-    p: &Side,
-    q: &Side,
-    rounding: R,
-    wanted: &str,
-) -> Result<bool, Fail> {
-    let answers = answers_of(alloc, p, q, rounding)?;
-    Ok(answers.as_str() == wanted)
-}
-
 // Whether two sides have these answers, to the nearest and low.
 fn have_answers(alloc: Global, p: &Side, q: &Side, nearest: &str, low: &str) -> Result<bool, Fail> {
-    Ok(have_answers_by(alloc, p, q, Nearest, nearest)? && have_answers_by(alloc, p, q, Low, low)?)
+    let answers = answers_of(alloc, p, q, Nearest)?;
+    let low_answers = answers_of(alloc, p, q, Low)?;
+    Ok(answers.as_str() == nearest && low_answers.as_str() == low)
 }
 
-// Whether the sides of a line have these answers.
+// Whether the sides of two meshes, the first with the marks of an operation, have these answers.
+fn meshes_have_answers(
+    alloc: Global,
+    op: Op,
+    p: &Mesh,
+    q: &Mesh,
+    nearest: &str,
+    low: &str,
+) -> Result<bool, Fail> {
+    let p = marked_side(alloc, p, op)?;
+    let q = plain_side(alloc, q)?;
+    have_answers(alloc, &p, &q, nearest, low)
+}
+
+// Whether the meshes of a line have these answers.
 fn line_has_answers(alloc: Global, line: &str, nearest: &str, low: &str) -> Result<bool, Fail> {
     let (op, p, q) = read_pair(alloc, line)?;
-    let p = marked_side(alloc, &p, op)?;
-    let q = plain_side(alloc, &q)?;
-    have_answers(alloc, &p, &q, nearest, low)
+    meshes_have_answers(alloc, op, &p, &q, nearest, low)
 }
 
 // Compares the answers with those of a table of a hundred pairs.

@@ -80,8 +80,21 @@ fn have(corners: &[i64], plates: &[i64; 12]) -> bool {
     true
 }
 
-// Whether a stack has these numbers in the other with these boxes, under the kernels, and so with the two exchanged.
+// Whether a stack has these numbers in the other, under the kernels, and so with the two exchanged.
 fn row_holds<K: Kernels>(
+    alloc: Global,
+    plates: &Mesh,
+    others: &Mesh,
+    numbers: &[i64; 12],
+    kernels: &K,
+) -> Result<bool, Fail> {
+    let ahead = stacked::<K, Brand>(alloc, plates, others, kernels, Blank::new(1))?;
+    let back = stacked::<K, Brand>(alloc, others, plates, kernels, Blank::new(1))?;
+    Ok(have(&ahead.w03, numbers) && have(&back.w30, numbers))
+}
+
+// Whether the first stack has these numbers in the second with these boxes.
+fn boxes_hold<K: Kernels>(
     alloc: Global,
     boxes: &[Span],
     numbers: &[i64; 12],
@@ -89,9 +102,7 @@ fn row_holds<K: Kernels>(
 ) -> Result<bool, Fail> {
     let plates = stack(alloc, FIRST, &[])?;
     let others = stack(alloc, SECOND, boxes)?;
-    let ahead = stacked::<K, Brand>(alloc, &plates, &others, kernels, Blank::new(1))?;
-    let back = stacked::<K, Brand>(alloc, &others, &plates, kernels, Blank::new(1))?;
-    Ok(have(&ahead.w03, numbers) && have(&back.w30, numbers))
+    row_holds(alloc, &plates, &others, numbers, kernels)
 }
 
 // Whether the rows hold under the kernels.
@@ -101,7 +112,7 @@ fn rows_hold<K: Kernels>(
     kernels: &K,
 ) -> Result<bool, Fail> {
     for (boxes, numbers) in rows {
-        if !row_holds(alloc, boxes, numbers, kernels)? {
+        if !boxes_hold(alloc, boxes, numbers, kernels)? {
             return Ok(false);
         }
     }

@@ -12,50 +12,54 @@ fn push_number(text: &mut String, number: u64) -> Result<(), NoRow> {
     push_digit(text, (number % 61) as u32)
 }
 
-fn push_numbers(text: &mut String, numbers: &[u32]) -> Result<(), NoRow> {
+fn push_list(text: &mut String, numbers: &[u32]) -> Result<(), NoRow> {
     for number in numbers {
-        push_number(text, *number as u64)?;
-    }
-    Ok(text.push('|')?)
-}
-
-fn push_origin(text: &mut String, kind: char, origin: &[u32]) -> Result<(), NoRow> {
-    text.push(kind)?;
-    for number in origin {
         push_number(text, *number as u64)?;
     }
     Ok(())
 }
 
+// Adds numbers, and a bar.
+fn push_numbers(text: &mut String, numbers: &[u32]) -> Result<(), NoRow> {
+    push_list(text, numbers)?;
+    Ok(text.push('|')?)
+}
+
+fn push_word(text: &mut String, kind: char, numbers: &[u32]) -> Result<(), NoRow> {
+    text.push(kind)?;
+    push_list(text, numbers)
+}
+
+fn push_origin(text: &mut String, origin: &Origin) -> Result<(), NoRow> {
+    match origin {
+        Origin::PVertex { vertex } => push_word(text, 'p', &[*vertex]),
+        Origin::QVertex { vertex } => push_word(text, 'q', &[*vertex]),
+        Origin::PEdge { edge, face } => push_word(text, 'e', &[*edge, *face]),
+        Origin::QEdge { edge, face } => push_word(text, 'f', &[*edge, *face]),
+    }
+}
+
 fn push_origins(text: &mut String, origins: &[Origin]) -> Result<(), NoRow> {
     for origin in origins {
-        match origin {
-            Origin::PVertex { vertex } => push_origin(text, 'p', &[*vertex])?,
-            Origin::QVertex { vertex } => push_origin(text, 'q', &[*vertex])?,
-            Origin::PEdge { edge, face } => push_origin(text, 'e', &[*edge, *face])?,
-            Origin::QEdge { edge, face } => push_origin(text, 'f', &[*edge, *face])?,
-        }
+        push_origin(text, origin)?;
     }
     Ok(text.push('|')?)
+}
+
+// Adds a point, whose coordinates are at least 0.
+fn push_point(text: &mut String, point: &Point) -> Result<(), NoRow> {
+    for coordinate in point.at() {
+        if coordinate < 0 {
+            return Err(NoRow::OutsideGrid);
+        }
+        push_number(text, coordinate as u64)?;
+    }
+    Ok(())
 }
 
 fn push_points(text: &mut String, points: &[Point]) -> Result<(), NoRow> {
     for point in points {
-        for coordinate in point.at() {
-            if coordinate < 0 {
-                return Err(NoRow::OutsideGrid);
-            }
-            push_number(text, coordinate as u64)?;
-        }
-    }
-    Ok(text.push('|')?)
-}
-
-fn push_triples(text: &mut String, triples: &[[u32; 3]]) -> Result<(), NoRow> {
-    for [a, b, c] in triples {
-        push_number(text, *a as u64)?;
-        push_number(text, *b as u64)?;
-        push_number(text, *c as u64)?;
+        push_point(text, point)?;
     }
     Ok(text.push('|')?)
 }
@@ -76,7 +80,7 @@ fn push_outcome(text: &mut String, all: &Outcome) -> Result<(), NoRow> {
     push_origins(text, &all.prescribed.origins)?;
     push_points(text, &all.prescribed.points)?;
     push_points(text, all.mesh.points())?;
-    push_triples(text, all.mesh.triples())?;
+    push_numbers(text, all.mesh.triples().as_flattened())?;
     push_numbers(text, &all.from)?;
     push_numbers(text, &all.source)
 }
