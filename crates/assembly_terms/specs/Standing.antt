@@ -48,7 +48,8 @@ count_starts p q cs names = sum_by (λ name. length (starts (all_edges p.triples
 -- those of all lists of all source faces
 abbrev pub count_all_starts : Side → Side → List Copy → ℕ
 count_all_starts p q cs =
-    sum_by (λ f. count_starts p q cs (lists_of_p (length q.triples) f)) (upto (length p.triples)) + sum_by (λ g. count_starts p q cs (lists_of_q (length p.triples) g)) (upto (length q.triples))
+    sum_by (λ f. count_starts p q cs (lists_of_p (length q.triples) f)) (upto (length p.triples)) + sum_by
+    (λ g. count_starts p q cs (lists_of_q (length p.triples) g)) (upto (length q.triples))
 
 -- each list has as many starts as ends
 pub record IsBalanced (p q : Side) (cs : List Copy) : Type 0 where

@@ -24,15 +24,18 @@ ranges_of_overlap : (shift i : ℕ) (b a : Box3) → overlap_on i b a ≡ true �
 ranges_of_overlap shift i b a h =
     let m = overlap_meets (end_on i b.low) (end_on i b.high) (end_on i a.low) (end_on i a.high) h in
     and_from (le_z (step_below shift (end_on i b.low)) (step_below shift (end_on i a.high))) (le_z (step_above shift (end_on i a.low)) (step_above shift (end_on i b.high)))
-    (test_from_le (step_below shift (end_on i b.low)) (step_below shift (end_on i a.high)) (below_keeps shift (end_on i b.low) (end_on i a.high) (omega (arith, ints, m.after_low, m.before_to))))
-    (test_from_le (step_above shift (end_on i a.low)) (step_above shift (end_on i b.high)) (above_keeps shift (end_on i a.low) (end_on i b.high) (omega (arith, ints, m.after_from, m.before_high))))
+    (test_from_le (step_below shift (end_on i b.low)) (step_below shift (end_on i a.high))
+    (below_keeps shift (end_on i b.low) (end_on i a.high) (omega (arith, ints, m.after_low, m.before_to))))
+    (test_from_le (step_above shift (end_on i a.low)) (step_above shift (end_on i b.high))
+    (above_keeps shift (end_on i a.low) (end_on i b.high) (omega (arith, ints, m.after_from, m.before_high))))
 
 pub bounds_of_touching : (shift : ℕ) (b a : Box3) → touches b a ≡ true → bounds_meet (bounds_around shift b) (bounds_inside shift a) ≡ true
 bounds_of_touching shift b a h =
     let outer = and_parts (overlap_on 0 b a && overlap_on 1 b a) (overlap_on 2 b a) h in
     let inner = and_parts (overlap_on 0 b a) (overlap_on 1 b a) outer.0 in
     let meet = λ (i : ℕ). ranges_meet (range_around shift i b) (range_inside shift i a) in
-    and_from (meet 0 && meet 1) (meet 2) (and_from (meet 0) (meet 1) (ranges_of_overlap shift 0 b a inner.0) (ranges_of_overlap shift 1 b a inner.1)) (ranges_of_overlap shift 2 b a outer.1)
+    and_from (meet 0 && meet 1) (meet 2) (and_from (meet 0) (meet 1) (ranges_of_overlap shift 0 b a inner.0) (ranges_of_overlap shift 1 b a inner.1))
+    (ranges_of_overlap shift 2 b a outer.1)
 
 -- intervals that are not empty overlap where neither begins after the other ends
 overlap_tested : (low high from to : ℤ) → low ≤ℤ high → from ≤ℤ to → (le_z low to && le_z from high) ≡ overlap low high from to
@@ -43,7 +46,8 @@ range_tells : (shift i : ℕ) (b a : Box3) → IsWhole shift (end_on i b.low) �
     ranges_meet (range_around shift i b) (range_inside shift i a) ≡ overlap_on i b a
 range_tells shift i b a low high some asked =
     let area = overlap_meets (end_on i a.low) (end_on i a.high) (end_on i a.low) (end_on i a.high) asked in
-    ap₂ (λ x y. le_z x (step_below shift (end_on i a.high)) && le_z (step_above shift (end_on i a.low)) y) (below_whole shift (end_on i b.low) low) (above_whole shift (end_on i b.high) high)
+    ap₂ (λ x y. le_z x (step_below shift (end_on i a.high)) && le_z (step_above shift (end_on i a.low)) y) (below_whole shift (end_on i b.low) low)
+    (above_whole shift (end_on i b.high) high)
     ∙ ap₂ (λ x y. x && y) (below_tells shift (end_on i b.low) (end_on i a.high) low) (above_tells shift (end_on i b.high) (end_on i a.low) high)
     ∙ overlap_tested (end_on i b.low) (end_on i b.high) (end_on i a.low) (end_on i a.high) some (omega (arith, ints, area.after_low, area.before_high))
 
@@ -85,7 +89,9 @@ exact_box shift b exact =
     let P : List ℤ → List ℤ → Box3 = λ l h. record { low = l; high = h } in
     let low : (z : ℤ) → IsWhole shift z → fine shift (step_below shift z) ≡ z = λ z w. ap (fine shift) (below_whole shift z w) ∙ sym w.exact in
     let high : (z : ℤ) → IsWhole shift z → fine shift (step_above shift z) ≡ z = λ z w. ap (fine shift) (above_whole shift z w) ∙ sym w.exact in
-    let three : (p q r x y z : ℤ) → p ≡ x → q ≡ y → r ≡ z → p ∷ q ∷ r ∷ [] ≡ x ∷ y ∷ z ∷ [] = λ p q r x y z e f g. ap (λ s. s ∷ q ∷ r ∷ []) e ∙ ap (λ s. x ∷ s ∷ r ∷ []) f ∙ ap (λ s. x ∷ y ∷ s ∷ []) g in
+    let three : (p q r x y z : ℤ) → p ≡ x → q ≡ y → r ≡ z → p ∷ q ∷ r ∷ [] ≡ x ∷ y ∷ z ∷ [] = λ p q r x y z e f g. ap (λ s. s ∷ q ∷ r ∷ []) e
+    ∙ ap (λ s. x ∷ s ∷ r ∷ []) f ∙ ap (λ s. x ∷ y ∷ s ∷ []) g in
     let lows = three _ _ _ _ _ _ (low (end_on 0 b.low) exact.low.x) (low (end_on 1 b.low) exact.low.y) (low (end_on 2 b.low) exact.low.z) ∙ ends_listed b.low exact.low.count in
-    let highs = three _ _ _ _ _ _ (high (end_on 0 b.high) exact.high.x) (high (end_on 1 b.high) exact.high.y) (high (end_on 2 b.high) exact.high.z) ∙ ends_listed b.high exact.high.count in
+    let highs = three _ _ _ _ _ _ (high (end_on 0 b.high) exact.high.x) (high (end_on 1 b.high) exact.high.y) (high (end_on 2 b.high) exact.high.z)
+    ∙ ends_listed b.high exact.high.count in
     ap₂ P lows highs

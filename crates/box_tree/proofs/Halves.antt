@@ -22,7 +22,8 @@ run_kept : (old new : List Node) (q first count : ℕ) → node_at new q ≡ nod
 run_kept old new q first count same run = let P : Node → Type 0 = λ n. HasRun n first count in subst P (sym same) run
 
 -- a right node stays right where all up to its end stays
-pub node_kept : (end later : ℕ) (old new : List Node) (entries : List Entry) (place : ℕ) → end ≤ later → AgreeOn place end old new → IsNode end old entries place → IsNode later new entries place
+pub node_kept : (end later : ℕ) (old new : List Node) (entries : List Entry) (place : ℕ) → end ≤ later → AgreeOn place end old new →
+    IsNode end old entries place → IsNode later new entries place
 node_kept end later old new entries place after agree node =
     let first = (node_at old place).first in
     let count = (node_at old place).count in
@@ -35,11 +36,13 @@ node_kept end later old new entries place after agree node =
       within = node.within;
       round = node.round;
       left = λ more. run_kept old new (place + 1) first (half count) (agree (place + 1) (omega arith) (omega (arith, more, room))) (node.left more);
-      right = λ more. run_kept old new (place + 2 * half count) (first + half count) (count - half count) (agree (place + 2 * half count) (omega arith) (omega (arith, more, room))) (node.right more);
+      right = λ more. run_kept old new (place + 2 * half count) (first + half count) (count - half count)
+          (agree (place + 2 * half count) (omega arith) (omega (arith, more, room))) (node.right more);
     })
 
 -- a node of one block, written at its place
-pub leaf_written : (nodes : List Node) (entries : List Entry) (place first : ℕ) (bounds : Bounds) → place < length nodes → BLOCK * (first + 1) < length entries + BLOCK → IsRound bounds (run_of entries first 1) →
+pub leaf_written : (nodes : List Node) (entries : List Entry) (place first : ℕ) (bounds : Bounds) → place < length nodes →
+    BLOCK * (first + 1) < length entries + BLOCK → IsRound bounds (run_of entries first 1) →
     (q : ℕ) → place ≤ q → q + 1 < place + 2 → IsNode (place + 2 - 1) (set nodes place (record { bounds = bounds; first = first; count = 1 })) entries q
 leaf_written nodes entries place first bounds there within round q low high =
     let node : Node = record { bounds = bounds; first = first; count = 1 } in
@@ -80,12 +83,14 @@ round_of_run end nodes entries q first count bounds node run within =
     subst C run.blocks (subst F run.begins wide)
 
 -- bounds round both halves are round the whole run
-round_of_halves : (one two : List Node) (entries : List Entry) (place first count : ℕ) (bounds : Bounds) → AreHalves one two entries place first count bounds → IsRound bounds (run_of entries first count)
+round_of_halves : (one two : List Node) (entries : List Entry) (place first count : ℕ) (bounds : Bounds) → AreHalves one two entries place first count bounds →
+    IsRound bounds (run_of entries first count)
 round_of_halves one two entries place first count bounds h =
     let more : 1 < count = h.some in
     let e : node_at two (place + 1) ≡ node_at one (place + 1) = h.kept (place + 1) (inl (omega (arith, more))) in
     let B : Node → Type 0 = λ n. IsBoundsIn n.bounds bounds in
-    let front = round_of_run (place + 1 + 2 * half count - 1) one entries (place + 1) first (half count) bounds (h.left_nodes (place + 1) (omega arith) (omega (arith, more))) h.left_run (subst B e h.left_bounds) in
+    let front = round_of_run (place + 1 + 2 * half count - 1) one entries (place + 1) first (half count) bounds
+    (h.left_nodes (place + 1) (omega arith) (omega (arith, more))) h.left_run (subst B e h.left_bounds) in
     let back = round_of_run (place + 2 * half count + 2 * (count - half count) - 1) two entries (place + 2 * half count) (first + half count) (count - half count) bounds
     (h.right_nodes (place + 2 * half count) (omega arith) (omega (arith, more))) h.right_run h.right_bounds in
     All-same (λ e. IsBoundsIn e.bounds bounds) (run_of entries first count) (run_of entries first (half count) ++ run_of entries (first + half count) (count - half count))

@@ -32,7 +32,8 @@ hits_found q i j d before within found = ap (hits q) (range_front q.entries.now 
 -- an entry whose bounds lie in others that do not meet those of the area gives nothing
 missed_with_bounds : (q : Question) (bounds : Bounds) (e : Entry) → IsBoundsIn e.bounds bounds → bounds_meet bounds q.bounds ≡ false → is_hit q e ≡ false
 missed_with_bounds q bounds e within missed =
-    let none : bounds_meet e.bounds q.bounds ≡ false = false_from_ne_true (bounds_meet e.bounds q.bounds) (λ t. both_ways (bounds_meet bounds q.bounds) missed (bounds_meets e.bounds bounds q.bounds within t)) in
+    let none : bounds_meet e.bounds q.bounds ≡ false = false_from_ne_true (bounds_meet e.bounds q.bounds)
+    (λ t. both_ways (bounds_meet bounds q.bounds) missed (bounds_meets e.bounds bounds q.bounds within t)) in
     rw none refl
 
 -- and so for all of them
@@ -55,10 +56,12 @@ waiting_push q stack place = ap (flat_map (hits_below q)) (reverse-append stack 
 
 -- what a node gives by its run of blocks
 hits_of_run : (q : Question) (place first count : ℕ) → HasRun (node_at q.nodes.now place) first count → hits_below q place ≡ hits q (run_of q.entries.now first count)
-hits_of_run q place first count run = ap (λ f. hits q (run_of q.entries.now f (node_at q.nodes.now place).count)) run.begins ∙ ap (λ n. hits q (run_of q.entries.now first n)) run.blocks
+hits_of_run q place first count run =
+    ap (λ f. hits q (run_of q.entries.now f (node_at q.nodes.now place).count)) run.begins ∙ ap (λ n. hits q (run_of q.entries.now first n)) run.blocks
 
 -- the two halves of a node on the stack give what the node gives
-pub waiting_halves : (q : Question) (stack pushed : List ℕ) (place left right : ℕ) → IsNode (length q.nodes.now) q.nodes.now q.entries.now place → 1 < (node_at q.nodes.now place).count →
+pub waiting_halves : (q : Question) (stack pushed : List ℕ) (place left right : ℕ) → IsNode (length q.nodes.now) q.nodes.now q.entries.now place →
+    1 < (node_at q.nodes.now place).count →
     left ≡ place + 1 → right ≡ place + 2 * half (node_at q.nodes.now place).count → pushed ≡ (stack ++ right ∷ []) ++ left ∷ [] →
     hits_waiting q pushed ≡ hits_below q place ++ hits_waiting q stack
 waiting_halves q stack pushed place left right node some l r p =

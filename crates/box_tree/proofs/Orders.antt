@@ -18,11 +18,19 @@ same_counts (x ∷ xs) ys same =
     let s = split_by (λ n. n == x) ys some in
     let e : s.member ≡ x = (Decides-eqb s.member x).0 s.passes in
     let rest = same_counts xs (s.front ++ s.back)
-    (λ k. omega (arith, same k, count_by-cons (λ n. n == k) x xs, ap (count_by (λ n. n == k)) s.joined, count_by-middle (λ n. n == k) s.front s.member s.back, ap (λ m. one_if (m == k)) e)) in
+    (λ k. omega (
+      arith,
+      same k,
+      count_by-cons (λ n. n == k) x xs,
+      ap (count_by (λ n. n == k)) s.joined,
+      count_by-middle (λ n. n == k) s.front s.member s.back,
+      ap (λ m. one_if (m == k)) e,
+    )) in
     let P : List ℕ → Type 0 = λ l. IsPermutation (x ∷ xs) l in
     let Q : ℕ → Type 0 = λ m. IsPermutation (m ∷ (s.front ++ s.back)) (s.front ++ s.member ∷ s.back) in
     let back = IsPermutation-sym (s.front ++ s.member ∷ s.back) (s.member ∷ (s.front ++ s.back)) (IsPermutation-middle s.front s.member s.back) in
-    subst P (sym s.joined) (IsPermutation-trans (x ∷ xs) (x ∷ (s.front ++ s.back)) (s.front ++ s.member ∷ s.back) (IsPermutation-cons x xs (s.front ++ s.back) rest) (subst Q e back))
+    subst P (sym s.joined) (IsPermutation-trans (x ∷ xs) (x ∷ (s.front ++ s.back)) (s.front ++ s.member ∷ s.back)
+    (IsPermutation-cons x xs (s.front ++ s.back) rest) (subst Q e back))
 
 -- how many of those that pass one test pass another
 count_filter : (p q : ℕ → Bool) (xs : List ℕ) → count_by q (filter p xs) ≡ count_by (λ x. p x && q x) xs

@@ -8,13 +8,15 @@ use Rattle.box_tree.specs.declared.nodes.Entry.{Entry}
 use Rattle.box_tree.specs.Nodes.{run_of}
 
 -- a run of blocks is its first blocks and then the others
-pub run_split : (entries : List Entry) (first count part : ℕ) → part ≤ count → run_of entries first count ≡ run_of entries first part ++ run_of entries (first + part) (count - part)
+pub run_split : (entries : List Entry) (first count part : ℕ) → part ≤ count →
+    run_of entries first count ≡ run_of entries first part ++ run_of entries (first + part) (count - part)
 run_split entries first count part few =
     let parts : BLOCK * count ≡ BLOCK * part + BLOCK * (count - part) = omega arith in
     let on : BLOCK * first + BLOCK * part ≡ BLOCK * (first + part) = omega arith in
     ap (λ n. take n (drop (BLOCK * first) entries)) parts
     ∙ take-add (BLOCK * part) (BLOCK * (count - part)) (drop (BLOCK * first) entries)
-    ∙ ap (λ l. take (BLOCK * part) (drop (BLOCK * first) entries) ++ take (BLOCK * (count - part)) l) (drop-drop (BLOCK * part) (BLOCK * first) entries ∙ ap (λ n. drop n entries) on)
+    ∙ ap (λ l. take (BLOCK * part) (drop (BLOCK * first) entries) ++ take (BLOCK * (count - part)) l)
+    (drop-drop (BLOCK * part) (BLOCK * first) entries ∙ ap (λ n. drop n entries) on)
 
 -- the first of the entries from i to j
 pub range_front : {X : Type 0} (xs : List X) (i j : ℕ) (d : X) → i < j → j ≤ length xs → slice_range xs i j ≡ get_or xs i d ∷ slice_range xs (i + 1) j

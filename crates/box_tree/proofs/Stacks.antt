@@ -15,7 +15,8 @@ abbrev pub IsSmall : List Node → ℕ → ℕ → Type 0
 IsSmall nodes place depth = ((node_at nodes place).count - 1) * 2 ^ depth < 2 ^ 32
 
 -- one more node on the stack
-pub stack_push : (nodes : List Node) (stack : List ℕ) (place : ℕ) → IsStack nodes stack → place < length nodes → IsSmall nodes place (length stack) → IsStack nodes (stack ++ place ∷ [])
+pub stack_push : (nodes : List Node) (stack : List ℕ) (place : ℕ) → IsStack nodes stack → place < length nodes → IsSmall nodes place (length stack) →
+    IsStack nodes (stack ++ place ∷ [])
 stack_push nodes stack place h there small = record {
   there = λ i l.
       let P : ℕ → Type 0 = λ p. p < length nodes in

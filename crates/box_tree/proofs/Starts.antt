@@ -23,7 +23,8 @@ use Rattle.box_tree.proofs.Stacks.{IsSmall}
 use Rattle.box_tree.proofs.Trees.{as_many, all_told, IsTold}
 
 -- a tree of its parts; the nodes are made over entries that are the same
-pub tree_made : (shift : ℕ) (stored boxes : List Box3) (entries same : List Entry) (nodes : List Node) → shift < 64 → All IsBox boxes → AreEntries shift boxes entries → AreKept shift stored boxes → same ≡ entries →
+pub tree_made : (shift : ℕ) (stored boxes : List Box3) (entries same : List Entry) (nodes : List Node) → shift < 64 → All IsBox boxes →
+    AreEntries shift boxes entries → AreKept shift stored boxes → same ≡ entries →
     AreNodes nodes same → length nodes < 2 ^ 32 → (0 < length same → IsRoot nodes same) → IsTree shift stored boxes entries nodes
 tree_made shift stored boxes entries same nodes small solid listed kept e right short root =
     let N : List Entry → Type 0 = λ es. AreNodes nodes es in
@@ -39,7 +40,8 @@ tree_made shift stored boxes entries same nodes small solid listed kept e right 
     }
 
 -- a tree seen through references to its parts
-pub tree_seen : (shift : ℕ) (stored stored_seen boxes : List Box3) (entries entries_seen : List Entry) (nodes nodes_seen : List Node) → stored_seen ≡ stored → entries_seen ≡ entries →
+pub tree_seen : (shift : ℕ) (stored stored_seen boxes : List Box3) (entries entries_seen : List Entry) (nodes nodes_seen : List Node) → stored_seen ≡ stored →
+    entries_seen ≡ entries →
     nodes_seen ≡ nodes → IsTree shift stored boxes entries nodes → IsTree shift stored_seen boxes entries_seen nodes_seen
 tree_seen shift stored stored_seen boxes entries entries_seen nodes nodes_seen b e n tree =
     let B : List Box3 → Type 0 = λ x. IsTree shift x boxes entries nodes in
@@ -68,7 +70,8 @@ root_stack nodes entries root =
     }
 
 -- the stack before a walk waits in order
-first_stack : (shift : ℕ) (stored boxes : List Box3) (entries : List Entry) (nodes : List Node) (area : Box3) (stack : List ℕ) → IsTree shift stored boxes entries nodes → IsFirst entries area stack → IsStack nodes stack
+first_stack : (shift : ℕ) (stored boxes : List Box3) (entries : List Entry) (nodes : List Node) (area : Box3) (stack : List ℕ) →
+    IsTree shift stored boxes entries nodes → IsFirst entries area stack → IsStack nodes stack
 first_stack shift stored boxes entries nodes area stack tree first =
     let S : List ℕ → Type 0 = λ l. IsStack nodes l in
     elim (cases_lt 0 (length entries)) as (λ _. IsStack nodes stack) [
@@ -80,7 +83,8 @@ first_stack shift stored boxes entries nodes area stack tree first =
     ]
 
 -- a walk that begins is on its way
-pub walk_begins : (shift : ℕ) (boxes : List Box3) (q : Question) (stack : ArrayVec ℕ) → IsTree shift q.boxes.now boxes q.entries.now q.nodes.now → IsFirst q.entries.now q.area stack.items →
+pub walk_begins : (shift : ℕ) (boxes : List Box3) (q : Question) (stack : ArrayVec ℕ) → IsTree shift q.boxes.now boxes q.entries.now q.nodes.now →
+    IsFirst q.entries.now q.area stack.items →
     IsWalk (record { question = q; stack = stack; at = 0; end = 0 })
 walk_begins shift boxes q stack tree first =
     record {
@@ -101,7 +105,8 @@ root_gives q root =
     ap (λ f. hits q (run_of q.entries.now f count)) root.first ∙ ap (hits q) (take_all (BLOCK * count) q.entries.now root.all)
 
 -- the stack before a walk gives the numbers of all entries
-first_gives : (shift : ℕ) (boxes : List Box3) (q : Question) (stack : List ℕ) → IsTree shift q.boxes.now boxes q.entries.now q.nodes.now → IsFirst q.entries.now q.area stack → touches q.area q.area ≡ true →
+first_gives : (shift : ℕ) (boxes : List Box3) (q : Question) (stack : List ℕ) → IsTree shift q.boxes.now boxes q.entries.now q.nodes.now →
+    IsFirst q.entries.now q.area stack → touches q.area q.area ≡ true →
     hits q q.entries.now ≡ hits_waiting q stack
 first_gives shift boxes q stack tree first asked = elim (cases_lt 0 (length q.entries.now)) as (λ _. hits q q.entries.now ≡ hits_waiting q stack) [
   | inl some ↦
@@ -130,7 +135,8 @@ none_touch boxes area (k ∷ ks) empty =
     rw missed (none_touch boxes area ks empty)
 
 -- a walk that begins gives the numbers of all boxes that touch the area
-pub walk_gives : (shift : ℕ) (boxes : List Box3) (q : Question) (stack : ArrayVec ℕ) → IsTree shift q.boxes.now boxes q.entries.now q.nodes.now → q.bounds ≡ bounds_inside shift q.area →
+pub walk_gives : (shift : ℕ) (boxes : List Box3) (q : Question) (stack : ArrayVec ℕ) → IsTree shift q.boxes.now boxes q.entries.now q.nodes.now →
+    q.bounds ≡ bounds_inside shift q.area →
     IsFirst q.entries.now q.area stack.items → IsPermutation (touching_numbers boxes q.area) (hits_left (record { question = q; stack = stack; at = 0; end = 0 }))
 walk_gives shift boxes q stack tree bounds first =
     let G : List ℕ → Type 0 = λ l. IsPermutation (touching_numbers boxes q.area) l in

@@ -47,7 +47,8 @@ kept_box shift stored boxes k kept =
     ]
 
 -- the boxes of the entries
-pub boxes_there : (shift : ℕ) (stored boxes : List Box3) (entries : List Entry) → AreEntries shift boxes entries → AreKept shift stored boxes → boxes_stored shift stored entries ≡ boxes
+pub boxes_there : (shift : ℕ) (stored boxes : List Box3) (entries : List Entry) → AreEntries shift boxes entries → AreKept shift stored boxes →
+    boxes_stored shift stored entries ≡ boxes
 boxes_there shift stored boxes entries h kept =
     let many = as_many shift boxes entries h in
     let long = length-up_from 0 (length entries) in

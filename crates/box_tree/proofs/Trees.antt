@@ -35,7 +35,8 @@ as_many shift boxes entries h =
     sym (length-map entries (λ e. e.number)) ∙ length_permutation (upto (length boxes)) (numbers_of entries) h.order ∙ length-up_from 0 (length boxes)
 
 -- what the entry of each box meets, all entries meet
-each_entry : (shift : ℕ) (boxes : List Box3) (entries : List Entry) (P : Entry → Type 0) → AreEntries shift boxes entries → ((k : ℕ) → k < length boxes → P (entry_of shift boxes k)) → All P entries
+each_entry : (shift : ℕ) (boxes : List Box3) (entries : List Entry) (P : Entry → Type 0) → AreEntries shift boxes entries →
+    ((k : ℕ) → k < length boxes → P (entry_of shift boxes k)) → All P entries
 each_entry shift boxes entries P h each =
     let numbers = All-permutation (λ k. k < length boxes) (upto (length boxes)) (numbers_of entries) h.order (below_upto (length boxes)) in
     All-same P entries (map (entry_of shift boxes) (numbers_of entries)) h.made
@@ -58,7 +59,8 @@ with_true true = refl
 with_true false = refl
 
 -- so it is for a box that is stored, and for one that is not
-stored_tells : (shift : ℕ) (boxes : List Box3) (q : Question) (k : ℕ) → q.bounds ≡ bounds_inside shift q.area → k < length q.boxes.now → box_at q.boxes.now k ≡ box_at boxes k → IsTold q boxes (entry_of shift boxes k)
+stored_tells : (shift : ℕ) (boxes : List Box3) (q : Question) (k : ℕ) → q.bounds ≡ bounds_inside shift q.area → k < length q.boxes.now →
+    box_at q.boxes.now k ≡ box_at boxes k → IsTold q boxes (entry_of shift boxes k)
 stored_tells shift boxes q k bounds low same =
     let b = box_at boxes k in
     let meet = bounds_meet (bounds_around shift b) (bounds_inside shift q.area) in
@@ -70,7 +72,8 @@ stored_tells shift boxes q k bounds low same =
       | inr n ↦ rw n (grind arith)
     ]
 
-exact_tells : (shift : ℕ) (boxes : List Box3) (q : Question) (k : ℕ) → q.bounds ≡ bounds_inside shift q.area → length q.boxes.now ≤ k → IsExact shift (box_at boxes k) → IsBox (box_at boxes k) → touches q.area q.area ≡ true → IsTold q boxes (entry_of shift boxes k)
+exact_tells : (shift : ℕ) (boxes : List Box3) (q : Question) (k : ℕ) → q.bounds ≡ bounds_inside shift q.area → length q.boxes.now ≤ k →
+    IsExact shift (box_at boxes k) → IsBox (box_at boxes k) → touches q.area q.area ≡ true → IsTold q boxes (entry_of shift boxes k)
 exact_tells shift boxes q k bounds past exact solid asked =
     let b = box_at boxes k in
     let meet = bounds_meet (bounds_around shift b) (bounds_inside shift q.area) in
@@ -79,7 +82,8 @@ exact_tells shift boxes q k bounds past exact solid asked =
     ∙ ap (λ x. meet && (x || touches (box_at q.boxes.now k) q.area)) none ∙ with_true meet ∙ bounds_tell shift b q.area exact solid asked
 
 -- and so for all entries
-pub all_told : (shift : ℕ) (boxes : List Box3) (q : Question) → AreEntries shift boxes q.entries.now → AreKept shift q.boxes.now boxes → All IsBox boxes → q.bounds ≡ bounds_inside shift q.area → touches q.area q.area ≡ true →
+pub all_told : (shift : ℕ) (boxes : List Box3) (q : Question) → AreEntries shift boxes q.entries.now → AreKept shift q.boxes.now boxes → All IsBox boxes →
+    q.bounds ≡ bounds_inside shift q.area → touches q.area q.area ≡ true →
     All (IsTold q boxes) q.entries.now
 all_told shift boxes q h kept solid bounds asked =
     each_entry shift boxes q.entries.now (IsTold q boxes) h
@@ -94,8 +98,10 @@ made_numbers shift boxes [] = refl
 made_numbers shift boxes (k ∷ ks) = ap (λ l. k ∷ l) (made_numbers shift boxes ks)
 
 -- the entries that are made of the numbers of keys in another order
-pub entries_made : (shift : ℕ) (boxes : List Box3) (runs singles runs' singles' : List Key) (entries : List Entry) → length boxes ≤ MOST_BOXES → IsPermutation (upto (length boxes)) (numbers_of_keys (length boxes) runs singles) →
-    IsPermutation runs runs' → IsPermutation singles singles' → entries ≡ map (entry_of shift boxes) (numbers_of_keys (length boxes) runs' singles') → AreEntries shift boxes entries
+pub entries_made : (shift : ℕ) (boxes : List Box3) (runs singles runs' singles' : List Key) (entries : List Entry) → length boxes ≤ MOST_BOXES →
+    IsPermutation (upto (length boxes)) (numbers_of_keys (length boxes) runs singles) →
+    IsPermutation runs runs' → IsPermutation singles singles' → entries ≡ map (entry_of shift boxes) (numbers_of_keys (length boxes) runs' singles') →
+    AreEntries shift boxes entries
 entries_made shift boxes runs singles runs' singles' entries few all moved_runs moved_singles made =
     let n = length boxes in
     let now = numbers_of_keys n runs' singles' in

@@ -33,5 +33,6 @@ pub areas_of_triangles : (u v : ℕ → ℤ) (ts : List (ℕ × ℕ × ℕ)) →
 areas_of_triangles u v ts = total-flat_map (along (area_at u v)) edges ts ∙ total-same (λ t. total (along (area_at u v)) (edges t)) (orientation u v) (area_of_triangle u v) ts
 
 -- triangles with the edges of a chain, up to turned pairs, have its area
-pub same_area : (u v : ℕ → ℤ) (ts : List (ℕ × ℕ × ℕ)) (es : List (ℕ × ℕ)) → ((a b : ℕ) → boundary (all_edges ts) a b ≡ boundary es a b) → total (orientation u v) ts ≡ total (along (area_at u v)) es
+pub same_area : (u v : ℕ → ℤ) (ts : List (ℕ × ℕ × ℕ)) (es : List (ℕ × ℕ)) → ((a b : ℕ) → boundary (all_edges ts) a b ≡ boundary es a b) →
+    total (orientation u v) ts ≡ total (along (area_at u v)) es
 same_area u v ts es same = sym (areas_of_triangles u v ts) ∙ same_boundary (all_edges ts) es same (area_at u v) (area_odd u v)

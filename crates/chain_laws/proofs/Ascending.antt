@@ -48,7 +48,8 @@ pub kept_later : (p : ℕ → Bool) (k n x : ℕ) → IsKept p (suc k) n x → I
 kept_later p k n x r = record { low = omega (arith, r.low); high = omega (arith, r.high); passes = r.passes }
 
 -- the first number, or one of the later
-pub kept_first : (p : ℕ → Bool) (k n : ℕ) (xs : List ℕ) → p k ≡ true → ((i : ℕ) → i < length xs → IsKept p (suc k) n (get_or xs i 0)) → (i : ℕ) → i < length (k ∷ xs) → IsKept p k (suc n) (get_or (k ∷ xs) i 0)
+pub kept_first : (p : ℕ → Bool) (k n : ℕ) (xs : List ℕ) → p k ≡ true → ((i : ℕ) → i < length xs → IsKept p (suc k) n (get_or xs i 0)) → (i : ℕ) →
+    i < length (k ∷ xs) → IsKept p k (suc n) (get_or (k ∷ xs) i 0)
 kept_first p k n xs y rest zero h = record { low = omega arith; high = omega arith; passes = y }
 kept_first p k n xs y rest (suc i) h = kept_later p k n (get_or xs i 0) (rest i (omega (arith, h)))
 
@@ -70,7 +71,8 @@ kept p k (suc n) x h = elim (cases_eq k x) as (λ _. Contains (filter p (up_from
   | inl e ↦ ap_contains p k n x e (ap p e ∙ h.passes)
   | inr d ↦
       let rest = kept p (suc k) n x (record { low = omega (arith, h.low, d); high = omega (arith, h.high); passes = h.passes }) in
-      cond_both (p k) (k ∷ filter p (up_from (suc k) n)) (filter p (up_from (suc k) n)) (λ l. Contains l x) (λ y. contains_later x k (filter p (up_from (suc k) n)) rest) (λ m. rest)
+      cond_both (p k) (k ∷ filter p (up_from (suc k) n)) (filter p (up_from (suc k) n)) (λ l. Contains l x)
+      (λ y. contains_later x k (filter p (up_from (suc k) n)) rest) (λ m. rest)
 ]
   where
     ap_contains : (p : ℕ → Bool) (k n x : ℕ) → k ≡ x → p k ≡ true → Contains (filter p (up_from k (suc n))) x

@@ -19,7 +19,8 @@ Found v es (Some w) fs = IsPermutation es ((v, w) ∷ fs)
 -- an edge from elsewhere stays in front
 pub found_later : (e : ℕ × ℕ) (v : ℕ) (es : List (ℕ × ℕ)) → (e.0 == v) ≡ false → (o : Option ℕ) (fs : List (ℕ × ℕ)) → Found v es o fs → Found v (e ∷ es) o (e ∷ fs)
 found_later e v es n None fs h = omega (arith, count_by-cons (λ d. d.0 == v) e es, one_if-false (e.0 == v) n, h)
-found_later e v es n (Some w) fs h = IsPermutation-trans (e ∷ es) (e ∷ (v, w) ∷ fs) ((v, w) ∷ e ∷ fs) (IsPermutation-cons e es ((v, w) ∷ fs) h) (IsPermutation-middle (e ∷ []) (v, w) fs)
+found_later e v es n (Some w) fs h =
+    IsPermutation-trans (e ∷ es) (e ∷ (v, w) ∷ fs) ((v, w) ∷ e ∷ fs) (IsPermutation-cons e es ((v, w) ∷ fs) h) (IsPermutation-middle (e ∷ []) (v, w) fs)
 
 -- what end_from and without_from find
 pub found : (v : ℕ) (es : List (ℕ × ℕ)) → Found v es (end_from v es) (without_from v es)
@@ -52,8 +53,11 @@ IsOpenAt a v es = (x : ℕ) → out es x + one_if (a == x) ≡ into es x + one_i
 pub longer_trail : (a v w : ℕ) (es fs gs : List (ℕ × ℕ)) (us : List ℕ) → IsPermutation es ((v, w) ∷ fs) → IsTrail a w fs us gs → IsTrail a v es (v ∷ us) gs
 longer_trail a v w es fs gs [] t h =
     (refl, IsPermutation-trans es ((v, w) ∷ fs) ((v, a) ∷ gs) t (subst (λ b. IsPermutation ((v, w) ∷ fs) ((v, b) ∷ gs)) h.0 (IsPermutation-cons (v, w) fs gs h.1)))
-longer_trail a v w es fs gs (u ∷ us) t h =
-    (refl, rw h.0 (IsPermutation-trans es ((v, w) ∷ fs) ((v, w) ∷ (path w us ++ (last_of w us, a) ∷ gs)) t (IsPermutation-cons (v, w) fs (path w us ++ (last_of w us, a) ∷ gs) h.1)))
+longer_trail a v w es fs gs (u ∷ us) t h = (
+  refl,
+  rw h.0 (IsPermutation-trans es ((v, w) ∷ fs) ((v, w) ∷ (path w us ++ (last_of w us, a) ∷ gs)) t
+      (IsPermutation-cons (v, w) fs (path w us ++ (last_of w us, a) ∷ gs) h.1)),
+)
 
 -- what follows an edge, with the edge
 pub extended : (a v w : ℕ) (es fs : List (ℕ × ℕ)) (r : List ℕ × List (ℕ × ℕ)) → IsPermutation es ((v, w) ∷ fs) → Closes a w fs r → Closes a v es (put_first v r)

@@ -87,7 +87,8 @@ pub one_hit_of : (f : ℕ → ℤ) (i n : ℕ) → i < n → total (λ j. where_
 one_hit_of f i n l = total-upto_same (λ j. where_same j i (f j)) (λ j. where_same j i (f i)) n (λ j b. where_same-value f j i) ∙ one_hit (f i) i n l
 
 -- a sum over a list is a sum over its places
-pub total-places_from : {X : Type 0} (f : X → ℤ) (d : X) (g : ℕ → ℤ) (k : ℕ) (xs : List X) → ((i : ℕ) → i < length xs → g (k + i) ≡ f (get_or xs i d)) → total f xs ≡ total g (up_from k (length xs))
+pub total-places_from : {X : Type 0} (f : X → ℤ) (d : X) (g : ℕ → ℤ) (k : ℕ) (xs : List X) → ((i : ℕ) → i < length xs → g (k + i) ≡ f (get_or xs i d)) →
+    total f xs ≡ total g (up_from k (length xs))
 total-places_from f d g k [] h = refl
 total-places_from f d g k (x ∷ xs) h =
     let here : g (k + 0) ≡ f x = h 0 (omega arith) in

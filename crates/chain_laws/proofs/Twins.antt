@@ -46,7 +46,8 @@ twin_twin es closed h below =
     (place_of es h (twin es (twin es h)) again.within (again.from ∙ back.to) (again.to ∙ back.from) (again.same ∙ back.same))
     (record { within = below; holds = runs_as_itself es h below; earlier = refl })
   where
-    place_of : (es : List (ℕ × ℕ)) (h t : ℕ) → t < length es → start es t ≡ start es h → finish es t ≡ finish es h → rank (runs_as es t) es t ≡ rank (runs_as es h) es h → IsPlace (runs_as es h) es (rank (runs_as es h) es h) t
+    place_of : (es : List (ℕ × ℕ)) (h t : ℕ) → t < length es → start es t ≡ start es h → finish es t ≡ finish es h →
+        rank (runs_as es t) es t ≡ rank (runs_as es h) es h → IsPlace (runs_as es h) es (rank (runs_as es h) es h) t
     place_of es h t w a b r = record {
       within = w;
       holds = λ d. ap (λ x. is_edge (get_or es t d) x (finish es h)) (sym a) ∙ ap (λ y. is_edge (get_or es t d) (start es t) y) (sym b) ∙ runs_as_itself es t w d;

@@ -49,11 +49,13 @@ open_more s h k walk apart = record {
 pub open_different : (s t : ℕ → ℕ) (n : ℕ) → AreInverse s t n → (h k : ℕ) → h < n → IsOpen s h k → (i j : ℕ) → i < j → j ≤ k → times s i h ≢ times s j h
 open_different s t n inverse h k hn walk i j l m = λ e.
     let split : i + (j - i) ≡ j = omega (arith, l) in
-    let back : h ≡ times s (j - i) h = same_before_times s t n inverse i h (times s (j - i) h) hn (times_below s t n inverse (j - i) h hn) (e ∙ ap (λ k. times s k h) (sym split) ∙ times-add s i (j - i) h) in
+    let back : h ≡ times s (j - i) h = same_before_times s t n inverse i h (times s (j - i) h) hn (times_below s t n inverse (j - i) h hn)
+    (e ∙ ap (λ k. times s k h) (sym split) ∙ times-add s i (j - i) h) in
     walk.open_so_far (j - i) (omega (arith, l)) (omega (arith, l, m)) (sym back)
 
 -- a set that t keeps, and that has not h, has no place of the walk from h
-pub never_done : (s t : ℕ → ℕ) (n : ℕ) → AreInverse s t n → (Done : ℕ → Type 0) → ((x : ℕ) → x < n → Done x → Done (t x)) → (h : ℕ) → h < n → (Done h → ⊥) → (k : ℕ) → Done (times s k h) → ⊥
+pub never_done : (s t : ℕ → ℕ) (n : ℕ) → AreInverse s t n → (Done : ℕ → Type 0) → ((x : ℕ) → x < n → Done x → Done (t x)) → (h : ℕ) → h < n → (Done h → ⊥) →
+    (k : ℕ) → Done (times s k h) → ⊥
 never_done s t n inverse Done keeps h hn fresh zero d = fresh d
 never_done s t n inverse Done keeps h hn fresh (suc k) d =
     let here = times_below s t n inverse k h hn in
@@ -110,7 +112,11 @@ different_below f m n below different =
 -- the steps of an open walk are fewer than n
 pub open_short : (s t : ℕ → ℕ) (n : ℕ) → AreInverse s t n → (h k : ℕ) → h < n → IsOpen s h k → k < n
 open_short s t n inverse h k hn walk =
-    omega (arith, different_below (λ j. times s j h) (suc k) n (λ j b. times_below s t n inverse j h hn) (λ i j l m. open_different s t n inverse h k hn walk i j l (omega (arith, m))))
+    omega (
+      arith,
+      different_below (λ j. times s j h) (suc k) n (λ j b. times_below s t n inverse j h hn)
+          (λ i j l m. open_different s t n inverse h k hn walk i j l (omega (arith, m))),
+    )
 
 -- a walk comes back, whatever may still be ahead
 pub returns_within : (s t : ℕ → ℕ) (n : ℕ) → AreInverse s t n → (h : ℕ) → h < n → (ahead k : ℕ) → n ≡ k + ahead → IsOpen s h k → Returns s n h

@@ -53,7 +53,8 @@ one_counts es none few some b = omega (arith, counts_at-weight b es, counts_at-s
     one_at false = (one_on_each_side es none few some).1
 
 -- and what the first entry on a side carries is the same in every order of the list
-pub first_at-permutation : {X Y : Type 0} (entry : X → ℤ × Bool) (v : X → Y) (d : Y) (xs ys : List X) → whole (map entry xs) ≡ pos 0 → weight (map entry xs) ≤ 3 → number (map entry xs) ≢ pos 0 →
+pub first_at-permutation : {X Y : Type 0} (entry : X → ℤ × Bool) (v : X → Y) (d : Y) (xs ys : List X) → whole (map entry xs) ≡ pos 0 →
+    weight (map entry xs) ≤ 3 → number (map entry xs) ≢ pos 0 →
     IsPermutation xs ys → (b : Bool) → first_of (λ x. counts_at b (entry x)) v d ys ≡ first_of (λ x. counts_at b (entry x)) v d xs
 first_at-permutation entry v d xs ys none few some moved b =
     first_of-permutation (λ x. counts_at b (entry x)) v d xs ys (omega (arith, count_by-map (counts_at b) entry xs, one_counts (map entry xs) none few some b)) moved

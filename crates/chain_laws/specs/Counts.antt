@@ -73,5 +73,12 @@ same_counts same decides f (x ∷ xs) ys h =
     let s = split_by (same x) ys p in
     let e : x ≡ s.member = (decides x s.member).0 s.passes in
     let rest = same_counts same decides f xs (s.front ++ s.back)
-    (λ z. omega (arith, h z, count_by-cons (same z) x xs, ap (λ l. count_by (same z) l) s.joined, count_by-middle (same z) s.front s.member s.back, ap (λ m. one_if (same z m)) e)) in
+    (λ z. omega (
+      arith,
+      h z,
+      count_by-cons (same z) x xs,
+      ap (λ l. count_by (same z) l) s.joined,
+      count_by-middle (same z) s.front s.member s.back,
+      ap (λ m. one_if (same z m)) e,
+    )) in
     omega (arith, ints, rest, ap (total f) s.joined, total-middle f s.front s.member s.back, ap f e)

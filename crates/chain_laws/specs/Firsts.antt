@@ -66,7 +66,8 @@ pub first_of-permutation : {X Y : Type 0} (p : X → Bool) (v : X → Y) (d : Y)
 first_of-permutation p v d xs ys few moved = elim (cases_lt 0 (count_by p xs)) as (λ _. first_of p v d ys ≡ first_of p v d xs) [
   | inl l ↦
       let r = passing p xs l in
-      first_of-only p v d r.member ys (omega (arith, few, same)) (Contains-permutation xs ys r.member moved r.inside) r.passes ∙ sym (first_of-only p v d r.member xs few r.inside r.passes)
+      first_of-only p v d r.member ys (omega (arith, few, same)) (Contains-permutation xs ys r.member moved r.inside) r.passes
+      ∙ sym (first_of-only p v d r.member xs few r.inside r.passes)
   | inr z ↦ first_of-none p v d ys (omega (arith, z, same)) ∙ sym (first_of-none p v d xs (omega (arith, z)))
 ]
   where

@@ -48,8 +48,10 @@ whole_by_sides ((z, false) ∷ es) = omega (arith, ints, whole_by_sides es)
 -- the weight is that above and that not above
 pub weight_by_sides : (es : List (ℤ × Bool)) → weight es ≡ weight_at true es + weight_at false es
 weight_by_sides [] = refl
-weight_by_sides ((z, true) ∷ es) = omega (arith, weight_by_sides es, sum_by-cons (λ e. nat_abs e.0) (z, true) es, sum_by-cons (size_at true) (z, true) es, sum_by-cons (size_at false) (z, true) es)
-weight_by_sides ((z, false) ∷ es) = omega (arith, weight_by_sides es, sum_by-cons (λ e. nat_abs e.0) (z, false) es, sum_by-cons (size_at true) (z, false) es, sum_by-cons (size_at false) (z, false) es)
+weight_by_sides ((z, true) ∷ es) =
+    omega (arith, weight_by_sides es, sum_by-cons (λ e. nat_abs e.0) (z, true) es, sum_by-cons (size_at true) (z, true) es, sum_by-cons (size_at false) (z, true) es)
+weight_by_sides ((z, false) ∷ es) =
+    omega (arith, weight_by_sides es, sum_by-cons (λ e. nat_abs e.0) (z, false) es, sum_by-cons (size_at true) (z, false) es, sum_by-cons (size_at false) (z, false) es)
 
 -- what is counted up and what is counted down: the sum is their difference, the weight their sum
 pub record Parts (s : ℤ) (w : ℕ) : Type 0 where
@@ -76,7 +78,12 @@ parts_at b [] = parts_of_one (pos 0)
 parts_at b (e ∷ es) =
     let one = parts_at_one b e in
     let rest = parts_at b es in
-    record { up = one.up + rest.up; down = one.down + rest.down; sum = omega (arith, ints, one.sum, rest.sum); weight = omega (arith, one.weight, rest.weight, sum_by-cons (size_at b) e es) }
+    record {
+      up = one.up + rest.up;
+      down = one.down + rest.down;
+      sum = omega (arith, ints, one.sum, rest.sum);
+      weight = omega (arith, one.weight, rest.weight, sum_by-cons (size_at b) e es);
+    }
 
 -- twice the number differs from the whole by at most the weight
 pub number_within : (es : List (ℤ × Bool)) → IsWithin (number es +ℤ number es -ℤ whole es) (weight es)

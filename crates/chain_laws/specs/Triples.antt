@@ -39,10 +39,19 @@ all_edges-renamed r [] = refl
 all_edges-renamed r (t ∷ ts) = ap (λ es. edges (renamed_triple r t) ++ es) (all_edges-renamed r ts)
 
 -- triangles that each have the edges of others, each in its place, have their sums
-pub all_edges-same : (g h : (ℕ × ℕ × ℕ) → ℕ × ℕ × ℕ) → ((t : ℕ × ℕ × ℕ) → SameChain (edges (g t)) (edges (h t))) → (ts : List (ℕ × ℕ × ℕ)) → SameChain (all_edges (map g ts)) (all_edges (map h ts))
+pub all_edges-same : (g h : (ℕ × ℕ × ℕ) → ℕ × ℕ × ℕ) → ((t : ℕ × ℕ × ℕ) → SameChain (edges (g t)) (edges (h t))) → (ts : List (ℕ × ℕ × ℕ)) →
+    SameChain (all_edges (map g ts)) (all_edges (map h ts))
 all_edges-same g h each [] f odd = refl
 all_edges-same g h each (t ∷ ts) f odd =
-    omega (arith, ints, each t f odd, all_edges-same g h each ts f odd, total-append (along f) (edges (g t)) (all_edges (map g ts)), total-append (along f) (edges (h t)) (all_edges (map h ts)))
+    omega (
+      arith,
+      ints,
+      each t f odd,
+      all_edges-same g h each ts f odd,
+      total-append (along f) (edges (g t)) (all_edges (map g ts)),
+      total-append (along f)
+          (edges (h t)) (all_edges (map h ts)),
+    )
 
 -- the opposite triangles have the turned edges
 pub all_edges-opposite : (ts : List (ℕ × ℕ × ℕ)) → SameChain (all_edges (map opposite_triple ts)) (backward (all_edges ts))

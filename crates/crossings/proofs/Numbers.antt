@@ -34,7 +34,8 @@ lower_number test edges faces h f inside below lower =
     ap (λ b. if b then hit_number hits h f else neg_ℤ (hit_number hits (twin es h) f)) (lt-ltb h (twin es h) lower) ∙ hits_number test edges faces h f inside lower below
 
 -- of the upper one
-upper_number : (test : CrossTest) (edges faces : Side) → IsSide edges → Turns test edges faces → (h f : ℕ) → h < length (all_edges edges.triples) → f < length faces.triples → twin (all_edges edges.triples) h ≤ h →
+upper_number : (test : CrossTest) (edges faces : Side) → IsSide edges → Turns test edges faces → (h f : ℕ) → h < length (all_edges edges.triples) →
+    f < length faces.triples → twin (all_edges edges.triples) h ≤ h →
     half_number (all_edges edges.triples) (hits_of test edges faces) h f
     ≡ edge_number test edges faces (get_or faces.triples f (0, 0, 0)) (start (all_edges edges.triples) h) (finish (all_edges edges.triples) h)
 upper_number test edges faces known turns h f inside below upper =
@@ -61,7 +62,8 @@ pub half_number_is : (test : CrossTest) (edges faces : Side) → IsSide edges �
     ≡ edge_number test edges faces (get_or faces.triples f (0, 0, 0)) (start (all_edges edges.triples) h) (finish (all_edges edges.triples) h)
 half_number_is test edges faces known turns h f inside below =
     let es = all_edges edges.triples in
-    elim (cases_lt h (twin es h)) as (λ _. half_number es (hits_of test edges faces) h f ≡ edge_number test edges faces (get_or faces.triples f (0, 0, 0)) (start es h) (finish es h)) [
+    elim (cases_lt h (twin es h)) as (λ _. half_number es (hits_of test edges faces) h f ≡ edge_number test edges faces (get_or faces.triples f (0, 0, 0))
+    (start es h) (finish es h)) [
       | inl l ↦ lower_number test edges faces h f inside below l
       | inr l ↦ upper_number test edges faces known turns h f inside below l
     ]

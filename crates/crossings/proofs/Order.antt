@@ -23,10 +23,12 @@ pub record IsListed (n : ℤ) : Type 0 where
   pub range : IsNumber n
 
 -- two lists in order, the one before the other
-in_order_append : (P Q : Hit → Type 0) → ((h k : Hit) → P h → Q k → IsBefore h k) → (xs ys : List Hit) → All P xs → All Q ys → AllPairs IsBefore xs → AllPairs IsBefore ys → AllPairs IsBefore (xs ++ ys)
+in_order_append : (P Q : Hit → Type 0) → ((h k : Hit) → P h → Q k → IsBefore h k) → (xs ys : List Hit) → All P xs → All Q ys → AllPairs IsBefore xs →
+    AllPairs IsBefore ys → AllPairs IsBefore (xs ++ ys)
 in_order_append P Q before [] ys p q h k = k
 in_order_append P Q before (x ∷ xs) ys p q h k =
-    AllPairs-cons IsBefore x (xs ++ ys) (All-append (IsBefore x) xs ys (λ i d b. h 0 (suc i) d (omega arith) (omega arith)) (All-weaker Q (IsBefore x) (λ y r. before x y (All-head P x xs p) r) ys q))
+    AllPairs-cons IsBefore x (xs ++ ys)
+    (All-append (IsBefore x) xs ys (λ i d b. h 0 (suc i) d (omega arith) (omega arith)) (All-weaker Q (IsBefore x) (λ y r. before x y (All-head P x xs p) r) ys q))
     (in_order_append P Q before xs ys (All-tail P x xs p) q (λ i j d a b. h (suc i) (suc j) d (omega arith) (omega arith)) k)
 
 -- a hit of half-edge h with one of the faces from k on, below n
@@ -47,7 +49,8 @@ listed_number (Some c) h k = record { some = h; range = record { low = k.0; high
 
 -- where every answer for fine corners is such, all are
 pub all_listed : (test : CrossTest) (edges faces : Side) → AllFine edges.corners → AllFine faces.corners →
-    ((e f : List Corner) → length e ≡ 2 → length f ≡ 3 → AllFine e → AllFine f → IfSome (test e f) (λ c. c.number ≢ pos 0) × ((negsuc 1 ≤ℤ number_of (test e f)) × (number_of (test e f) ≤ℤ pos 2))) →
+    ((e f : List Corner) → length e ≡ 2 → length f ≡ 3 → AllFine e → AllFine f →
+    IfSome (test e f) (λ c. c.number ≢ pos 0) × ((negsuc 1 ≤ℤ number_of (test e f)) × (number_of (test e f) ≤ℤ pos 2))) →
     AllListed test edges faces
 all_listed test edges faces edges_fine faces_fine each h f =
     let es = all_edges edges.triples in
@@ -59,7 +62,8 @@ all_listed test edges faces edges_fine faces_fine each h f =
 -- an answer put before the hits of the later faces
 along_cons : (h k n : ℕ) (o : Option Cross) (rest : List Hit) → k < n → IfSome o (λ c. IsListed c.number) → All (IsAlong h (suc k) n) rest → AllPairs IsBefore rest →
     All (IsAlong h k n) (cons_option (hit_of h k o) rest) × AllPairs IsBefore (cons_option (hit_of h k o) rest)
-along_cons h k n None rest below listed all order = (All-weaker (IsAlong h (suc k) n) (IsAlong h k n) (λ x a. record { edge = a.edge; from = omega (arith, a.from); below = a.below; listed = a.listed }) rest all, order)
+along_cons h k n None rest below listed all order =
+    (All-weaker (IsAlong h (suc k) n) (IsAlong h k n) (λ x a. record { edge = a.edge; from = omega (arith, a.from); below = a.below; listed = a.listed }) rest all, order)
 along_cons h k n (Some c) rest below listed all order =
     let hit : Hit = record { edge = h; face = k; number = c.number; at = c.at } in
     let later = All-weaker (IsAlong h (suc k) n) (IsAlong h k n) (λ x a. record { edge = a.edge; from = omega (arith, a.from); below = a.below; listed = a.listed }) rest all in (
@@ -86,12 +90,21 @@ record IsOf (lower : ℕ → Bool) (k m n : ℕ) (x : Hit) : Type 0 where
   listed : IsListed x.number
 
 -- the hits of a half-edge before those of later ones
-of_append : (lower : ℕ → Bool) (k m n : ℕ) (row rest : List Hit) → k < m → lower k ≡ true → All (IsAlong k 0 n) row → AllPairs IsBefore row → All (IsOf lower (suc k) m n) rest → AllPairs IsBefore rest →
+of_append : (lower : ℕ → Bool) (k m n : ℕ) (row rest : List Hit) → k < m → lower k ≡ true → All (IsAlong k 0 n) row → AllPairs IsBefore row →
+    All (IsOf lower (suc k) m n) rest → AllPairs IsBefore rest →
     All (IsOf lower k m n) (row ++ rest) × AllPairs IsBefore (row ++ rest)
 of_append lower k m n row rest below passes along row_order all order = (
   All-append (IsOf lower k m n) row rest
-      (All-weaker (IsAlong k 0 n) (IsOf lower k m n) (λ x a. record { from = omega (arith, a.edge); below = omega (arith, a.edge, below); passes = ap lower a.edge ∙ passes; face = a.below; listed = a.listed }) row along)
-      (All-weaker (IsOf lower (suc k) m n) (IsOf lower k m n) (λ x a. record { from = omega (arith, a.from); below = a.below; passes = a.passes; face = a.face; listed = a.listed }) rest all),
+      (All-weaker (IsAlong k 0 n) (IsOf lower k m n)
+      (λ x a. record {
+        from = omega (arith, a.edge);
+        below = omega (arith, a.edge, below);
+        passes = ap lower a.edge ∙ passes;
+        face = a.below;
+        listed = a.listed;
+      }) row along)
+      (All-weaker (IsOf lower (suc k) m n) (IsOf lower k m n)
+      (λ x a. record { from = omega (arith, a.from); below = a.below; passes = a.passes; face = a.face; listed = a.listed }) rest all),
   in_order_append (IsAlong k 0 n) (IsOf lower (suc k) m n) (λ x y a b. inl (omega (arith, a.edge, b.from))) row rest along all row_order order,
 )
 
@@ -104,11 +117,13 @@ of_from lower n rows each k (suc m) =
     let later = of_from lower n rows each (suc k) m in
     let rest = flat_map rows (filter lower (up_from (suc k) m)) in
     let all = subst (λ e. All (IsOf lower (suc k) e n) rest) end later.0 in
-    elim (cases_Bool (lower k)) as (λ _. All (IsOf lower k (k + suc m) n) (flat_map rows (filter lower (up_from k (suc m)))) × AllPairs IsBefore (flat_map rows (filter lower (up_from k (suc m))))) [
+    elim (cases_Bool (lower k)) as (λ _. All (IsOf lower k (k + suc m) n) (flat_map rows (filter lower (up_from k (suc m)))) × AllPairs IsBefore
+    (flat_map rows (filter lower (up_from k (suc m))))) [
       | inl y ↦ rw y (of_append lower k (k + suc m) n (rows k) rest (omega arith) y (each k).0 (each k).1 all later.1)
       | inr y ↦
           rw y (
-            All-weaker (IsOf lower (suc k) (k + suc m) n) (IsOf lower k (k + suc m) n) (λ x a. record { from = omega (arith, a.from); below = a.below; passes = a.passes; face = a.face; listed = a.listed }) rest all,
+            All-weaker (IsOf lower (suc k) (k + suc m) n) (IsOf lower k (k + suc m) n)
+                (λ x a. record { from = omega (arith, a.from); below = a.below; passes = a.passes; face = a.face; listed = a.listed }) rest all,
             later.1,
           )
     ]
@@ -127,7 +142,8 @@ hits_in_order test edges faces listed =
     let end : 0 + n ≡ n = omega arith in (subst (λ e. All (IsAlong h 0 e) (hits_along test edges faces h)) end row.0, row.1) in
     let all = of_from lower n (hits_along test edges faces) rows 0 (length es) in (
       record {
-        on_edges = All-weaker (IsOf lower 0 (0 + length es) n) (λ x. (x.edge < length es) × (x.edge < twin es x.edge)) (λ x a. (omega (arith, a.below), ltb-true x.edge (twin es x.edge) a.passes)) hits all.0;
+        on_edges = All-weaker (IsOf lower 0 (0 + length es) n) (λ x. (x.edge < length es) × (x.edge < twin es x.edge))
+            (λ x a. (omega (arith, a.below), ltb-true x.edge (twin es x.edge) a.passes)) hits all.0;
         on_faces = All-weaker (IsOf lower 0 (0 + length es) n) (λ x. x.face < n) (λ x a. a.face) hits all.0;
         numbers = All-weaker (IsOf lower 0 (0 + length es) n) (λ x. IsNumber x.number) (λ x a. a.listed.range) hits all.0;
         ascending = all.1;

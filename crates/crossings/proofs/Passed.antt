@@ -30,7 +30,8 @@ overlap_less : (low high from to less more : ℤ) → from ≤ℤ less → more 
 overlap_less low high from to less more h k e = grind (arith, ints, clamps, h, k, e)
 
 overlap_on_less : (i : ℕ) (b small large : Box3) → TakesIn i small large → overlap_on i b large ≡ false → overlap_on i b small ≡ false
-overlap_on_less i b small large t e = overlap_less (end_on i b.low) (end_on i b.high) (end_on i large.low) (end_on i large.high) (end_on i small.low) (end_on i small.high) t.low t.high e
+overlap_on_less i b small large t e =
+    overlap_less (end_on i b.low) (end_on i b.high) (end_on i large.low) (end_on i large.high) (end_on i small.low) (end_on i small.high) t.low t.high e
 
 -- no two where one of them is not
 and_left : (x y : Bool) → x ≡ false → (x && y) ≡ false
@@ -68,7 +69,8 @@ edge_within c d b h k = record {
 }
 
 -- what holds of the vertices of a triangle holds of the ends of its half-edges
-ends_of : (P : ℕ → Type 0) (ts : List Triple) (h : ℕ) → h < 3 * length ts → ((t : Triple) → t ≡ get_or ts (h / 3) (0, 0, 0) → P t.0 × P t.1 × P t.2) → P (start (all_edges ts) h) × P (finish (all_edges ts) h)
+ends_of : (P : ℕ → Type 0) (ts : List Triple) (h : ℕ) → h < 3 * length ts → ((t : Triple) → t ≡ get_or ts (h / 3) (0, 0, 0) → P t.0 × P t.1 × P t.2) →
+    P (start (all_edges ts) h) × P (finish (all_edges ts) h)
 ends_of P [] h below each = absurd (omega (arith, below))
 ends_of P (t ∷ ts) zero below each = let e = each t refl in (e.0, e.1)
 ends_of P (t ∷ ts) (suc zero) below each = let e = each t refl in (e.1, e.2)
@@ -103,7 +105,8 @@ passed_one test edges faces h none = elim (cases_lt h (twin (all_edges edges.tri
 ]
 
 -- nor do many
-passed : (test : CrossTest) (edges faces : Side) (from n : ℕ) → ((h : ℕ) → from ≤ h → h < from + n → hits_along test edges faces h ≡ []) → hits_before test edges faces (from + n) ≡ hits_before test edges faces from
+passed : (test : CrossTest) (edges faces : Side) (from n : ℕ) → ((h : ℕ) → from ≤ h → h < from + n → hits_along test edges faces h ≡ []) →
+    hits_before test edges faces (from + n) ≡ hits_before test edges faces from
 passed test edges faces from zero none = ap (hits_before test edges faces) (omega arith)
 passed test edges faces from (suc n) none =
     let last : from + suc n ≡ from + n + 1 = omega arith in

@@ -36,8 +36,10 @@ pairs_agree p q test12 test21 up down sides p_known q_known turn12 turn21 lift12
   same = λ f g f_below g_below.
       let s = get_or p.triples f (0, 0, 0) in
       let t = get_or q.triples g (0, 0, 0) in
-      let round_p = round_face (edge_number test12 p q t) (λ h. half_number (all_edges p.triples) (hits_of test12 p q) h g) p.triples f f_below (λ h inside. half_number_is test12 p q p_known turn12 h g inside g_below) in
-      let round_q = round_face (edge_number test21 q p s) (λ h. half_number (all_edges q.triples) (hits_of test21 q p) h f) q.triples g g_below (λ h inside. half_number_is test21 q p q_known turn21 h f inside f_below) in
+      let round_p = round_face (edge_number test12 p q t) (λ h. half_number (all_edges p.triples) (hits_of test12 p q) h g) p.triples f f_below
+      (λ h inside. half_number_is test12 p q p_known turn12 h g inside g_below) in
+      let round_q = round_face (edge_number test21 q p s) (λ h. half_number (all_edges q.triples) (hits_of test21 q p) h f) q.triples g g_below
+      (λ h inside. half_number_is test21 q p q_known turn21 h f inside f_below) in
       let lifted_p = total-same (along (edge_number test12 p q t)) (λ e. (up t e.1 -ℤ up t e.0) -ℤ total (sides e) (edges t)) (λ e. lift12 t e.0 e.1) (edges s) in
       let lifted_q = total-same (along (edge_number test21 q p s)) (λ d. (down s d.1 -ℤ down s d.0) -ℤ total (λ e. sides e d) (edges s)) (λ d. lift21 s d.0 d.1) (edges t) in
       round_p ∙ lifted_p ∙ pair_identity (up t) (down s) sides s t ∙ sym (round_q ∙ lifted_q);

@@ -16,7 +16,8 @@ use Rattle.crossings.specs.Near.{hits_with}
 
 -- one face more
 pub along_more : (test : CrossTest) (edges faces : Side) (h : ℕ) (fs : List ℕ) (i : ℕ) → i < length fs →
-    hits_with test edges faces h (take (i + 1) fs) ≡ hits_with test edges faces h (take i fs) ++ cons_option (hit_of h (get_or fs i 0) (test (edge_at edges h) (face_at faces (get_or fs i 0)))) []
+    hits_with test edges faces h (take (i + 1) fs) ≡ hits_with test edges faces h (take i fs)
+    ++ cons_option (hit_of h (get_or fs i 0) (test (edge_at edges h) (face_at faces (get_or fs i 0)))) []
 along_more test edges faces h fs i below =
     let f : ℕ → Option Hit = λ g. hit_of h g (test (edge_at edges h) (face_at faces g)) in
     ap (filter_map f) (take_more fs i 0 below) ∙ filter_map-append f (take i fs) (get_or fs i 0 ∷ [])
@@ -25,14 +26,16 @@ along_more test edges faces h fs i below =
 pub along_none : (test : CrossTest) (edges faces : Side) (h : ℕ) (fs : List ℕ) (i : ℕ) → i < length fs → None ≡ test (edge_at edges h) (face_at faces (get_or fs i 0)) →
     hits_with test edges faces h (take (i + 1) fs) ≡ hits_with test edges faces h (take i fs)
 along_none test edges faces h fs i below e =
-    along_more test edges faces h fs i below ∙ ap (λ o. hits_with test edges faces h (take i fs) ++ cons_option (hit_of h (get_or fs i 0) o) []) (sym e) ∙ append-nil (hits_with test edges faces h (take i fs))
+    along_more test edges faces h fs i below ∙ ap (λ o. hits_with test edges faces h (take i fs) ++ cons_option (hit_of h (get_or fs i 0) o) []) (sym e)
+    ∙ append-nil (hits_with test edges faces h (take i fs))
 
 -- an addition after what stands already
 pub more_added : (new old before row row' part : List Hit) → new ≡ old ++ part → old ≡ before ++ row → row' ≡ row ++ part → new ≡ before ++ row'
 more_added new old before row row' part e f g = let a = append_assoc before row part in cc
 
 -- one more, which is the lower one of its edge
-pub hits_lower : (test : CrossTest) (edges faces : Side) (n : ℕ) → n < twin (all_edges edges.triples) n → hits_before test edges faces (n + 1) ≡ hits_before test edges faces n ++ hits_along test edges faces n
+pub hits_lower : (test : CrossTest) (edges faces : Side) (n : ℕ) → n < twin (all_edges edges.triples) n →
+    hits_before test edges faces (n + 1) ≡ hits_before test edges faces n ++ hits_along test edges faces n
 hits_lower test edges faces n h =
     let lower = λ (k : ℕ). nat_lt k (twin (all_edges edges.triples) k) in
     ap (flat_map (hits_along test edges faces)) (filter-upto_yes lower n (lt-ltb n (twin (all_edges edges.triples) n) h))

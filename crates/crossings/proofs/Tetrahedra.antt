@@ -37,11 +37,23 @@ abbrev face_test : CrossTest
 face_test edge face = face_edge_crossing grid nearest settle_nearest face edge
 
 -- the edge of the bottom under the slanted face goes in and out of the other
-low_hits : hits_of edge_test low high ≡ record { edge = 1; face = 1; number = pos 1; at = point (pos 3) (pos 1) (pos 0) } ∷ record { edge = 1; face = 3; number = negsuc 0; at = point (pos 1) (pos 3) (pos 0) } ∷ []
+low_hits : hits_of edge_test low high
+    ≡ record { edge = 1; face = 1; number = pos 1; at = point (pos 3) (pos 1) (pos 0) } ∷ record {
+      edge = 1;
+      face = 3;
+      number = negsuc 0;
+      at = point (pos 1) (pos 3) (pos 0);
+    } ∷ []
 unfolding crossing crossed p_point meet02 meet11 meet10 meet01 lifted joined by_ends met spot01 spot10 spot_between
 low_hits = refl
 
 -- the upright edge of the other comes in by the bottom and goes out by the slanted face
-high_hits : hits_of face_test high low ≡ record { edge = 5; face = 0; number = pos 1; at = point (pos 1) (pos 1) (pos 0) } ∷ record { edge = 5; face = 2; number = negsuc 0; at = point (pos 1) (pos 1) (pos 2) } ∷ []
+high_hits : hits_of face_test high low
+    ≡ record { edge = 5; face = 0; number = pos 1; at = point (pos 1) (pos 1) (pos 0) } ∷ record {
+      edge = 5;
+      face = 2;
+      number = negsuc 0;
+      at = point (pos 1) (pos 1) (pos 2);
+    } ∷ []
 unfolding crossing crossed q_point meet20 meet11 meet10 meet01 lifted joined by_ends met spot01 spot10 spot_between
 high_hits = refl

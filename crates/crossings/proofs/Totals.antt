@@ -54,7 +54,8 @@ along_added test edges faces e f h below =
     let n = length faces.triples in
     let answer : ℕ → Option Cross = λ g. test (edge_at edges h) (face_at faces g) in
     total-filter_map (added e f) (λ g. hit_of h g (answer g)) (upto n)
-    ∙ total-same (λ g. value_or_zero (added e f) (hit_of h g (answer g))) (λ g. where_same h e (where_same g f (number_of (answer g)))) (λ g. answer_added e f h g (answer g)) (upto n)
+    ∙ total-same (λ g. value_or_zero (added e f) (hit_of h g (answer g))) (λ g. where_same h e (where_same g f (number_of (answer g))))
+    (λ g. answer_added e f h g (answer g)) (upto n)
     ∙ all_or_none (h == e) (λ g. where_same g f (number_of (answer g))) (upto n)
     ∙ ap (where_same h e) (one_hit_of (λ g. number_of (answer g)) f n below)
 
@@ -68,6 +69,7 @@ hits_number test edges faces e f inside lower below =
     total-flat_map (added e f) (hits_along test edges faces) (lower_halves es)
     ∙ total-same (λ h. total (added e f) (hits_along test edges faces h)) (λ h. where_same h e (number h)) (λ h. along_added test edges faces e f h below) (lower_halves es)
     ∙ total-filter (λ h. where_same h e (number h)) is_lower (upto (length es))
-    ∙ total-same (λ h. cond (is_lower h) (where_same h e (number h)) (pos 0)) (λ h. where_same h e (cond (is_lower h) (number h) (pos 0))) (λ h. exchanged (is_lower h) (h == e) (number h)) (upto (length es))
+    ∙ total-same (λ h. cond (is_lower h) (where_same h e (number h)) (pos 0)) (λ h. where_same h e (cond (is_lower h) (number h) (pos 0)))
+    (λ h. exchanged (is_lower h) (h == e) (number h)) (upto (length es))
     ∙ one_hit_of (λ h. cond (is_lower h) (number h) (pos 0)) e (length es) inside
     ∙ ap (λ b. cond b (number e) (pos 0)) (lt-ltb e (twin es e) lower)

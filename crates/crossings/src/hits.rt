@@ -8,16 +8,20 @@ ghost use Rattle.side_terms.specs.Sides.{IsSide, face_at};
 ghost use Rattle.crossings.specs.Hits.{hit_of, hits_along, hits_before, hits_of};
 ghost use Rattle.crossings.specs.Near.{AreNear, hits_with};
 
-use crate::near::{Near, find_boxes, find_few, find_near};
+use crate::near::{Near, find_boxes};
 use crate::pairs::EdgeFace;
 use crate::runs::box_round;
 use box_tree::touch;
 use lean::Side;
 use mb_base::{Corner, Hit, NoMemory, box_of};
+use near_boxes::{find_few, find_near};
 use std::alloc::Global;
 
 // The triangles of a run.
 const RUN: u32 = 16;
+
+// The most faces near a run that are few.
+const FEW: usize = 192;
 
 /// One hit for each edge, by its lower half-edge, and face whose number is not 0, ascending by edge, then face. An edge is
 /// asked with the faces whose boxes touch its own; with the others it has no crossing. For a run of triangles the faces
@@ -62,7 +66,7 @@ fn push_run<C: EdgeFace>(
 {
     let area = box_round(edges, from, to);
     let (first, end) = (3 * from, 3 * to);
-    if !find_few(&mut near.faces, faces, area)? {
+    if !find_few(&mut near.faces, faces.tree(), FEW, area)? {
         return push_each(hits, &mut near.faces, first, end, edges, faces, pairs);
     }
     if near.faces.is_empty() {
@@ -168,7 +172,7 @@ fn push_hits<C: EdgeFace>(
     ensures { OnOk result (hits.new.items ≡ hits.old.items ++ hits_along (C.crossing_of pairs.now) edges.now faces.now half) }
 {
     let edge = edges.edge(half);
-    find_near(near, faces, box_of(&edge))?;
+    find_near(near, faces.tree(), box_of(&edge))?;
     for face in near.iter() {
         push_hit(hits, half, *face, &edge, faces, pairs)?;
     }

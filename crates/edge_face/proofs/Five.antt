@@ -42,7 +42,8 @@ not_zero z (inr e) = rw e refl
 
 -- its spot is chosen where the pair says so
 chosen_pair : (want : Bool) (m : Option Meet) (s : Pair) (x : Spot) → IsSized m → IsPairOf m s → chosen want m x ≡ (if pair_on want s then spot_of m else x)
-chosen_pair want None s x h k = sym (ap (λ (t : Bool). if (if t then false else (if want then s.above else not s.above)) then no_spot else x) ((Decides-int_eq s.count (pos 0)).1 k.count))
+chosen_pair want None s x h k =
+    sym (ap (λ (t : Bool). if (if t then false else (if want then s.above else not s.above)) then no_spot else x) ((Decides-int_eq s.count (pos 0)).1 k.count))
 chosen_pair want (Some m) s x h k = some want ∙ sym (ap (λ (t : Bool). if (if t then false else (if want then s.above else not s.above)) then m.spot else x) counts) where
   counts : int_eq s.count (pos 0) ≡ false
   counts = ap (λ (z : ℤ). int_eq z (pos 0)) k.count ∙ not_zero m.count h
@@ -76,11 +77,15 @@ module _ (s f x y z : Option Meet) (ps : Pairs) (h : ArePairsOf (s ∷ f ∷ x �
       let on : Pair → Bool = pair_on want in
       let fifth = chosen_pair want z ps.third no_spot sized.1.1.1.1.0 h.4 in
       let fourth = ap (λ (t : Spot). chosen want y t) fifth ∙ chosen_pair want y ps.second (if on ps.third then spot_of z else no_spot) sized.1.1.1.0 h.3 in
-      let third = ap (λ (t : Spot). chosen want x t) fourth ∙ chosen_pair want x ps.first (if on ps.second then spot_of y else (if on ps.third then spot_of z else no_spot)) sized.1.1.0 h.2 in
-      let second = ap (λ (t : Spot). chosen want f t) third ∙ chosen_pair want f ps.end (if on ps.first then spot_of x else (if on ps.second then spot_of y else (if on ps.third then spot_of z else no_spot))) sized.1.0 h.1 in
+      let third = ap (λ (t : Spot). chosen want x t) fourth
+      ∙ chosen_pair want x ps.first (if on ps.second then spot_of y else (if on ps.third then spot_of z else no_spot)) sized.1.1.0 h.2 in
+      let second = ap (λ (t : Spot). chosen want f t) third
+      ∙ chosen_pair want f ps.end (if on ps.first then spot_of x else (if on ps.second then spot_of y else (if on ps.third then spot_of z else no_spot))) sized.1.0 h.1 in
       spot_placed (on ps.start) (on ps.end) (on ps.first) (on ps.second) (on ps.third) s f x y z
       ∙ sym (ap (λ (t : Spot). chosen want s t) second
-      ∙ chosen_pair want s ps.start (if on ps.end then spot_of f else (if on ps.first then spot_of x else (if on ps.second then spot_of y else (if on ps.third then spot_of z else no_spot)))) sized.0 h.0)
+      ∙ chosen_pair want s ps.start
+      (if on ps.end then spot_of f else (if on ps.first then spot_of x else (if on ps.second then spot_of y else (if on ps.third then spot_of z else no_spot))))
+      sized.0 h.0)
 
 -- a number known to be the count of a sized answer stays it at eight bits
 kept_count : (m : Option Meet) (n : ℤ) → IsSized m → n ≡ count_of m → IsKnown m (seen w8 n)
@@ -100,7 +105,8 @@ pub record AreRead (ms : List (Option Meet)) (n : ℤ) (ps : Pairs) : Type 0 whe
   pub spot : (want : Bool) (s : Spot) (i : ℕ) → s ≡ spot_at ms i → i ≡ first_place want ps → (s ≡ first_spot want ms) × IsFineSpot s
 
 -- the pairs of an edge and a face
-module _ {P Q : List Corner → List Corner → List Corner} {ends edges one other : ShadowTest} (h : AreMet P Q ends edges one other) (a b u v w : Corner) (fe : AllFine (a ∷ b ∷ [])) (ff : AllFine (u ∷ v ∷ w ∷ [])) where
+module _ {P Q : List Corner → List Corner → List Corner} {ends edges one other : ShadowTest} (h : AreMet P Q ends edges one other) (a b u v w : Corner)
+    (fe : AllFine (a ∷ b ∷ [])) (ff : AllFine (u ∷ v ∷ w ∷ [])) where
   -- are sized
   sized_pairs : Each IsSized (edge_pairs ends edges a b u v w)
   sized_pairs =
@@ -135,17 +141,25 @@ module _ {P Q : List Corner → List Corner → List Corner} {ends edges one oth
     where
       fine : (want : Bool) → IsFineSpot (first_spot want (signed_pairs ends edges a b u v w))
       fine want = first_holds IsFineSpot want (signed_pairs ends edges a b u v w) no_spot_fine
-          (each_map (IsDecided 2 (P (a ∷ b ∷ []) (u ∷ v ∷ w ∷ [])) (Q (a ∷ b ∷ []) (u ∷ v ∷ w ∷ []))) (λ m. IfSome m (λ n. IsFineSpot n.spot)) (λ m d. fine_spot (P (a ∷ b ∷ []) (u ∷ v ∷ w ∷ [])) (Q (a ∷ b ∷ []) (u ∷ v ∷ w ∷ [])) fp fq m (d.hull (omega arith))) (signed_pairs ends edges a b u v w) (pairs_decided h a b u v w fe ff))
+          (each_map (IsDecided 2 (P (a ∷ b ∷ []) (u ∷ v ∷ w ∷ [])) (Q (a ∷ b ∷ []) (u ∷ v ∷ w ∷ []))) (λ m. IfSome m (λ n. IsFineSpot n.spot))
+          (λ m d. fine_spot (P (a ∷ b ∷ []) (u ∷ v ∷ w ∷ [])) (Q (a ∷ b ∷ []) (u ∷ v ∷ w ∷ [])) fp fq m (d.hull (omega arith)))
+          (signed_pairs ends edges a b u v w) (pairs_decided h a b u v w fe ff))
 
   -- their counts are made of shadows
-  pub counts_known : (start end at counts : List ℤ) → AreCounts start end at counts → start ≡ map shadow_of (vertex_rim one a (u ∷ v ∷ w ∷ [])) → end ≡ map shadow_of (vertex_rim one b (u ∷ v ∷ w ∷ [])) →
+  pub counts_known : (start end at counts : List ℤ) → AreCounts start end at counts → start ≡ map shadow_of (vertex_rim one a (u ∷ v ∷ w ∷ [])) →
+      end ≡ map shadow_of (vertex_rim one b (u ∷ v ∷ w ∷ [])) →
       at ≡ map shadow_of (edge_corners other (a ∷ b ∷ []) (u ∷ v ∷ w ∷ [])) → AreKnown counts (edge_pairs ends edges a b u v w)
   counts_known start end at counts made is_start is_end is_at = record {
-    start = kept_count (ends (a ∷ []) (u ∷ v ∷ w ∷ [])) (number_at counts 0) sized_pairs.0 (omega (arith, ints, made.start_count, s 0, s 1, s 2, h.ends_count a u v w (start_of a b IsFineCorner fe) ff));
-    end = kept_count (ends (b ∷ []) (u ∷ v ∷ w ∷ [])) (number_at counts 1) sized_pairs.1.0 (omega (arith, ints, made.end_count, e 0, e 1, e 2, h.ends_count b u v w (end_of a b IsFineCorner fe) ff));
-    first = kept_count (edges (a ∷ b ∷ []) (u ∷ v ∷ [])) (number_at counts 2) sized_pairs.1.1.0 (omega (arith, ints, made.first, s 0, e 0, t 0, t 1, h.edges_count a b u v fe (first_edge u v w IsFineCorner ff)));
-    second = kept_count (edges (a ∷ b ∷ []) (v ∷ w ∷ [])) (number_at counts 3) sized_pairs.1.1.1.0 (omega (arith, ints, made.second, s 1, e 1, t 1, t 2, h.edges_count a b v w fe (second_edge u v w IsFineCorner ff)));
-    third = kept_count (edges (a ∷ b ∷ []) (w ∷ u ∷ [])) (number_at counts 4) sized_pairs.1.1.1.1.0 (omega (arith, ints, made.third, s 2, e 2, t 2, t 0, h.edges_count a b w u fe (third_edge u v w IsFineCorner ff)));
+    start = kept_count (ends (a ∷ []) (u ∷ v ∷ w ∷ [])) (number_at counts 0) sized_pairs.0
+        (omega (arith, ints, made.start_count, s 0, s 1, s 2, h.ends_count a u v w (start_of a b IsFineCorner fe) ff));
+    end = kept_count (ends (b ∷ []) (u ∷ v ∷ w ∷ [])) (number_at counts 1) sized_pairs.1.0
+        (omega (arith, ints, made.end_count, e 0, e 1, e 2, h.ends_count b u v w (end_of a b IsFineCorner fe) ff));
+    first = kept_count (edges (a ∷ b ∷ []) (u ∷ v ∷ [])) (number_at counts 2) sized_pairs.1.1.0
+        (omega (arith, ints, made.first, s 0, e 0, t 0, t 1, h.edges_count a b u v fe (first_edge u v w IsFineCorner ff)));
+    second = kept_count (edges (a ∷ b ∷ []) (v ∷ w ∷ [])) (number_at counts 3) sized_pairs.1.1.1.0
+        (omega (arith, ints, made.second, s 1, e 1, t 1, t 2, h.edges_count a b v w fe (second_edge u v w IsFineCorner ff)));
+    third = kept_count (edges (a ∷ b ∷ []) (w ∷ u ∷ [])) (number_at counts 4) sized_pairs.1.1.1.1.0
+        (omega (arith, ints, made.third, s 2, e 2, t 2, t 0, h.edges_count a b w u fe (third_edge u v w IsFineCorner ff)));
   }
     where
       s : (i : ℕ) → number_at start i ≡ number_at (map shadow_of (vertex_rim one a (u ∷ v ∷ w ∷ []))) i
@@ -162,24 +176,32 @@ module _ (ends edges : ShadowTest) (place : Spot → Spot → List ℤ) (a b u v
   pub made_none : n ≡ pos 0 → None ≡ crossing ends edges place a b u v w
   unfolding crossing
   made_none zero =
-      sym (crossed_none (edge_number ends edges a b u v w) (place (first_spot false (edge_pairs ends edges a b u v w)) (first_spot true (edge_pairs ends edges a b u v w))) (sym known ∙ zero))
+      sym (crossed_none (edge_number ends edges a b u v w)
+      (place (first_spot false (edge_pairs ends edges a b u v w)) (first_spot true (edge_pairs ends edges a b u v w))) (sym known ∙ zero))
 
   -- the point of an answer that is there
   point_or : List ℤ → Option (List ℤ) → List ℤ
   point_or other None = other
   point_or other (Some p) = p
 
-  pub made_some : (m : ℤ) (at : List ℤ) (d t : Spot) → n ≢ pos 0 → m ≡ n → d ≡ first_spot false (edge_pairs ends edges a b u v w) → t ≡ first_spot true (edge_pairs ends edges a b u v w) → Some at ≡ Some (place d t) →
+  pub made_some : (m : ℤ) (at : List ℤ) (d t : Spot) → n ≢ pos 0 → m ≡ n → d ≡ first_spot false (edge_pairs ends edges a b u v w) →
+      t ≡ first_spot true (edge_pairs ends edges a b u v w) → Some at ≡ Some (place d t) →
       ◌≡◌ {A = Option Cross} (Some (record { number = m; at = at })) (crossing ends edges place a b u v w)
   unfolding crossing crossed point_or
   made_some m at d t k same below above point =
       let there : at ≡ place d t = ap (point_or at) point in
       equal m at (edge_number ends edges a b u v w) (place (first_spot false (edge_pairs ends edges a b u v w)) (first_spot true (edge_pairs ends edges a b u v w)))
       (same ∙ known) (there ∙ moved d t (first_spot false (edge_pairs ends edges a b u v w)) (first_spot true (edge_pairs ends edges a b u v w)) below above)
-      ∙ sym (any_some {X = Cross} (edge_number ends edges a b u v w) (record { number = edge_number ends edges a b u v w; at = place (first_spot false (edge_pairs ends edges a b u v w)) (first_spot true (edge_pairs ends edges a b u v w)) }) (λ z. k (known ∙ z)))
+      ∙ sym (any_some {X = Cross} (edge_number ends edges a b u v w)
+      (record {
+        number = edge_number ends edges a b u v w;
+        at = place (first_spot false (edge_pairs ends edges a b u v w))
+            (first_spot true (edge_pairs ends edges a b u v w));
+      }) (λ z. k (known ∙ z)))
     where
       moved : (d t d' t' : Spot) → d ≡ d' → t ≡ t' → place d t ≡ place d' t'
       moved d t d' t' e g = cc
 
-      equal : (m : ℤ) (at : List ℤ) (m' : ℤ) (at' : List ℤ) → m ≡ m' → at ≡ at' → ◌≡◌ {A = Option Cross} (Some (record { number = m; at = at })) (Some (record { number = m'; at = at' }))
+      equal : (m : ℤ) (at : List ℤ) (m' : ℤ) (at' : List ℤ) → m ≡ m' → at ≡ at' →
+          ◌≡◌ {A = Option Cross} (Some (record { number = m; at = at })) (Some (record { number = m'; at = at' }))
       equal m at m' at' e g = cc

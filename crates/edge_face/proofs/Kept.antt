@@ -33,7 +33,9 @@ pub fine_edge : (e : List Corner) → length e ≡ 2 → AllFine e → AllFine (
 fine_edge e two h = fine_two (corner_at e 0) (corner_at e 1) (h 0 blank_corner (omega (arith, two))) (h 1 blank_corner (omega (arith, two)))
 
 pub fine_face : (f : List Corner) → length f ≡ 3 → AllFine f → AllFine (corner_at f 0 ∷ corner_at f 1 ∷ corner_at f 2 ∷ [])
-fine_face f three h = fine_three (corner_at f 0) (corner_at f 1) (corner_at f 2) (h 0 blank_corner (omega (arith, three))) (h 1 blank_corner (omega (arith, three))) (h 2 blank_corner (omega (arith, three)))
+fine_face f three h =
+    fine_three (corner_at f 0) (corner_at f 1) (corner_at f 2) (h 0 blank_corner (omega (arith, three))) (h 1 blank_corner (omega (arith, three)))
+    (h 2 blank_corner (omega (arith, three)))
 
 -- so are those of P and of Q, whichever the edge is of
 pub own_fine : (e : Edge) (s f : List Corner) → AllFine s → AllFine f → AllFine (own e s f)

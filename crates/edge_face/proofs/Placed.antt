@@ -13,7 +13,8 @@ use Rattle.edge_face.specs.CrossLaws.{IsSettling}
 use Rattle.shadow_kernels.proofs.Values.{seen}
 
 -- a settled value between values by weights, all kept at their width
-pub kept_settled : {r u v a b g h : ℤ} (w : Between) (settle : Settle) → r ≡ settle (w (seen w64 u) (seen w64 v) (seen w64 a) (seen w64 b)) → IsFine u → IsFine v → IsWeight a → IsWeight b → a ≡ g → b ≡ h → FitsSigned w32 r →
+pub kept_settled : {r u v a b g h : ℤ} (w : Between) (settle : Settle) → r ≡ settle (w (seen w64 u) (seen w64 v) (seen w64 a) (seen w64 b)) → IsFine u →
+    IsFine v → IsWeight a → IsWeight b → a ≡ g → b ≡ h → FitsSigned w32 r →
     seen w32 r ≡ settle (w u v g h)
 kept_settled {r} {u} {v} {a} {b} {g} {h} w settle e fu fv wa wb x y fits =
     let kept : seen w32 r ≡ r = omega (arith, ints) in

@@ -27,7 +27,8 @@ use Rattle.edge_face.specs.Parts.{IsPart, itself, start_of, end_of, first_edge, 
 pub record AreMet (P Q : List Corner → List Corner → List Corner) (ends edges one other : ShadowTest) : Type 1 where
   pub ends_decided : (v e f : List Corner) → IsPart v e → length v ≡ 1 → length f ≡ 3 → AllFine e → AllFine f → IsDecided 2 (P e f) (Q e f) (ends v f)
   pub edges_decided : (e g f : List Corner) → IsPart g f → length e ≡ 2 → length g ≡ 2 → AllFine e → AllFine f → IsDecided 2 (P e f) (Q e f) (edges e g)
-  pub ends_count : (p u v w : Corner) → AllFine (p ∷ []) → AllFine (u ∷ v ∷ w ∷ []) → count_of (ends (p ∷ []) (u ∷ v ∷ w ∷ [])) ≡ total (λ e. shadow_of (one (p ∷ []) e)) (face_edges u v w)
+  pub ends_count : (p u v w : Corner) → AllFine (p ∷ []) → AllFine (u ∷ v ∷ w ∷ []) →
+      count_of (ends (p ∷ []) (u ∷ v ∷ w ∷ [])) ≡ total (λ e. shadow_of (one (p ∷ []) e)) (face_edges u v w)
   pub edges_count : (a b c d : Corner) → AllFine (a ∷ b ∷ []) → AllFine (c ∷ d ∷ []) → count_of (edges (a ∷ b ∷ []) (c ∷ d ∷ []))
       ≡ (shadow_of (one (b ∷ []) (c ∷ d ∷ [])) -ℤ shadow_of (one (a ∷ []) (c ∷ d ∷ []))) +ℤ (shadow_of (other (a ∷ b ∷ []) (d ∷ [])) -ℤ shadow_of (other (a ∷ b ∷ []) (c ∷ [])))
   pub turns : (e g : List Corner) → length e ≡ 2 → length g ≡ 2 → AllFine e → AllFine g → edges (swap e 0 1) g ≡ turned (edges e g)
@@ -63,10 +64,14 @@ face_edge fv ee ve ev laws31 counts31 laws22 counts22 lift31 lift22 = record {
 -- those under a lawful rule
 module _ {k : Rule} {w : Between} (rule : IsRule k w) where
   pub rule_edge_face : AreMet (λ e f. e) (λ e f. f) (vertex_face k w) (edge_edge k w) (vertex_edge k w) (edge_vertex k w)
-  rule_edge_face = edge_face (vertex_face k w) (edge_edge k w) (vertex_edge k w) (edge_vertex k w) (laws02 rule) (counts02 rule) (laws11 rule) (counts11 rule) (λ p u v t fp fq. lift02 k w p u v t) (λ a b c d fp fq. lift11 k w a b c d)
+  rule_edge_face =
+      edge_face (vertex_face k w) (edge_edge k w) (vertex_edge k w) (edge_vertex k w) (laws02 rule) (counts02 rule) (laws11 rule) (counts11 rule)
+      (λ p u v t fp fq. lift02 k w p u v t) (λ a b c d fp fq. lift11 k w a b c d)
 
   pub rule_face_edge : AreMet (λ e f. f) (λ e f. e) (mirror (face_vertex k w)) (mirror (edge_edge k w)) (mirror (edge_vertex k w)) (mirror (vertex_edge k w))
-  rule_face_edge = face_edge (face_vertex k w) (edge_edge k w) (vertex_edge k w) (edge_vertex k w) (laws20 rule) (counts20 rule) (laws11 rule) (counts11 rule) (λ u v t q fp fq. lift20 k w u v t q) (λ a b c d fp fq. lift11 k w a b c d)
+  rule_face_edge =
+      face_edge (face_vertex k w) (edge_edge k w) (vertex_edge k w) (edge_vertex k w) (laws20 rule) (counts20 rule) (laws11 rule) (counts11 rule)
+      (λ u v t q fp fq. lift20 k w u v t q) (λ a b c d fp fq. lift11 k w a b c d)
 
 -- the pairs, each turned where it counts with the other sign
 abbrev pub signed_pairs : ShadowTest → ShadowTest → Corner → Corner → Corner → Corner → Corner → List (Option Meet)
@@ -79,10 +84,18 @@ signed_pairs ends edges a b u v w =
 pub number_signed : (ends edges : ShadowTest) (a b u v w : Corner) → edge_number ends edges a b u v w ≡ total shadow_of (signed_pairs ends edges a b u v w)
 number_signed ends edges a b u v w =
     let ab = a ∷ b ∷ [] in
-    omega (arith, ints, turned_shadow (ends (a ∷ []) (u ∷ v ∷ w ∷ [])), turned_shadow (edges ab (u ∷ v ∷ [])), turned_shadow (edges ab (v ∷ w ∷ [])), turned_shadow (edges ab (w ∷ u ∷ [])))
+    omega (
+      arith,
+      ints,
+      turned_shadow (ends (a ∷ []) (u ∷ v ∷ w ∷ [])),
+      turned_shadow (edges ab (u ∷ v ∷ [])),
+      turned_shadow (edges ab (v ∷ w ∷ [])),
+      turned_shadow (edges ab (w ∷ u ∷ [])),
+    )
 
 -- and their first spots are those of the pairs
-pub spots_signed : (ends edges : ShadowTest) (a b u v w : Corner) (want : Bool) → first_spot want (edge_pairs ends edges a b u v w) ≡ first_spot want (signed_pairs ends edges a b u v w)
+pub spots_signed : (ends edges : ShadowTest) (a b u v w : Corner) (want : Bool) →
+    first_spot want (edge_pairs ends edges a b u v w) ≡ first_spot want (signed_pairs ends edges a b u v w)
 spots_signed ends edges a b u v w want =
     same (ends (a ∷ []) (u ∷ v ∷ w ∷ [])) (ends (b ∷ []) (u ∷ v ∷ w ∷ [])) (edges (a ∷ b ∷ []) (u ∷ v ∷ [])) (edges (a ∷ b ∷ []) (v ∷ w ∷ [])) (edges (a ∷ b ∷ []) (w ∷ u ∷ []))
   where
@@ -92,13 +105,15 @@ spots_signed ends edges a b u v w want =
     same : (s f x y z : Option Meet) → first_spot want (s ∷ f ∷ x ∷ y ∷ z ∷ []) ≡ first_spot want (turned s ∷ f ∷ turned x ∷ turned y ∷ turned z ∷ [])
     same s f x y z = kept s _ _ (ap (λ (t : Spot). chosen want f t) (kept x _ _ (kept y _ _ (kept z _ _ refl))))
 
-module _ {P Q : List Corner → List Corner → List Corner} {ends edges one other : ShadowTest} (h : AreMet P Q ends edges one other) (a b u v w : Corner) (fe : AllFine (a ∷ b ∷ [])) (ff : AllFine (u ∷ v ∷ w ∷ [])) where
+module _ {P Q : List Corner → List Corner → List Corner} {ends edges one other : ShadowTest} (h : AreMet P Q ends edges one other) (a b u v w : Corner)
+    (fe : AllFine (a ∷ b ∷ [])) (ff : AllFine (u ∷ v ∷ w ∷ [])) where
   -- they are decided in the boxes of the edge and the face
   pub pairs_decided : Each (IsDecided 2 (P (a ∷ b ∷ []) (u ∷ v ∷ w ∷ [])) (Q (a ∷ b ∷ []) (u ∷ v ∷ w ∷ []))) (signed_pairs ends edges a b u v w)
   pairs_decided =
       let e = a ∷ b ∷ [] in
       let f = u ∷ v ∷ w ∷ [] in
-      let edge : (g : List Corner) → IsPart g f → length g ≡ 2 → IsDecided 2 (P e f) (Q e f) (turned (edges e g)) = λ g part two. turned_decided 2 (P e f) (Q e f) (edges e g) (h.edges_decided e g f part refl two fe ff) in (
+      let edge : (g : List Corner) → IsPart g f → length g ≡ 2 → IsDecided 2 (P e f) (Q e f) (turned (edges e g)) =
+      λ g part two. turned_decided 2 (P e f) (Q e f) (edges e g) (h.edges_decided e g f part refl two fe ff) in (
         turned_decided 2 (P e f) (Q e f) (ends (a ∷ []) f) (h.ends_decided (a ∷ []) e f (start_of a b) refl refl fe ff),
         (
           h.ends_decided (b ∷ []) e f (end_of a b) refl refl fe ff,
@@ -129,7 +144,8 @@ module _ {P Q : List Corner → List Corner → List Corner} {ends edges one oth
   pub number_turned : edge_number ends edges b a u v w ≡ neg_ℤ (edge_number ends edges a b u v w)
   number_turned =
       let e = a ∷ b ∷ [] in
-      let turn : (g : List Corner) → IsPart g (u ∷ v ∷ w ∷ []) → length g ≡ 2 → shadow_of (edges (b ∷ a ∷ []) g) ≡ shadow_of (turned (edges e g)) = λ g part two. ap shadow_of (h.turns e g refl two fe (part IsFineCorner ff)) in
+      let turn : (g : List Corner) → IsPart g (u ∷ v ∷ w ∷ []) → length g ≡ 2 → shadow_of (edges (b ∷ a ∷ []) g) ≡ shadow_of (turned (edges e g)) =
+      λ g part two. ap shadow_of (h.turns e g refl two fe (part IsFineCorner ff)) in
       let x = turn (u ∷ v ∷ []) (first_edge u v w) refl in
       let y = turn (v ∷ w ∷ []) (second_edge u v w) refl in
       let z = turn (w ∷ u ∷ []) (third_edge u v w) refl in

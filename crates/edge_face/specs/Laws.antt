@@ -46,7 +46,8 @@ lift ends edges place a b u v w =
 pub present : (ends edges : ShadowTest) (place : Spot → Spot → List ℤ) (a b u v w : Corner) → IfSome (crossing ends edges place a b u v w) (λ c. c.number ≢ pos 0)
 unfolding crossing
 present ends edges place a b u v w =
-    crossed_holds (λ c. c.number ≢ pos 0) (edge_number ends edges a b u v w) (place (first_spot false (edge_pairs ends edges a b u v w)) (first_spot true (edge_pairs ends edges a b u v w))) (λ n. n)
+    crossed_holds (λ c. c.number ≢ pos 0) (edge_number ends edges a b u v w)
+    (place (first_spot false (edge_pairs ends edges a b u v w)) (first_spot true (edge_pairs ends edges a b u v w))) (λ n. n)
 
 -- the rest under lawful tests
 module _ {P Q : List Corner → List Corner → List Corner} {ends edges one other : ShadowTest} (h : AreMet P Q ends edges one other) (place : Spot → Spot → List ℤ)
@@ -57,8 +58,10 @@ module _ {P Q : List Corner → List Corner → List Corner} {ends edges one oth
       let f = Q (a ∷ b ∷ []) (u ∷ v ∷ w ∷ []) in
       let ms = signed_pairs ends edges a b u v w in
       let each = pairs_decided h a b u v w fe ff in
-      let k = five_size ms (each_map (IsDecided 2 e f) IsSized (λ m d. d.sized) ms each) (omega arith) (pairs_whole h a b u v w fe ff) in
-      (omega (arith, ints, lift ends edges place a b u v w, number_signed ends edges a b u v w, k.0), omega (arith, ints, lift ends edges place a b u v w, number_signed ends edges a b u v w, k.1))
+      let k = five_size ms (each_map (IsDecided 2 e f) IsSized (λ m d. d.sized) ms each) (omega arith) (pairs_whole h a b u v w fe ff) in (
+        omega (arith, ints, lift ends edges place a b u v w, number_signed ends edges a b u v w, k.0),
+        omega (arith, ints, lift ends edges place a b u v w, number_signed ends edges a b u v w, k.1),
+      )
 
   pub turned_crossing : number_of (crossing ends edges place b a u v w) ≡ neg_ℤ (number_of (crossing ends edges place a b u v w))
   turned_crossing = lift ends edges place b a u v w ∙ number_turned h a b u v w fe ff ∙ ap neg_ℤ (sym (lift ends edges place a b u v w))
@@ -67,12 +70,15 @@ module _ {P Q : List Corner → List Corner → List Corner} {ends edges one oth
   unfolding crossing
   apart_crossing i less apart =
       let ms = signed_pairs ends edges a b u v w in
-      let none = apart_none 2 (P (a ∷ b ∷ []) (u ∷ v ∷ w ∷ [])) (Q (a ∷ b ∷ []) (u ∷ v ∷ w ∷ [])) ms (pairs_decided h a b u v w fe ff) (pairs_whole h a b u v w fe ff) i less apart in
-      crossed_none (edge_number ends edges a b u v w) (place (first_spot false (edge_pairs ends edges a b u v w)) (first_spot true (edge_pairs ends edges a b u v w))) (number_signed ends edges a b u v w ∙ none)
+      let none = apart_none 2 (P (a ∷ b ∷ []) (u ∷ v ∷ w ∷ [])) (Q (a ∷ b ∷ []) (u ∷ v ∷ w ∷ [])) ms (pairs_decided h a b u v w fe ff)
+      (pairs_whole h a b u v w fe ff) i less apart in
+      crossed_none (edge_number ends edges a b u v w)
+      (place (first_spot false (edge_pairs ends edges a b u v w)) (first_spot true (edge_pairs ends edges a b u v w))) (number_signed ends edges a b u v w ∙ none)
 
   -- what holds of each point placed between spots in the boxes holds of the crossing's point
   pub point_holds : (X : List ℤ → Type 0) →
-      ((d t : Spot) → IsInHull (P (a ∷ b ∷ []) (u ∷ v ∷ w ∷ [])) (Q (a ∷ b ∷ []) (u ∷ v ∷ w ∷ [])) d → IsInHull (P (a ∷ b ∷ []) (u ∷ v ∷ w ∷ [])) (Q (a ∷ b ∷ []) (u ∷ v ∷ w ∷ [])) t → X (place d t)) →
+      ((d t : Spot) → IsInHull (P (a ∷ b ∷ []) (u ∷ v ∷ w ∷ [])) (Q (a ∷ b ∷ []) (u ∷ v ∷ w ∷ [])) d →
+      IsInHull (P (a ∷ b ∷ []) (u ∷ v ∷ w ∷ [])) (Q (a ∷ b ∷ []) (u ∷ v ∷ w ∷ [])) t → X (place d t)) →
       IfSome (crossing ends edges place a b u v w) (λ c. X c.at)
   unfolding crossing
   point_holds X each =
@@ -82,7 +88,8 @@ module _ {P Q : List Corner → List Corner → List Corner} {ends edges one oth
       let in_hull : edge_number ends edges a b u v w ≢ pos 0 → (want : Bool) → IsInHull e f (first_spot want (edge_pairs ends edges a b u v w)) = λ n want.
       subst (IsInHull e f) (sym (spots_signed ends edges a b u v w want))
       (first_hull 2 e f ms (pairs_decided h a b u v w fe ff) (pairs_whole h a b u v w fe ff) (omega arith) (λ z. n (number_signed ends edges a b u v w ∙ z)) want) in
-      crossed_holds (λ c. X c.at) (edge_number ends edges a b u v w) (place (first_spot false (edge_pairs ends edges a b u v w)) (first_spot true (edge_pairs ends edges a b u v w)))
+      crossed_holds (λ c. X c.at) (edge_number ends edges a b u v w)
+      (place (first_spot false (edge_pairs ends edges a b u v w)) (first_spot true (edge_pairs ends edges a b u v w)))
       (λ n. each (first_spot false (edge_pairs ends edges a b u v w)) (first_spot true (edge_pairs ends edges a b u v w)) (in_hull n false) (in_hull n true))
 
 -- what holds of fine edges and faces holds of every list of two and of three
@@ -112,7 +119,8 @@ module _ {k : Rule} {w : Between} (rule : IsRule k w) (settle : Settle) (settlin
         turn_q = λ p q two. absurd (omega (arith, two));
         apart = λ p q i l m fp fq. by_lists (λ p q. i < 3 → AreApart i p q → test p q ≡ None) (λ a b u v t fe ff. apart_crossing h place a b u v t fe ff i) p q l m fp fq;
         inside_p = λ p q two l m fp fq whole also. by_lists (λ p q. AllWhole p → IfSome (test p q) (λ c. IsPointIn p c.at))
-            (λ a b u v t fe ff we. point_holds h place a b u v t fe ff (IsPointIn (a ∷ b ∷ [])) (λ d s. p_point_inside w rule.stays settle settling a b (u ∷ v ∷ t ∷ []) d s fe ff we)) p q l m fp fq whole;
+            (λ a b u v t fe ff we. point_holds h place a b u v t fe ff (IsPointIn (a ∷ b ∷ []))
+            (λ d s. p_point_inside w rule.stays settle settling a b (u ∷ v ∷ t ∷ []) d s fe ff we)) p q l m fp fq whole;
         inside_q = λ p q two. absurd (omega (arith, two));
       }
 
@@ -130,5 +138,6 @@ module _ {k : Rule} {w : Between} (rule : IsRule k w) (settle : Settle) (settlin
         apart = λ p q i l m fp fq. by_lists (λ q p. i < 3 → AreApart i p q → test p q ≡ None) (λ a b u v t fe ff. apart_crossing h place a b u v t fe ff i) q p m l fq fp;
         inside_p = λ p q two. absurd (omega (arith, two));
         inside_q = λ p q two l m fp fq also whole. by_lists (λ q p. AllWhole q → IfSome (test p q) (λ c. IsPointIn q c.at))
-            (λ a b u v t fe ff we. point_holds h place a b u v t fe ff (IsPointIn (a ∷ b ∷ [])) (λ d s. q_point_inside w rule.stays settle settling a b (u ∷ v ∷ t ∷ []) d s ff fe we)) q p m l fq fp whole;
+            (λ a b u v t fe ff we. point_holds h place a b u v t fe ff (IsPointIn (a ∷ b ∷ []))
+            (λ d s. q_point_inside w rule.stays settle settling a b (u ∷ v ∷ t ∷ []) d s ff fe we)) q p m l fq fp whole;
       }

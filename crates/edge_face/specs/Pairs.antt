@@ -44,7 +44,8 @@ pair_on want s = if int_eq s.count (pos 0) then false else (if want then s.above
 -- the place of the first such pair, from 0 to 4, or 5
 abbrev pub first_place : Bool → Pairs → ℕ
 first_place want s =
-    if pair_on want s.start then 0 else (if pair_on want s.end then 1 else (if pair_on want s.first then 2 else (if pair_on want s.second then 3 else (if pair_on want s.third then 4 else 5))))
+    if pair_on want s.start then 0
+    else (if pair_on want s.end then 1 else (if pair_on want s.first then 2 else (if pair_on want s.second then 3 else (if pair_on want s.third then 4 else 5))))
 
 -- the spot of the answer at a place of a list
 abbrev pub spot_at : List (Option Meet) → ℕ → Spot

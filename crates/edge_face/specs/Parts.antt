@@ -83,7 +83,8 @@ decide p ps q qs sub_p sub_q (Some a) h true s = h.1 (parts_below 2 q qs p ps su
 decide p ps q qs sub_p sub_q (Some a) h false s = h.0 (parts_below 2 p ps q qs sub_p sub_q s)
 
 -- so the answer of parts to a lawful test that answers only where the count is not 0 is decided in the boxes of the wholes
-pub decided_in : (m n : ℕ) (test : ShadowTest) → ShadowLaws m n test → HasCounts m n test → m + n ≡ 4 → (p ps q qs : List Corner) → IsPart p ps → IsPart q qs → length p ≡ m → length q ≡ n → AllFine ps → AllFine qs →
+pub decided_in : (m n : ℕ) (test : ShadowTest) → ShadowLaws m n test → HasCounts m n test → m + n ≡ 4 → (p ps q qs : List Corner) → IsPart p ps → IsPart q qs →
+    length p ≡ m → length q ≡ n → AllFine ps → AllFine qs →
     IsDecided 2 ps qs (test p q)
 decided_in m n test h counts four p ps q qs sub_p sub_q k l fine_p fine_q =
     let fp = sub_p IsFineCorner fine_p in

@@ -35,14 +35,21 @@ settled_high settle s y z fy fz h l =
 -- what lies in the box of an edge lies between its ends
 between_ends : (i : ℕ) (a b : Corner) (z : ℤ) → IsInBox i (a ∷ b ∷ []) z → LiesBetween (axis i a) (axis i b) z
 between_ends i a b z h = by_lt_z (axis i b) (axis i a)
-    (λ l. inr (h.low (axis i b) (both_of (λ c. axis i b ≤ℤ axis i c) a b (omega (arith, ints)) (omega (arith, ints))), h.high (axis i a) (both_of (λ c. axis i c ≤ℤ axis i a) a b (omega (arith, ints)) (omega (arith, ints)))))
-    (λ l. inl (h.low (axis i a) (both_of (λ c. axis i a ≤ℤ axis i c) a b (omega (arith, ints)) (omega (arith, ints))), h.high (axis i b) (both_of (λ c. axis i c ≤ℤ axis i b) a b (omega (arith, ints)) (omega (arith, ints)))))
+    (λ l. inr (
+      h.low (axis i b) (both_of (λ c. axis i b ≤ℤ axis i c) a b (omega (arith, ints)) (omega (arith, ints))),
+      h.high (axis i a) (both_of (λ c. axis i c ≤ℤ axis i a) a b (omega (arith, ints)) (omega (arith, ints))),
+    ))
+    (λ l. inl (
+      h.low (axis i a) (both_of (λ c. axis i a ≤ℤ axis i c) a b (omega (arith, ints)) (omega (arith, ints))),
+      h.high (axis i b) (both_of (λ c. axis i c ≤ℤ axis i b) a b (omega (arith, ints)) (omega (arith, ints))),
+    ))
 
 -- a value between the ends of an edge settles between them
 settled_box : (settle : Settle) → IsSettling settle → (i : ℕ) (a b : Corner) (z : ℤ) → IsFine (axis i a) → IsFine (axis i b) → IsFine z → IsWhole (axis i a) → IsWhole (axis i b) →
     IsInBox i (a ∷ b ∷ []) z → IsInBox i (a ∷ b ∷ []) (UNIT *ℤ settle z)
 settled_box settle s i a b z fa fb fz wa wb h =
-    box_between i (a ∷ b ∷ []) (axis i a) (axis i b) (UNIT *ℤ settle z) (corner_in_box i (a ∷ b ∷ []) 0 (omega arith)) (corner_in_box i (a ∷ b ∷ []) 1 (omega arith)) (by (between_ends i a b z h))
+    box_between i (a ∷ b ∷ []) (axis i a) (axis i b) (UNIT *ℤ settle z) (corner_in_box i (a ∷ b ∷ []) 0 (omega arith))
+    (corner_in_box i (a ∷ b ∷ []) 1 (omega arith)) (by (between_ends i a b z h))
   where
     by : LiesBetween (axis i a) (axis i b) z → LiesBetween (axis i a) (axis i b) (UNIT *ℤ settle z)
     by (inl k) = inl (settled_low settle s (axis i a) z fa fz wa k.0, settled_high settle s (axis i b) z fb fz wb k.1)
@@ -64,7 +71,8 @@ either X d u h k s (inr e) = subst X (sym e) k
 
 -- a value between two spots, in the box of an edge whose ends lie on the grid: settled it lies there too
 module _ (w : Between) (stays : StaysBetween w) (settle : Settle) (settling : IsSettling settle) (a b : Corner) (d u : Spot) (fd : IsFineSpot d) (fu : IsFineSpot u) where
-  value_inside : (i : ℕ) (value : Spot → ℤ) → IsFine (axis i a) → IsFine (axis i b) → IsWhole (axis i a) → IsWhole (axis i b) → IsFine (value d) → IsFine (value u) → IsInBox i (a ∷ b ∷ []) (value d) →
+  value_inside : (i : ℕ) (value : Spot → ℤ) → IsFine (axis i a) → IsFine (axis i b) → IsWhole (axis i a) → IsWhole (axis i b) → IsFine (value d) →
+      IsFine (value u) → IsInBox i (a ∷ b ∷ []) (value d) →
       IsInBox i (a ∷ b ∷ []) (value u) → IsInBox i (a ∷ b ∷ []) (UNIT *ℤ settle (w (value d) (value u) (gap d.pz d.qz) (gap u.pz u.qz)))
   value_inside i value fa fb wa wb gd gu bd bu =
       let g = gap d.pz d.qz in
@@ -72,11 +80,13 @@ module _ (w : Between) (stays : StaysBetween w) (settle : Settle) (settling : Is
       let z = w (value d) (value u) g h in
       let wg = gap_weight d.pz d.qz fd.pz fd.qz in
       let wh = gap_weight u.pz u.qz fu.pz fu.qz in
-      settled_box settle settling i a b z fa fb (between_fine w stays (value d) (value u) g h gd gu wg wh) wa wb (box_between i (a ∷ b ∷ []) (value d) (value u) z bd bu (stays.within (value d) (value u) g h gd gu wg wh))
+      settled_box settle settling i a b z fa fb (between_fine w stays (value d) (value u) g h gd gu wg wh) wa wb
+      (box_between i (a ∷ b ∷ []) (value d) (value u) z bd bu (stays.within (value d) (value u) g h gd gu wg wh))
 
   -- so does a point of such values
   point_inside : (x y z : Spot → ℤ) → AllFine (a ∷ b ∷ []) → AllWhole (a ∷ b ∷ []) → ((s : Spot) → IsFineSpot s → IsFine (x s) × IsFine (y s) × IsFine (z s)) →
-      ((s : Spot) → (s ≡ d) ⊎ (s ≡ u) → IsInBox 0 (a ∷ b ∷ []) (x s) × IsInBox 1 (a ∷ b ∷ []) (y s) × IsInBox 2 (a ∷ b ∷ []) (z s)) → IsPointIn (a ∷ b ∷ []) (point_between w settle x y z d u)
+      ((s : Spot) → (s ≡ d) ⊎ (s ≡ u) → IsInBox 0 (a ∷ b ∷ []) (x s) × IsInBox 1 (a ∷ b ∷ []) (y s) × IsInBox 2 (a ∷ b ∷ []) (z s)) →
+      IsPointIn (a ∷ b ∷ []) (point_between w settle x y z d u)
   point_inside x y z fine whole fits inside =
       let fa : IsFineCorner a = fine 0 blank_corner (omega arith) in
       let fb : IsFineCorner b = fine 1 blank_corner (omega arith) in

@@ -41,7 +41,8 @@ across entries points d axis along widest =
     ∙ ap (λ i. pair_up (λ v. coordinate_of (place v) i) ss es) same
 
 -- two entries are one start and one end
-pub single : (key : ℕ → ℤ) (entries : List Entry) → length entries ≡ 2 → length (starts_of entries) ≡ length (ends_of entries) → pair_up key (starts_of entries) (ends_of entries) ≡ zip (starts_of entries) (ends_of entries)
+pub single : (key : ℕ → ℤ) (entries : List Entry) → length entries ≡ 2 → length (starts_of entries) ≡ length (ends_of entries) →
+    pair_up key (starts_of entries) (ends_of entries) ≡ zip (starts_of entries) (ends_of entries)
 single key entries two even =
     let all = both_counted entries in
     pair_up-single key (starts_of entries) (ends_of entries) (omega (arith, two, even, all)) (omega (arith, two, even, all))

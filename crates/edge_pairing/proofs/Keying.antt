@@ -10,7 +10,8 @@ use Rattle.edge_pairing.proofs.Listed.{no_entry, chosen_as, chosen_more, chosen_
 
 -- one entry more, where it is chosen
 pub keyed_more : (key : ℕ → ℤ) (start : Bool) (entries : List Entry) (i : ℕ) (keyed : List Keyed) → i < length entries → beq (get_or entries i no_entry).start start ≡ true →
-    keyed ≡ map (keyed_by key) (chosen start (take i entries)) → keyed ++ keyed_by key (get_or entries i no_entry).vertex ∷ [] ≡ map (keyed_by key) (chosen start (take (i + 1) entries))
+    keyed ≡ map (keyed_by key) (chosen start (take i entries)) → keyed ++ keyed_by key (get_or entries i no_entry).vertex ∷ []
+    ≡ map (keyed_by key) (chosen start (take (i + 1) entries))
 keyed_more key start entries i keyed below here so =
     let v = (get_or entries i no_entry).vertex in
     ap (λ l. l ++ keyed_by key v ∷ []) so ∙ sym (map-append (keyed_by key) (chosen start (take i entries)) (v ∷ []))

@@ -28,7 +28,12 @@ places_moved entries points =
 -- each entry is a start or an end
 pub both_counted : (entries : List Entry) → length (starts_of entries) + length (ends_of entries) ≡ length entries
 both_counted entries =
-    omega (arith, length_permutation (map (λ e. e.vertex) entries) (starts_of entries ++ ends_of entries) (vertices_moved entries), length-append (starts_of entries) (ends_of entries), length-map entries (λ (e : Entry). e.vertex))
+    omega (
+      arith,
+      length_permutation (map (λ e. e.vertex) entries) (starts_of entries ++ ends_of entries) (vertices_moved entries),
+      length-append (starts_of entries) (ends_of entries),
+      length-map entries (λ (e : Entry). e.vertex),
+    )
 
 -- a comparison with a constant
 as_true : (b : Bool) → b ≡ beq b true
@@ -49,17 +54,22 @@ abbrev pub no_entry : Entry
 no_entry = record { vertex = 0; start = false }
 
 -- one entry more, where it is chosen
-pub chosen_more : (start : Bool) (entries : List Entry) (i : ℕ) → i < length entries → is_chosen start (get_or entries i no_entry) ≡ true → chosen start (take (i + 1) entries) ≡ chosen start (take i entries) ++ (get_or entries i no_entry).vertex ∷ []
+pub chosen_more : (start : Bool) (entries : List Entry) (i : ℕ) → i < length entries → is_chosen start (get_or entries i no_entry) ≡ true →
+    chosen start (take (i + 1) entries) ≡ chosen start (take i entries) ++ (get_or entries i no_entry).vertex ∷ []
 chosen_more start entries i below in_it =
-    ap (map (λ e. e.vertex)) (filter_more (is_chosen start) entries i no_entry below ∙ ap (λ b. filter (is_chosen start) (take i entries) ++ cond b (get_or entries i no_entry ∷ []) []) in_it)
+    ap (map (λ e. e.vertex)) (filter_more (is_chosen start) entries i no_entry below
+    ∙ ap (λ b. filter (is_chosen start) (take i entries) ++ cond b (get_or entries i no_entry ∷ []) []) in_it)
     ∙ map-append (λ (e : Entry). e.vertex) (filter (is_chosen start) (take i entries)) (get_or entries i no_entry ∷ [])
 
 -- and where it is not
-pub chosen_same : (start : Bool) (entries : List Entry) (i : ℕ) → i < length entries → is_chosen start (get_or entries i no_entry) ≡ false → chosen start (take (i + 1) entries) ≡ chosen start (take i entries)
+pub chosen_same : (start : Bool) (entries : List Entry) (i : ℕ) → i < length entries → is_chosen start (get_or entries i no_entry) ≡ false →
+    chosen start (take (i + 1) entries) ≡ chosen start (take i entries)
 chosen_same start entries i below out_of_it =
-    ap (map (λ e. e.vertex)) (filter_more (is_chosen start) entries i no_entry below ∙ ap (λ b. filter (is_chosen start) (take i entries) ++ cond b (get_or entries i no_entry ∷ []) []) out_of_it ∙ append-nil (filter (is_chosen start) (take i entries)))
+    ap (map (λ e. e.vertex)) (filter_more (is_chosen start) entries i no_entry below
+    ∙ ap (λ b. filter (is_chosen start) (take i entries) ++ cond b (get_or entries i no_entry ∷ []) []) out_of_it ∙ append-nil (filter (is_chosen start) (take i entries)))
 
 -- as many starts as ends, where the starts are as many as the other entries
-pub balanced_from_count : (entries : List Entry) (count : ℕ) → count ≡ count_by (λ e. e.start) entries → length entries - count ≡ count → length (starts_of entries) ≡ length (ends_of entries)
+pub balanced_from_count : (entries : List Entry) (count : ℕ) → count ≡ count_by (λ e. e.start) entries → length entries - count ≡ count →
+    length (starts_of entries) ≡ length (ends_of entries)
 balanced_from_count entries count is half =
     omega (arith, is, half, both_counted entries, length-map (filter (is_chosen true) entries) (λ (e : Entry). e.vertex), length-filter (λ (e : Entry). e.start) entries)

@@ -63,11 +63,13 @@ vertices_of : (key : ℕ → ℤ) (vs : List ℕ) → map (λ x. x.vertex) (map 
 vertices_of key vs = map-map (λ (x : Keyed). x.vertex) (keyed_by key) vs ∙ map-id vs
 
 -- a sort of the vertices with their keys
-pub sorted_vertices : (key : ℕ → ℤ) (vs : List ℕ) (order : List Keyed) → IsPermutation (map (keyed_by key) vs) order → IsSorted keyed_cmp order → map (λ x. x.vertex) order ≡ sorted_by (comes_before key) vs
+pub sorted_vertices : (key : ℕ → ℤ) (vs : List ℕ) (order : List Keyed) → IsPermutation (map (keyed_by key) vs) order → IsSorted keyed_cmp order →
+    map (λ x. x.vertex) order ≡ sorted_by (comes_before key) vs
 sorted_vertices key vs order moved up =
     let has : All (HasKey key) (map (keyed_by key) vs) = All-map (HasKey key) (keyed_by key) vs (λ k d below. refl) in
     let perm = subst (λ l. IsPermutation l (map (λ x. x.vertex) order)) (vertices_of key vs) (IsPermutation-map (λ (x : Keyed). x.vertex) (map (keyed_by key) vs) order moved) in
-    sort_is (comes_before key) (key_order key) vs (map (λ x. x.vertex) order) perm (vertices_sorted key order (All-permutation (HasKey key) (map (keyed_by key) vs) order moved has) up)
+    sort_is (comes_before key) (key_order key) vs (map (λ x. x.vertex) order) perm
+    (vertices_sorted key order (All-permutation (HasKey key) (map (keyed_by key) vs) order moved has) up)
     (λ v w a b t. tied key v w t)
 
 -- a sorted list has the vertices
@@ -76,4 +78,5 @@ sorted_moved key vs = sorted_by-permutation (comes_before key) vs
 
 -- so it is as long
 pub order_length : (key : ℕ → ℤ) (vs : List ℕ) (order : List Keyed) → map (λ x. x.vertex) order ≡ sorted_by (comes_before key) vs → length order ≡ length vs
-order_length key vs order is = sym (length-map order (λ (x : Keyed). x.vertex)) ∙ ap (λ l. length l) is ∙ length_permutation vs (sorted_by (comes_before key) vs) (sorted_moved key vs)
+order_length key vs order is =
+    sym (length-map order (λ (x : Keyed). x.vertex)) ∙ ap (λ l. length l) is ∙ length_permutation vs (sorted_by (comes_before key) vs) (sorted_moved key vs)

@@ -18,7 +18,8 @@ pub sum_kept : (p q r p' q' r' : ℤ) → p ≡ p' → q ≡ q' → r ≡ r' →
 sum_kept p q r p' q' r' e f g h k l = omega (arith, ints, e, f, g, h, k, l)
 
 -- a product as a callee gives it, of a step and a coordinate that was kept at 32 bits
-pub product_read : (p s : ℤ) (at point : List ℤ) (i : ℕ) → at ≡ point → unsigned_abs s ≤ 2 ^ 31 → IsOnGrid (coordinate_of point i) → p ≡ to_z w64 (of_z w64 s) *ℤ to_z w32 (of_z w32 (coordinate_of at i)) →
+pub product_read : (p s : ℤ) (at point : List ℤ) (i : ℕ) → at ≡ point → unsigned_abs s ≤ 2 ^ 31 → IsOnGrid (coordinate_of point i) →
+    p ≡ to_z w64 (of_z w64 s) *ℤ to_z w32 (of_z w32 (coordinate_of at i)) →
     p ≡ s *ℤ coordinate_of point i
 product_read p s at point i same h k e =
     let f : to_z w64 (of_z w64 s) ≡ s = omega (arith, ints, h) in

@@ -24,11 +24,14 @@ pub record IsSpreadSoFar (axis : ℕ) (points : List (List ℤ)) (entries : List
   pub high_small : IsOnGrid high
 
 -- one entry more
-folded_more : (f : ℤ → ℤ → ℤ) (g : Entry → ℤ) (a : ℤ) (entries : List Entry) (i : ℕ) → i < length entries → fold f a (map g (take (i + 1) entries)) ≡ f (fold f a (map g (take i entries))) (g (get_or entries i no_entry))
+folded_more : (f : ℤ → ℤ → ℤ) (g : Entry → ℤ) (a : ℤ) (entries : List Entry) (i : ℕ) → i < length entries →
+    fold f a (map g (take (i + 1) entries)) ≡ f (fold f a (map g (take i entries))) (g (get_or entries i no_entry))
 folded_more f g a entries i below =
-    ap (λ l. fold f a (map g l)) (take_more entries i no_entry below) ∙ ap (fold f a) (map-append g (take i entries) (get_or entries i no_entry ∷ [])) ∙ fold_push f a (map g (take i entries)) (g (get_or entries i no_entry))
+    ap (λ l. fold f a (map g l)) (take_more entries i no_entry below) ∙ ap (fold f a) (map-append g (take i entries) (get_or entries i no_entry ∷ []))
+    ∙ fold_push f a (map g (take i entries)) (g (get_or entries i no_entry))
 
-pub spread_more : (axis : ℕ) (points : List (List ℤ)) (entries : List Entry) (first : ℤ) (i : ℕ) (low high here : ℤ) → IsSpreadSoFar axis points entries first i low high → i < length entries →
+pub spread_more : (axis : ℕ) (points : List (List ℤ)) (entries : List Entry) (first : ℤ) (i : ℕ) (low high here : ℤ) →
+    IsSpreadSoFar axis points entries first i low high → i < length entries →
     here ≡ coordinate_at axis points (get_or entries i no_entry) → IsOnGrid here → IsSpreadSoFar axis points entries first (i + 1) (int_min low here) (int_max high here)
 spread_more axis points entries first i low high here so below is small =
     let g = coordinate_at axis points in
@@ -51,7 +54,8 @@ coordinates : (axis : ℕ) (points : List (List ℤ)) (entries : List Entry) →
 coordinates axis points entries = map-map (λ p. coordinate_of p axis) (λ (e : Entry). place_in points e.vertex) entries
 
 -- of all entries
-pub spread_ends : (axis : ℕ) (points : List (List ℤ)) (e : Entry) (es : List Entry) (low high : ℤ) → IsSpreadSoFar axis points (e ∷ es) (coordinate_at axis points e) (length (e ∷ es)) low high →
+pub spread_ends : (axis : ℕ) (points : List (List ℤ)) (e : Entry) (es : List Entry) (low high : ℤ) →
+    IsSpreadSoFar axis points (e ∷ es) (coordinate_at axis points e) (length (e ∷ es)) low high →
     high -ℤ low ≡ spread (map (λ p. coordinate_of p axis) (places_of (e ∷ es) points))
 spread_ends axis points e es low high so =
     let g = coordinate_at axis points in
@@ -62,7 +66,8 @@ spread_ends axis points e es low high so =
 
 -- of all entries, where there are some
 pub spread_whole : (axis : ℕ) (points : List (List ℤ)) (entries : List Entry) (first : ℤ) (i : ℕ) (low high : ℤ) → IsSpreadSoFar axis points entries first i low high →
-    first ≡ coordinate_at axis points (get_or entries 0 no_entry) → length entries ≡ i → 0 < length entries → high -ℤ low ≡ spread (map (λ p. coordinate_of p axis) (places_of entries points))
+    first ≡ coordinate_at axis points (get_or entries 0 no_entry) → length entries ≡ i → 0 < length entries →
+    high -ℤ low ≡ spread (map (λ p. coordinate_of p axis) (places_of entries points))
 spread_whole axis points [] first i low high so is all some = absurd (omega (arith, some))
 spread_whole axis points (e ∷ es) first i low high so is all some = spread_ends axis points e es low high (rw (is, ← all) at so)
 

@@ -40,7 +40,8 @@ followed-end v [] h = refl
 followed-end v (e ∷ es) h = ap (λ o. on_end o ([], e ∷ es) (λ u. put_first v (follow (length es) u (without_from v (e ∷ es))))) h
 
 -- following leaves no more edges than there were
-shrinks : (v : ℕ) (es : List (ℕ × ℕ)) (o : Option ℕ) (f : ℕ → List ℕ × List (ℕ × ℕ)) → ((w : ℕ) → o ≡ Some w → length (f w).1 ≤ length es) → length (on_end o ([], es) (λ w. put_first v (f w))).1 ≤ length es
+shrinks : (v : ℕ) (es : List (ℕ × ℕ)) (o : Option ℕ) (f : ℕ → List ℕ × List (ℕ × ℕ)) → ((w : ℕ) → o ≡ Some w → length (f w).1 ≤ length es) →
+    length (on_end o ([], es) (λ w. put_first v (f w))).1 ≤ length es
 shrinks v es None f h = omega arith
 shrinks v es (Some w) f h = h w refl
 

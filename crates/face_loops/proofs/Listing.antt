@@ -52,7 +52,8 @@ pub sorted_starts : (es index : List (ℕ × ℕ)) → IsPermutation (starts_of 
 sorted_starts es index moved up = record {
   rise = λ i j le below. first_ascends (get_or index i (0, 0)) (get_or index j (0, 0)) (sorted_far (λ x y. is_lt (pair_cmp x y)) pair_order index up i j (0, 0) le below);
   each = All-weaker (Contains (starts_of es)) (Contains index) (λ x. Contains-permutation (starts_of es) index x moved) (starts_of es) (All-contains_itself (starts_of es));
-  only = All-weaker (Contains index) (Contains (starts_of es)) (λ x. Contains-permutation index (starts_of es) x (IsPermutation-sym (starts_of es) index moved)) index (All-contains_itself index);
+  only = All-weaker (Contains index) (Contains (starts_of es)) (λ x. Contains-permutation index (starts_of es) x (IsPermutation-sym (starts_of es) index moved))
+      index (All-contains_itself index);
 }
 
 -- each edge's start is in the list with its place

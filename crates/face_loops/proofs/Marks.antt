@@ -21,7 +21,8 @@ left-all (e ∷ es) [] h = refl
 left-all (e ∷ es) (u ∷ used) h = rw (h 0 (omega arith)) (left-all es used (λ k l. h (suc k) (omega (arith, l))))
 
 -- the first edge without a mark
-pub left-first : (es : List (ℕ × ℕ)) (used : List Bool) (i : ℕ) → length used ≡ length es → i < length es → ((k : ℕ) → k < i → get_or used k false ≡ true) → get_or used i false ≡ false →
+pub left-first : (es : List (ℕ × ℕ)) (used : List Bool) (i : ℕ) → length used ≡ length es → i < length es → ((k : ℕ) → k < i → get_or used k false ≡ true) →
+    get_or used i false ≡ false →
     left es used ≡ get_or es i (0, 0) ∷ left es (set used i true)
 left-first [] used i full within before here = absurd (omega (arith, within))
 left-first (e ∷ es) [] i full within before here = absurd (omega (arith, full))
@@ -46,7 +47,8 @@ goes_later e es false used v i other g =
     record { within = omega (arith, g.within); from = g.from; goes = rw other g.goes; rest = rw other (ap (λ l. e ∷ l) g.rest) }
 
 -- the only edge from v, where it has no mark
-pub goes_on : (es : List (ℕ × ℕ)) (used : List Bool) (v i : ℕ) → length used ≡ length es → i < length es → get_or used i false ≡ false → start es i ≡ v → out es v ≤ 1 → GoesOn es used v i
+pub goes_on : (es : List (ℕ × ℕ)) (used : List Bool) (v i : ℕ) → length used ≡ length es → i < length es → get_or used i false ≡ false → start es i ≡ v →
+    out es v ≤ 1 → GoesOn es used v i
 goes_on [] used v i full within free here once = absurd (omega (arith, within))
 goes_on (e ∷ es) [] v i full within free here once = absurd (omega (arith, full))
 goes_on (e ∷ es) (u ∷ used) v zero full within free here once =

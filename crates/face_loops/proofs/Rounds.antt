@@ -42,11 +42,14 @@ loops_begin es used n e full = record {
 }
 
 -- a marked edge is passed
-pub loops_pass : (es : List (ℕ × ℕ)) (place : ℕ) (used : List Bool) (loops : List (List ℕ)) → AreLoopsSoFar es place used loops → get_or used place false ≡ true → AreLoopsSoFar es (place + 1) used loops
-loops_pass es place used loops so here = record { full = so.full; value = so.value; before = below_more (λ k. get_or used k false ≡ true) place so.before here; order = so.order; seen = so.seen }
+pub loops_pass : (es : List (ℕ × ℕ)) (place : ℕ) (used : List Bool) (loops : List (List ℕ)) → AreLoopsSoFar es place used loops →
+    get_or used place false ≡ true → AreLoopsSoFar es (place + 1) used loops
+loops_pass es place used loops so here =
+    record { full = so.full; value = so.value; before = below_more (λ k. get_or used k false ≡ true) place so.before here; order = so.order; seen = so.seen }
 
 -- the cycle from the first edge without a mark
-next_cycle : (es : List (ℕ × ℕ)) (place : ℕ) (old new : List Bool) (vertices : List ℕ) → length old ≡ length es → place < length es → ((k : ℕ) → k < place → get_or old k false ≡ true) →
+next_cycle : (es : List (ℕ × ℕ)) (place : ℕ) (old new : List Bool) (vertices : List ℕ) → length old ≡ length es → place < length es →
+    ((k : ℕ) → k < place → get_or old k false ≡ true) →
     get_or old place false ≡ false → IsLoopFrom es place old new vertices → cycles (left es old) ≡ vertices ∷ cycles (left es new)
 next_cycle es place old new vertices full within before free loop =
     let rest = left es (set old place true) in
@@ -89,7 +92,8 @@ order_more es place old new loops vertices so within loop k h = elim (cases_lt k
 ]
 
 -- and each edge with a mark starts in a loop
-seen_more : (es : List (ℕ × ℕ)) (place : ℕ) (old new : List Bool) (loops : List (List ℕ)) (vertices : List ℕ) → AreLoopsSoFar es place old loops → IsLoopFrom es place old new vertices →
+seen_more : (es : List (ℕ × ℕ)) (place : ℕ) (old new : List Bool) (loops : List (List ℕ)) (vertices : List ℕ) → AreLoopsSoFar es place old loops →
+    IsLoopFrom es place old new vertices →
     (k : ℕ) → get_or new k false ≡ true → Contains (concat (loops ++ vertices ∷ [])) (start es k)
 seen_more es place old new loops vertices so loop k h =
     subst (λ l. Contains l (start es k)) (sym (more_vertices loops vertices))
@@ -99,12 +103,14 @@ seen_more es place old new loops vertices so loop k h =
     ])
 
 -- it is one loop more
-pub loops_more : (es : List (ℕ × ℕ)) (place : ℕ) (old new : List Bool) (loops : List (List ℕ)) (vertices : List ℕ) → AreLoopsSoFar es place old loops → place < length es → get_or old place false ≡ false →
+pub loops_more : (es : List (ℕ × ℕ)) (place : ℕ) (old new : List Bool) (loops : List (List ℕ)) (vertices : List ℕ) → AreLoopsSoFar es place old loops →
+    place < length es → get_or old place false ≡ false →
     IsLoopFrom es place old new vertices → length new ≡ length es → AreLoopsSoFar es (place + 1) new (loops ++ vertices ∷ [])
 loops_more es place old new loops vertices so within free loop full =
     record {
       full = full;
-      value = append_assoc loops (vertices ∷ []) (cycles (left es new)) ∙ ap (λ l. loops ++ l) (sym (next_cycle es place old new vertices so.full within so.before free loop)) ∙ so.value;
+      value = append_assoc loops (vertices ∷ []) (cycles (left es new))
+          ∙ ap (λ l. loops ++ l) (sym (next_cycle es place old new vertices so.full within so.before free loop)) ∙ so.value;
       before = below_more (λ k. get_or new k false ≡ true) place (λ k h. loop.others k (so.before k h)) loop.here;
       order = order_more es place old new loops vertices so within loop;
       seen = seen_more es place old new loops vertices so loop;

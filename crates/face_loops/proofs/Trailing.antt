@@ -37,7 +37,8 @@ mark_was used i k h = elim (cases_eq k i) as (λ _. (get_or used k false ≡ tru
 ]
 
 -- where one more edge is marked
-marked_more : (es : List (ℕ × ℕ)) (old used : List Bool) (vertices : List ℕ) (v next : ℕ) → start es next ≡ v → ((k : ℕ) → get_or used k false ≡ true → (get_or old k false ≡ true) ⊎ Contains vertices (start es k)) →
+marked_more : (es : List (ℕ × ℕ)) (old used : List Bool) (vertices : List ℕ) (v next : ℕ) → start es next ≡ v →
+    ((k : ℕ) → get_or used k false ≡ true → (get_or old k false ≡ true) ⊎ Contains vertices (start es k)) →
     (k : ℕ) → get_or (set used next true) k false ≡ true → (get_or old k false ≡ true) ⊎ Contains (vertices ++ v ∷ []) (start es k)
 marked_more es old used vertices v next from marked k h = elim (mark_was used next k h) as (λ _. (get_or old k false ≡ true) ⊎ Contains (vertices ++ v ∷ []) (start es k)) [
   | inr same ↦ inr (subst (Contains (vertices ++ v ∷ [])) (sym (ap (start es) same ∙ from)) (Contains-push vertices v))
@@ -49,7 +50,14 @@ marked_more es old used vertices v next from marked k h = elim (mark_was used ne
 
 -- at first
 pub trail_begins : (es : List (ℕ × ℕ)) (first : ℕ) (old : List Bool) → first < length old → IsOnTrail es first old (set old first true) (finish es first) (start es first ∷ [])
-trail_begins es first old within = record { value = refl; rest = refl; here = get_or-set_same old first true false within; others = λ k h. mark_stays old first k h; marked = marked_more es old old [] (start es first) first refl (λ k h. inl h) }
+trail_begins es first old within =
+    record {
+      value = refl;
+      rest = refl;
+      here = get_or-set_same old first true false within;
+      others = λ k h. mark_stays old first k h;
+      marked = marked_more es old old [] (start es first) first refl (λ k h. inl h);
+    }
 
 -- one edge more
 pub trail_goes_on : (es : List (ℕ × ℕ)) (first : ℕ) (old used : List Bool) (v : ℕ) (vertices : List ℕ) (next : ℕ) → IsOnTrail es first old used v vertices → GoesOn es used v next →

@@ -32,7 +32,9 @@ from_of-round (x ∷ r) = from_of-path x r x
 -- and those of all rounds
 from_of-rounds : (loops : List (List ℕ)) → from_of (flat_map round_edges loops) ≡ concat loops
 from_of-rounds [] = refl
-from_of-rounds (r ∷ loops) = map-append (λ (e : ℕ × ℕ). e.0) (round_edges r) (flat_map round_edges loops) ∙ ap (λ l. l ++ from_of (flat_map round_edges loops)) (from_of-round r) ∙ ap (λ l. r ++ l) (from_of-rounds loops)
+from_of-rounds (r ∷ loops) =
+    map-append (λ (e : ℕ × ℕ). e.0) (round_edges r) (flat_map round_edges loops) ∙ ap (λ l. l ++ from_of (flat_map round_edges loops)) (from_of-round r)
+    ∙ ap (λ l. r ++ l) (from_of-rounds loops)
 
 -- a list in which each number stands at most once
 different_from_counts : (xs : List ℕ) → ((v : ℕ) → count_by (λ w. w == v) xs ≤ 1) → AreDifferent xs
@@ -40,7 +42,14 @@ different_from_counts [] once i j before below same = omega (arith, below)
 different_from_counts (x ∷ xs) once zero zero before below same = omega (arith, before)
 different_from_counts (x ∷ xs) once zero (suc j) before below same =
     let here = one_if-true (x == x) (eq-eqb x x refl) in
-    omega (arith, once x, count_by-cons (λ w. w == x) x xs, here, counted (λ w. w == x) (get_or xs j 0) xs (Contains-get_or xs j 0 (omega (arith, below))) (eq-eqb (get_or xs j 0) x (sym same)))
+    omega (
+      arith,
+      once x,
+      count_by-cons (λ w. w == x) x xs,
+      here,
+      counted (λ w. w == x) (get_or xs j 0) xs (Contains-get_or xs j 0 (omega (arith, below)))
+          (eq-eqb (get_or xs j 0) x (sym same)),
+    )
 different_from_counts (x ∷ xs) once (suc i) zero before below same = omega (arith, before)
 different_from_counts (x ∷ xs) once (suc i) (suc j) before below same =
     different_from_counts xs (λ v. omega (arith, once v, count_by-cons (λ w. w == v) x xs)) i j (omega (arith, before)) (omega (arith, below)) same
@@ -56,7 +65,8 @@ same_edges es one a b = dir-permutation es (flat_map round_edges (cycles es)) (m
 vertex_counts : (es : List (ℕ × ℕ)) → IsOneToOne es → (v : ℕ) → count_by (λ w. w == v) (concat (cycles es)) ≡ out es v
 vertex_counts es one v =
     let all = flat_map round_edges (cycles es) in
-    ap (count_by (λ w. w == v)) (sym (from_of-rounds (cycles es))) ∙ count_by-map (λ w. w == v) (λ e. e.0) all ∙ sum_by-IsPermutation (λ e. cond (e.0 == v) 1 0) es all (moved es one)
+    ap (count_by (λ w. w == v)) (sym (from_of-rounds (cycles es))) ∙ count_by-map (λ w. w == v) (λ e. e.0) all
+    ∙ sum_by-IsPermutation (λ e. cond (e.0 == v) 1 0) es all (moved es one)
 
 -- so no vertex stands at two places
 pub different_vertices : (es : List (ℕ × ℕ)) → IsOneToOne es → AreDifferent (concat (cycles es))

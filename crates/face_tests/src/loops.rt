@@ -53,17 +53,13 @@ fn is_one_to_one(segments: &[Segment]) -> bool
 // The segments whose ends are the numbers, two by two.
 fn segments_of(rt: &impl Abort, alloc: Global, numbers: &[u32]) -> Vec<Segment> {
     let mut segments = Vec::new(alloc);
-    let mut from = 0u32;
-    let mut is_second = false;
-    for number in numbers {
-        let to = *number;
-        if is_second {
-            segments
-                .push(Segment { from, to })
-                .expect(rt, "room for a segment");
-        }
-        from = to;
-        is_second = !is_second;
+    let (pairs, rest) = numbers.as_chunks::<2>();
+    assert!(rt; rest.is_empty(), "a segment lacks an end");
+    for [from, to] in pairs {
+        let (from, to) = (*from, *to);
+        segments
+            .push(Segment { from, to })
+            .expect(rt, "room for a segment");
     }
     segments
 }

@@ -38,17 +38,13 @@ fn are_below(entries: &[Entry], points: &[Point]) -> bool
 // The entries of these numbers: of each its vertex, and 1 where it is a start.
 fn entries_of(rt: &impl Abort, alloc: Global, numbers: &[u32]) -> Vec<Entry> {
     let mut entries = Vec::new(alloc);
-    let mut vertex = 0u32;
-    let mut is_second = false;
-    for number in numbers {
-        if is_second {
-            let start = *number == 1;
-            entries
-                .push(Entry { vertex, start })
-                .expect(rt, "room for an entry");
-        }
-        vertex = *number;
-        is_second = !is_second;
+    let (pairs, rest) = numbers.as_chunks::<2>();
+    assert!(rt; rest.is_empty(), "an entry lacks its second number");
+    for [vertex, start] in pairs {
+        let (vertex, start) = (*vertex, *start == 1);
+        entries
+            .push(Entry { vertex, start })
+            .expect(rt, "room for an entry");
     }
     entries
 }

@@ -6,17 +6,23 @@ use ring_cutting::Filled;
 use std::alloc::Global;
 use std::process::Abort;
 
-// What a colon between two parts is among the numbers of a row: more than any vertex.
+// What a number below 0 is among the numbers of a row: this and its size, more than any vertex.
+const MINUS: u64 = 0x1_0000_0000;
+
+// What a colon between two parts is: more than any number.
 const COLON: u64 = 0x2_0000_0000;
 
 /// What a stroke between two loops is.
 pub const STROKE: u64 = 0x3_0000_0000;
 
+// The size of the greatest coordinate.
+const END: u32 = 1 << 30;
+
 // A number that is read: its digits so far, of which there may be none, after a minus sign or not.
 #[derive(Clone, Copy, Drop)]
 struct Word {
     size: u64,
-    is_some: bool,
+    has_digits: bool,
     is_minus: bool,
 }
 
@@ -24,18 +30,23 @@ struct Word {
 fn grown(word: &Word, byte: u8) -> Word {
     let digit = byte.wrapping_sub(b'0') as u64;
     Word {
-        size: word.size.wrapping_mul(10).wrapping_add(digit),
-        is_some: true,
+        size: word.size.saturating_mul(10).saturating_add(digit),
+        has_digits: true,
         is_minus: word.is_minus,
     }
 }
 
-// Adds a number where its digits end, one below 0 as its complement in 32 bits.
+// Adds a number where its digits end. It fails at a minus sign without digits, and at more than 32 bits.
 fn end(rt: &impl Abort, numbers: &mut Vec<u64>, word: &Word) {
-    if word.is_some {
+    assert!(rt;
+        word.has_digits || !word.is_minus,
+        "a minus sign without digits"
+    );
+    assert!(rt; word.size <= 0xFFFF_FFFF, "a number of more than 32 bits");
+    if word.has_digits {
         numbers
             .push(if word.is_minus {
-                0x1_0000_0000u64.wrapping_sub(word.size)
+                MINUS.wrapping_add(word.size)
             } else {
                 word.size
             })
@@ -43,36 +54,46 @@ fn end(rt: &impl Abort, numbers: &mut Vec<u64>, word: &Word) {
     }
 }
 
-// Adds what a sign that is no digit stands for: a letter is a number by itself, a is 0.
+// Adds what a sign that is no digit stands for: a small letter is a number by itself, a is 0. A blank, a comma, a semicolon
+// and a minus sign only part numbers. It fails at any other sign.
 fn add_sign(rt: &impl Abort, numbers: &mut Vec<u64>, byte: u8) {
     if byte == b':' {
         numbers.push(COLON).expect(rt, "room for a colon");
     } else if byte == b'/' {
         numbers.push(STROKE).expect(rt, "room for a stroke");
-    } else if byte >= b'a' {
+    } else if byte >= b'a' && byte <= b'z' {
         numbers
             .push(byte.wrapping_sub(b'a') as u64)
             .expect(rt, "room for a number");
+    } else {
+        assert!(rt;
+            byte == b' ' || byte == b',' || byte == b';' || byte == b'-',
+            "a sign of a row"
+        );
     }
 }
 
-// The numbers of a row, with the marks between its parts and loops.
+// The numbers of a row, with the marks between its parts and loops. It fails at a minus sign after a digit.
 fn numbers_of(rt: &impl Abort, alloc: Global, row: &str) -> Vec<u64> {
     let mut numbers = Vec::new(alloc);
     let mut word = Word {
         size: 0,
-        is_some: false,
+        has_digits: false,
         is_minus: false,
     };
     for byte in row.as_bytes() {
         if *byte >= b'0' && *byte <= b'9' {
             word = grown(&word, *byte);
         } else {
+            assert!(rt;
+                *byte != b'-' || !word.has_digits,
+                "a minus sign after a digit"
+            );
             end(rt, &mut numbers, &word);
             add_sign(rt, &mut numbers, *byte);
             word = Word {
                 size: 0,
-                is_some: false,
+                has_digits: false,
                 is_minus: *byte == b'-',
             };
         }
@@ -82,7 +103,7 @@ fn numbers_of(rt: &impl Abort, alloc: Global, row: &str) -> Vec<u64> {
 }
 
 // The lists between the marks of one.
-fn cut(rt: &impl Abort, alloc: Global, numbers: &[u64], mark: u64) -> Vec<Vec<u64>> {
+fn lists_between(rt: &impl Abort, alloc: Global, numbers: &[u64], mark: u64) -> Vec<Vec<u64>> {
     let mut lists = Vec::new(alloc);
     let mut list = Vec::new(alloc);
     for number in numbers {
@@ -99,17 +120,17 @@ fn cut(rt: &impl Abort, alloc: Global, numbers: &[u64], mark: u64) -> Vec<Vec<u6
 
 /// The numbers of the parts of a row, which have colons between them.
 pub fn parts_of(rt: &impl Abort, alloc: Global, row: &str) -> Vec<Vec<u64>> {
-    cut(rt, alloc, &numbers_of(rt, alloc, row), COLON)
+    lists_between(rt, alloc, &numbers_of(rt, alloc, row), COLON)
 }
 
 /// The lists of a part, which have strokes between them.
 pub fn lists_of(rt: &impl Abort, alloc: Global, numbers: &[u64]) -> Vec<Vec<u64>> {
-    cut(rt, alloc, numbers, STROKE)
+    lists_between(rt, alloc, numbers, STROKE)
 }
 
-// A number that is no mark.
+// A number that is no mark and not below 0.
 fn plain(rt: &impl Abort, number: u64) -> u32 {
-    u32::try_from(number).expect(rt, "no mark")
+    u32::try_from(number).expect(rt, "no mark, and not below 0")
 }
 
 /// The number of a part that has one.
@@ -129,9 +150,20 @@ pub fn vertices_of(rt: &impl Abort, alloc: Global, numbers: &[u64]) -> Vec<u32> 
     vertices
 }
 
-// A number as a coordinate.
+// A number as a coordinate, which is one of the grid.
 fn coordinate(rt: &impl Abort, number: u64) -> i32 {
-    plain(rt, number).cast_signed()
+    let is_minus = number >= MINUS;
+    let size = plain(
+        rt,
+        if is_minus {
+            number.wrapping_sub(MINUS)
+        } else {
+            number
+        },
+    );
+    assert!(rt; size <= END, "a coordinate of the grid");
+    let size = size.cast_signed();
+    if is_minus { size.wrapping_neg() } else { size }
 }
 
 /// The point with these coordinates.
@@ -139,7 +171,8 @@ pub fn point(rt: &impl Abort, [x, y, z]: [i32; 3]) -> Point {
     Point::of(x, y, z).expect(rt, "a point of the grid")
 }
 
-// The point of these numbers; two are u and v in the plane that drops the last axis.
+// The point of these numbers; two are u and v in the plane that drops the last axis. Any other count is no point: it is
+// read as colons, which `coordinate` refuses.
 fn point_of(rt: &impl Abort, numbers: &[u64]) -> Point {
     let [x, y, z] = match numbers {
         [u, v] => [*u, *v, 0],

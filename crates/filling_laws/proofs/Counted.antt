@@ -67,7 +67,8 @@ paired_length p q place (PairP f g) from to even = across_length place from to e
 paired_length p q place (PairQ g f) from to even = across_length place from to even
 
 -- the segments of a face are as many as the starts of its lists
-pub face_counted : (p q : Side) (cs : List Copy) (place : ℕ → List ℤ) → IsBalanced p q cs → (x : ℕ) → x < source_count p q → length (segments_of p q cs place x) ≡ count_starts p q cs (lists_of p q x)
+pub face_counted : (p q : Side) (cs : List Copy) (place : ℕ → List ℤ) → IsBalanced p q cs → (x : ℕ) → x < source_count p q →
+    length (segments_of p q cs place x) ≡ count_starts p q cs (lists_of p q x)
 face_counted p q cs place balance x below =
     let P = all_edges p.triples in
     let Q = all_edges q.triples in
@@ -86,7 +87,8 @@ faces_counted p q cs =
     let each : ℕ → ℕ = λ x. count_starts p q cs (lists_of p q x) in
     let of_p : ℕ → ℕ = λ f. count_starts p q cs (lists_of_p n f) in
     let of_q : ℕ → ℕ = λ g. count_starts p q cs (lists_of_q m g) in
-    let first = sum_by-same_all each of_p (upto m) (all_upto (λ f. each f ≡ of_p f) m (λ f l. ap (count_starts p q cs) (cond-true (nat_lt f m) (lists_of_p n f) (lists_of_q m (f - m)) (lt-ltb f m l)))) in
+    let first = sum_by-same_all each of_p (upto m)
+    (all_upto (λ f. each f ≡ of_p f) m (λ f l. ap (count_starts p q cs) (cond-true (nat_lt f m) (lists_of_p n f) (lists_of_q m (f - m)) (lt-ltb f m l)))) in
     let here : 0 + m ≡ m + 0 = omega arith in
     let second = shifted each of_q m (is_of_q p q cs) 0 n in
     ap (sum_by each) (up_from-append 0 m n ∙ ap (λ k. upto m ++ up_from k n) here) ∙ sum_by-append each (upto m) (up_from (m + 0) n) ∙ omega (arith, first, second)

@@ -25,7 +25,8 @@ use Rattle.filling_laws.proofs.Fillings.{fill_face}
 use Rattle.filling_laws.proofs.Parts.{among, part_of, parts}
 
 -- five for three, list by list
-five_for_three : (part : ℕ → List Triple) (segments : ℕ → List (ℕ × ℕ)) (xs : List ℕ) → All (λ x. 3 * length (part x) ≤ 5 * length (segments x)) xs → 3 * length (flat_map part xs) ≤ 5 * length (flat_map segments xs)
+five_for_three : (part : ℕ → List Triple) (segments : ℕ → List (ℕ × ℕ)) (xs : List ℕ) → All (λ x. 3 * length (part x) ≤ 5 * length (segments x)) xs →
+    3 * length (flat_map part xs) ≤ 5 * length (flat_map segments xs)
 five_for_three part segments [] h = omega arith
 five_for_three part segments (x ∷ xs) h =
     let P : ℕ → Type 0 = λ x. 3 * length (part x) ≤ 5 * length (segments x) in

@@ -58,8 +58,10 @@ go_around ts three closed = record {
     in_one g h same = omega (arith, same)
 
 -- however often
-pub times_start : (ts : List Triple) → IsClosed (all_edges ts) → (h : ℕ) → h < length (all_edges ts) → (n : ℕ) → start (all_edges ts) (times (around (all_edges ts)) n h) ≡ start (all_edges ts) h
+pub times_start : (ts : List Triple) → IsClosed (all_edges ts) → (h : ℕ) → h < length (all_edges ts) → (n : ℕ) →
+    start (all_edges ts) (times (around (all_edges ts)) n h) ≡ start (all_edges ts) h
 times_start ts closed h below zero = refl
 times_start ts closed h below (suc n) =
-    around_start ts closed (times (around (all_edges ts)) n h) (times_below (around (all_edges ts)) (λ g. twin (all_edges ts) (prev_half g)) (length (all_edges ts)) (around_inverse ts closed) n h below)
+    around_start ts closed (times (around (all_edges ts)) n h)
+    (times_below (around (all_edges ts)) (λ g. twin (all_edges ts) (prev_half g)) (length (all_edges ts)) (around_inverse ts closed) n h below)
     ∙ times_start ts closed h below n

@@ -28,7 +28,8 @@ pub record IsBucket (keys : List ℕ) (n k : ℕ) (bucket : List ℕ) : Type 0 w
   pub read : bucket ≡ get_or buckets k []
 
 -- the bucket that is read from those that were made
-pub read_bucket : (keys : List ℕ) (n k : ℕ) (numbers : List ℕ) (buckets : List (List ℕ)) (bucket : List ℕ) → numbers ≡ keys → buckets ≡ map (places_of numbers) (upto n) → bucket ≡ get_or buckets k [] → IsBucket keys n k bucket
+pub read_bucket : (keys : List ℕ) (n k : ℕ) (numbers : List ℕ) (buckets : List (List ℕ)) (bucket : List ℕ) → numbers ≡ keys →
+    buckets ≡ map (places_of numbers) (upto n) → bucket ≡ get_or buckets k [] → IsBucket keys n k bucket
 read_bucket keys n k numbers buckets bucket same gathered read = record { numbers = numbers; buckets = buckets; same = same; gathered = gathered; read = read }
 
 -- bucket k holds the places with key k
@@ -41,7 +42,8 @@ pub bucket_members : (keys : List ℕ) (n k : ℕ) (bucket : List ℕ) → k < n
 bucket_members keys n k bucket low is = subst (All (λ place. place < length keys)) (sym (bucket_is keys n k bucket low is)) (places_below keys k)
 
 -- what runs up and what runs down of the half-edges there, each sorted, are its ways
-pub bucket_sides : (es : List (ℕ × ℕ)) (key : ℕ → ℕ) (keys : List ℕ) (n k : ℕ) (bucket : List ℕ) (ups downs : List Half) → AreKeys es key keys → k < n → IsBucket keys n k bucket → IsSortOf (filter runs_up (map (half_of es) bucket)) ups
+pub bucket_sides : (es : List (ℕ × ℕ)) (key : ℕ → ℕ) (keys : List ℕ) (n k : ℕ) (bucket : List ℕ) (ups downs : List Half) → AreKeys es key keys → k < n →
+    IsBucket keys n k bucket → IsSortOf (filter runs_up (map (half_of es) bucket)) ups
     → IsSortOf (filter runs_up (map turned (map (half_of es) bucket))) downs → AreWays es key k ups downs
 bucket_sides es key keys n k bucket ups downs are low is first second =
     let at = bucket_is keys n k bucket low is in

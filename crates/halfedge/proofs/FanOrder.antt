@@ -36,7 +36,8 @@ length-by_starts es = length-map (numbered 0 es) (λ e. (e.0, e.2)) ∙ length-n
 by_starts_at : (es : List (ℕ × ℕ)) (h : ℕ) (d : ℕ × ℕ) → h < length es → get_or (by_starts es) h d ≡ start_of es h
 by_starts_at es h d below =
     let first : 0 + h ≡ h = omega arith in
-    get_or-map (λ (e : Half). start_and_number e) (numbered 0 es) h (0, 0, 0) d (omega (arith, below, length-numbered 0 es)) ∙ ap (λ (e : Half). start_and_number e) (numbered_at 0 es h (0, 0, 0) below) ∙ ap (λ n. with_start n) first
+    get_or-map (λ (e : Half). start_and_number e) (numbered 0 es) h (0, 0, 0) d (omega (arith, below, length-numbered 0 es))
+    ∙ ap (λ (e : Half). start_and_number e) (numbered_at 0 es h (0, 0, 0) below) ∙ ap (λ n. with_start n) first
   where
     start_and_number : Half → ℕ × ℕ
     start_and_number e = (e.0, e.2)
@@ -57,7 +58,8 @@ record HoldsStart (es order : List (ℕ × ℕ)) (i : ℕ) : Type 0 where
 -- each place holds one
 holds_start : (es order : List (ℕ × ℕ)) → AreInOrder es order → (i : ℕ) → i < length order → HoldsStart es order i
 holds_start es order known i below =
-    of_member (Contains-permutation order (by_starts es) (get_or order i (0, 0)) (IsPermutation-sym (by_starts es) order known.moved) (i, below, get_or_default order i (get_or order i (0, 0)) (0, 0) below))
+    of_member (Contains-permutation order (by_starts es) (get_or order i (0, 0)) (IsPermutation-sym (by_starts es) order known.moved)
+    (i, below, get_or_default order i (get_or order i (0, 0)) (0, 0) below))
   where
     of_member : Contains (by_starts es) (get_or order i (0, 0)) → HoldsStart es order i
     of_member (j, l, e) =
@@ -93,7 +95,8 @@ starts_ascend es order known i j low below =
     omega (arith, up, ap (λ (e : ℕ × ℕ). e.0) first, ap (λ (e : ℕ × ℕ). e.0) second)
 
 -- and at one start the half-edges
-pub halves_ascend : (es order : List (ℕ × ℕ)) → AreInOrder es order → (i j : ℕ) → i ≤ j → j < length order → start es (ordered_at order i) ≡ start es (ordered_at order j) → ordered_at order i ≤ ordered_at order j
+pub halves_ascend : (es order : List (ℕ × ℕ)) → AreInOrder es order → (i j : ℕ) → i ≤ j → j < length order →
+    start es (ordered_at order i) ≡ start es (ordered_at order j) → ordered_at order i ≤ ordered_at order j
 halves_ascend es order known i j low below same =
     let first = ordered_is es order known i (omega (arith, low, below)) (0, 0) in
     let second = ordered_is es order known j below (0, 0) in

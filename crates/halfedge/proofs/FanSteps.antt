@@ -17,17 +17,22 @@ use Rattle.halfedge.proofs.Edges.{length-all_edges}
 use Rattle.halfedge.proofs.FanOrder.{order_length, ordered_below, order_place, starts_ascend, halves_ascend}
 
 -- a number that is kept around is the same in the whole fan
-pub same_in_fan : (ts : List Triple) → IsClosed (all_edges ts) → (of : List ℕ) → AreKeptAround (all_edges ts) of → (h : ℕ) → h < length (all_edges ts) → (n : ℕ) → get_or of (around_times (all_edges ts) n h) 0 ≡ get_or of h 0
+pub same_in_fan : (ts : List Triple) → IsClosed (all_edges ts) → (of : List ℕ) → AreKeptAround (all_edges ts) of → (h : ℕ) → h < length (all_edges ts) →
+    (n : ℕ) → get_or of (around_times (all_edges ts) n h) 0 ≡ get_or of h 0
 same_in_fan ts closed of kept h below zero = refl
 same_in_fan ts closed of kept h below (suc n) =
-    kept (around_times (all_edges ts) n h) (times_below (around (all_edges ts)) (λ g. twin (all_edges ts) (prev_half g)) (length (all_edges ts)) (around_inverse ts closed) n h below) ∙ same_in_fan ts closed of kept h below n
+    kept (around_times (all_edges ts) n h)
+    (times_below (around (all_edges ts)) (λ g. twin (all_edges ts) (prev_half g)) (length (all_edges ts)) (around_inverse ts closed) n h below)
+    ∙ same_in_fan ts closed of kept h below n
 
 -- no half-edge was looked at
-pub no_fans : (ts : List Triple) → IsClosed (all_edges ts) → (order : List (ℕ × ℕ)) (n : ℕ) → n ≡ length (all_edges ts) → AreFansSoFar (all_edges ts) order 0 (replicate n no_fan) []
+pub no_fans : (ts : List Triple) → IsClosed (all_edges ts) → (order : List (ℕ × ℕ)) (n : ℕ) → n ≡ length (all_edges ts) →
+    AreFansSoFar (all_edges ts) order 0 (replicate n no_fan) []
 no_fans ts closed order n full = record {
   full = length-replicate n no_fan ∙ full;
   few = omega arith;
-  kept_around = λ x below. get_or-replicate n (around (all_edges ts) x) no_fan 0 (omega (arith, (around_inverse ts closed).below x below, full)) ∙ sym (get_or-replicate n x no_fan 0 (omega (arith, below, full)));
+  kept_around = λ x below. get_or-replicate n (around (all_edges ts) x) no_fan 0 (omega (arith, (around_inverse ts closed).below x below, full))
+      ∙ sym (get_or-replicate n x no_fan 0 (omega (arith, below, full)));
   each = λ x below. inl (get_or-replicate n x no_fan 0 (omega (arith, below, full)));
   first_in = λ k few. absurd (omega (arith, few));
   reached = λ x below few. absurd (omega (arith, few));
@@ -39,12 +44,14 @@ no_fans ts closed order n full = record {
 }
 
 -- the lists, as they stand later
-pub fans_as : (es order : List (ℕ × ℕ)) (i : ℕ) (of of_later first first_later : List ℕ) → of_later ≡ of → first_later ≡ first → AreFansSoFar es order i of first → AreFansSoFar es order i of_later first_later
+pub fans_as : (es order : List (ℕ × ℕ)) (i : ℕ) (of of_later first first_later : List ℕ) → of_later ≡ of → first_later ≡ first →
+    AreFansSoFar es order i of first → AreFansSoFar es order i of_later first_later
 fans_as es order i of of_later first first_later of_is first_is fans =
     subst (λ l. AreFansSoFar es order i l first_later) (sym of_is) (subst (λ l. AreFansSoFar es order i of l) (sym first_is) fans)
 
 -- a half-edge that has a number is passed over
-pub fan_seen : (es order : List (ℕ × ℕ)) (i : ℕ) (of first : List ℕ) → AreInOrder es order → i < length order → AreFansSoFar es order i of first → get_or of (ordered_at order i) 0 ≢ no_fan → AreFansSoFar es order (i + 1) of first
+pub fan_seen : (es order : List (ℕ × ℕ)) (i : ℕ) (of first : List ℕ) → AreInOrder es order → i < length order → AreFansSoFar es order i of first →
+    get_or of (ordered_at order i) 0 ≢ no_fan → AreFansSoFar es order (i + 1) of first
 fan_seen es order i of first known below fans has = record {
   full = fans.full;
   few = omega (arith, fans.few);
@@ -70,8 +77,10 @@ fan_seen es order i of first known below fans has = record {
     later k (j, l, e) = (j, omega (arith, l), e)
 
 -- a half-edge that has none is the least of a fan
-pub fan_more : (ts : List Triple) → IsClosed (all_edges ts) → length ts ≤ most_triangles → (order : List (ℕ × ℕ)) (i : ℕ) (of new first : List ℕ) → AreInOrder (all_edges ts) order → i < length order →
-    AreFansSoFar (all_edges ts) order i of first → get_or of (ordered_at order i) 0 ≡ no_fan → IsFanNumbered (all_edges ts) (ordered_at order i) (length first) of new → AreFansSoFar (all_edges ts) order (i + 1) new (first ++ ordered_at order i ∷ [])
+pub fan_more : (ts : List Triple) → IsClosed (all_edges ts) → length ts ≤ most_triangles → (order : List (ℕ × ℕ)) (i : ℕ) (of new first : List ℕ) →
+    AreInOrder (all_edges ts) order → i < length order →
+    AreFansSoFar (all_edges ts) order i of first → get_or of (ordered_at order i) 0 ≡ no_fan → IsFanNumbered (all_edges ts) (ordered_at order i)
+    (length first) of new → AreFansSoFar (all_edges ts) order (i + 1) new (first ++ ordered_at order i ∷ [])
 fan_more ts closed few order i of new first known below fans none numbered = record {
   full = numbered.full;
   few = omega (arith, fans.few, more);
@@ -123,7 +132,8 @@ fan_more ts closed few order i of new first known below fans none numbered = rec
     kept : (x : ℕ) → x < length es → get_or of x 0 < f → get_or new x 0 ≡ get_or of x 0
     kept x l some = kept_by x some (numbered.each x l)
 
-    each_new : (x : ℕ) → ((get_or new x 0 ≡ f) × SameFan es h x) ⊎ (get_or new x 0 ≡ get_or of x 0) → (get_or of x 0 ≡ no_fan) ⊎ (get_or of x 0 < f) → (get_or new x 0 ≡ no_fan) ⊎ (get_or new x 0 < length both)
+    each_new : (x : ℕ) → ((get_or new x 0 ≡ f) × SameFan es h x) ⊎ (get_or new x 0 ≡ get_or of x 0) → (get_or of x 0 ≡ no_fan) ⊎ (get_or of x 0 < f) →
+        (get_or new x 0 ≡ no_fan) ⊎ (get_or new x 0 < length both)
     each_new x (inl (is, same)) old = inr (omega (arith, is, more))
     each_new x (inr same) (inl has_none) = inl (same ∙ has_none)
     each_new x (inr same) (inr some) = inr (omega (arith, same, some, more))
@@ -138,7 +148,8 @@ fan_more ts closed few order i of new first known below fans none numbered = rec
           subst (λ x. (x < length es) × (get_or new x 0 ≡ k)) (sym (last_at k e)) (hn, numbered.here ∙ sym e)
     ]
 
-    reached_new : (x : ℕ) → x < length es → get_or new x 0 < length both → ((get_or new x 0 ≡ f) × SameFan es h x) ⊎ (get_or new x 0 ≡ get_or of x 0) → (get_or of x 0 ≡ no_fan) ⊎ (get_or of x 0 < f) → SameFan es (get_or both (get_or new x 0) 0) x
+    reached_new : (x : ℕ) → x < length es → get_or new x 0 < length both → ((get_or new x 0 ≡ f) × SameFan es h x) ⊎ (get_or new x 0 ≡ get_or of x 0) →
+        (get_or of x 0 ≡ no_fan) ⊎ (get_or of x 0 < f) → SameFan es (get_or both (get_or new x 0) 0) x
     reached_new x l m (inl (is, same)) old = subst (λ g. SameFan es g x) (sym (last_at (get_or new x 0) is)) same
     reached_new x l m (inr same) (inl has_none) = absurd (omega (arith, m, same, has_none, more, under))
     reached_new x l m (inr same) (inr some) = subst (λ g. SameFan es g x) (sym (ap (λ k. get_or both k 0) same ∙ old_at (get_or of x 0) some)) (fans.reached x l some)
@@ -151,7 +162,8 @@ fan_more ts closed few order i of new first known below fans none numbered = rec
           omega (arith, halves_ascend es order known i j after l same, at)
     ]
 
-    least_new : (x : ℕ) → x < length es → get_or new x 0 < length both → ((get_or new x 0 ≡ f) × SameFan es h x) ⊎ (get_or new x 0 ≡ get_or of x 0) → (get_or of x 0 ≡ no_fan) ⊎ (get_or of x 0 < f) → get_or both (get_or new x 0) 0 ≤ x
+    least_new : (x : ℕ) → x < length es → get_or new x 0 < length both → ((get_or new x 0 ≡ f) × SameFan es h x) ⊎ (get_or new x 0 ≡ get_or of x 0) →
+        (get_or of x 0 ≡ no_fan) ⊎ (get_or of x 0 < f) → get_or both (get_or new x 0) 0 ≤ x
     least_new x l m (inl (is, same)) old = subst (λ g. g ≤ x) (sym (last_at (get_or new x 0) is)) (least_in x same (order_place es order known x l))
     least_new x l m (inr same) (inl has_none) = absurd (omega (arith, m, same, has_none, more, under))
     least_new x l m (inr same) (inr some) = subst (λ g. g ≤ x) (sym (ap (λ k. get_or both k 0) same ∙ old_at (get_or of x 0) some)) (fans.least x l some)
@@ -204,14 +216,16 @@ fan_more ts closed few order i of new first known below fans none numbered = rec
     ]
 
 -- when all half-edges were looked at, these are the fans
-pub all_fans : (ts : List Triple) → IsClosed (all_edges ts) → length ts ≤ most_triangles → (order : List (ℕ × ℕ)) (of first : List ℕ) → AreInOrder (all_edges ts) order → AreFansSoFar (all_edges ts) order (length order) of first → AreFans (all_edges ts) of first
+pub all_fans : (ts : List Triple) → IsClosed (all_edges ts) → length ts ≤ most_triangles → (order : List (ℕ × ℕ)) (of first : List ℕ) →
+    AreInOrder (all_edges ts) order → AreFansSoFar (all_edges ts) order (length order) of first → AreFans (all_edges ts) of first
 all_fans ts closed few order of first known fans = record {
   one_each = fans.full;
   steps = fans.kept_around;
   numbered = has;
   first_in = fans.first_in;
   reached = λ h below. fans.reached h below (has h below);
-  returns = λ k l. back (returns (around (all_edges ts)) (λ g. twin (all_edges ts) (prev_half g)) (length (all_edges ts)) (around_inverse ts closed) (get_or first k 0) (fans.first_in k l).0);
+  returns = λ k l. back (returns (around (all_edges ts)) (λ g. twin (all_edges ts) (prev_half g)) (length (all_edges ts)) (around_inverse ts closed)
+      (get_or first k 0) (fans.first_in k l).0);
   least = λ h below. fans.least h below (has h below);
   by_start = fans.by_start;
   by_half = fans.by_half;

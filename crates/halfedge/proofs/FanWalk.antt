@@ -24,7 +24,8 @@ pub walk_below : (s t : ℕ → ℕ) (n : ℕ) → AreInverse s t n → (h numbe
 walk_below s t n inverse h number old of g hn walk = subst (λ x. x < n) (sym walk.at) (times_below s t n inverse walk.count h hn)
 
 -- one step more, where the place has no number
-pub walk_more : (s : ℕ → ℕ) (n h number : ℕ) (old of : List ℕ) (g : ℕ) → number ≢ no_fan → g < n → IsWalked s n h number old of g → get_or of g 0 ≡ no_fan → IsWalked s n h number old (slice_set of g number) (s g)
+pub walk_more : (s : ℕ → ℕ) (n h number : ℕ) (old of : List ℕ) (g : ℕ) → number ≢ no_fan → g < n → IsWalked s n h number old of g → get_or of g 0 ≡ no_fan →
+    IsWalked s n h number old (slice_set of g number) (s g)
 walk_more s n h number old of g other gn walk none = record {
   count = suc walk.count;
   at = ap s walk.at;
@@ -37,10 +38,12 @@ walk_more s n h number old of g other gn walk none = record {
     | inl e ↦ ap (λ x. get_or (slice_set of g number) x 0) e ∙ get_or-set_same of g number 0 here
     | inr d ↦ get_or-set_other of g (times s j h) number 0 d ∙ walk.passed j (below_count j few d)
   ];
-  each = λ x below. elim (cases_eq x g) as (λ _. ((get_or (slice_set of g number) x 0 ≡ number) × IsPassed s h (suc walk.count) x) ⊎ (get_or (slice_set of g number) x 0 ≡ get_or old x 0)) [
-    | inl e ↦ inl (ap (λ y. get_or (slice_set of g number) y 0) e ∙ get_or-set_same of g number 0 here, (walk.count, omega arith, sym walk.at ∙ sym e))
-    | inr d ↦ kept x d (walk.each x below)
-  ];
+  each =
+      λ x below. elim (cases_eq x g)
+      as (λ _. ((get_or (slice_set of g number) x 0 ≡ number) × IsPassed s h (suc walk.count) x) ⊎ (get_or (slice_set of g number) x 0 ≡ get_or old x 0)) [
+        | inl e ↦ inl (ap (λ y. get_or (slice_set of g number) y 0) e ∙ get_or-set_same of g number 0 here, (walk.count, omega arith, sym walk.at ∙ sym e))
+        | inr d ↦ kept x d (walk.each x below)
+      ];
 }
   where
     here : g < length of
@@ -69,7 +72,8 @@ abbrev pub HasNumber : List ℕ → ℕ → Type 0
 HasNumber of x = get_or of x 0 ≢ no_fan
 
 -- a walk that has met a number has come round
-pub walk_done : (s t : ℕ → ℕ) (n : ℕ) → AreInverse s t n → (h number : ℕ) (old of : List ℕ) (g : ℕ) → h < n → ((x : ℕ) → x < n → get_or old (s x) 0 ≡ get_or old x 0) → get_or old h 0 ≡ no_fan →
+pub walk_done : (s t : ℕ → ℕ) (n : ℕ) → AreInverse s t n → (h number : ℕ) (old of : List ℕ) (g : ℕ) → h < n →
+    ((x : ℕ) → x < n → get_or old (s x) 0 ≡ get_or old x 0) → get_or old h 0 ≡ no_fan →
     IsWalked s n h number old of g → HasNumber of g → IsRoundNumbered s n h number old of
 walk_done s t n inverse h number old of g hn kept fresh walk met = by walk.count refl
   where
@@ -79,13 +83,15 @@ walk_done s t n inverse h number old of g hn kept fresh walk met = by walk.count
     gn : g < n
     gn = walk_below s t n inverse h number old of g hn walk
 
-    met_one : (m : ℕ) → walk.count ≡ suc m → ((get_or of g 0 ≡ number) × IsPassed s h walk.count g) ⊎ (get_or of g 0 ≡ get_or old g 0) → HasNumber old (times s (suc m) h) ⊎ IsOn s h m (times s (suc m) h)
+    met_one : (m : ℕ) → walk.count ≡ suc m → ((get_or of g 0 ≡ number) × IsPassed s h walk.count g) ⊎ (get_or of g 0 ≡ get_or old g 0) →
+        HasNumber old (times s (suc m) h) ⊎ IsOn s h m (times s (suc m) h)
     met_one m is (inl (same, (j, few, e))) = inr (j, omega (arith, few, is), e ∙ walk.at ∙ ap (λ i. times s i h) is)
     met_one m is (inr same) = inl (λ none. met (same ∙ ap (λ x. get_or old x 0) (walk.at ∙ ap (λ i. times s i h) is) ∙ none))
 
     has_walked : (m : ℕ) → walk.count ≡ suc m → times s (suc m) h ≡ h
     has_walked m is =
-        comes_back s t n inverse (HasNumber old) done_back h m hn (λ has. has fresh) (record { open_so_far = λ j some few. walk.not_back j some (omega (arith, few, is)) }) (met_one m is (walk.each g gn))
+        comes_back s t n inverse (HasNumber old) done_back h m hn (λ has. has fresh)
+        (record { open_so_far = λ j some few. walk.not_back j some (omega (arith, few, is)) }) (met_one m is (walk.each g gn))
 
     passed_on : (m : ℕ) → walk.count ≡ suc m → (x : ℕ) → IsOn s h m x → get_or of x 0 ≡ number
     passed_on m is x (j, few, e) = ap (λ y. get_or of y 0) (sym e) ∙ walk.passed j (omega (arith, few, is))
@@ -98,7 +104,8 @@ walk_done s t n inverse h number old of g hn kept fresh walk met = by walk.count
         same_later ∙ sym (passed_on m is x (subst (IsOn s h m) (inverse.forth x below) (back_is_on s t n inverse h m hn (has_walked m is) (s x) (j, omega (arith, few, is), e))))
     around_kept m is x below (inr same) (inr same_later) = same_later ∙ kept x below ∙ sym same
 
-    reached : (x : ℕ) → ((get_or of x 0 ≡ number) × IsPassed s h walk.count x) ⊎ (get_or of x 0 ≡ get_or old x 0) → ((get_or of x 0 ≡ number) × ((k : ℕ) × (times s k h ≡ x))) ⊎ (get_or of x 0 ≡ get_or old x 0)
+    reached : (x : ℕ) → ((get_or of x 0 ≡ number) × IsPassed s h walk.count x) ⊎ (get_or of x 0 ≡ get_or old x 0) →
+        ((get_or of x 0 ≡ number) × ((k : ℕ) × (times s k h ≡ x))) ⊎ (get_or of x 0 ≡ get_or old x 0)
     reached x (inl (same, (j, few, e))) = inl (same, (j, e))
     reached x (inr same) = inr same
 

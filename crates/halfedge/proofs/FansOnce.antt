@@ -61,7 +61,8 @@ pub firsts_rise : (es : List (ℕ × ℕ)) (of first : List ℕ) → AreFans es 
 firsts_rise es of first fans j k less below = record { starts = fans.by_start j k less below; halves = fans.by_half j k less below }
 
 -- a half-edge's fan has the same least half-edge in both numberings
-least_at_most : (ts : List Triple) → IsClosed (all_edges ts) → (of first others heads : List ℕ) → AreFans (all_edges ts) of first → AreFans (all_edges ts) others heads → (h : ℕ) → h < length (all_edges ts) →
+least_at_most : (ts : List Triple) → IsClosed (all_edges ts) → (of first others heads : List ℕ) → AreFans (all_edges ts) of first →
+    AreFans (all_edges ts) others heads → (h : ℕ) → h < length (all_edges ts) →
     get_or first (get_or of h 0) 0 ≤ get_or heads (get_or others h 0) 0
 least_at_most ts closed of first others heads fans again h below =
     let g = get_or heads (get_or others h 0) 0 in
@@ -74,13 +75,15 @@ least_at_most ts closed of first others heads fans again h below =
         subst (λ k. get_or first k 0 ≤ g) (sym same) (fans.least g gn)
 
 -- neither is greater
-same_least : (ts : List Triple) → IsClosed (all_edges ts) → (of first others heads : List ℕ) → AreFans (all_edges ts) of first → AreFans (all_edges ts) others heads → (h : ℕ) → h < length (all_edges ts) →
+same_least : (ts : List Triple) → IsClosed (all_edges ts) → (of first others heads : List ℕ) → AreFans (all_edges ts) of first →
+    AreFans (all_edges ts) others heads → (h : ℕ) → h < length (all_edges ts) →
     get_or first (get_or of h 0) 0 ≡ get_or heads (get_or others h 0) 0
 same_least ts closed of first others heads fans again h below =
     omega (arith, least_at_most ts closed of first others heads fans again h below, least_at_most ts closed others heads of first again fans h below)
 
 -- a first half-edge of the one is a first of the other
-firsts_among : (ts : List Triple) → IsClosed (all_edges ts) → (of first others heads : List ℕ) → AreFans (all_edges ts) of first → AreFans (all_edges ts) others heads → (z : ℕ) → Contains first z → Contains heads z
+firsts_among : (ts : List Triple) → IsClosed (all_edges ts) → (of first others heads : List ℕ) → AreFans (all_edges ts) of first →
+    AreFans (all_edges ts) others heads → (z : ℕ) → Contains first z → Contains heads z
 firsts_among ts closed of first others heads fans again z (k, l, e) =
     let is : get_or first k 0 ≡ z = sym (get_or_default first k z 0 l) ∙ e in
     let held = fans.first_in k l in
@@ -93,14 +96,19 @@ firsts_among ts closed of first others heads fans again z (k, l, e) =
 one_place : (es : List (ℕ × ℕ)) (xs : List ℕ) → Rises es xs → (j k : ℕ) → j < length xs → k < length xs → get_or xs j 0 ≡ get_or xs k 0 → j ≡ k
 one_place es xs up j k l m same = elim (cases_order j k) as (λ _. j ≡ k) [
   | inl e ↦ e
-  | inr (inl less) ↦ let b = up j k less m in absurd (one_way es (get_or xs j 0) (get_or xs j 0) (subst (IsBefore es (get_or xs j 0)) (sym same) b) (subst (IsBefore es (get_or xs j 0)) (sym same) b))
-  | inr (inr less) ↦ let b = up k j less l in absurd (one_way es (get_or xs k 0) (get_or xs k 0) (subst (IsBefore es (get_or xs k 0)) same b) (subst (IsBefore es (get_or xs k 0)) same b))
+  | inr (inl less) ↦ let b = up j k less m in
+      absurd (one_way es (get_or xs j 0) (get_or xs j 0) (subst (IsBefore es (get_or xs j 0)) (sym same) b) (subst (IsBefore es (get_or xs j 0)) (sym same) b))
+  | inr (inr less) ↦ let b = up k j less l in
+      absurd (one_way es (get_or xs k 0) (get_or xs k 0) (subst (IsBefore es (get_or xs k 0)) same b) (subst (IsBefore es (get_or xs k 0)) same b))
 ]
 
 -- both lists are determined
-pub one_numbering : (ts : List Triple) → IsClosed (all_edges ts) → (of first others heads : List ℕ) → AreFans (all_edges ts) of first → AreFans (all_edges ts) others heads → (of ≡ others) × (first ≡ heads)
+pub one_numbering : (ts : List Triple) → IsClosed (all_edges ts) → (of first others heads : List ℕ) → AreFans (all_edges ts) of first →
+    AreFans (all_edges ts) others heads → (of ≡ others) × (first ≡ heads)
 one_numbering ts closed of first others heads fans again = (
-  same_lists of others (fans.one_each ∙ sym again.one_each) (λ h d below. get_or_default of h d 0 below ∙ same_of h (omega (arith, below, fans.one_each)) ∙ sym (get_or_default others h d 0 (omega (arith, below, fans.one_each, again.one_each)))),
+  same_lists of others (fans.one_each ∙ sym again.one_each)
+      (λ h d below. get_or_default of h d 0 below ∙ same_of h (omega (arith, below, fans.one_each))
+      ∙ sym (get_or_default others h d 0 (omega (arith, below, fans.one_each, again.one_each)))),
   same_first,
 )
   where
@@ -113,5 +121,6 @@ one_numbering ts closed of first others heads fans again = (
 
     same_of : (h : ℕ) → h < length es → get_or of h 0 ≡ get_or others h 0
     same_of h below =
-        one_place es first (firsts_rise es of first fans) (get_or of h 0) (get_or others h 0) (fans.numbered h below) (subst (λ l. get_or others h 0 < length l) (sym same_first) (again.numbered h below))
+        one_place es first (firsts_rise es of first fans) (get_or of h 0) (get_or others h 0) (fans.numbered h below)
+        (subst (λ l. get_or others h 0 < length l) (sym same_first) (again.numbered h below))
         (same_least ts closed of first others heads fans again h below ∙ ap (λ l. get_or l (get_or others h 0) 0) (sym same_first))

@@ -31,7 +31,8 @@ leads_back s m x some back i =
     enough (suc i) m some = omega (arith, enough i m some)
 
 -- two half-edges of the fan of a third are in one fan
-pub one_fan : (ts : List Triple) → IsClosed (all_edges ts) → (f : ℕ) → f < length (all_edges ts) → (h g : ℕ) → SameFan (all_edges ts) f h → SameFan (all_edges ts) f g → SameFan (all_edges ts) h g
+pub one_fan : (ts : List Triple) → IsClosed (all_edges ts) → (f : ℕ) → f < length (all_edges ts) → (h g : ℕ) → SameFan (all_edges ts) f h →
+    SameFan (all_edges ts) f g → SameFan (all_edges ts) h g
 one_fan ts closed f below h g (i, to_h) (j, to_g) =
     let s = around (all_edges ts) in
     let round = returns s (λ x. twin (all_edges ts) (prev_half x)) (length (all_edges ts)) (around_inverse ts closed) f below in
@@ -60,8 +61,10 @@ no_marks ts closed n k full = record {
         none (suc k) (suc v) = none k v
 
 -- the fan of an unmarked half-edge at a vertex that is not seen is marked, and the vertex is seen
-pub marks_more : (ts : List Triple) → IsClosed (all_edges ts) → (h : ℕ) → h < length (all_edges ts) → (of new : List ℕ) (seen : List Bool) → start (all_edges ts) h < length seen → start (all_edges ts) h ≢ no_fan → AreMarked (all_edges ts) of seen →
-    get_or seen (start (all_edges ts) h) false ≡ false → IsFanNumbered (all_edges ts) h (start (all_edges ts) h) of new → AreMarked (all_edges ts) new (slice_set seen (start (all_edges ts) h) true)
+pub marks_more : (ts : List Triple) → IsClosed (all_edges ts) → (h : ℕ) → h < length (all_edges ts) → (of new : List ℕ) (seen : List Bool) →
+    start (all_edges ts) h < length seen → start (all_edges ts) h ≢ no_fan → AreMarked (all_edges ts) of seen →
+    get_or seen (start (all_edges ts) h) false ≡ false → IsFanNumbered (all_edges ts) h (start (all_edges ts) h) of new →
+    AreMarked (all_edges ts) new (slice_set seen (start (all_edges ts) h) true)
 marks_more ts closed h h_below of new seen room number marks fresh numbered = record {
   full = numbered.full;
   kept_around = numbered.kept_around;
@@ -98,7 +101,8 @@ marks_more ts closed h h_below of new seen room number marks fresh numbered = re
     apart : (x y : ℕ) → x < length es → y < length es → start es x ≡ start es y → SameFan es h x → IsMarked of y → ⊥
     apart x y x_below y_below same fan_x marked = false≢true (sym fresh ∙ ap (λ u. get_or seen u false) (sym (in_new x x_below fan_x) ∙ same) ∙ marks.known y y_below marked)
 
-    joined_at : (x y : ℕ) → x < length es → y < length es → start es x ≡ start es y → IsMarked new x → IsMarked new y → ((get_or new x 0 ≡ v) × SameFan es h x) ⊎ (get_or new x 0 ≡ get_or of x 0) →
+    joined_at : (x y : ℕ) → x < length es → y < length es → start es x ≡ start es y → IsMarked new x → IsMarked new y →
+        ((get_or new x 0 ≡ v) × SameFan es h x) ⊎ (get_or new x 0 ≡ get_or of x 0) →
         ((get_or new y 0 ≡ v) × SameFan es h y) ⊎ (get_or new y 0 ≡ get_or of y 0) → SameFan es x y
     joined_at x y x_below y_below same x_marked y_marked (inl r) (inl q) = one_fan ts closed h h_below x y r.1 q.1
     joined_at x y x_below y_below same x_marked y_marked (inl r) (inr q) = absurd (apart x y x_below y_below same r.1 (λ none. y_marked (q ∙ none)))
@@ -122,7 +126,8 @@ marks_more ts closed h h_below of new seen room number marks fresh numbered = re
     ]
 
 -- what was marked stays so, and the half-edge is marked
-pub marked_after : (es : List (ℕ × ℕ)) (h number : ℕ) (of new : List ℕ) → number ≢ no_fan → IsFanNumbered es h number of new → (x : ℕ) → x < length es → IsMarked of x → IsMarked new x
+pub marked_after : (es : List (ℕ × ℕ)) (h number : ℕ) (of new : List ℕ) → number ≢ no_fan → IsFanNumbered es h number of new → (x : ℕ) → x < length es →
+    IsMarked of x → IsMarked new x
 marked_after es h number of new other numbered x below marked = by (numbered.each x below)
   where
     by : ((get_or new x 0 ≡ number) × SameFan es h x) ⊎ (get_or new x 0 ≡ get_or of x 0) → IsMarked new x
@@ -130,7 +135,8 @@ marked_after es h number of new other numbered x below marked = by (numbered.eac
     by (inr r) none = marked (sym r ∙ none)
 
 -- an unmarked half-edge at a vertex that is seen is in another fan than one that is marked
-pub not_clean : (ts : List Triple) → IsClosed (all_edges ts) → (of : List ℕ) (seen : List Bool) → AreMarked (all_edges ts) of seen → (h : ℕ) → h < length (all_edges ts) → get_or of h 0 ≡ no_fan → get_or seen (start (all_edges ts) h) false ≡ true → IsClean (all_edges ts) → ⊥
+pub not_clean : (ts : List Triple) → IsClosed (all_edges ts) → (of : List ℕ) (seen : List Bool) → AreMarked (all_edges ts) of seen → (h : ℕ) →
+    h < length (all_edges ts) → get_or of h 0 ≡ no_fan → get_or seen (start (all_edges ts) h) false ≡ true → IsClean (all_edges ts) → ⊥
 not_clean ts closed of seen marks h below none is clean = by (marks.witness (start (all_edges ts) h) is)
   where
     reached : (g : ℕ) → g < length (all_edges ts) → IsMarked of g → SameFan (all_edges ts) g h → ⊥

@@ -54,7 +54,9 @@ ends-numbered k [] = refl
 ends-numbered k (e ∷ es) = ap (λ l. e ∷ l) (ends-numbered (suc k) es)
 
 -- the least edge that the half-edges in some order have more often than the turned ones in some order is the least open edge
-pub open_found : (es : List (ℕ × ℕ)) (xs ys : List Half) (found : Option (ℕ × ℕ)) → IsPermutation (numbered 0 es) xs → IsPermutation (numbered 0 (backward es)) ys → (IsNone found → HasNoSurplus (ends_of xs) (ends_of ys)) → IfSome found (IsLeastSurplus (ends_of xs) (ends_of ys)) → found ≡ open_pair es
+pub open_found : (es : List (ℕ × ℕ)) (xs ys : List Half) (found : Option (ℕ × ℕ)) → IsPermutation (numbered 0 es) xs →
+    IsPermutation (numbered 0 (backward es)) ys → (IsNone found → HasNoSurplus (ends_of xs) (ends_of ys)) →
+    IfSome found (IsLeastSurplus (ends_of xs) (ends_of ys)) → found ≡ open_pair es
 open_found es xs ys found moved back_moved none least =
     open_pair_found es (backward es) (ends_of xs) (ends_of ys) found refl
     (subst (λ l. IsPermutation l (ends_of xs)) (ends-numbered 0 es) (IsPermutation-map ends (numbered 0 es) xs moved))

@@ -47,7 +47,8 @@ lesser_above p e n (Some r) up least q same = by (is_lesser e r) same
     by false same = least.above q same
 
 -- the least of the edges that pass the test is p, where p passes and no lesser edge does
-least_of : (test : ℕ × ℕ → Bool) (p : ℕ × ℕ) → test p ≡ true → ((q : ℕ × ℕ) → is_lesser q p ≡ true → test q ≡ false) → (es : List (ℕ × ℕ)) → IsLeastOf p (dir es p.0 p.1) (least_edge (filter test es))
+least_of : (test : ℕ × ℕ → Bool) (p : ℕ × ℕ) → test p ≡ true → ((q : ℕ × ℕ) → is_lesser q p ≡ true → test q ≡ false) → (es : List (ℕ × ℕ)) →
+    IsLeastOf p (dir es p.0 p.1) (least_edge (filter test es))
 least_of test p passes none [] = record { there = λ some. absurd (omega (arith, some)); above = λ q same. cc }
 least_of test p passes none (e ∷ es) = by (test e) refl (least_of test p passes none es)
   where
@@ -70,7 +71,8 @@ least_of test p passes none (e ∷ es) = by (test e) refl (least_of test p passe
     by false fails least = record { there = λ some. least.there (omega (arith, some, ap one_if (is_other fails (is_edge e p.0 p.1) refl))); above = least.above }
 
 -- the least open edge, where this one is open and no lesser edge is
-pub open_pair_least : (es : List (ℕ × ℕ)) (p : ℕ × ℕ) → dir es p.1 p.0 < dir es p.0 p.1 → ((q : ℕ × ℕ) → is_lesser q p ≡ true → dir es q.0 q.1 ≤ dir es q.1 q.0) → open_pair es ≡ Some p
+pub open_pair_least : (es : List (ℕ × ℕ)) (p : ℕ × ℕ) → dir es p.1 p.0 < dir es p.0 p.1 →
+    ((q : ℕ × ℕ) → is_lesser q p ≡ true → dir es q.0 q.1 ≤ dir es q.1 q.0) → open_pair es ≡ Some p
 open_pair_least es p is_open least =
     let found = least_of (λ e. nat_lt (dir es e.1 e.0) (dir es e.0 e.1)) p (lt-ltb _ _ is_open) (λ q less. le-ltb _ _ (least q less)) es in
     found.there (omega (arith, is_open))
@@ -114,7 +116,8 @@ closed_from_open_pair es none = closed_from_none es (λ a b. by a b (dir es a b)
     by a b (suc n) is = ltb-false _ _ (passes_not (λ e. nat_lt (dir es e.1 e.0) (dir es e.0 e.1)) (a, b) es none (omega (arith, is)))
 
 -- the least surplus of the edges over the turned edges, both in any order, is the least open edge
-pub open_pair_found : (all back es others : List (ℕ × ℕ)) (found : Option (ℕ × ℕ)) → back ≡ backward all → IsPermutation all es → IsPermutation back others → (IsNone found → HasNoSurplus es others)
+pub open_pair_found : (all back es others : List (ℕ × ℕ)) (found : Option (ℕ × ℕ)) → back ≡ backward all → IsPermutation all es → IsPermutation back others →
+    (IsNone found → HasNoSurplus es others)
     → IfSome found (IsLeastSurplus es others) → found ≡ open_pair all
 open_pair_found all back es others found turned same same_back none least = by found none least
   where

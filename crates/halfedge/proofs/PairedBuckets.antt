@@ -52,7 +52,8 @@ filter_count key k a b (h ∷ hs) =
     (λ no. later ∙ not_counted (is_edge (ends h) a b) (edge_lies_in key k (a, b)) all (λ is. sym no ∙ lies_as_edge key k a b h is))
 
 -- so it does once the bucket is sorted
-pub way_count : (es : List (ℕ × ℕ)) (key : ℕ → ℕ) (k : ℕ) (way : List Half) → IsSortOf (filter (lies_in key k) (numbered 0 es)) way → (a b : ℕ) → dir (ends_of way) a b ≡ cond (edge_lies_in key k (a, b)) (dir es a b) 0
+pub way_count : (es : List (ℕ × ℕ)) (key : ℕ → ℕ) (k : ℕ) (way : List Half) → IsSortOf (filter (lies_in key k) (numbered 0 es)) way → (a b : ℕ) →
+    dir (ends_of way) a b ≡ cond (edge_lies_in key k (a, b)) (dir es a b) 0
 way_count es key k way sorted a b =
     let kept = filter (lies_in key k) (numbered 0 es) in
     dir-permutation (ends_of kept) (ends_of way) (IsPermutation-map ends kept way sorted.moved) a b ∙ filter_count key k a b (numbered 0 es)
@@ -64,7 +65,8 @@ ups_count es key k ups downs ways a b up same =
     way_count es key k ups ways.ups_sorted a b ∙ ap (λ t. cond t (dir es a b) 0) (lies_from key k a b up same)
 
 -- and among the downs as often as it runs back
-pub downs_count : (es : List (ℕ × ℕ)) (key : ℕ → ℕ) (k : ℕ) (ups downs : List Half) → AreWays es key k ups downs → (a b : ℕ) → a < b → key a ≡ k → dir (ends_of downs) a b ≡ dir es b a
+pub downs_count : (es : List (ℕ × ℕ)) (key : ℕ → ℕ) (k : ℕ) (ups downs : List Half) → AreWays es key k ups downs → (a b : ℕ) → a < b → key a ≡ k →
+    dir (ends_of downs) a b ≡ dir es b a
 downs_count es key k ups downs ways a b up same =
     way_count (backward es) key k downs ways.downs_sorted a b ∙ ap (λ t. cond t (dir (backward es) a b) 0) (lies_from key k a b up same) ∙ dir-backward es a b
 
@@ -122,7 +124,8 @@ below_next P k n low before here = elim (cases_lt n k) as (λ _. P n) [
 ]
 
 -- the half-edges of a bucket are single where the edges that lie there are
-single_inside : (es : List (ℕ × ℕ)) (key : ℕ → ℕ) (k : ℕ) (way : List Half) → IsSortOf (filter (lies_in key k) (numbered 0 es)) way → ((a b : ℕ) → a < b → key a ≡ k → dir es a b ≤ 1) → AreSingle (ends_of way)
+single_inside : (es : List (ℕ × ℕ)) (key : ℕ → ℕ) (k : ℕ) (way : List Half) → IsSortOf (filter (lies_in key k) (numbered 0 es)) way →
+    ((a b : ℕ) → a < b → key a ≡ k → dir es a b ≤ 1) → AreSingle (ends_of way)
 single_inside es key k way sorted few a b =
     subst (λ n. n ≤ 1) (sym (way_count es key k way sorted a b))
     (cond_both (edge_lies_in key k (a, b)) (dir es a b) 0 (λ n. n ≤ 1)
@@ -130,7 +133,8 @@ single_inside es key k way sorted few a b =
     (λ no. omega arith))
 
 -- with one more bucket: no edge of the first buckets runs twice, and none of the next
-alone_more : (es : List (ℕ × ℕ)) (key : ℕ → ℕ) (k : ℕ) (ups downs : List Half) (single one : Bool) → AreWays es key k ups downs → (IsTrue single ↔ ((a b : ℕ) → a < b → key a < k → dir es a b ≤ 1)) → (IsTrue one ↔ AreSingle (ends_of ups))
+alone_more : (es : List (ℕ × ℕ)) (key : ℕ → ℕ) (k : ℕ) (ups downs : List Half) (single one : Bool) → AreWays es key k ups downs →
+    (IsTrue single ↔ ((a b : ℕ) → a < b → key a < k → dir es a b ≤ 1)) → (IsTrue one ↔ AreSingle (ends_of ups))
     → (IsTrue (single && one) ↔ ((a b : ℕ) → a < b → key a < k + 1 → dir es a b ≤ 1))
 alone_more es key k ups downs single one ways alone known = (
   (λ yes a b up low.
@@ -143,14 +147,17 @@ alone_more es key k ups downs single one ways alone known = (
 )
 
 -- a half-edge that stands in a list whose half-edges have their twins has its twin
-has_twin : (es : List (ℕ × ℕ)) (way : List Half) (new : List ℕ) (h : ℕ) → ((i : ℕ) → i < length way → get_or new (half_at way i) 0 ≡ twin es (half_at way i)) → (i : ℕ) × (i < length way) × (half_at way i ≡ h) → get_or new h 0 ≡ twin es h
+has_twin : (es : List (ℕ × ℕ)) (way : List Half) (new : List ℕ) (h : ℕ) → ((i : ℕ) → i < length way → get_or new (half_at way i) 0 ≡ twin es (half_at way i)) →
+    (i : ℕ) × (i < length way) × (half_at way i ≡ h) → get_or new h 0 ≡ twin es h
 has_twin es way new h each (i, below, is) = subst (λ g. get_or new g 0 ≡ twin es g) is (each i below)
 
 -- one more bucket is paired
-pub paired_more : (es : List (ℕ × ℕ)) (key : ℕ → ℕ) (k : ℕ) (ups downs : List Half) (old new : List ℕ) (single one : Bool) → ArePaired es key k old single → AreWays es key k ups downs → ends_of ups ≡ ends_of downs
+pub paired_more : (es : List (ℕ × ℕ)) (key : ℕ → ℕ) (k : ℕ) (ups downs : List Half) (old new : List ℕ) (single one : Bool) → ArePaired es key k old single →
+    AreWays es key k ups downs → ends_of ups ≡ ends_of downs
     → length new ≡ length old → AreWritten (twin es) ups downs old new → (IsTrue one ↔ AreSingle (ends_of ups))
     → ((h : ℕ) → h < length es → start es h < finish es h → key (start es h) ≡ k → (i : ℕ) × (i < length ups) × (half_at ups i ≡ h))
-    → ((h : ℕ) → h < length es → finish es h < start es h → key (finish es h) ≡ k → (i : ℕ) × (i < length downs) × (half_at downs i ≡ h)) → ArePaired es key (k + 1) new (single && one)
+    → ((h : ℕ) → h < length es → finish es h < start es h → key (finish es h) ≡ k → (i : ℕ) × (i < length downs) × (half_at downs i ≡ h)) →
+    ArePaired es key (k + 1) new (single && one)
 paired_more es key k ups downs old new single one paired ways alike full written known up_places down_places = record {
   full = full ∙ paired.full;
   up = λ h below up low. below_next (λ n. get_or new h 0 ≡ twin es h) k (key (start es h)) low
@@ -205,7 +212,8 @@ all_twins es twins full each =
     get_or_default twins h d 0 below ∙ each h inside ∙ sym (twins_at es h d inside))
 
 -- once all buckets are paired, each half-edge has its twin
-each_twin : (es : List (ℕ × ℕ)) (key : ℕ → ℕ) (n : ℕ) (twins : List ℕ) (single : Bool) → ArePaired es key n twins single → ((a : ℕ) → key a < n) → (h : ℕ) → h < length es → start es h ≢ finish es h → get_or twins h 0 ≡ twin es h
+each_twin : (es : List (ℕ × ℕ)) (key : ℕ → ℕ) (n : ℕ) (twins : List ℕ) (single : Bool) → ArePaired es key n twins single → ((a : ℕ) → key a < n) → (h : ℕ) →
+    h < length es → start es h ≢ finish es h → get_or twins h 0 ≡ twin es h
 each_twin es key n twins single paired low h below differ = elim (cases_order (start es h) (finish es h)) as (λ _. get_or twins h 0 ≡ twin es h) [
   | inl same ↦ absurd (differ same)
   | inr (inl less) ↦ paired.up h below less (low (start es h))

@@ -32,7 +32,8 @@ filter-filter p q (x ∷ xs) = elim (cases_Bool (q x)) as (λ _. filter p (filte
 ]
 
 -- where f gives the half-edge at each place from k on, the numbered edges are what f gives at these places
-numbered_places : (f : ℕ → Half) (k : ℕ) (es : List (ℕ × ℕ)) → ((j : ℕ) → j < length es → f (k + j) ≡ (start es j, finish es j, k + j)) → numbered k es ≡ map f (up_from k (length es))
+numbered_places : (f : ℕ → Half) (k : ℕ) (es : List (ℕ × ℕ)) → ((j : ℕ) → j < length es → f (k + j) ≡ (start es j, finish es j, k + j)) →
+    numbered k es ≡ map f (up_from k (length es))
 numbered_places f k [] at = refl
 numbered_places f k (e ∷ es) at =
     let here : k + 0 ≡ k = omega arith in
@@ -82,7 +83,8 @@ pub record AreKeys (es : List (ℕ × ℕ)) (key : ℕ → ℕ) (keys : List ℕ
   pub each : (h : ℕ) → h < length es → get_or keys h 0 ≡ key (lesser_end_at es h)
 
 -- of the half-edges with key k, those that run up are those that lie in k
-pub key_ups : (es : List (ℕ × ℕ)) (key : ℕ → ℕ) (keys : List ℕ) (k : ℕ) → AreKeys es key keys → filter runs_up (map (half_of es) (places_of keys k)) ≡ filter (lies_in key k) (numbered 0 es)
+pub key_ups : (es : List (ℕ × ℕ)) (key : ℕ → ℕ) (keys : List ℕ) (k : ℕ) → AreKeys es key keys →
+    filter runs_up (map (half_of es) (places_of keys k)) ≡ filter (lies_in key k) (numbered 0 es)
 key_ups es key keys k are =
     let inside : ℕ → Bool = λ i. get_or keys i 0 == k in
     ap (λ m. filter runs_up (map (half_of es) (filter inside (upto m)))) are.full
@@ -91,7 +93,8 @@ key_ups es key keys k are =
     ∙ ap (filter (lies_in key k)) (sym (numbered_halves es))
 
 -- and those that run down, turned, are those of the turned edges that lie in k
-pub key_downs : (es : List (ℕ × ℕ)) (key : ℕ → ℕ) (keys : List ℕ) (k : ℕ) → AreKeys es key keys → filter runs_up (map turned (map (half_of es) (places_of keys k))) ≡ filter (lies_in key k) (numbered 0 (backward es))
+pub key_downs : (es : List (ℕ × ℕ)) (key : ℕ → ℕ) (keys : List ℕ) (k : ℕ) → AreKeys es key keys →
+    filter runs_up (map turned (map (half_of es) (places_of keys k))) ≡ filter (lies_in key k) (numbered 0 (backward es))
 key_downs es key keys k are =
     let inside : ℕ → Bool = λ i. get_or keys i 0 == k in
     let back : ℕ → Half = λ h. turned (half_of es h) in

@@ -18,7 +18,8 @@ edge_of_triangle (x ∷ xs) (suc (suc (suc h))) low =
     edge_of_triangle xs h (omega (arith, low)) ∙ (λ i. get_or (edges (triple_of (get_or (x ∷ xs) (of i) []))) (in_it i) (0, 0))
 
 -- the one of the three at a place
-pub triangle_edge : (xs : List (List ℕ)) (h r : ℕ) → h < 3 * length xs → h % 3 ≡ r → get_or (edges (triple_of (get_or xs (h / 3) []))) r (0, 0) ≡ get_or (all_edges (triples_of xs)) h (0, 0)
+pub triangle_edge : (xs : List (List ℕ)) (h r : ℕ) → h < 3 * length xs → h % 3 ≡ r →
+    get_or (edges (triple_of (get_or xs (h / 3) []))) r (0, 0) ≡ get_or (all_edges (triples_of xs)) h (0, 0)
 triangle_edge xs h r low is = ap (λ n. get_or (edges (triple_of (get_or xs (h / 3) []))) n (0, 0)) (sym is) ∙ sym (edge_of_triangle xs h low)
 
 -- an edge of a triple starts at the number at its place

@@ -30,10 +30,12 @@ kept_is_member {X = X} p xs x inside =
 
 -- a member that passes is one of the filtered list
 member_is_kept : {X : Type 0} (p : X → Bool) (xs : List X) (x : X) → Contains xs x → p x ≡ true → Contains (filter p xs) x
-member_is_kept {X = X} p xs x inside passes = elim (Contains-append_cases (filter p xs) (filter q xs) x (Contains-permutation xs (filter p xs ++ filter q xs) x (IsPermutation-filter_both p q (λ _. refl) xs) inside)) as (λ _. Contains (filter p xs) x) [
-  | inl left ↦ left
-  | inr right ↦ absurd (false≢true (ap not (sym passes) ∙ All-contains (λ y. q y ≡ true) (filter q xs) x (filter_passes q xs) right))
-]
+member_is_kept {X = X} p xs x inside passes =
+    elim (Contains-append_cases (filter p xs) (filter q xs) x
+    (Contains-permutation xs (filter p xs ++ filter q xs) x (IsPermutation-filter_both p q (λ _. refl) xs) inside)) as (λ _. Contains (filter p xs) x) [
+      | inl left ↦ left
+      | inr right ↦ absurd (false≢true (ap not (sym passes) ∙ All-contains (λ y. q y ≡ true) (filter q xs) x (filter_passes q xs) right))
+    ]
   where
     q : X → Bool
     q y = not (p y)
@@ -77,7 +79,8 @@ less_count (c ∷ xs) x g =
     )
 
 -- and so many are not greater
-not_greater_count : (xs : List Half) (x : ℕ × ℕ) (g : ℕ) → count_by (λ c. not (is_lt (half_cmp (x.0, x.1, g) c))) xs ≡ lesser_count (ends_of xs) x + count_by (runs_before x (suc g)) xs
+not_greater_count : (xs : List Half) (x : ℕ × ℕ) (g : ℕ) →
+    count_by (λ c. not (is_lt (half_cmp (x.0, x.1, g) c))) xs ≡ lesser_count (ends_of xs) x + count_by (runs_before x (suc g)) xs
 not_greater_count [] x g = refl
 not_greater_count (c ∷ xs) x g =
     omega (
@@ -121,10 +124,12 @@ rank_before (e ∷ es) x k g (suc m) at =
     )
 
 -- the half-edges of bucket k, sorted, which run as one of them and have a lower number
-bucket_before : (es : List (ℕ × ℕ)) (key : ℕ → ℕ) (k : ℕ) (xs : List Half) → IsPermutation (filter (lies_in key k) (numbered 0 es)) xs → (x : ℕ × ℕ) → edge_lies_in key k x ≡ true → (g : ℕ) →
+bucket_before : (es : List (ℕ × ℕ)) (key : ℕ → ℕ) (k : ℕ) (xs : List Half) → IsPermutation (filter (lies_in key k) (numbered 0 es)) xs → (x : ℕ × ℕ) →
+    edge_lies_in key k x ≡ true → (g : ℕ) →
     count_by (runs_before x g) xs ≡ rank (λ e. is_edge e x.0 x.1) es g
 bucket_before es key k xs moved x lies g =
-    let passes : (c : Half) → runs_before x g c ≡ true → lies_in key k c ≡ true = λ c runs. ap (edge_lies_in key k) (same_edge (ends c) x (and_parts (is_edge (ends c) x.0 x.1) (nat_lt c.2 g) runs).0) ∙ lies in
+    let passes : (c : Half) → runs_before x g c ≡ true → lies_in key k c ≡ true =
+    λ c runs. ap (edge_lies_in key k) (same_edge (ends c) x (and_parts (is_edge (ends c) x.0 x.1) (nat_lt c.2 g) runs).0) ∙ lies in
     let first : g ≡ 0 + g = omega arith in
     omega (
       arith,
@@ -146,7 +151,9 @@ stands es key k xs moved i below = of_member (kept_is_member (lies_in key k) (nu
     x = get_or xs i (0, 0, 0)
 
     kept : Contains (filter (lies_in key k) (numbered 0 es)) x
-    kept = Contains-permutation xs (filter (lies_in key k) (numbered 0 es)) x (IsPermutation-sym (filter (lies_in key k) (numbered 0 es)) xs moved) (Contains-get_or xs i (0, 0, 0) below)
+    kept =
+        Contains-permutation xs (filter (lies_in key k) (numbered 0 es)) x (IsPermutation-sym (filter (lies_in key k) (numbered 0 es)) xs moved)
+        (Contains-get_or xs i (0, 0, 0) below)
 
     of_member : Contains (numbered 0 es) x → Stands es key k xs i
     of_member (j, l, e) =
@@ -155,7 +162,8 @@ stands es key k xs moved i below = of_member (kept_is_member (lies_in key k) (nu
         let is : x ≡ (start es j, finish es j, j) = sym e ∙ numbered_at 0 es j x within ∙ ap (λ n. (start es j, finish es j, n)) first in
         record {
           holds = record { half = j; within = within; is = λ d. get_or_default xs i d (0, 0, 0) below ∙ is };
-          lies = ap (lies_in key k) (sym is) ∙ All-contains (λ c. lies_in key k c ≡ true) (filter (lies_in key k) (numbered 0 es)) x (filter_passes (lies_in key k) (numbered 0 es)) kept;
+          lies = ap (lies_in key k) (sym is) ∙ All-contains (λ c. lies_in key k c ≡ true) (filter (lies_in key k) (numbered 0 es)) x
+              (filter_passes (lies_in key k) (numbered 0 es)) kept;
         }
 
 -- what a place of the sorted bucket says of its half-edge: where it runs, and how many stand before it
@@ -165,7 +173,8 @@ pub record IsPlacedIn (es : List (ℕ × ℕ)) (xs : List Half) (i g : ℕ) : Ty
   pub place : i ≡ lesser_count (ends_of xs) (edge_at es g) + rank (runs_as es g) es g
 
 -- each place says so
-pub placed_in : (es : List (ℕ × ℕ)) (key : ℕ → ℕ) (k : ℕ) (xs : List Half) → IsSortOf (filter (lies_in key k) (numbered 0 es)) xs → (i : ℕ) → i < length xs → IsPlacedIn es xs i (half_at xs i)
+pub placed_in : (es : List (ℕ × ℕ)) (key : ℕ → ℕ) (k : ℕ) (xs : List Half) → IsSortOf (filter (lies_in key k) (numbered 0 es)) xs → (i : ℕ) → i < length xs →
+    IsPlacedIn es xs i (half_at xs i)
 placed_in es key k xs sorted i below =
     let here = stands es key k xs sorted.moved i below in
     let g = here.holds.half in
@@ -188,7 +197,8 @@ placed_in es key k xs sorted i below =
     })
 
 -- and its edge lies in the bucket
-pub placed_lies : (es : List (ℕ × ℕ)) (key : ℕ → ℕ) (k : ℕ) (xs : List Half) → IsSortOf (filter (lies_in key k) (numbered 0 es)) xs → (i : ℕ) → i < length xs → edge_lies_in key k (edge_at es (half_at xs i)) ≡ true
+pub placed_lies : (es : List (ℕ × ℕ)) (key : ℕ → ℕ) (k : ℕ) (xs : List Half) → IsSortOf (filter (lies_in key k) (numbered 0 es)) xs → (i : ℕ) → i < length xs →
+    edge_lies_in key k (edge_at es (half_at xs i)) ≡ true
 placed_lies es key k xs sorted i below =
     let here = stands es key k xs sorted.moved i below in
     subst (λ g. edge_lies_in key k (edge_at es g) ≡ true) (sym (ap (λ (c : Half). c.2) (here.holds.is (0, 0, 0)))) here.lies
@@ -201,7 +211,9 @@ rank_backward (e ∷ es) a b (suc m) = omega (arith, edge_turned e a b, rank_bac
 
 -- what runs back is the twin
 back_is_twin : (es : List (ℕ × ℕ)) (h t : ℕ) → RunsBack es h t → t ≡ twin es h
-back_is_twin es h t back = sym (nth_rank (runs_against es h) es t back.within (λ d. ap (runs_against es h) (get_or_default es t d (0, 0) back.within) ∙ runs)) ∙ ap (nth (runs_against es h) es) earlier
+back_is_twin es h t back =
+    sym (nth_rank (runs_against es h) es t back.within (λ d. ap (runs_against es h) (get_or_default es t d (0, 0) back.within) ∙ runs))
+    ∙ ap (nth (runs_against es h) es) earlier
   where
     runs : is_edge (get_or es t (0, 0)) (finish es h) (start es h) ≡ true
     runs = and_from (start es t == finish es h) (finish es t == start es h) (eq-eqb (start es t) (finish es h) back.from) (eq-eqb (finish es t) (start es h) back.to)
@@ -218,15 +230,19 @@ pub same_length : (ups downs : List Half) → ends_of ups ≡ ends_of downs → 
 same_length ups downs same = sym (length-map downs ends) ∙ ap length (sym same) ∙ length-map ups ends
 
 -- and at one place their half-edges have the same ends
-same_runs : (es fs : List (ℕ × ℕ)) (ups downs : List Half) (i g t : ℕ) → ends_of ups ≡ ends_of downs → i < length ups → IsPlacedIn es ups i g → IsPlacedIn fs downs i t → edge_at fs t ≡ edge_at es g
+same_runs : (es fs : List (ℕ × ℕ)) (ups downs : List Half) (i g t : ℕ) → ends_of ups ≡ ends_of downs → i < length ups → IsPlacedIn es ups i g →
+    IsPlacedIn fs downs i t → edge_at fs t ≡ edge_at es g
 same_runs es fs ups downs i g t same below p q =
-    sym q.runs ∙ sym (get_or-map ends downs i (0, 0, 0) (0, 0) (omega (arith, below, same_length ups downs same))) ∙ ap (λ l. get_or l i (0, 0)) (sym same) ∙ get_or-map ends ups i (0, 0, 0) (0, 0) below ∙ p.runs
+    sym q.runs ∙ sym (get_or-map ends downs i (0, 0, 0) (0, 0) (omega (arith, below, same_length ups downs same))) ∙ ap (λ l. get_or l i (0, 0)) (sym same)
+    ∙ get_or-map ends ups i (0, 0, 0) (0, 0) below ∙ p.runs
 
 -- and as many before them that run the same way
-same_rank : (es fs : List (ℕ × ℕ)) (ups downs : List Half) (i g t : ℕ) → ends_of ups ≡ ends_of downs → IsPlacedIn es ups i g → IsPlacedIn fs downs i t → edge_at fs t ≡ edge_at es g →
+same_rank : (es fs : List (ℕ × ℕ)) (ups downs : List Half) (i g t : ℕ) → ends_of ups ≡ ends_of downs → IsPlacedIn es ups i g → IsPlacedIn fs downs i t →
+    edge_at fs t ≡ edge_at es g →
     rank (runs_as es g) fs t ≡ rank (runs_as es g) es g
 same_rank es fs ups downs i g t same p q runs =
-    let at : i ≡ lesser_count (ends_of downs) (edge_at es g) + rank (runs_as es g) fs t = subst (λ (y : ℕ × ℕ). i ≡ lesser_count (ends_of downs) y + rank (λ e. is_edge e y.0 y.1) fs t) runs q.place in
+    let at : i ≡ lesser_count (ends_of downs) (edge_at es g) + rank (runs_as es g) fs t =
+    subst (λ (y : ℕ × ℕ). i ≡ lesser_count (ends_of downs) y + rank (λ e. is_edge e y.0 y.1) fs t) runs q.place in
     omega (arith, at, p.place, ap (λ l. lesser_count l (edge_at es g)) same)
 
 -- where an edge of the turned chain runs
@@ -250,7 +266,8 @@ runs_back_beside es key k ups downs ways same i below =
       within = within;
       from = from;
       to = to;
-      same = ap (λ a. rank (λ e. is_edge e a (finish es t)) es t) from ∙ ap (λ b. rank (λ e. is_edge e (finish es g) b) es t) to ∙ sym (rank_backward es (start es g) (finish es g) t) ∙ same_rank es (backward es) ups downs i g t same p q runs;
+      same = ap (λ a. rank (λ e. is_edge e a (finish es t)) es t) from ∙ ap (λ b. rank (λ e. is_edge e (finish es g) b) es t) to
+          ∙ sym (rank_backward es (start es g) (finish es g) t) ∙ same_rank es (backward es) ups downs i g t same p q runs;
     }
 
 -- so at each place stand a half-edge and its twin
@@ -270,9 +287,11 @@ halves_of_ways es key k ups downs ways = (
 )
 
 -- a half-edge that lies in the bucket has a place in the sorted bucket
-place_in_bucket : (es : List (ℕ × ℕ)) (key : ℕ → ℕ) (k : ℕ) (xs : List Half) → IsPermutation (filter (lies_in key k) (numbered 0 es)) xs → (h : ℕ) → h < length es → edge_lies_in key k (edge_at es h) ≡ true →
+place_in_bucket : (es : List (ℕ × ℕ)) (key : ℕ → ℕ) (k : ℕ) (xs : List Half) → IsPermutation (filter (lies_in key k) (numbered 0 es)) xs → (h : ℕ) →
+    h < length es → edge_lies_in key k (edge_at es h) ≡ true →
     (i : ℕ) × (i < length xs) × (half_at xs i ≡ h)
-place_in_bucket es key k xs moved h below lies = of_member (Contains-permutation (filter (lies_in key k) (numbered 0 es)) xs x moved (member_is_kept (lies_in key k) (numbered 0 es) x inside lies))
+place_in_bucket es key k xs moved h below lies =
+    of_member (Contains-permutation (filter (lies_in key k) (numbered 0 es)) xs x moved (member_is_kept (lies_in key k) (numbered 0 es) x inside lies))
   where
     x : Half
     x = (start es h, finish es h, h)
@@ -291,12 +310,14 @@ pub lies_from : (key : ℕ → ℕ) (k a b : ℕ) → a < b → key a ≡ k → 
 lies_from key k a b up keyed = and_from (nat_lt a b) (key a == k) (lt-ltb a b up) (eq-eqb (key a) k keyed)
 
 -- a half-edge that runs up has a place among those of its bucket
-pub up_placed : (es : List (ℕ × ℕ)) (key : ℕ → ℕ) (k : ℕ) (ups downs : List Half) → AreWays es key k ups downs → (h : ℕ) → h < length es → start es h < finish es h → key (start es h) ≡ k →
+pub up_placed : (es : List (ℕ × ℕ)) (key : ℕ → ℕ) (k : ℕ) (ups downs : List Half) → AreWays es key k ups downs → (h : ℕ) → h < length es →
+    start es h < finish es h → key (start es h) ≡ k →
     (i : ℕ) × (i < length ups) × (half_at ups i ≡ h)
 up_placed es key k ups downs ways h below up keyed = place_in_bucket es key k ups ways.ups_sorted.moved h below (lies_from key k (start es h) (finish es h) up keyed)
 
 -- and one that runs down among those that are turned
-pub down_placed : (es : List (ℕ × ℕ)) (key : ℕ → ℕ) (k : ℕ) (ups downs : List Half) → AreWays es key k ups downs → (h : ℕ) → h < length es → finish es h < start es h → key (finish es h) ≡ k →
+pub down_placed : (es : List (ℕ × ℕ)) (key : ℕ → ℕ) (k : ℕ) (ups downs : List Half) → AreWays es key k ups downs → (h : ℕ) → h < length es →
+    finish es h < start es h → key (finish es h) ≡ k →
     (i : ℕ) × (i < length downs) × (half_at downs i ≡ h)
 down_placed es key k ups downs ways h below down keyed =
     place_in_bucket (backward es) key k downs ways.downs_sorted.moved h (omega (arith, below, length-map es turned_edge))

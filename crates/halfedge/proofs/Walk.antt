@@ -75,7 +75,8 @@ reached_before x (z ∷ zs) rising p reached = by (is_lesser p x) refl
     by true less = absurd (omega (arith, rising.0 z (through x p z less reached), first_occurs z zs))
 
 -- the same edge is read from both lists
-matched : (es others : List (ℕ × ℕ)) (x y : ℕ × ℕ) (xs ys : List (ℕ × ℕ)) → AreRead es others (x ∷ xs) (y ∷ ys) → is_lesser y x ≡ false → is_lesser x y ≡ false → AreRead es others xs ys
+matched : (es others : List (ℕ × ℕ)) (x y : ℕ × ℕ) (xs ys : List (ℕ × ℕ)) → AreRead es others (x ∷ xs) (y ∷ ys) → is_lesser y x ≡ false →
+    is_lesser x y ≡ false → AreRead es others xs ys
 matched es others x y xs ys read not_less not_more = record {
   left_rising = read.left_rising.1;
   right_rising = read.right_rising.1;
@@ -84,17 +85,21 @@ matched es others x y xs ys read not_less not_more = record {
 }
 
 -- both next edges are one edge, and are read
-pub read_both : (es others : List (ℕ × ℕ)) (left right : List Half) (x y : Half) (xs ys : List Half) → AreRead es others (ends_of left) (ends_of right) → left ≡ x ∷ xs → right ≡ y ∷ ys → edge_cmp (ends y) (ends x) ≡ Equal
+pub read_both : (es others : List (ℕ × ℕ)) (left right : List Half) (x y : Half) (xs ys : List Half) → AreRead es others (ends_of left) (ends_of right) →
+    left ≡ x ∷ xs → right ≡ y ∷ ys → edge_cmp (ends y) (ends x) ≡ Equal
     → AreRead es others (ends_of xs) (ends_of ys)
 read_both es others left right x y xs ys read left_is right_is equal =
-    let at : AreRead es others (ends_of (x ∷ xs)) (ends_of (y ∷ ys)) = rewritten es others (ends_of left) (ends_of right) (ends_of (x ∷ xs)) (ends_of (y ∷ ys)) (ap ends_of left_is) (ap ends_of right_is) read in
+    let at : AreRead es others (ends_of (x ∷ xs)) (ends_of (y ∷ ys)) = rewritten es others (ends_of left) (ends_of right) (ends_of (x ∷ xs)) (ends_of (y ∷ ys))
+    (ap ends_of left_is) (ap ends_of right_is) read in
     matched es others (ends x) (ends y) (ends_of xs) (ends_of ys) at (not_lesser_from_cmp (ends y) (ends x) (ap is_lt equal)) (not_greater_from_cmp (ends y) (ends x) equal)
 
 -- the first list has its next edge more often, where the second list's next edge is greater
-pub surplus_found : (es others : List (ℕ × ℕ)) (left right : List Half) (x y : Half) (xs ys : List Half) → AreRead es others (ends_of left) (ends_of right) → left ≡ x ∷ xs → right ≡ y ∷ ys → edge_cmp (ends y) (ends x) ≡ Greater
+pub surplus_found : (es others : List (ℕ × ℕ)) (left right : List Half) (x y : Half) (xs ys : List Half) → AreRead es others (ends_of left) (ends_of right) →
+    left ≡ x ∷ xs → right ≡ y ∷ ys → edge_cmp (ends y) (ends x) ≡ Greater
     → IsLeastSurplus es others (ends x)
 surplus_found es others left right x y xs ys read left_is right_is greater =
-    let at : AreRead es others (ends_of (x ∷ xs)) (ends_of (y ∷ ys)) = rewritten es others (ends_of left) (ends_of right) (ends_of (x ∷ xs)) (ends_of (y ∷ ys)) (ap ends_of left_is) (ap ends_of right_is) read in
+    let at : AreRead es others (ends_of (x ∷ xs)) (ends_of (y ∷ ys)) = rewritten es others (ends_of left) (ends_of right) (ends_of (x ∷ xs)) (ends_of (y ∷ ys))
+    (ap ends_of left_is) (ap ends_of right_is) read in
     let none : dir (ends_of (y ∷ ys)) (ends x).0 (ends x).1 ≡ 0 = none_lesser (ends y) (ends x) (ends_of ys) at.right_rising (greater_from_cmp (ends y) (ends x) greater) in
     record {
       more = omega (arith, at.same (ends x) (not_below_itself (ends x)), first_occurs (ends x) (ends_of xs), none);
@@ -102,7 +107,8 @@ surplus_found es others left right x y xs ys read left_is right_is greater =
     }
 
 -- so it has where the second list is at its end
-pub surplus_at_end : (es others : List (ℕ × ℕ)) (left right : List Half) (x : Half) (xs : List Half) → AreRead es others (ends_of left) (ends_of right) → left ≡ x ∷ xs → length right ≡ 0 → IsLeastSurplus es others (ends x)
+pub surplus_at_end : (es others : List (ℕ × ℕ)) (left right : List Half) (x : Half) (xs : List Half) → AreRead es others (ends_of left) (ends_of right) →
+    left ≡ x ∷ xs → length right ≡ 0 → IsLeastSurplus es others (ends x)
 surplus_at_end es others left [] x xs read left_is at_end =
     let at : AreRead es others (ends_of (x ∷ xs)) [] = rewritten es others (ends_of left) [] (ends_of (x ∷ xs)) [] (ap ends_of left_is) refl read in
     record {

@@ -5,6 +5,7 @@
 #![tactic(auto)]
 
 mod fans;
+pub mod halves;
 mod open_edge;
 mod pairing;
 mod surplus;

@@ -15,9 +15,10 @@ mod renamed;
 #[cfg(test)]
 mod tests;
 
+use crate::halves;
 use crate::open_edge::least_open_edge;
 use crate::pairing::paired;
-use mb_base::NoMemory;
+use mb_base::{NoMemory, copied};
 use std::alloc::{AllocError, AllocFailed, Global};
 use std::marker::Model;
 use std::rc::Rc;
@@ -168,9 +169,9 @@ impl Twins {
         ensures below { result < 3 * length self.now.triples }
         ensures from { start (all_edges self.now.triples) result ≡ finish (all_edges self.now.triples) h }
     {
-        // Read so that what the type keeps is known here: so few triangles that the sum fits.
+        // Read so that what the type keeps is known here: that the triangles are few.
         let _ = &self.triples;
-        if h % 3 == 2 { h - 2 } else { h + 1 }
+        halves::next(h)
     }
 }
 
@@ -192,11 +193,4 @@ fn listed_twins(alloc: Global, triples: &[[u32; 3]]) -> Result<(Vec<u32>, bool),
         // Triangles that are not closed have an open edge.
         None => unreachable!(),
     }
-}
-
-// A copy of the triangles.
-fn copied(alloc: Global, triples: &[[u32; 3]]) -> Result<Vec<[u32; 3]>, NoMemory>
-    ensures { IfOk result (λ copy. copy.items ≡ triples.now) }
-{
-    Ok(triples.to_vec(alloc)?)
 }

@@ -78,13 +78,40 @@ fn three(line: &[u8], first: usize) -> [Corner; 3]
     ]
 }
 
-/// A crossing from a word as `-1:122`, or none from dots.
+/// A crossing from a word as `-1:122`, or none from dots. From any other word it is one with a number that no kernels give.
 fn crossing(word: [u8; 6]) -> Option<Cross> {
-    let [sign, b'1', b':', x, y, z] = word else {
+    if word == *b"......" {
         return None;
+    }
+    let (number, x, y, z) = match word {
+        [b'+', b'1', b':', x, y, z] => (1, x, y, z),
+        [b'-', b'1', b':', x, y, z] => (-1, x, y, z),
+        [_, _, _, x, y, z] => (9, x, y, z),
     };
-    let number = if sign == b'-' { -1 } else { 1 };
     cross_at(number, digit(x) as i32, digit(y) as i32, digit(z) as i32)
+}
+
+/// Whether a sign may stand at a place of a line: digits and marks in the six corners, a blank after each word, and no other blank.
+fn may_stand(place: usize, sign: u8) -> bool {
+    let column = place % 7;
+    if column == 6 || place > 41 {
+        return (column == 6) == (sign == b' ');
+    }
+    if column < 3 {
+        return digit(sign) <= 9;
+    }
+    let mark = [b'x', b'y', b'z'][column - 3];
+    sign == b'-' || sign == mark
+}
+
+/// Whether a line has eight words of six signs each, of which six are corners.
+fn is_row(line: &[u8]) -> bool {
+    for (place, sign) in line.iter().enumerate() {
+        if !may_stand(place, *sign) {
+            return false;
+        }
+    }
+    line.len() == 55
 }
 
 /// The row of a line.
@@ -102,7 +129,7 @@ pub(crate) fn agrees<K: Kernels>(kernels: &K, line: &str) -> bool {
     let row = read_row(line.as_bytes());
     let edge_face = kernels.cross(&[row.p[0], row.p[1]], &row.q);
     let face_edge = kernels.cross(&row.p, &[row.q[0], row.q[1]]);
-    line.len() == 55 && edge_face == row.edge_face && face_edge == row.face_edge
+    is_row(line.as_bytes()) && edge_face == row.edge_face && face_edge == row.face_edge
 }
 
 /// The number of the edge from a to b and a face, asked of the edge from b to a: right for any lawful kernels, by their
@@ -127,7 +154,7 @@ pub(crate) fn turns<K: Kernels>(kernels: &K, line: &str) -> bool {
         Some(c) => c.number as i64,
     };
     let edge = [row.p[0], row.p[1]];
-    line.len() == 55 && number_back(kernels, &edge[0], &edge[1], &row.q) == number
+    is_row(line.as_bytes()) && number_back(kernels, &edge[0], &edge[1], &row.q) == number
 }
 
 #[test]

@@ -46,7 +46,8 @@ spans_apart low high from to h k e = elim (cases_Bool (le_z from high)) as (λ _
 ]
 
 -- so corners whose box does not overlap a span
-outside_on : (i : ℕ) (cs : List Corner) (from to : ℤ) → 0 < length cs → from ≤ℤ to → overlap (least (map (axis i) cs)) (greatest (map (axis i) cs)) from to ≡ false → AreOutside i from to cs
+outside_on : (i : ℕ) (cs : List Corner) (from to : ℤ) → 0 < length cs → from ≤ℤ to →
+    overlap (least (map (axis i) cs)) (greatest (map (axis i) cs)) from to ≡ false → AreOutside i from to cs
 outside_on i cs from to some h e =
     elim (spans_apart (least (map (axis i) cs)) (greatest (map (axis i) cs)) from to (span_ordered i cs some) h e) as (λ _. AreOutside i from to cs) [
       | inl before ↦ inl (λ k d l. omega (arith, ints, before, span_to i cs some k d l))
@@ -58,7 +59,8 @@ abbrev pub AreOutsideOn : ℕ → Box3 → List Corner → Type 0
 AreOutsideOn i area cs = AreOutside i (end_on i area.low) (end_on i area.high) cs
 
 -- corners whose box does not touch an area lie outside it on an axis
-pub outside : (cs : List Corner) (area : Box3) → 0 < length cs → IsBox area → touches (box_of cs) area ≡ false → (AreOutsideOn 0 area cs ⊎ AreOutsideOn 1 area cs) ⊎ AreOutsideOn 2 area cs
+pub outside : (cs : List Corner) (area : Box3) → 0 < length cs → IsBox area → touches (box_of cs) area ≡ false →
+    (AreOutsideOn 0 area cs ⊎ AreOutsideOn 1 area cs) ⊎ AreOutsideOn 2 area cs
 outside cs area some whole e =
     let T = (AreOutsideOn 0 area cs ⊎ AreOutsideOn 1 area cs) ⊎ AreOutsideOn 2 area cs in
     let b = box_of cs in

@@ -71,7 +71,9 @@ corner_fine (c ∷ cs) h (suc i) = corner_fine cs (All-tail IsFineCorner c cs h)
 
 -- and so are the corners of an edge and of a triangle
 pub edge_fine : (cs : List Corner) → AllFine cs → (a b : ℕ) → AllFine (edge_of cs a b)
-edge_fine cs h a b = All-cons IsFineCorner (corner_at cs a) (corner_at cs b ∷ []) (corner_fine cs h a) (All-cons IsFineCorner (corner_at cs b) [] (corner_fine cs h b) (All-nil IsFineCorner))
+edge_fine cs h a b =
+    All-cons IsFineCorner (corner_at cs a) (corner_at cs b ∷ []) (corner_fine cs h a)
+    (All-cons IsFineCorner (corner_at cs b) [] (corner_fine cs h b) (All-nil IsFineCorner))
 
 pub face_fine : (cs : List Corner) → AllFine cs → (t : Triple) → AllFine (face_of cs t)
 face_fine cs h t = All-cons IsFineCorner (corner_at cs t.0) (edge_of cs t.1 t.2) (corner_fine cs h t.0) (edge_fine cs h t.1 t.2)

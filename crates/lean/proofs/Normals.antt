@@ -57,7 +57,8 @@ sum_more points ts t v =
     let n = face_normal points t in
     let push : (axis : ℕ) → normal_on axis points (ts ++ t ∷ []) v ≡ normal_on axis points ts v +ℤ cond (has t v) (coordinate_of n axis) (pos 0) =
     λ axis. total_push (λ u. cond (has u v) (coordinate_of (face_normal points u) axis) (pos 0)) ts t in
-    by (has t v) (coordinate_of n 0) (coordinate_of n 1) (coordinate_of n 2) (normal_on 0 points ts v) (normal_on 1 points ts v) (normal_on 2 points ts v) (push 0) (push 1) (push 2)
+    by (has t v) (coordinate_of n 0) (coordinate_of n 1) (coordinate_of n 2) (normal_on 0 points ts v) (normal_on 1 points ts v) (normal_on 2 points ts v)
+    (push 0) (push 1) (push 2)
   where
     by : (b : Bool) (x y z a c d : ℤ) {a' c' d' : ℤ} → a' ≡ a +ℤ cond b x (pos 0) → c' ≡ c +ℤ cond b y (pos 0) → d' ≡ d +ℤ cond b z (pos 0) →
         a' ∷ c' ∷ d' ∷ [] ≡ cond b ((a +ℤ x) ∷ (c +ℤ y) ∷ (d +ℤ z) ∷ []) (a ∷ c ∷ d ∷ [])
@@ -95,7 +96,8 @@ normals_more points ts t three =
     let first = added_at sums t.0 n in
     let second = added_at first t.1 n in
     let long : length (added_at_corners sums t n) ≡ length points =
-    length-set second t.2 (added (get_or second t.2 []) n) ∙ length-set first t.1 (added (get_or first t.1 []) n) ∙ length-set sums t.0 (added (get_or sums t.0 []) n) ∙ length-normals points ts in
+    length-set second t.2 (added (get_or second t.2 []) n) ∙ length-set first t.1 (added (get_or first t.1 []) n)
+    ∙ length-set sums t.0 (added (get_or sums t.0 []) n) ∙ length-normals points ts in
     ext_get_or [] (added_at_corners sums t n) (normals_of points (ts ++ t ∷ [])) (long ∙ sym (length-normals points (ts ++ t ∷ [])))
     (λ v h.
     let k : v < length points = omega (arith, h, long) in
@@ -105,7 +107,12 @@ normals_more points ts t three =
 
 -- a sum of small vectors
 pub small_added : (m n : ℕ) (a b : List ℤ) → AreSmall m a → AreSmall n b → AreSmall (m + n) (added a b)
-small_added m n a b h k = record { x = size_sum (coordinate_of a 0) (coordinate_of b 0) m n h.x k.x; y = size_sum (coordinate_of a 1) (coordinate_of b 1) m n h.y k.y; z = size_sum (coordinate_of a 2) (coordinate_of b 2) m n h.z k.z }
+small_added m n a b h k =
+    record {
+      x = size_sum (coordinate_of a 0) (coordinate_of b 0) m n h.x k.x;
+      y = size_sum (coordinate_of a 1) (coordinate_of b 1) m n h.y k.y;
+      z = size_sum (coordinate_of a 2) (coordinate_of b 2) m n h.z k.z;
+    }
   where
     size_sum : (x y : ℤ) (m n : ℕ) → unsigned_abs x ≤ m → unsigned_abs y ≤ n → unsigned_abs (x +ℤ y) ≤ m + n
     size_sum x y m n h k = omega (arith, ints)
@@ -117,8 +124,11 @@ small_below m n a l h = record { x = omega (arith, h.x); y = omega (arith, h.y);
 -- a vector added at one vertex
 pub small_one : (m n : ℕ) (sums : List (List ℤ)) (a : ℕ) (b : List ℤ) → AllSmall m sums → AreSmall n b → AllSmall (m + n) (added_at sums a b)
 small_one m n sums a b h k v = elim (cases_lt v (length sums)) as (λ _. AreSmall (m + n) (get_or (added_at sums a b) v [])) [
-  | inl l ↦ rw (one_at sums a v b l) (cond_both (a == v) (added (get_or sums v []) b) (get_or sums v []) (AreSmall (m + n)) (λ _. small_added m n (get_or sums v []) b (h v) k) (λ _. small_below m (m + n) (get_or sums v []) (omega arith) (h v)))
-  | inr l ↦ rw (get_or_past (added_at sums a b) v [] (omega (arith, l, length-set sums a (added (get_or sums a []) b)))) (small_below 0 (m + n) [] (omega arith) (record { x = omega arith; y = omega arith; z = omega arith }))
+  | inl l ↦ rw (one_at sums a v b l)
+      (cond_both (a == v) (added (get_or sums v []) b) (get_or sums v []) (AreSmall (m + n)) (λ _. small_added m n (get_or sums v []) b (h v) k)
+      (λ _. small_below m (m + n) (get_or sums v []) (omega arith) (h v)))
+  | inr l ↦ rw (get_or_past (added_at sums a b) v [] (omega (arith, l, length-set sums a (added (get_or sums a []) b))))
+      (small_below 0 (m + n) [] (omega arith) (record { x = omega arith; y = omega arith; z = omega arith }))
 ]
 
 -- and at three

@@ -30,7 +30,8 @@ module _ {M : Type 1} {𝓤 : Ura M} {𝓛 : Logic 𝓤} {K : Type 0} {Γ : List
   node_out t n k =
       in_a_block t n.0 (λ at. owns_node (at, n.1)) (fst∗ 𝓤 (never 𝓤) (sem 𝓛 (may_free null_ptr))) (λ b o is. fsplit t $
       use1 𝓛 (some (λ (v : Val). ‵ (fat full_share node_type b o v) ⊛ ‵ (R.own_val n.1 (v ∷ [])))) (part_out 𝓛 R refl full_share n.1 b o) $ pick t (λ v. split t $ move t (1 ∷ []) $
-      peeks t R (Is R) (shows 𝓛 R) n.1 (v ∷ []) (λ stored. leave t $ rewrite t 0 (λ (w : Val). ‵ (fat full_share node_type b o w)) (ap only (lowers.val_is n.1 (v ∷ []) stored)) refl $ k b o is)))
+      peeks t R (Is R) (shows 𝓛 R) n.1 (v ∷ [])
+      (λ stored. leave t $ rewrite t 0 (λ (w : Val). ‵ (fat full_share node_type b o w)) (ap only (lowers.val_is n.1 (v ∷ []) stored)) refl $ k b o is)))
 
   -- [the memory, which holds the node; what the node owns of its fields; the right to free the block] make it
   pub node_in : K → (x : Node) (b o : ℕ)
@@ -41,7 +42,9 @@ module _ {M : Type 1} {𝓤 : Ura M} {𝓛 : Logic 𝓤} {K : Type 0} {Γ : List
 module _ {M : Type 1} {𝓤 : Ura M} {𝓛 : Logic 𝓤} {K : Type 0} {Γ : List (Item 𝓤)} {G : Goal 𝓤 𝓛.H} (ns : List Located) (i : ℕ) (at : Ptr) (within : i < length ns) where
   -- [its memory; the right to free its block; the nodes before; the nodes after]
   pub one_out : K → at ≡ address_at ns i
-      → ((b o : ℕ) → at ≡ block_ptr b o → Seq K 𝓛 (‵ (fat full_share node_type b o (lowered (get_or ns i nowhere).1)) ∷ ‵ (may_free (block_ptr b o)) ∷ ‵ (owns_nodes (take i ns)) ∷ ‵ (owns_nodes (drop (suc i) ns)) ∷ Γ) G)
+      → ((b o : ℕ) → at ≡ block_ptr b o →
+      Seq K 𝓛 (‵ (fat full_share node_type b o (lowered (get_or ns i nowhere).1)) ∷ ‵ (may_free (block_ptr b o)) ∷ ‵ (owns_nodes (take i ns)) ∷ ‵
+      (owns_nodes (drop (suc i) ns)) ∷ Γ) G)
       → Seq K 𝓛 (‵ (owns_nodes ns) ∷ Γ) G
   one_out t is k =
       let n = get_or ns i nowhere in let before = take i ns in let behind = drop (suc i) ns in
@@ -51,7 +54,8 @@ module _ {M : Type 1} {𝓤 : Ura M} {𝓛 : Logic 𝓤} {K : Type 0} {Γ : List
 
   -- the node x put in its place: [its memory; what x owns of its fields; the right to free its block; the nodes before; the nodes after]
   pub one_in : K → (x : Node) (b o : ℕ) → at ≡ block_ptr b o → Step K 𝓛 (‵ (owns_nodes (set ns i (at, x))) ∷ Γ) G
-      (‵ (fat full_share node_type b o (lowered x)) ∷ ‵ (R.own_val x (lowered x ∷ [])) ∷ ‵ (may_free (block_ptr b o)) ∷ ‵ (owns_nodes (take i ns)) ∷ ‵ (owns_nodes (drop (suc i) ns)) ∷ Γ) G
+      (‵ (fat full_share node_type b o (lowered x)) ∷ ‵ (R.own_val x (lowered x ∷ [])) ∷ ‵ (may_free (block_ptr b o)) ∷ ‵ (owns_nodes (take i ns)) ∷ ‵
+      (owns_nodes (drop (suc i) ns)) ∷ Γ) G
   one_in t x b o is =
       let before = take i ns in let behind = drop (suc i) ns in
       step (λ s. node_in t x b o $ move t (0 ∷ 2 ∷ []) $ fjoin t $ move t (1 ∷ 0 ∷ []) $

@@ -23,7 +23,8 @@ room_val b o handle = vstruct (vcons (vptr b o) (vcons (global.lowered handle) v
 module _ {M : Type 1} {𝓤 : Ura M} {𝓛 : Logic 𝓤} {K : Type 0} {Γ : List (Item 𝓤)} {H : Goal 𝓤 𝓛.H} where
   -- a room is taken apart: [memory for a node; the right to free it; the handle]
   pub room_out : K → (room : Room.Denot) (vs : List Val) → ((b o : ℕ) → room.ptr ≡ block_ptr b o → vs ≡ room_val b o room.alloc ∷ []
-      → Seq K 𝓛 (‵ (froom block_type b o) ∷ ‵ (may_free (block_ptr b o)) ∷ ‵ (G.own_val room.alloc (global.lowered room.alloc ∷ [])) ∷ Γ) H) → Seq K 𝓛 (‵ (Room.own_val room vs) ∷ Γ) H
+      → Seq K 𝓛 (‵ (froom block_type b o) ∷ ‵ (may_free (block_ptr b o)) ∷ ‵ (G.own_val room.alloc (global.lowered room.alloc ∷ [])) ∷ Γ) H) →
+      Seq K 𝓛 (‵ (Room.own_val room vs) ∷ Γ) H
   room_out t room vs k =
       let token = ghosts.dealloc_token in
       -- [the fields, as parts of one value; the block]

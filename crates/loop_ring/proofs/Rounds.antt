@@ -43,8 +43,10 @@ circle_cut p q a ns ls ms n count more circle to from there ahead behind gone =
     record {
       some = omega arith;
       front = second ∙ sym (first_of_rest ps) ∙ ap (λ ps. get_or ps 0 null_ptr) (sym left);
-      forward = ap nexts gone ∙ sym (drop-map (λ x. x.1.next) 1 ls) ∙ ap (drop 1) (ahead ∙ (λ i. set (circle.forward i) (n - 1) (second i))) ∙ nexts_cut ps n (omega arith) more ∙ ap (turned_to 1) (sym left);
-      backward = ap (turned_to 1) (ap prevs gone ∙ sym (drop-map (λ x. x.1.prev) 1 ls) ∙ ap (drop 1) (behind ∙ ap (set bs 1) from)) ∙ prevs_cut bs (omega arith) ∙ ap (drop 1) circle.backward ∙ sym left;
+      forward = ap nexts gone ∙ sym (drop-map (λ x. x.1.next) 1 ls) ∙ ap (drop 1) (ahead ∙ (λ i. set (circle.forward i) (n - 1) (second i)))
+          ∙ nexts_cut ps n (omega arith) more ∙ ap (turned_to 1) (sym left);
+      backward = ap (turned_to 1) (ap prevs gone ∙ sym (drop-map (λ x. x.1.prev) 1 ls) ∙ ap (drop 1) (behind ∙ ap (set bs 1) from)) ∙ prevs_cut bs (omega arith)
+          ∙ ap (drop 1) circle.backward ∙ sym left;
     }
 
 -- ---- two circles joined

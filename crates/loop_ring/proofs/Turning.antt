@@ -50,7 +50,8 @@ nexts_spliced (a ∷ ps) [] n m here there some more = absurd (omega arith)
 nexts_spliced (a ∷ ps) (c ∷ cs) n m here there some more =
     let all = length-append ps (c ∷ cs) in
     let first : set ((ps ++ a ∷ []) ++ (cs ++ c ∷ [])) (n - 1) c ≡ (ps ++ c ∷ cs) ++ c ∷ [] =
-    ap (λ ls. set ls (n - 1) c) (append_assoc ps (a ∷ []) (cs ++ c ∷ [])) ∙ ap (λ k. set (ps ++ a ∷ (cs ++ c ∷ [])) k c) (omega arith) ∙ set-append_seam ps a (cs ++ c ∷ []) c ∙ sym (append_assoc ps (c ∷ cs) (c ∷ [])) in
+    ap (λ ls. set ls (n - 1) c) (append_assoc ps (a ∷ []) (cs ++ c ∷ [])) ∙ ap (λ k. set (ps ++ a ∷ (cs ++ c ∷ [])) k c) (omega arith)
+    ∙ set-append_seam ps a (cs ++ c ∷ []) c ∙ sym (append_assoc ps (c ∷ cs) (c ∷ [])) in
     ap (λ ls. set ls (n + m - 1) a) first ∙ set_last c a (ps ++ c ∷ cs) (n + m - 1) (omega arith)
 
 pub prevs_spliced : (bs ds : List Ptr) (n : ℕ) → n ≡ length bs → 0 < n → 0 < length ds

@@ -27,7 +27,8 @@ pub flat_map_more : {X : Type 0} (f : ℕ → List X) (n : ℕ) → flat_map f (
 flat_map_more f n = ap (flat_map f) (upto_more n) ∙ flat_map-append f (upto n) (n ∷ []) ∙ ap (λ l. flat_map f (upto n) ++ l) (append-nil (f n))
 
 -- what is pushed once more
-pub pushed_more : {X : Type 0} (f : ℕ → List X) (n : ℕ) (old before new : List X) → before ≡ old ++ flat_map f (upto n) → new ≡ before ++ f n → new ≡ old ++ flat_map f (upto (n + 1))
+pub pushed_more : {X : Type 0} (f : ℕ → List X) (n : ℕ) (old before new : List X) → before ≡ old ++ flat_map f (upto n) → new ≡ before ++ f n →
+    new ≡ old ++ flat_map f (upto (n + 1))
 pushed_more f n old before new e g = g ∙ ap (λ l. l ++ f n) e ∙ append_assoc old (flat_map f (upto n)) (f n) ∙ ap (λ l. old ++ l) (sym (flat_map_more f n))
 
 -- one more box
@@ -41,7 +42,8 @@ boxes_solid (suc n) =
     let one : n + 1 ≡ suc n = omega arith in
     let points : 8 * n + 8 ≡ 8 * suc n = omega arith in
     subst (λ k. IsSolid k (boxes_triples (suc n))) points
-    (subst (λ k. IsSolid (8 * n + 8) (boxes_triples k)) one (subst (IsSolid (8 * n + 8)) (sym (boxes_more n)) (solid_union (8 * n) 8 (boxes_triples n) box_triples (boxes_solid n) box_solid)))
+    (subst (λ k. IsSolid (8 * n + 8) (boxes_triples k)) one
+    (subst (IsSolid (8 * n + 8)) (sym (boxes_more n)) (solid_union (8 * n) 8 (boxes_triples n) box_triples (boxes_solid n) box_solid)))
 
 -- lists that are as long one as another
 length-flat_map : {X : Type 0} (f : ℕ → List X) (m : ℕ) → ((k : ℕ) → length (f k) ≡ m) → (n : ℕ) → length (flat_map f (upto n)) ≡ m * n
@@ -90,7 +92,8 @@ on_small : (m : ℕ) → m ≤ 10000 → is_on_grid (pos m) ≡ true
 on_small m low = grind (arith, nat_tests, low)
 
 -- so is a box between small corners
-box_on_grid : (x y z u v w : ℕ) → x ≤ 10000 → y ≤ 10000 → z ≤ 10000 → u ≤ 10000 → v ≤ 10000 → w ≤ 10000 → all_on_grid (box_points (point (pos x) (pos y) (pos z)) (point (pos u) (pos v) (pos w))) ≡ true
+box_on_grid : (x y z u v w : ℕ) → x ≤ 10000 → y ≤ 10000 → z ≤ 10000 → u ≤ 10000 → v ≤ 10000 → w ≤ 10000 →
+    all_on_grid (box_points (point (pos x) (pos y) (pos z)) (point (pos u) (pos v) (pos w))) ≡ true
 box_on_grid x y z u v w a b c d e f = rw (on_small x a, on_small y b, on_small z c, on_small u d, on_small v e, on_small w f) refl
 
 -- a box of a lattice is on the grid
@@ -98,7 +101,8 @@ pub lattice_box_on_grid : (seed i j k : ℕ) → i < 60 → j < 60 → k < 60 �
 lattice_box_on_grid seed i j k a b c =
     let side = lattice_side seed i j k in
     let short : side ≤ 40 = omega arith in
-    box_on_grid (100 * i) (100 * j) (100 * k) (100 * i + side) (100 * j + side) (100 * k + side) (omega (arith, a)) (omega (arith, b)) (omega (arith, c)) (omega (arith, a, short)) (omega (arith, b, short)) (omega (arith, c, short))
+    box_on_grid (100 * i) (100 * j) (100 * k) (100 * i + side) (100 * j + side) (100 * k + side) (omega (arith, a)) (omega (arith, b)) (omega (arith, c))
+    (omega (arith, a, short)) (omega (arith, b, short)) (omega (arith, c, short))
 
 -- and so are all
 pub lattice_on_grid : (n seed : ℕ) → n ≤ 60 → all_on_grid (lattice_points n seed) ≡ true
@@ -121,4 +125,5 @@ points_of_boxes n seed boxes is =
 pub lattice_refused : (limits : Limits) (n seed boxes : ℕ) → n ≤ 60 → boxes ≡ n * n * n → lattice_fault limits n seed ≡ excess limits (8 * boxes) (12 * boxes)
 lattice_refused limits n seed boxes few is =
     ap (λ (b : Bool). if b then excess limits (length (lattice_points n seed)) (length (lattice_triples n)) else Some Outside) (lattice_on_grid n seed few)
-    ∙ ap (λ k. excess limits k (length (lattice_triples n))) (points_of_boxes n seed boxes is) ∙ ap (excess limits (8 * boxes)) (length-boxes (n * n * n) ∙ ap (λ k. 12 * k) (sym is))
+    ∙ ap (λ k. excess limits k (length (lattice_triples n))) (points_of_boxes n seed boxes is)
+    ∙ ap (excess limits (8 * boxes)) (length-boxes (n * n * n) ∙ ap (λ k. 12 * k) (sym is))

@@ -26,7 +26,8 @@ stayed points none = by_test (all_on_grid points) none
     by_test false none = cc
 
 -- other points of the grid with as many triangles, which keep their labels
-with_points : (f : List ℤ → List ℤ) (m : Mesh) (ts : List Triple) → IsAccepted (length m.points) ts → length ts ≡ length m.triples → All IsPoint (map f m.points) → AreLabels (length m.triples) m.labels
+with_points : (f : List ℤ → List ℤ) (m : Mesh) (ts : List Triple) → IsAccepted (length m.points) ts → length ts ≡ length m.triples →
+    All IsPoint (map f m.points) → AreLabels (length m.triples) m.labels
     → IsMovedFrom m (record { points = map f m.points; triples = ts; labels = m.labels })
 with_points f m ts accepted same on_grid labels = record {
   given = record {

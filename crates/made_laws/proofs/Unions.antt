@@ -31,7 +31,8 @@ used_further : (p w : ℕ) (us : List Triple) → is_used (map (further p) us) (
 used_further p w [] = refl
 used_further p w (u ∷ us) =
     let here : has (further p u) (p + w) ≡ has u w =
-    ap (λ b. (b || (p + u.1 == p + w)) || (p + u.2 == p + w)) (same_further p u.0 w) ∙ ap (λ b. ((u.0 == w) || b) || (p + u.2 == p + w)) (same_further p u.1 w) ∙ ap (λ b. ((u.0 == w) || (u.1 == w)) || b) (same_further p u.2 w) in
+    ap (λ b. (b || (p + u.1 == p + w)) || (p + u.2 == p + w)) (same_further p u.0 w) ∙ ap (λ b. ((u.0 == w) || b) || (p + u.2 == p + w)) (same_further p u.1 w)
+    ∙ ap (λ b. ((u.0 == w) || (u.1 == w)) || b) (same_further p u.2 w) in
     ap (λ b. b || is_used (map (further p) us) (p + w)) here ∙ ap (λ b. has u w || b) (used_further p w us)
 
 either : (b c : Bool) → c ≡ true → (b || c) ≡ true
@@ -42,7 +43,8 @@ either false c h = h
 pub solid_union : (p q : ℕ) (ts us : List Triple) → IsSolid p ts → IsSolid q us → IsSolid (p + q) (ts ++ map (further p) us)
 solid_union p q ts us s u = record {
   three = All-append HasThree ts (map (further p) us) s.three (All-map HasThree (further p) us (λ k d low. three_further p _ (u.three k d low)));
-  below = All-append (IsBelow (p + q)) ts (map (further p) us) (λ k d low. below_more p q _ (s.below k d low)) (All-map (IsBelow (p + q)) (further p) us (λ k d low. below_further p q _ (u.below k d low)));
+  below = All-append (IsBelow (p + q)) ts (map (further p) us) (λ k d low. below_more p q _ (s.below k d low))
+      (All-map (IsBelow (p + q)) (further p) us (λ k d low. below_further p q _ (u.below k d low)));
   used = λ v low. list_any-append (λ t. has t v) ts (map (further p) us) ∙ used_in v low;
   closed = closed-append_triples ts (map (further p) us) s.closed (closed-renamed_triples (λ v. p + v) us u.closed);
 }
@@ -52,5 +54,6 @@ solid_union p q ts us s u = record {
       | inl l ↦ ap (λ b. b || is_used (map (further p) us) v) (s.used v l)
       | inr g ↦
           let at : p + (v - p) ≡ v = omega (arith, g) in
-          either (is_used ts v) (is_used (map (further p) us) v) (subst (λ k. is_used (map (further p) us) k ≡ true) at (used_further p (v - p) us ∙ u.used (v - p) (omega (arith, g, low))))
+          either (is_used ts v) (is_used (map (further p) us) v)
+          (subst (λ k. is_used (map (further p) us) k ≡ true) at (used_further p (v - p) us ∙ u.used (v - p) (omega (arith, g, low))))
     ]

@@ -9,7 +9,8 @@ point x y z = x ∷ y ∷ z ∷ []
 -- the four corners of a box at a height: front left, front right, back left, back right
 abbrev pub box_level : List ℤ → List ℤ → ℤ → List (List ℤ)
 box_level low high z =
-    point (coordinate_of low 0) (coordinate_of low 1) z ∷ point (coordinate_of high 0) (coordinate_of low 1) z ∷ point (coordinate_of low 0) (coordinate_of high 1) z ∷ point (coordinate_of high 0) (coordinate_of high 1) z ∷ []
+    point (coordinate_of low 0) (coordinate_of low 1) z ∷ point (coordinate_of high 0) (coordinate_of low 1) z ∷ point (coordinate_of low 0)
+    (coordinate_of high 1) z ∷ point (coordinate_of high 0) (coordinate_of high 1) z ∷ []
 
 -- the box between two opposite corners: the corners at the bottom, then those at the top
 abbrev pub box_points : List ℤ → List ℤ → List (List ℤ)

@@ -1,6 +1,6 @@
 //! The plain types that the crates share: points of the grid, corners, limits, points with triangles
 //! as a file gives them with their labels, faults of a text, and lists of words. Nothing here takes memory
-//! but `ArgList::push` and, of `Labels`, `push`, `copy` and `of_faces`.
+//! but `ArgList::push`, `copied` and, of `Labels`, `push`, `copy` and `of_faces`.
 #![tactic(auto)]
 
 mod arg_list;
@@ -14,6 +14,7 @@ mod op;
 mod point;
 mod results;
 mod soup;
+mod triples;
 
 pub use arg_list::ArgList;
 pub use boxes::box_of;
@@ -27,6 +28,7 @@ pub use point::{Box3, Corner, Point};
 pub use results::{Entry, Hit, Hits, Origin, Segment, Windings};
 pub use soup::Soup;
 use std::alloc::{AllocError, AllocFailed};
+pub use triples::copied;
 
 /// Fine steps per grid step. A coordinate of a corner is a point's times this.
 pub const UNIT: i64 = 256;

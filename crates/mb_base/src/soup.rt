@@ -32,7 +32,8 @@ impl Model for Soup {
 
     ghost view = { λ s. record { points = s.points.items; triples = triples_of s.triples.items; labels = labels_given (triples_of s.triples.items) s.labels; unused = s.unused } };
 
-    ghost invariant = { λ s. IsMesh (length s.points.items) (triples_of s.triples.items) × AreLabels (length (triples_of s.triples.items)) (labels_given (triples_of s.triples.items) s.labels) };
+    ghost invariant = { λ s. IsMesh (length s.points.items) (triples_of s.triples.items) ×
+        AreLabels (length (triples_of s.triples.items)) (labels_given (triples_of s.triples.items) s.labels) };
 }
 
 impl Soup {

@@ -17,7 +17,8 @@ told_on None old new text piece done n from was is = is ∙ ap (option_map (λ b
 told_on (Some base) old new text piece done n from was is = is ∙ ap (option_map (λ b. b ++ take n piece)) was ∙ ap Some (adds_on base text piece done n from)
 
 -- bytes that were added in two parts were added at once
-pub added_twice : (old mid new : Option Bytes) (a b : Bytes) → mid ≡ option_map (λ held. held ++ a) old → new ≡ option_map (λ held. held ++ b) mid → new ≡ option_map (λ held. held ++ (a ++ b)) old
+pub added_twice : (old mid new : Option Bytes) (a b : Bytes) → mid ≡ option_map (λ held. held ++ a) old → new ≡ option_map (λ held. held ++ b) mid →
+    new ≡ option_map (λ held. held ++ (a ++ b)) old
 added_twice None mid new a b first then = then ∙ ap (option_map (λ held. held ++ b)) first
 added_twice (Some old) mid new a b first then = then ∙ ap (option_map (λ held. held ++ b)) first ∙ ap Some (append_assoc old a b)
 
@@ -36,7 +37,8 @@ pub part_longer : (old new : Option Bytes) (a b : Bytes) → AddsPart a old new 
 part_longer old new a b part = (part.0, (part.1.0 ++ b, sym (append_assoc part.0 part.1.0 b) ∙ ap (λ x. x ++ b) part.1.1), part.2)
 
 -- a room that was lowered twice was lowered at once
-pub lowered_twice : (old mid new : Option ℕ) (a b : ℕ) → mid ≡ option_map (λ free. free - a) old → new ≡ option_map (λ free. free - b) mid → new ≡ option_map (λ free. free - (a + b)) old
+pub lowered_twice : (old mid new : Option ℕ) (a b : ℕ) → mid ≡ option_map (λ free. free - a) old → new ≡ option_map (λ free. free - b) mid →
+    new ≡ option_map (λ free. free - (a + b)) old
 lowered_twice None mid new a b first then = then ∙ ap (option_map (λ free. free - b)) first
 lowered_twice (Some free) mid new a b first then =
     let same : free - a - b ≡ free - (a + b) = omega arith in
@@ -54,5 +56,6 @@ first_taken text done told_old told_new room_old room_new within added taken = r
 }
 
 -- what was taken of a text was added
-pub adds_part : (text : Bytes) (told_old told_new : Option Bytes) (room_old room_new : Option ℕ) → TakesPart text told_old told_new room_old room_new → AddsPart text told_old told_new
+pub adds_part : (text : Bytes) (told_old told_new : Option Bytes) (room_old room_new : Option ℕ) → TakesPart text told_old told_new room_old room_new →
+    AddsPart text told_old told_new
 adds_part text told_old told_new room_old room_new p = (p.part, p.first, p.added)

@@ -13,7 +13,8 @@ find_first : {X : Type 0} (test : X → Bool) (xs : List X) (i : ℕ) (d : X) �
     → find test xs ≡ Some (get_or xs i d)
 find_first test [] i d in_i here before = absurd (omega (arith, in_i))
 find_first test (x ∷ xs) zero d in_i here before = rw here refl
-find_first test (x ∷ xs) (suc i) d in_i here before = rw (before 0 (omega arith)) (find_first test xs i d (omega (arith, in_i)) here (λ k below. before (suc k) (omega (arith, below))))
+find_first test (x ∷ xs) (suc i) d in_i here before =
+    rw (before 0 (omega arith)) (find_first test xs i d (omega (arith, in_i)) here (λ k below. before (suc k) (omega (arith, below))))
 
 -- where nothing passes, nothing is found
 find_nowhere : {X : Type 0} (test : X → Bool) (xs : List X) (d : X) → ((k : ℕ) → k < length xs → test (get_or xs k d) ≡ false) → find test xs ≡ None
@@ -47,11 +48,13 @@ name_of name file is = (bytes_eq-Decides file.name name).0 is
 pub named_so : (name : Bytes) (file : File) → file.name ≡ name → is_named name file ≡ true
 named_so name file is = (bytes_eq-Decides file.name name).1 is
 
-placed_first : (file : File) (files : List File) (i : ℕ) (d : File) → i < length files → is_named file.name (get_or files i d) ≡ true → ((k : ℕ) → k < i → is_named file.name (get_or files k d) ≡ false)
+placed_first : (file : File) (files : List File) (i : ℕ) (d : File) → i < length files → is_named file.name (get_or files i d) ≡ true →
+    ((k : ℕ) → k < i → is_named file.name (get_or files k d) ≡ false)
     → set files i file ≡ placed file files
 placed_first file [] i d in_i here before = absurd (omega (arith, in_i))
 placed_first file (x ∷ xs) zero d in_i here before = rw here refl
-placed_first file (x ∷ xs) (suc i) d in_i here before = rw (before 0 (omega arith)) (ap (λ rest. x ∷ rest) (placed_first file xs i d (omega (arith, in_i)) here (λ k below. before (suc k) (omega (arith, below)))))
+placed_first file (x ∷ xs) (suc i) d in_i here before =
+    rw (before 0 (omega arith)) (ap (λ rest. x ∷ rest) (placed_first file xs i d (omega (arith, in_i)) here (λ k below. before (suc k) (omega (arith, below)))))
 
 -- a write at the first place of the name puts the file in its place
 pub placed_over : (file d : File) (files : List File) (i : ℕ) → position (is_named file.name) files ≡ Some i → set files i file ≡ placed file files
@@ -90,7 +93,8 @@ pub find_other : (name : Bytes) (file : File) (files : List File) → (name ≡ 
 find_other name file [] apart = rw (unnamed name file (λ same. apart (sym same))) refl
 find_other name file (x ∷ xs) apart = by (is_named file.name x) refl (find_other name file xs apart)
   where
-    by : (t : Bool) → is_named file.name x ≡ t → find (is_named name) (placed file xs) ≡ find (is_named name) xs → find (is_named name) (placed file (x ∷ xs)) ≡ find (is_named name) (x ∷ xs)
+    by : (t : Bool) → is_named file.name x ≡ t → find (is_named name) (placed file xs) ≡ find (is_named name) xs →
+        find (is_named name) (placed file (x ∷ xs)) ≡ find (is_named name) (x ∷ xs)
     by true is later = rw is (rw (unnamed name file (λ same. apart (sym same))) (rw (unnamed name x (λ same. apart (sym same ∙ name_of file.name x is))) refl))
     by false is later = rw is (ap (λ rest. cond (is_named name x) (Some x) rest) later)
 
@@ -116,15 +120,18 @@ files_of_written store name bytes = ap (option_map (λ (file : File). file.bytes
 
 -- the files of other names, as the map has them
 pub files_of_written_other : (store : Store) (name bytes : Bytes) → OthersStay name (files_of store.files) (files_of (written name bytes store).files)
-files_of_written_other store name bytes other apart = ap (option_map (λ (file : File). file.bytes)) (find_other other (record { name = name; bytes = bytes; limit = limit_of store name }) store.files apart)
+files_of_written_other store name bytes other apart =
+    ap (option_map (λ (file : File). file.bytes)) (find_other other (record { name = name; bytes = bytes; limit = limit_of store name }) store.files apart)
 
 -- the file that was given, as the map has it
 pub files_of_given : (store : Store) (name bytes : Bytes) → files_of (given name bytes store).files name ≡ Some bytes
-files_of_given store name bytes = ap (option_map (λ (file : File). file.bytes)) (find_placed (record { name = name; bytes = bytes; limit = max store.room (length bytes) }) store.files)
+files_of_given store name bytes =
+    ap (option_map (λ (file : File). file.bytes)) (find_placed (record { name = name; bytes = bytes; limit = max store.room (length bytes) }) store.files)
 
 -- the files of other names, as the map has them
 pub files_of_given_other : (store : Store) (name bytes : Bytes) → OthersStay name (files_of store.files) (files_of (given name bytes store).files)
-files_of_given_other store name bytes other apart = ap (option_map (λ (file : File). file.bytes)) (find_other other (record { name = name; bytes = bytes; limit = max store.room (length bytes) }) store.files apart)
+files_of_given_other store name bytes other apart =
+    ap (option_map (λ (file : File). file.bytes)) (find_other other (record { name = name; bytes = bytes; limit = max store.room (length bytes) }) store.files apart)
 
 -- what a write and a put make of the map
 pub ruleset maps = (files_of_written, files_of_written_other, files_of_given, files_of_given_other)

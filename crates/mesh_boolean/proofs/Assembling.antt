@@ -43,11 +43,13 @@ few_halfedges : (l : Limits) (n : ℕ) → IsLawful l → n ≤ l.halfedges → 
 few_halfedges l n lawful within = omega (arith, within, lawful.triangles_enough, lawful.few_triangles)
 
 -- as many points as copies
-pub length-points : (op : Op) (p q : Side) (windings : Windings) (hits : Hits) (l : Limits) (r : Prescribed) → ArePlaced op p q windings hits l r → length r.points.items ≡ length (copies op p q windings hits)
+pub length-points : (op : Op) (p q : Side) (windings : Windings) (hits : Hits) (l : Limits) (r : Prescribed) → ArePlaced op p q windings hits l r →
+    length r.points.items ≡ length (copies op p q windings hits)
 length-points op p q windings hits l r placed = ap length placed.prescribed.points ∙ length-map (copies op p q windings hits) (λ c. c.point)
 
 -- so they can be assembled
-pub can_be_assembled : (op : Op) (p q : Side) (windings : Windings) (hits : Hits) (l : Limits) (r : Prescribed) → AreReady p q windings hits → ArePlaced op p q windings hits l r → CanBeAssembled p q (copies op p q windings hits)
+pub can_be_assembled : (op : Op) (p q : Side) (windings : Windings) (hits : Hits) (l : Limits) (r : Prescribed) → AreReady p q windings hits →
+    ArePlaced op p q windings hits l r → CanBeAssembled p q (copies op p q windings hits)
 can_be_assembled op p q windings hits l r ready placed = record {
   p_side = ready.p_side;
   q_side = ready.q_side;
@@ -72,7 +74,8 @@ pub record AreTriangles (op : Op) (p q : Side) (windings : Windings) (hits : Hit
   pub forced : all.forced ≡ forced_of (all_filled p q (copies op p q windings hits))
 
 -- are assembled from the vertices
-pub is_assembled : (op : Op) (p q : Side) (windings : Windings) (hits : Hits) (l : Limits) (r : Prescribed) (all : SourceTriangles) → AreReady p q windings hits → ArePlaced op p q windings hits l r → AreLaws → AreTriangles op p q windings hits all →
+pub is_assembled : (op : Op) (p q : Side) (windings : Windings) (hits : Hits) (l : Limits) (r : Prescribed) (all : SourceTriangles) →
+    AreReady p q windings hits → ArePlaced op p q windings hits l r → AreLaws → AreTriangles op p q windings hits all →
     IsAssembled op p q (numbers windings hits) r all
 is_assembled op p q windings hits l r all ready placed laws made = record {
   prescribed = placed.prescribed;
@@ -80,7 +83,8 @@ is_assembled op p q windings hits l r all ready placed laws made = record {
   source = made.source;
   forced = made.forced;
   fillings = laws.filled p q cs can;
-  accepted = subst (λ n. IsAccepted n (triples_of all.triples.items)) (sym (length-points op p q windings hits l r placed)) (subst (IsAccepted (length cs)) (sym made.triples) (laws.accepted p q cs can));
+  accepted = subst (λ n. IsAccepted n (triples_of all.triples.items)) (sym (length-points op p q windings hits l r placed))
+      (subst (IsAccepted (length cs)) (sym made.triples) (laws.accepted p q cs can));
   few =
       let most = (laws.few p q cs can).0 in
       omega (arith, most, ap length made.triples, length-map all.triples.items triple_of, placed.all_starts);

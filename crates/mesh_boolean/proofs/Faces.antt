@@ -31,19 +31,22 @@ filled_at p q cs x below =
     ∙ ap (filled_face p q cs) (get_or-up_from 0 (source_count p q) x 0 below ∙ first)
 
 -- the triangles of a face over old vertices are those of its filling
-faces_triples : (p q : Side) (cs : List Copy) (from source : List ℕ) (ts : List Triple) → source ≡ sources_of 0 (all_filled p q cs) → map (named_by from) ts ≡ all_triples (all_filled p q cs) →
+faces_triples : (p q : Side) (cs : List Copy) (from source : List ℕ) (ts : List Triple) → source ≡ sources_of 0 (all_filled p q cs) →
+    map (named_by from) ts ≡ all_triples (all_filled p q cs) →
     (x : ℕ) → face_triples from source ts x ≡ (get_or (all_filled p q cs) x no_part).triples
 faces_triples p q cs from source ts numbers back x =
     named_at from x source ts ∙ (λ i. triples_of_face x (numbers i) (back i)) ∙ part_at x (all_filled p q cs)
 
 -- so the triangles of each face are bounded by its segments
-pub are_bounded : (p q : Side) (cs : List Copy) (from source : List ℕ) (ts : List Triple) → AreFillings p q cs → source ≡ sources_of 0 (all_filled p q cs) → map (named_by from) ts ≡ all_triples (all_filled p q cs) →
+pub are_bounded : (p q : Side) (cs : List Copy) (from source : List ℕ) (ts : List Triple) → AreFillings p q cs → source ≡ sources_of 0 (all_filled p q cs) →
+    map (named_by from) ts ≡ all_triples (all_filled p q cs) →
     AreBounded p q cs from source ts
 are_bounded p q cs from source ts known numbers back = record {
   each = ap length numbers ∙ length-sources 0 (all_filled p q cs) ∙ ap length (sym back) ∙ length-map ts (named_by from);
   faces = subst (All (λ x. x < source_count p q)) (sym numbers) below;
   three = λ x. subst (All HasThree) (sym (at x)) (three x);
-  bounded = λ x low a b. ap (λ l. boundary (all_edges l) a b) (at x ∙ ap (λ c. c.triples) (filled_at p q cs x low)) ∙ boundary_same (all_edges (filled_face p q cs x).triples) (face_segments p q cs x) (known x low).chain a b;
+  bounded = λ x low a b. ap (λ l. boundary (all_edges l) a b) (at x ∙ ap (λ c. c.triples) (filled_at p q cs x low))
+      ∙ boundary_same (all_edges (filled_face p q cs x).triples) (face_segments p q cs x) (known x low).chain a b;
 }
   where
     at : (x : ℕ) → face_triples from source ts x ≡ (get_or (all_filled p q cs) x no_part).triples

@@ -9,3 +9,4 @@ pub mod Marks
 pub mod Pairs
 pub mod Parts
 pub mod Reduced
+pub mod SameSides

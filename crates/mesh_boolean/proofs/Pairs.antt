@@ -27,7 +27,8 @@ are_paired ts three closed = record {
 }
 
 -- a clean mesh with the twins of the triangles that the old vertices give
-pub is_clean_over : (n : ℕ) (from : List ℕ) (ts us : List Triple) → IsAccepted n ts → IsClean (all_edges ts) → twins_of ts ≡ twins_of us → map (named_by from) ts ≡ us → IsCleanOver from ts
+pub is_clean_over : (n : ℕ) (from : List ℕ) (ts us : List Triple) → IsAccepted n ts → IsClean (all_edges ts) → twins_of ts ≡ twins_of us →
+    map (named_by from) ts ≡ us → IsCleanOver from ts
 is_clean_over n from ts us accepted clean twins back = record {
   closed = accepted.closed;
   paired = are_paired ts accepted.mesh.three accepted.closed;

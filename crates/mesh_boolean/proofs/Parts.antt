@@ -15,7 +15,8 @@ abbrev pub no_part : Cut
 no_part = record { triples = []; forced = 0 }
 
 -- naming what was picked is picking from what was named
-pub named_at : (names : List ℕ) (x : ℕ) (source : List ℕ) (ts : List Triple) → map (named_by names) (triples_of_face x source ts) ≡ triples_of_face x source (map (named_by names) ts)
+pub named_at : (names : List ℕ) (x : ℕ) (source : List ℕ) (ts : List Triple) →
+    map (named_by names) (triples_of_face x source ts) ≡ triples_of_face x source (map (named_by names) ts)
 named_at names x [] ts = refl
 named_at names x (s ∷ ss) [] = refl
 named_at names x (s ∷ ss) (t ∷ ts) = by (s == x) (named_at names x ss ts)
@@ -55,7 +56,8 @@ append_none (x ∷ xs) ys none = ap (λ l. x ∷ l) (append_none xs ys none)
 part_from : (i x k : ℕ) → x ≡ k + i → (parts : List Cut) → triples_of_face x (sources_of k parts) (all_triples parts) ≡ (get_or parts i no_part).triples
 part_from i x k at [] = refl
 part_from zero x k at (c ∷ cs) =
-    block_taken x k (eq-eqb k x (omega (arith, at))) c.triples (all_triples cs) (sources_of (k + 1) cs) ∙ append_none c.triples (triples_of_face x (sources_of (k + 1) cs) (all_triples cs)) (none_before x (k + 1) (omega (arith, at)) cs)
+    block_taken x k (eq-eqb k x (omega (arith, at))) c.triples (all_triples cs) (sources_of (k + 1) cs)
+    ∙ append_none c.triples (triples_of_face x (sources_of (k + 1) cs) (all_triples cs)) (none_before x (k + 1) (omega (arith, at)) cs)
 part_from (suc i) x k at (c ∷ cs) =
     block_left x k (ne_eqb k x (λ e. omega (arith, at, e))) c.triples (all_triples cs) (sources_of (k + 1) cs) ∙ part_from i x (k + 1) (omega (arith, at)) cs
 
@@ -66,11 +68,20 @@ part_at x parts = part_from x x 0 (omega arith) parts
 -- as many numbers as triangles
 pub length-sources : (k : ℕ) (parts : List Cut) → length (sources_of k parts) ≡ length (all_triples parts)
 length-sources k [] = refl
-length-sources k (c ∷ cs) = omega (arith, length-append (replicate (length c.triples) k) (sources_of (k + 1) cs), length-replicate (length c.triples) k, length-append c.triples (all_triples cs), length-sources (k + 1) cs)
+length-sources k (c ∷ cs) =
+    omega (
+      arith,
+      length-append (replicate (length c.triples) k) (sources_of (k + 1) cs),
+      length-replicate (length c.triples) k,
+      length-append c.triples
+          (all_triples cs),
+      length-sources (k + 1) cs,
+    )
 
 -- each is the number of a filling
 pub sources_below : (k : ℕ) (parts : List Cut) → All (λ x. x < k + length parts) (sources_of k parts)
 sources_below k [] = λ i d low. absurd (omega (arith, low))
 sources_below k (c ∷ cs) =
-    All-append (λ x. x < k + length (c ∷ cs)) (replicate (length c.triples) k) (sources_of (k + 1) cs) (All-replicate (λ x. x < k + length (c ∷ cs)) (length c.triples) k (omega arith))
+    All-append (λ x. x < k + length (c ∷ cs)) (replicate (length c.triples) k) (sources_of (k + 1) cs)
+    (All-replicate (λ x. x < k + length (c ∷ cs)) (length c.triples) k (omega arith))
     (All-weaker (λ x. x < k + 1 + length cs) (λ x. x < k + length (c ∷ cs)) (λ x low. omega (arith, low)) (sources_of (k + 1) cs) (sources_below (k + 1) cs))

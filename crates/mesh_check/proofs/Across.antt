@@ -71,7 +71,8 @@ abbrev pub AreOthersAcross : List Triple → Type 0
 AreOthersAcross ts = (i : ℕ) → i < length ts → third_vertex ts (twin (all_edges ts) (3 * i)) ≢ third_vertex ts (3 * i)
 
 -- a half-edge that runs back along the first edge of the triangle at a place is its twin
-back_is_twin : (ts : List Triple) → IsClosed (all_edges ts) → AreSingle (all_edges ts) → (i g : ℕ) → i < length ts → g < length (all_edges ts) → start (all_edges ts) g ≡ finish (all_edges ts) (3 * i) → finish (all_edges ts) g ≡ start (all_edges ts) (3 * i) → g ≡ twin (all_edges ts) (3 * i)
+back_is_twin : (ts : List Triple) → IsClosed (all_edges ts) → AreSingle (all_edges ts) → (i g : ℕ) → i < length ts → g < length (all_edges ts) →
+    start (all_edges ts) g ≡ finish (all_edges ts) (3 * i) → finish (all_edges ts) g ≡ start (all_edges ts) (3 * i) → g ≡ twin (all_edges ts) (3 * i)
 back_is_twin ts closed single i g low within starts ends =
     let back = twin_runs_back (all_edges ts) closed (3 * i) (omega (arith, low, length-all_edges ts)) in
     single_is (all_edges ts) single g (twin (all_edges ts) (3 * i)) within back.within (starts ∙ sym back.from) (ends ∙ sym back.to)

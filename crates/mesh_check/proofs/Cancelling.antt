@@ -68,24 +68,28 @@ level_exchanged es fs i j level x = omega (arith, level x)
 
 -- both lists have the edge, and pass it
 level_same : (es fs : List (ℕ × ℕ)) (i j : ℕ) (x : ℕ × ℕ) → Stands es i x → Stands fs j x → IsLevel es fs i j → IsLevel es fs (i + 1) (j + 1)
-level_same es fs i j x here there level z = elim (compared z x) as (λ _. min (i + 1 - lesser_count es z) (min (same_count es z) (same_count fs z)) ≡ min (j + 1 - lesser_count fs z) (min (same_count es z) (same_count fs z))) [
-  | Lesser less ↦ omega (arith, level z, here.low, there.low, lesser_count_more es z x less, lesser_count_more fs z x less)
-  | Same is ↦
-      let at : Stands es i z = subst (Stands es i) (sym is) here in
-      let back : Stands fs j z = subst (Stands fs j) (sym is) there in
-      omega (arith, level z, at.low, at.high, back.low, back.high)
-  | More more ↦ omega (arith, level z, here.high, there.high, lesser_count_more es x z more, lesser_count_more fs x z more)
-]
+level_same es fs i j x here there level z =
+    elim (compared z x) as (λ _. min (i + 1 - lesser_count es z) (min (same_count es z) (same_count fs z)) ≡ min (j + 1 - lesser_count fs z)
+    (min (same_count es z) (same_count fs z))) [
+      | Lesser less ↦ omega (arith, level z, here.low, there.low, lesser_count_more es z x less, lesser_count_more fs z x less)
+      | Same is ↦
+          let at : Stands es i z = subst (Stands es i) (sym is) here in
+          let back : Stands fs j z = subst (Stands fs j) (sym is) there in
+          omega (arith, level z, at.low, at.high, back.low, back.high)
+      | More more ↦ omega (arith, level z, here.high, there.high, lesser_count_more es x z more, lesser_count_more fs x z more)
+    ]
 
 -- the first list's edge is passed, where all that run so are passed in the second
 level_more : (es fs : List (ℕ × ℕ)) (i j : ℕ) (x : ℕ × ℕ) → Stands es i x → IsPassed fs j x → IsLevel es fs i j → IsLevel es fs (i + 1) j
-level_more es fs i j x here passed level z = elim (compared z x) as (λ _. min (i + 1 - lesser_count es z) (min (same_count es z) (same_count fs z)) ≡ min (j - lesser_count fs z) (min (same_count es z) (same_count fs z))) [
-  | Lesser less ↦ omega (arith, level z, here.low, lesser_count_more es z x less)
-  | Same is ↦
-      let past : IsPassed fs j z = subst (IsPassed fs j) (sym is) passed in
-      omega (arith, level z, past)
-  | More more ↦ omega (arith, level z, here.high, lesser_count_more es x z more)
-]
+level_more es fs i j x here passed level z =
+    elim (compared z x) as (λ _. min (i + 1 - lesser_count es z) (min (same_count es z) (same_count fs z)) ≡ min (j - lesser_count fs z)
+    (min (same_count es z) (same_count fs z))) [
+      | Lesser less ↦ omega (arith, level z, here.low, lesser_count_more es z x less)
+      | Same is ↦
+          let past : IsPassed fs j z = subst (IsPassed fs j) (sym is) passed in
+          omega (arith, level z, past)
+      | More more ↦ omega (arith, level z, here.high, lesser_count_more es x z more)
+    ]
 
 -- tests of numbers
 le_true : (m n : ℕ) → m ≤ n → nat_le m n ≡ true
@@ -102,12 +106,14 @@ pub record IsAt (es : List (ℕ × ℕ)) (key : ℕ → ℕ) (k : ℕ) (ones oth
   pub left : is_left es g ≡ nat_le (same_count others x) (p - lesser_count ones x)
 
 -- it is left where from a place before it all that run back are passed
-left_more : (es : List (ℕ × ℕ)) (key : ℕ → ℕ) (k : ℕ) (ones others : List (ℕ × ℕ)) (i j p g : ℕ) (x : ℕ × ℕ) → IsAt es key k ones others p g x → i ≤ p → IsLevel ones others i j → IsPassed others j x → is_left es g ≡ true
+left_more : (es : List (ℕ × ℕ)) (key : ℕ → ℕ) (k : ℕ) (ones others : List (ℕ × ℕ)) (i j p g : ℕ) (x : ℕ × ℕ) → IsAt es key k ones others p g x → i ≤ p →
+    IsLevel ones others i j → IsPassed others j x → is_left es g ≡ true
 left_more es key k ones others i j p g x at low level passed =
     at.left ∙ le_true (same_count others x) (p - lesser_count ones x) (omega (arith, low, at.stands.low, at.stands.high, level x, passed))
 
 -- it is not left where one that runs back is passed with it
-left_same : (es : List (ℕ × ℕ)) (key : ℕ → ℕ) (k : ℕ) (ones others : List (ℕ × ℕ)) (i j g : ℕ) (x : ℕ × ℕ) → IsAt es key k ones others i g x → IsLevel ones others i j → Stands others j x → is_left es g ≡ false
+left_same : (es : List (ℕ × ℕ)) (key : ℕ → ℕ) (k : ℕ) (ones others : List (ℕ × ℕ)) (i j g : ℕ) (x : ℕ × ℕ) → IsAt es key k ones others i g x →
+    IsLevel ones others i j → Stands others j x → is_left es g ≡ false
 left_same es key k ones others i j g x at level there =
     at.left ∙ le_false (same_count others x) (i - lesser_count ones x) (omega (arith, at.stands.low, at.stands.high, level x, there.low, there.high))
 
@@ -142,7 +148,8 @@ one_left es xs i left low is read = record {
 }
 
 -- one more is read, whose mark goes
-one_goes : (es : List (ℕ × ℕ)) (xs : List Half) (i : ℕ) (left : List Bool) → i < length xs → half_at xs i < length left → is_left es (half_at xs i) ≡ false → ((p q : ℕ) → p < length xs → q < length xs → half_at xs p ≡ half_at xs q → p ≡ q)
+one_goes : (es : List (ℕ × ℕ)) (xs : List Half) (i : ℕ) (left : List Bool) → i < length xs → half_at xs i < length left → is_left es (half_at xs i) ≡ false →
+    ((p q : ℕ) → p < length xs → q < length xs → half_at xs p ≡ half_at xs q → p ≡ q)
     → IsReadTo es xs i left → IsReadTo es xs (i + 1) (set left (half_at xs i) false)
 one_goes es xs i left low within is once read = record {
   done = below_more (λ p. p < length xs → get_or (set left (half_at xs i) false) (half_at xs p) true ≡ is_left es (half_at xs p)) i
@@ -155,7 +162,8 @@ one_goes es xs i left low within is once read = record {
     stays p below other = get_or-set_other left (half_at xs i) (half_at xs p) false true other
 
 -- the mark of another half-edge goes
-other_goes : (es : List (ℕ × ℕ)) (xs : List Half) (i g : ℕ) (left : List Bool) → ((p : ℕ) → p < length xs → half_at xs p ≡ g → ⊥) → IsReadTo es xs i left → IsReadTo es xs i (set left g false)
+other_goes : (es : List (ℕ × ℕ)) (xs : List Half) (i g : ℕ) (left : List Bool) → ((p : ℕ) → p < length xs → half_at xs p ≡ g → ⊥) → IsReadTo es xs i left →
+    IsReadTo es xs i (set left g false)
 other_goes es xs i g left other read = record {
   done = λ p before below. get_or-set_other left g (half_at xs p) false true (other p below) ∙ read.done p before below;
   rest = λ p later below. get_or-set_other left g (half_at xs p) false true (other p below) ∙ read.rest p later below;
@@ -169,7 +177,8 @@ pub record IsRead (es : List (ℕ × ℕ)) (key : ℕ → ℕ) (k : ℕ) (ones o
   pub kept : (h : ℕ) → (key (lesser_end_at es h) ≡ k → ⊥) → get_or left h true ≡ get_or old h true
 
 -- the same with the ways exchanged
-read_exchanged : (es : List (ℕ × ℕ)) (key : ℕ → ℕ) (k : ℕ) (ones others : List Half) (i j : ℕ) (old left : List Bool) → IsRead es key k ones others i j old left → IsRead es key k others ones j i old left
+read_exchanged : (es : List (ℕ × ℕ)) (key : ℕ → ℕ) (k : ℕ) (ones others : List Half) (i j : ℕ) (old left : List Bool) →
+    IsRead es key k ones others i j old left → IsRead es key k others ones j i old left
 read_exchanged es key k ones others i j old left read = record {
   level = level_exchanged (ends_of ones) (ends_of others) i j read.level;
   first = read.second;
@@ -178,7 +187,8 @@ read_exchanged es key k ones others i j old left read = record {
 }
 
 -- nothing is read
-pub none_read : (es : List (ℕ × ℕ)) (key : ℕ → ℕ) (k : ℕ) (ones others : List Half) (left : List Bool) → AreKnown es key k ones others → AreMarked es key k left → IsRead es key k ones others 0 0 left left
+pub none_read : (es : List (ℕ × ℕ)) (key : ℕ → ℕ) (k : ℕ) (ones others : List Half) (left : List Bool) → AreKnown es key k ones others →
+    AreMarked es key k left → IsRead es key k ones others 0 0 left left
 none_read es key k ones others left known marked = record {
   level = λ x. omega arith;
   first = record {
@@ -193,7 +203,8 @@ none_read es key k ones others left known marked = record {
 }
 
 -- the first way's edge is lesser
-pub first_read : (es : List (ℕ × ℕ)) (key : ℕ → ℕ) (k : ℕ) (ones others : List Half) (i j : ℕ) (old left : List Bool) → AreKnown es key k ones others → i < length ones → j < length others → is_lesser (ends_at ones i) (ends_at others j) ≡ true
+pub first_read : (es : List (ℕ × ℕ)) (key : ℕ → ℕ) (k : ℕ) (ones others : List Half) (i j : ℕ) (old left : List Bool) → AreKnown es key k ones others →
+    i < length ones → j < length others → is_lesser (ends_at ones i) (ends_at others j) ≡ true
     → IsRead es key k ones others i j old left → IsRead es key k ones others (i + 1) j old left
 first_read es key k ones others i j old left known low below less read = record {
   level = level_more (ends_of ones) (ends_of others) i j (ends_at ones i) at.stands passed read.level;
@@ -209,21 +220,25 @@ first_read es key k ones others i j old left known low below less read = record 
     passed = let there = known.second j below in omega (arith, there.stands.low, lesser_count_more (ends_of others) (ends_at ones i) (ends_at others j) less)
 
 -- the second way's edge is lesser
-pub second_read : (es : List (ℕ × ℕ)) (key : ℕ → ℕ) (k : ℕ) (ones others : List Half) (i j : ℕ) (old left : List Bool) → AreKnown es key k ones others → i < length ones → j < length others → is_lesser (ends_at others j) (ends_at ones i) ≡ true
+pub second_read : (es : List (ℕ × ℕ)) (key : ℕ → ℕ) (k : ℕ) (ones others : List Half) (i j : ℕ) (old left : List Bool) → AreKnown es key k ones others →
+    i < length ones → j < length others → is_lesser (ends_at others j) (ends_at ones i) ≡ true
     → IsRead es key k ones others i j old left → IsRead es key k ones others i (j + 1) old left
 second_read es key k ones others i j old left known low below less read =
     read_exchanged es key k others ones (j + 1) i old left
     (first_read es key k others ones j i old left (known_exchanged es key k ones others known) below low less (read_exchanged es key k ones others i j old left read))
 
 -- both ways have the edge: both marks go
-pub both_read : (es : List (ℕ × ℕ)) (key : ℕ → ℕ) (k : ℕ) (ones others : List Half) (i j : ℕ) (old left : List Bool) → AreKnown es key k ones others → i < length ones → j < length others → ends_at others j ≡ ends_at ones i → length left ≡ length es
+pub both_read : (es : List (ℕ × ℕ)) (key : ℕ → ℕ) (k : ℕ) (ones others : List Half) (i j : ℕ) (old left : List Bool) → AreKnown es key k ones others →
+    i < length ones → j < length others → ends_at others j ≡ ends_at ones i → length left ≡ length es
     → IsRead es key k ones others i j old left → IsRead es key k ones others (i + 1) (j + 1) old (set (set left (half_at ones i) false) (half_at others j) false)
 both_read es key k ones others i j old left known low below same full read = record {
   level = level_same (ends_of ones) (ends_of others) i j x at.stands back read.level;
-  first = other_goes es ones (i + 1) t (set left g false) (λ p l. known.apart p j l below) (one_goes es ones i left low (omega (arith, at.within, full)) goes known.first_once read.first);
+  first = other_goes es ones (i + 1) t (set left g false) (λ p l. known.apart p j l below)
+      (one_goes es ones i left low (omega (arith, at.within, full)) goes known.first_once read.first);
   second = one_goes es others j (set left g false) below (omega (arith, there.within, full, length-set left g false)) goes_too known.second_once
       (other_goes es others j g left (λ p l is. known.apart i p low l (sym is)) read.second);
-  kept = λ h other. get_or-set_other (set left g false) t h false true (elsewhere t there.keyed h other) ∙ get_or-set_other left g h false true (elsewhere g at.keyed h other) ∙ read.kept h other;
+  kept = λ h other. get_or-set_other (set left g false) t h false true (elsewhere t there.keyed h other)
+      ∙ get_or-set_other left g h false true (elsewhere g at.keyed h other) ∙ read.kept h other;
 }
   where
     g : ℕ
@@ -254,7 +269,8 @@ both_read es key k ones others i j old left known low below same full read = rec
     elsewhere m keyed h other is = other (ap (λ n. key (lesser_end_at es n)) is ∙ keyed)
 
 -- where the other side is at its end, the marks of a way say what is left
-way_marked : (es : List (ℕ × ℕ)) (key : ℕ → ℕ) (k : ℕ) (ones others : List Half) (i j : ℕ) (old left : List Bool) → AreKnown es key k ones others → (length ones ≤ i) ⊎ (length others ≤ j) → IsRead es key k ones others i j old left
+way_marked : (es : List (ℕ × ℕ)) (key : ℕ → ℕ) (k : ℕ) (ones others : List Half) (i j : ℕ) (old left : List Bool) → AreKnown es key k ones others →
+    (length ones ≤ i) ⊎ (length others ≤ j) → IsRead es key k ones others i j old left
     → (p : ℕ) → p < length ones → get_or left (half_at ones p) true ≡ is_left es (half_at ones p)
 way_marked es key k ones others i j old left known ended read p low = elim (cases_lt p i) as (λ _. get_or left (half_at ones p) true ≡ is_left es (half_at ones p)) [
   | inl before ↦ read.first.done p before low
@@ -265,7 +281,8 @@ way_marked es key k ones others i j old left known ended read p low = elim (case
     by (inl first) later = absurd (omega (arith, first, later, low))
     by (inr second) later =
         read.first.rest p later low
-        ∙ sym (left_more es key k (ends_of ones) (ends_of others) i j p (half_at ones p) (ends_at ones p) (known.first p low) later read.level (omega (arith, second, lesser_and_same (ends_of others) (ends_at ones p), length-map others ends)))
+        ∙ sym (left_more es key k (ends_of ones) (ends_of others) i j p (half_at ones p) (ends_at ones p) (known.first p low) later read.level
+        (omega (arith, second, lesser_and_same (ends_of others) (ends_at ones p), length-map others ends)))
 
 -- that one way is at its end, with the ways exchanged
 ended_exchanged : (ones others : List Half) (i j : ℕ) → (length ones ≤ i) ⊎ (length others ≤ j) → (length others ≤ j) ⊎ (length ones ≤ i)
@@ -279,10 +296,15 @@ within_turned es t low = omega (arith, low, length-map es turned_edge)
 -- a half-edge has fewer before it that run as it than there are
 rank_less : (es : List (ℕ × ℕ)) (g : ℕ) → g < length es → rank (runs_as es g) es g < same_count es (edge_at es g)
 rank_less es g low =
-    omega (arith, rank_below (runs_as es g) es g low (λ d. ap (runs_as es g) (get_or_default es g d (0, 0) low) ∙ is_self (start es g) (finish es g)), dir-count_by es (start es g) (finish es g))
+    omega (
+      arith,
+      rank_below (runs_as es g) es g low (λ d. ap (runs_as es g) (get_or_default es g d (0, 0) low) ∙ is_self (start es g) (finish es g)),
+      dir-count_by es (start es g) (finish es g),
+    )
 
 -- so the place stands at its edge
-stands_there : (es : List (ℕ × ℕ)) (key : ℕ → ℕ) (k : ℕ) (xs : List Half) → IsSortOf (filter (lies_in key k) (numbered 0 es)) xs → (i : ℕ) → i < length xs → Stands (ends_of xs) i (edge_at es (half_at xs i))
+stands_there : (es : List (ℕ × ℕ)) (key : ℕ → ℕ) (k : ℕ) (xs : List Half) → IsSortOf (filter (lies_in key k) (numbered 0 es)) xs → (i : ℕ) → i < length xs →
+    Stands (ends_of xs) i (edge_at es (half_at xs i))
 stands_there es key k xs sorted i low =
     let p = placed_in es key k xs sorted i low in
     let g = half_at xs i in
@@ -295,15 +317,18 @@ goes_up : (key : ℕ → ℕ) (k a b : ℕ) → edge_lies_in key k (a, b) ≡ tr
 goes_up key k a b is = let p = and_parts (nat_lt a b) (key a == k) is in (ltb-true a b p.0, eqb-true (key a) k p.1)
 
 -- so a half-edge of the ups runs up
-ups_rise : (es : List (ℕ × ℕ)) (key : ℕ → ℕ) (k : ℕ) (xs : List Half) → IsSortOf (filter (lies_in key k) (numbered 0 es)) xs → (i : ℕ) → i < length xs → (start es (half_at xs i) < finish es (half_at xs i)) × (key (start es (half_at xs i)) ≡ k)
+ups_rise : (es : List (ℕ × ℕ)) (key : ℕ → ℕ) (k : ℕ) (xs : List Half) → IsSortOf (filter (lies_in key k) (numbered 0 es)) xs → (i : ℕ) → i < length xs →
+    (start es (half_at xs i) < finish es (half_at xs i)) × (key (start es (half_at xs i)) ≡ k)
 ups_rise es key k xs sorted i low =
     goes_up key k (start es (half_at xs i)) (finish es (half_at xs i)) (placed_lies es key k xs sorted i low)
 
 -- and a half-edge of the downs down
-downs_fall : (es : List (ℕ × ℕ)) (key : ℕ → ℕ) (k : ℕ) (xs : List Half) → IsSortOf (filter (lies_in key k) (numbered 0 (backward es))) xs → (i : ℕ) → i < length xs → (finish es (half_at xs i) < start es (half_at xs i)) × (key (finish es (half_at xs i)) ≡ k)
+downs_fall : (es : List (ℕ × ℕ)) (key : ℕ → ℕ) (k : ℕ) (xs : List Half) → IsSortOf (filter (lies_in key k) (numbered 0 (backward es))) xs → (i : ℕ) →
+    i < length xs → (finish es (half_at xs i) < start es (half_at xs i)) × (key (finish es (half_at xs i)) ≡ k)
 downs_fall es key k xs sorted i low =
     let t = half_at xs i in
-    subst (λ (x : ℕ × ℕ). (x.0 < x.1) × (key x.0 ≡ k)) (backward_at es t (within_turned es t (placed_in (backward es) key k xs sorted i low).within)) (ups_rise (backward es) key k xs sorted i low)
+    subst (λ (x : ℕ × ℕ). (x.0 < x.1) × (key x.0 ≡ k)) (backward_at es t (within_turned es t (placed_in (backward es) key k xs sorted i low).within))
+    (ups_rise (backward es) key k xs sorted i low)
 
 -- the lesser end of an edge that runs up is its start
 lesser_start : (a b : ℕ) → a < b → lesser_end (a, b) ≡ a
@@ -314,14 +339,16 @@ lesser_finish : (a b : ℕ) → b < a → lesser_end (a, b) ≡ b
 lesser_finish a b down = grind (arith, nat_tests, down)
 
 -- a half-edge at a place of the ups
-up_at : (es : List (ℕ × ℕ)) (key : ℕ → ℕ) (k : ℕ) (ups downs : List Half) → AreWays es key k ups downs → (p : ℕ) → p < length ups → IsAt es key k (ends_of ups) (ends_of downs) p (half_at ups p) (ends_at ups p)
+up_at : (es : List (ℕ × ℕ)) (key : ℕ → ℕ) (k : ℕ) (ups downs : List Half) → AreWays es key k ups downs → (p : ℕ) → p < length ups →
+    IsAt es key k (ends_of ups) (ends_of downs) p (half_at ups p) (ends_at ups p)
 up_at es key k ups downs ways p low =
     subst (IsAt es key k (ends_of ups) (ends_of downs) p g) (sym at.runs)
     (record {
       within = at.within;
       keyed = ap key (lesser_start (start es g) (finish es g) way.0) ∙ way.1;
       stands = stands_there es key k ups ways.ups_sorted p low;
-      left = ap (λ n. nat_le n (rank (runs_as es g) es g)) (sym (downs_count es key k ups downs ways (start es g) (finish es g) way.0 way.1)) ∙ ap (nat_le (same_count (ends_of downs) (edge_at es g))) before;
+      left = ap (λ n. nat_le n (rank (runs_as es g) es g)) (sym (downs_count es key k ups downs ways (start es g) (finish es g) way.0 way.1))
+          ∙ ap (nat_le (same_count (ends_of downs) (edge_at es g))) before;
     })
   where
     g : ℕ
@@ -337,14 +364,16 @@ up_at es key k ups downs ways p low =
     before = omega (arith, at.place)
 
 -- and at a place of the downs
-down_at : (es : List (ℕ × ℕ)) (key : ℕ → ℕ) (k : ℕ) (ups downs : List Half) → AreWays es key k ups downs → (p : ℕ) → p < length downs → IsAt es key k (ends_of downs) (ends_of ups) p (half_at downs p) (ends_at downs p)
+down_at : (es : List (ℕ × ℕ)) (key : ℕ → ℕ) (k : ℕ) (ups downs : List Half) → AreWays es key k ups downs → (p : ℕ) → p < length downs →
+    IsAt es key k (ends_of downs) (ends_of ups) p (half_at downs p) (ends_at downs p)
 down_at es key k ups downs ways p low =
     subst (IsAt es key k (ends_of downs) (ends_of ups) p t) (sym (at.runs ∙ turn))
     (record {
       within = within;
       keyed = ap key (lesser_finish (start es t) (finish es t) way.0) ∙ way.1;
       stands = subst (Stands (ends_of downs) p) turn (stands_there (backward es) key k downs ways.downs_sorted p low);
-      left = ap (λ n. nat_le n (rank (runs_as es t) es t)) (sym (ups_count es key k ups downs ways (finish es t) (start es t) way.0 way.1)) ∙ ap (nat_le (same_count (ends_of ups) (finish es t, start es t))) before;
+      left = ap (λ n. nat_le n (rank (runs_as es t) es t)) (sym (ups_count es key k ups downs ways (finish es t) (start es t) way.0 way.1))
+          ∙ ap (nat_le (same_count (ends_of ups) (finish es t, start es t))) before;
     })
   where
     t : ℕ
@@ -378,7 +407,8 @@ ways_known es key k ups downs ways = record {
   first = up_at es key k ups downs ways;
   second = down_at es key k ups downs ways;
   first_once = λ p q low below. one_place es ups p q (placed_in es key k ups ways.ups_sorted p low) (placed_in es key k ups ways.ups_sorted q below);
-  second_once = λ p q low below. one_place (backward es) downs p q (placed_in (backward es) key k downs ways.downs_sorted p low) (placed_in (backward es) key k downs ways.downs_sorted q below);
+  second_once = λ p q low below. one_place (backward es) downs p q (placed_in (backward es) key k downs ways.downs_sorted p low)
+      (placed_in (backward es) key k downs ways.downs_sorted q below);
   apart = λ p q low below same.
       let up = ups_rise es key k ups ways.ups_sorted p low in
       let down = downs_fall es key k downs ways.downs_sorted q below in
@@ -406,7 +436,8 @@ marked_more es key k ups downs i j old left ways differ ended full marked read =
     at_down : (h : ℕ) → (p : ℕ) × (p < length downs) × (half_at downs p ≡ h) → get_or left h true ≡ is_left es h
     at_down h (p, low, is) =
         subst (λ g. get_or left g true ≡ is_left es g) is
-        (way_marked es key k downs ups j i old left (known_exchanged es key k ups downs known) (ended_exchanged ups downs i j ended) (read_exchanged es key k ups downs i j old left read) p low)
+        (way_marked es key k downs ups j i old left (known_exchanged es key k ups downs known) (ended_exchanged ups downs i j ended)
+        (read_exchanged es key k ups downs i j old left read) p low)
 
     in_bucket : (h : ℕ) → h < length es → key (lesser_end_at es h) ≡ k → get_or left h true ≡ is_left es h
     in_bucket h within keyed = elim (cases_order (start es h) (finish es h)) as (λ _. get_or left h true ≡ is_left es h) [

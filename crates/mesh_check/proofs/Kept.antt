@@ -18,7 +18,8 @@ use Rattle.mesh_check.specs.Reduced.{same_way, opposite, is_kept, kept_from, kep
 use Rattle.mesh_check.proofs.Orientations.{turn, from_least, least_narrow, same_count, opposite_count, opposite_edge}
 
 -- of an orientation with r members before and m opposite ones, one more is kept where r is not below m
-step : (k e : Bool) (m r d rest : ℕ) → (e ≡ true → k ≡ nat_le m r) → rest + (r + one_if e - m) ≡ r + one_if e + d - m → cond k (one_if e) 0 + rest + (r - m) ≡ r + (one_if e + d) - m
+step : (k e : Bool) (m r d rest : ℕ) → (e ≡ true → k ≡ nat_le m r) → rest + (r + one_if e - m) ≡ r + one_if e + d - m →
+    cond k (one_if e) 0 + rest + (r - m) ≡ r + (one_if e + d) - m
 step true false m r d rest kept at = omega (arith, at)
 step false false m r d rest kept at = omega (arith, at)
 step true true m r d rest kept at = grind (arith, nat_tests, kept refl, at)
@@ -34,7 +35,8 @@ count_at-append [] us a b = omega arith
 count_at-append (t ∷ ts) us a b = omega (arith, count_at-append ts us a b)
 
 -- one that may be there, in front
-count_at-cond : (k : Bool) (t : Triple) (ts : List Triple) (a b : ℕ) → count_at (cond k (t ∷ []) [] ++ ts) a b ≡ cond k (one_if (is_edge (orientation_edge t) a b)) 0 + count_at ts a b
+count_at-cond : (k : Bool) (t : Triple) (ts : List Triple) (a b : ℕ) →
+    count_at (cond k (t ∷ []) [] ++ ts) a b ≡ cond k (one_if (is_edge (orientation_edge t) a b)) 0 + count_at ts a b
 count_at-cond true t ts a b = refl
 count_at-cond false t ts a b = omega arith
 
@@ -52,7 +54,8 @@ kept_here front rest t a b all before here is =
     let others : count_by (opposite t) (front ++ t ∷ rest) ≡ count_at (front ++ t ∷ rest) b a =
     opposite_count (front ++ t ∷ rest) t all here ∙ ap (λ x. count_at (front ++ t ∷ rest) x (orientation_edge t).0) p.1 ∙ ap (λ x. count_at (front ++ t ∷ rest) b x) p.0 in
     let same : count_by (same_way t) (take (length front) (front ++ t ∷ rest)) ≡ count_at front a b =
-    ap (count_by (same_way t)) (take_front front (t ∷ rest)) ∙ same_count front t before here ∙ ap (λ x. count_at front x (orientation_edge t).1) p.0 ∙ ap (λ x. count_at front a x) p.1 in
+    ap (count_by (same_way t)) (take_front front (t ∷ rest)) ∙ same_count front t before here ∙ ap (λ x. count_at front x (orientation_edge t).1) p.0
+    ∙ ap (λ x. count_at front a x) p.1 in
     ap (λ n. nat_le n (count_by (same_way t) (take (length front) (front ++ t ∷ rest)))) others ∙ ap (nat_le (count_at (front ++ t ∷ rest) b a)) same
 
 -- of each orientation as many of the rest are kept as bring it above the opposite ones
@@ -63,16 +66,21 @@ kept_rest all front (t ∷ ts) a b is every before later =
     let here : IsTriangle t = All-head IsTriangle t ts later in
     let more : List Triple = front ++ t ∷ [] in
     let longer : length more ≡ suc (length front) = omega (arith, length-append front (t ∷ [])) in
-    let rest = kept_rest all more ts a b (is ∙ sym (append_assoc front (t ∷ []) ts)) every (All-append IsTriangle front (t ∷ []) before (All-cons IsTriangle t [] here (All-nil IsTriangle))) (All-tail IsTriangle t ts later) in
+    let rest = kept_rest all more ts a b (is ∙ sym (append_assoc front (t ∷ []) ts)) every
+    (All-append IsTriangle front (t ∷ []) before (All-cons IsTriangle t [] here (All-nil IsTriangle))) (All-tail IsTriangle t ts later) in
     let counted : count_at more a b ≡ count_at front a b + one_if (is_edge (orientation_edge t) a b) = omega (arith, count_at-append front (t ∷ []) a b) in
     let test : is_edge (orientation_edge t) a b ≡ true → is_kept all (length front) t ≡ nat_le (count_at all b a) (count_at front a b) =
-    λ e. subst (λ l. is_kept l (length front) t ≡ nat_le (count_at l b a) (count_at front a b)) (sym is) (kept_here front ts t a b (subst (All IsTriangle) is every) before here e) in
-    let known : count_at (kept_from all (suc (length front)) ts) a b + (count_at front a b + one_if (is_edge (orientation_edge t) a b) - count_at all b a) ≡ count_at front a b + one_if (is_edge (orientation_edge t) a b) + count_at ts a b - count_at all b a =
-    subst (λ n. count_at (kept_from all n ts) a b + (count_at front a b + one_if (is_edge (orientation_edge t) a b) - count_at all b a) ≡ count_at front a b + one_if (is_edge (orientation_edge t) a b) + count_at ts a b - count_at all b a) longer
+    λ e. subst (λ l. is_kept l (length front) t ≡ nat_le (count_at l b a) (count_at front a b)) (sym is)
+    (kept_here front ts t a b (subst (All IsTriangle) is every) before here e) in
+    let known : count_at (kept_from all (suc (length front)) ts) a b + (count_at front a b + one_if (is_edge (orientation_edge t) a b) - count_at all b a)
+    ≡ count_at front a b + one_if (is_edge (orientation_edge t) a b) + count_at ts a b - count_at all b a =
+    subst (λ n. count_at (kept_from all n ts) a b + (count_at front a b + one_if (is_edge (orientation_edge t) a b) - count_at all b a)
+    ≡ count_at front a b + one_if (is_edge (orientation_edge t) a b) + count_at ts a b - count_at all b a) longer
     (subst (λ n. count_at (kept_from all (length more) ts) a b + (n - count_at all b a) ≡ n + count_at ts a b - count_at all b a) counted rest) in
     omega (
       arith,
-      step (is_kept all (length front) t) (is_edge (orientation_edge t) a b) (count_at all b a) (count_at front a b) (count_at ts a b) (count_at (kept_from all (suc (length front)) ts) a b) test known,
+      step (is_kept all (length front) t) (is_edge (orientation_edge t) a b) (count_at all b a) (count_at front a b) (count_at ts a b)
+          (count_at (kept_from all (suc (length front)) ts) a b) test known,
       count_at-cond (is_kept all (length front) t) t (kept_from all (suc (length front)) ts) a b,
     )
 
@@ -92,7 +100,8 @@ kept_all P all i (t ∷ ts) each =
 pub length-kept : (all : List Triple) (i : ℕ) (ts : List Triple) → length (kept_from all i ts) ≤ length ts
 length-kept all i [] = omega arith
 length-kept all i (t ∷ ts) =
-    cond_both (is_kept all i t) (t ∷ []) [] (λ l. length (l ++ kept_from all (suc i) ts) ≤ suc (length ts)) (λ _. omega (arith, length-kept all (suc i) ts)) (λ _. omega (arith, length-kept all (suc i) ts))
+    cond_both (is_kept all i t) (t ∷ []) [] (λ l. length (l ++ kept_from all (suc i) ts) ≤ suc (length ts)) (λ _. omega (arith, length-kept all (suc i) ts))
+    (λ _. omega (arith, length-kept all (suc i) ts))
 
 -- a triple of a list occurs there with its orientation
 occurs : (ts : List Triple) (t : Triple) → Contains ts t → 0 < count_at ts (orientation_edge t).0 (orientation_edge t).1
@@ -114,7 +123,8 @@ kept_no_opposite ts all s t has_s has_t =
         let e = edge_is (orientation_edge t) (orientation_edge s).1 (orientation_edge s).0 (sym (opposite_edge t s q p) ∙ is) in
         let some_s = occurs (kept_triples ts) s has_s in
         let some_t : 0 < count_at (kept_triples ts) (orientation_edge s).1 (orientation_edge s).0 =
-        subst (λ x. 0 < count_at (kept_triples ts) x (orientation_edge s).0) e.0 (subst (λ x. 0 < count_at (kept_triples ts) (orientation_edge t).0 x) e.1 (occurs (kept_triples ts) t has_t)) in
+        subst (λ x. 0 < count_at (kept_triples ts) x (orientation_edge s).0) e.0
+        (subst (λ x. 0 < count_at (kept_triples ts) (orientation_edge t).0 x) e.1 (occurs (kept_triples ts) t has_t)) in
         absurd (omega (arith, some_s, some_t, kept_count ts all (orientation_edge s).0 (orientation_edge s).1, kept_count ts all (orientation_edge s).1 (orientation_edge s).0))
 
 -- f along the edges of a triangle, as a function of its orientation edge
@@ -166,4 +176,5 @@ kept_same ts all = same_boundary (orientation_edges (kept_triples ts)) (orientat
 pub kept_closed : (ts : List Triple) → All IsTriangle ts → IsClosed (all_edges ts) → IsClosed (all_edges (kept_triples ts))
 kept_closed ts all closed =
     closed_from_sums (all_edges (kept_triples ts))
-    (λ f odd. sym (round_total f odd (kept_triples ts) (kept_all IsTriangle ts 0 ts all)) ∙ kept_same ts all (round f) (round_odd f odd) ∙ round_total f odd ts all ∙ odd_sum f odd (all_edges ts) closed)
+    (λ f odd. sym (round_total f odd (kept_triples ts) (kept_all IsTriangle ts 0 ts all)) ∙ kept_same ts all (round f) (round_odd f odd)
+    ∙ round_total f odd ts all ∙ odd_sum f odd (all_edges ts) closed)

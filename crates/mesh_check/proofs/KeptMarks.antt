@@ -33,11 +33,13 @@ kept_left ts all i d low =
     let b : (orientation_edge t).1 ≡ finish es i = ap (λ (e : ℕ × ℕ). e.1) edge in
     let others : count_by (opposite t) ts ≡ dir es (finish es i) (start es i) = opposite_count ts t all here ∙ (λ k. dir es (b k) (a k)) in
     let before : count_by (same_way t) (take i ts) ≡ rank (runs_as es i) es i =
-    same_count (take i ts) t (All-take IsTriangle i ts all) here ∙ (λ k. dir (orientation_edges (take i ts)) (a k) (b k)) ∙ ap (λ l. dir l (start es i) (finish es i)) (sym (take-map orientation_edge i ts)) ∙ sym (rank-dir es (start es i) (finish es i) i) in
+    same_count (take i ts) t (All-take IsTriangle i ts all) here ∙ (λ k. dir (orientation_edges (take i ts)) (a k) (b k))
+    ∙ ap (λ l. dir l (start es i) (finish es i)) (sym (take-map orientation_edge i ts)) ∙ sym (rank-dir es (start es i) (finish es i) i) in
     λ k. nat_le (others k) (before k)
 
 -- the members with a mark, one more
-picked_suc : {X : Type 0} (ms : List Bool) (xs : List X) (i : ℕ) (b : Bool) (d : X) → i < length ms → i < length xs → picked (take (suc i) ms) (take (suc i) xs) ≡ picked (take i ms) (take i xs) ++ cond (get_or ms i b) (get_or xs i d ∷ []) []
+picked_suc : {X : Type 0} (ms : List Bool) (xs : List X) (i : ℕ) (b : Bool) (d : X) → i < length ms → i < length xs →
+    picked (take (suc i) ms) (take (suc i) xs) ≡ picked (take i ms) (take i xs) ++ cond (get_or ms i b) (get_or xs i d ∷ []) []
 picked_suc [] xs i b d low high = absurd (omega (arith, low))
 picked_suc (m ∷ ms) [] i b d low high = absurd (omega (arith, high))
 picked_suc (m ∷ ms) (x ∷ xs) zero b d low high = append-nil (cond m (x ∷ []) [])
@@ -45,7 +47,8 @@ picked_suc (m ∷ ms) (x ∷ xs) (suc i) b d low high =
     ap (λ l. cond m (x ∷ []) [] ++ l) (picked_suc ms xs i b d (omega (arith, low)) (omega (arith, high)))
     ∙ sym (append_assoc (cond m (x ∷ []) []) (picked (take i ms) (take i xs)) (cond (get_or ms i b) (get_or xs i d ∷ []) []))
 
-pub picked_more : {X : Type 0} (ms : List Bool) (xs : List X) (i : ℕ) (b : Bool) (d : X) → i < length ms → i < length xs → picked (take (i + 1) ms) (take (i + 1) xs) ≡ picked (take i ms) (take i xs) ++ cond (get_or ms i b) (get_or xs i d ∷ []) []
+pub picked_more : {X : Type 0} (ms : List Bool) (xs : List X) (i : ℕ) (b : Bool) (d : X) → i < length ms → i < length xs →
+    picked (take (i + 1) ms) (take (i + 1) xs) ≡ picked (take i ms) (take i xs) ++ cond (get_or ms i b) (get_or xs i d ∷ []) []
 picked_more ms xs i b d low high = let next : i + 1 ≡ suc i = omega arith in ap (λ n. picked (take n ms) (take n xs)) next ∙ picked_suc ms xs i b d low high
 
 -- marks past the end of a list tell nothing
@@ -90,7 +93,8 @@ picked_others (true ∷ ms) (x ∷ xs) (y ∷ ys) count same = ap (λ l. y ∷ l
 picked_others (false ∷ ms) (x ∷ xs) (y ∷ ys) count same = absurd (omega (arith, same, length-picked ms xs))
 
 -- the kept ones of the rest have their marks
-kept_picked : (all front rest : List Triple) → all ≡ front ++ rest → kept_from all (length front) rest ≡ picked (map (λ i. is_kept all i (get_or all i (0, 0, 0))) (up_from (length front) (length rest))) rest
+kept_picked : (all front rest : List Triple) → all ≡ front ++ rest →
+    kept_from all (length front) rest ≡ picked (map (λ i. is_kept all i (get_or all i (0, 0, 0))) (up_from (length front) (length rest))) rest
 kept_picked all front [] is = refl
 kept_picked all front (t ∷ ts) is =
     let at : t ≡ get_or all (length front) (0, 0, 0) = sym (ap (λ l. get_or l (length front) (0, 0, 0)) is ∙ get_or-append_seam front t ts (0, 0, 0)) in
@@ -110,8 +114,18 @@ pub kept_marks_left : (ts : List Triple) → All IsTriangle ts → left_marks (o
 kept_marks_left ts all =
     let es = orientation_edges ts in
     let n : length es ≡ length ts = length-map ts orientation_edge in
-    same_lists (left_marks es) (kept_marks ts) (omega (arith, n, length-map (upto (length es)) (is_left es), length-up_from 0 (length es), length-map (upto (length ts)) (λ i. is_kept ts i (get_or ts i (0, 0, 0))), length-up_from 0 (length ts)))
-    (λ i d low. marked (is_left es) (length es) i d (below i low) ∙ sym (kept_left ts all i (0, 0, 0) (omega (arith, n, below i low))) ∙ sym (marked (λ j. is_kept ts j (get_or ts j (0, 0, 0))) (length ts) i d (omega (arith, n, below i low))))
+    same_lists (left_marks es) (kept_marks ts)
+    (omega (
+      arith,
+      n,
+      length-map (upto (length es)) (is_left es),
+      length-up_from 0 (length es),
+      length-map (upto (length ts))
+          (λ i. is_kept ts i (get_or ts i (0, 0, 0))),
+      length-up_from 0 (length ts),
+    ))
+    (λ i d low. marked (is_left es) (length es) i d (below i low) ∙ sym (kept_left ts all i (0, 0, 0) (omega (arith, n, below i low)))
+    ∙ sym (marked (λ j. is_kept ts j (get_or ts j (0, 0, 0))) (length ts) i d (omega (arith, n, below i low))))
   where
     below : (i : ℕ) → i < length (left_marks (orientation_edges ts)) → i < length (orientation_edges ts)
     below i low = omega (arith, low, length-map (upto (length (orientation_edges ts))) (is_left (orientation_edges ts)), length-up_from 0 (length (orientation_edges ts)))

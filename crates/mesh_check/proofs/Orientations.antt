@@ -55,7 +55,8 @@ from_least P t first second third =
 -- where one is a rotation of the other does not change from the least vertex on
 least_both : (s t : Triple) → same_way (least_first s) (least_first t) ≡ same_way s t
 least_both s t =
-    from_least (λ u. same_way (least_first s) u ≡ same_way (least_first s) t) t refl (turn_second (least_first s) t) (turn_second (least_first s) (turn t) ∙ turn_second (least_first s) t)
+    from_least (λ u. same_way (least_first s) u ≡ same_way (least_first s) t) t refl (turn_second (least_first s) t)
+    (turn_second (least_first s) (turn t) ∙ turn_second (least_first s) t)
     ∙ from_least (λ v. same_way v t ≡ same_way s t) s refl (turn_first s t) (turn_first (turn s) t ∙ turn_first s t)
 
 -- the least vertex comes first
@@ -65,7 +66,10 @@ least_is_first t three =
     (λ yes. record { second = grind (arith, nat_tests, yes); third = grind (arith, nat_tests, yes) })
     (λ not_second. cond_both (third_least t) (turn (turn t)) t IsLeastFirst
     (λ yes. record { second = grind (arith, nat_tests, yes); third = grind (arith, nat_tests, yes) })
-    (λ not_third. record { second = grind (arith, nat_tests, not_second, not_third, three.ab, three.bc, three.ca); third = grind (arith, nat_tests, not_second, not_third, three.ab, three.bc, three.ca) }))
+    (λ not_third. record {
+      second = grind (arith, nat_tests, not_second, not_third, three.ab, three.bc, three.ca);
+      third = grind (arith, nat_tests, not_second, not_third, three.ab, three.bc, three.ca);
+    }))
 
 -- the vertices stay below 2^32
 pub least_narrow : (t : Triple) → IsNarrow t → IsNarrow (least_first t)
@@ -79,7 +83,8 @@ two_least t p q = grind (arith, nat_tests, p, q)
 pub least_other_side : (t : Triple) → least_first (other_side t) ≡ other_side (least_first t)
 least_other_side t = by (second_least t) (third_least t) refl refl
   where
-    by : (x y : Bool) → second_least t ≡ x → third_least t ≡ y → (if y then (t.2, t.1, t.0) else if x then (t.1, t.0, t.2) else other_side t) ≡ other_side (if x then turn t else if y then turn (turn t) else t)
+    by : (x y : Bool) → second_least t ≡ x → third_least t ≡ y →
+        (if y then (t.2, t.1, t.0) else if x then (t.1, t.0, t.2) else other_side t) ≡ other_side (if x then turn t else if y then turn (turn t) else t)
     by true true p q = absurd (two_least t p q)
     by true false p q = refl
     by false true p q = refl
@@ -114,13 +119,15 @@ opposite_edge s t p q =
     ∙ and_turned ((orientation_edge s).1 == (orientation_edge t).0) ((orientation_edge s).0 == (orientation_edge t).1)
 
 -- as many triangles have the orientation as edges are its edge
-pub same_count : (ts : List Triple) (t : Triple) → All IsTriangle ts → IsTriangle t → count_by (same_way t) ts ≡ dir (orientation_edges ts) (orientation_edge t).0 (orientation_edge t).1
+pub same_count : (ts : List Triple) (t : Triple) → All IsTriangle ts → IsTriangle t →
+    count_by (same_way t) ts ≡ dir (orientation_edges ts) (orientation_edge t).0 (orientation_edge t).1
 same_count [] t all q = refl
 same_count (s ∷ ts) t all q =
     omega (arith, count_by-cons (same_way t) s ts, ap one_if (same_way_edge s t (All-head IsTriangle s ts all) q), same_count ts t (All-tail IsTriangle s ts all) q)
 
 -- and the other one as are its reverse
-pub opposite_count : (ts : List Triple) (t : Triple) → All IsTriangle ts → IsTriangle t → count_by (opposite t) ts ≡ dir (orientation_edges ts) (orientation_edge t).1 (orientation_edge t).0
+pub opposite_count : (ts : List Triple) (t : Triple) → All IsTriangle ts → IsTriangle t →
+    count_by (opposite t) ts ≡ dir (orientation_edges ts) (orientation_edge t).1 (orientation_edge t).0
 opposite_count [] t all q = refl
 opposite_count (s ∷ ts) t all q =
     omega (arith, count_by-cons (opposite t) s ts, ap one_if (opposite_edge s t (All-head IsTriangle s ts all) q), opposite_count ts t (All-tail IsTriangle s ts all) q)

@@ -22,7 +22,12 @@ pub mesh_triangles : (n : ℕ) (ts : List Triple) → IsMesh n ts → All IsTria
 mesh_triangles n ts mesh = λ i d low. one (get_or ts i d) (mesh.three i d low) (mesh.below i d low)
   where
     one : (t : Triple) → HasThree t → IsBelow n t → IsTriangle t
-    one t three below = record { three = three; narrow = record { a = omega (arith, below.a, mesh.few_points); b = omega (arith, below.b, mesh.few_points); c = omega (arith, below.c, mesh.few_points) } }
+    one t three below =
+        record {
+          three = three;
+          narrow =
+              record { a = omega (arith, below.a, mesh.few_points); b = omega (arith, below.b, mesh.few_points); c = omega (arith, below.c, mesh.few_points) };
+        }
 
 -- the kept ones name three different points, and are not too many
 pub kept_sound : (n : ℕ) (ts : List Triple) → IsMesh n ts → IsSound n (kept_triples ts)
@@ -63,7 +68,12 @@ record WasTriple (ts : List Triple) (t : Triple) : Type 0 where
 was_triple : (ts : List Triple) (t : Triple) → Contains (renumbered ts) t → WasTriple ts t
 was_triple ts t (k, low, is) =
     let within : k < length ts = omega (arith, low, length-map ts (numbered ts)) in
-    record { before = get_or ts k (0, 0, 0); inside = (k, within, get_or_default ts k (get_or ts k (0, 0, 0)) (0, 0, 0) within); is = sym is ∙ get_or-map (numbered ts) ts k (0, 0, 0) t within }
+    record {
+      before = get_or ts k (0, 0, 0);
+      inside = (k, within, get_or_default ts k (get_or ts k (0, 0, 0)) (0, 0, 0) within);
+      is = sym is
+          ∙ get_or-map (numbered ts) ts k (0, 0, 0) t within;
+    }
 
 -- so no two are opposite with the new numbers where none were
 pub renumbered_no_opposite : (ts : List Triple) → NoOpposite ts → NoOpposite (renumbered ts)
@@ -78,8 +88,10 @@ pub reduced_no_opposite : (points : List (List ℤ)) (ts : List Triple) (labels 
 reduced_no_opposite points ts labels mesh = renumbered_no_opposite (kept_triples ts) (kept_no_opposite ts (mesh_triangles (length points) ts mesh))
 
 -- and is closed where the mesh is
-pub reduced_closed : (points : List (List ℤ)) (ts : List Triple) (labels : List (List ℕ)) → IsMesh (length points) ts → IsClosed (all_edges ts) → IsClosed (all_edges (reduced points ts labels).triples)
-reduced_closed points ts labels mesh closed = closed-renamed_triples (new_number (kept_triples ts)) (kept_triples ts) (kept_closed ts (mesh_triangles (length points) ts mesh) closed)
+pub reduced_closed : (points : List (List ℤ)) (ts : List Triple) (labels : List (List ℕ)) → IsMesh (length points) ts → IsClosed (all_edges ts) →
+    IsClosed (all_edges (reduced points ts labels).triples)
+reduced_closed points ts labels mesh closed =
+    closed-renamed_triples (new_number (kept_triples ts)) (kept_triples ts) (kept_closed ts (mesh_triangles (length points) ts mesh) closed)
 
 -- a mesh of which each triple is kept is its own reduced mesh
 pub reduced_itself : (points : List (List ℤ)) (ts : List Triple) (labels : List (List ℕ)) → IsMesh (length points) ts → length labels ≡ length ts → kept_triples ts ≡ ts →

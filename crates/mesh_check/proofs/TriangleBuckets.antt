@@ -23,10 +23,12 @@ first_vertex a b low = omega (arith, low)
 -- both ends of the edge of a triple have its first vertex
 first_of_lesser : (t : Triple) → IsNarrow t → lesser_end (edge_of t) / 4294967296 ≡ t.0
 first_of_lesser t narrow =
-    cond_both (nat_lt (edge_of t).0 (edge_of t).1) (edge_of t).0 (edge_of t).1 (λ a. a / 4294967296 ≡ t.0) (λ up. first_vertex t.0 t.1 narrow.b) (λ down. first_vertex t.0 t.2 narrow.c)
+    cond_both (nat_lt (edge_of t).0 (edge_of t).1) (edge_of t).0 (edge_of t).1 (λ a. a / 4294967296 ≡ t.0) (λ up. first_vertex t.0 t.1 narrow.b)
+    (λ down. first_vertex t.0 t.2 narrow.c)
 
 -- so a triangle lies in the bucket of the lesser end of its orientation
-bucket_of_lesser : (ts : List Triple) (n h : ℕ) → All IsTriangle ts → h < length ts → get_or (map (bucket_of_triple n) ts) h 0 ≡ bucket_of_end n (lesser_end_at (orientation_edges ts) h)
+bucket_of_lesser : (ts : List Triple) (n h : ℕ) → All IsTriangle ts → h < length ts →
+    get_or (map (bucket_of_triple n) ts) h 0 ≡ bucket_of_end n (lesser_end_at (orientation_edges ts) h)
 bucket_of_lesser ts n h all low =
     let t = get_or ts h (0, 0, 0) in
     let edge : edge_of (least_first t) ≡ get_or (orientation_edges ts) h (0, 0) = sym (get_or-map orientation_edge ts h (0, 0, 0) (0, 0) low) in
@@ -53,12 +55,14 @@ orientations_differ ts all h below same =
 
 -- the triangles of one orientation in a bucket, sorted, and the other sides of the rest, sorted, are its two ways; us and vs are these lists as they are read later
 pub ways_read : (ts : List Triple) (n k : ℕ) (bucket : List ℕ) (ones others us vs : List Oriented) → All IsTriangle ts → k < n → IsBucket (map (bucket_of_triple n) ts) n k bucket
-    → IsSortOf (filter runs_up (map (half_of (orientation_edges ts)) bucket)) (halves_of ones) → IsSortOf (filter runs_up (map turned (map (half_of (orientation_edges ts)) bucket))) (halves_of others) → us ≡ ones → vs ≡ others
+    → IsSortOf (filter runs_up (map (half_of (orientation_edges ts)) bucket)) (halves_of ones) →
+    IsSortOf (filter runs_up (map turned (map (half_of (orientation_edges ts)) bucket))) (halves_of others) → us ≡ ones → vs ≡ others
     → AreWays (orientation_edges ts) (bucket_of_end n) k (halves_of us) (halves_of vs)
 ways_read ts n k bucket ones others us vs all low is sorted back_sorted first second =
     let es = orientation_edges ts in
     bucket_sides es (bucket_of_end n) (map (bucket_of_triple n) ts) n k bucket (halves_of us) (halves_of vs) (triangle_keys ts n all) low is
-    (subst (λ l. IsSortOf (filter runs_up (map (half_of es) bucket)) (halves_of l)) (sym first) sorted) (subst (λ l. IsSortOf (filter runs_up (map turned (map (half_of es) bucket))) (halves_of l)) (sym second) back_sorted)
+    (subst (λ l. IsSortOf (filter runs_up (map (half_of es) bucket)) (halves_of l)) (sym first) sorted)
+    (subst (λ l. IsSortOf (filter runs_up (map turned (map (half_of es) bucket))) (halves_of l)) (sym second) back_sorted)
 
 -- triangles that are half-edges of a chain have places of it
 halves_placed : (es : List (ℕ × ℕ)) (os : List Oriented) → ((i : ℕ) → i < length (halves_of os) → half_at (halves_of os) i < length es) → All (λ o. o.place < length es) os
@@ -66,14 +70,18 @@ halves_placed es os each i d low =
     let read = ap (λ (h : Half). h.2) (get_or-map as_half os i d (0, 0, 0) low) in omega (arith, read, each i (omega (arith, low, length-map os as_half)))
 
 -- one way of a bucket has places of triangles only
-pub ones_placed : (ts : List Triple) (key : ℕ → ℕ) (k : ℕ) (ones others : List Oriented) → AreWays (orientation_edges ts) key k (halves_of ones) (halves_of others) → All (λ o. o.place < length ts) ones
+pub ones_placed : (ts : List Triple) (key : ℕ → ℕ) (k : ℕ) (ones others : List Oriented) →
+    AreWays (orientation_edges ts) key k (halves_of ones) (halves_of others) → All (λ o. o.place < length ts) ones
 ones_placed ts key k ones others ways =
-    subst (λ n. All (λ (o : Oriented). o.place < n) ones) (length-map ts orientation_edge) (halves_placed (orientation_edges ts) ones (halves_of_ways (orientation_edges ts) key k (halves_of ones) (halves_of others) ways).0)
+    subst (λ n. All (λ (o : Oriented). o.place < n) ones) (length-map ts orientation_edge)
+    (halves_placed (orientation_edges ts) ones (halves_of_ways (orientation_edges ts) key k (halves_of ones) (halves_of others) ways).0)
 
 -- and so has the other
-pub others_placed : (ts : List Triple) (key : ℕ → ℕ) (k : ℕ) (ones others : List Oriented) → AreWays (orientation_edges ts) key k (halves_of ones) (halves_of others) → All (λ o. o.place < length ts) others
+pub others_placed : (ts : List Triple) (key : ℕ → ℕ) (k : ℕ) (ones others : List Oriented) →
+    AreWays (orientation_edges ts) key k (halves_of ones) (halves_of others) → All (λ o. o.place < length ts) others
 others_placed ts key k ones others ways =
-    subst (λ n. All (λ (o : Oriented). o.place < n) others) (length-map ts orientation_edge) (halves_placed (orientation_edges ts) others (halves_of_ways (orientation_edges ts) key k (halves_of ones) (halves_of others) ways).1)
+    subst (λ n. All (λ (o : Oriented). o.place < n) others) (length-map ts orientation_edge)
+    (halves_placed (orientation_edges ts) others (halves_of_ways (orientation_edges ts) key k (halves_of ones) (halves_of others) ways).1)
 
 -- no bucket is done yet: all marks are set
 pub marks_none : (es : List (ℕ × ℕ)) (key : ℕ → ℕ) → AreMarked es key 0 (replicate (length es) true)

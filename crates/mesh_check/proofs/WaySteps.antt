@@ -54,17 +54,20 @@ halves_sorted xs narrow up k d low high =
     (λ i. is_lt (half_cmp (next i) (here i))) ∙ half_before (get_or xs (k + 1) none) (get_or xs k none) (narrow (k + 1) none within) (narrow k none before) (up k none low within)
 
 -- narrow triangles, sorted, are their half-edges, sorted
-pub sort_of_halves : (hs : List Half) (os sorted : List Oriented) → halves_of os ≡ hs → All (λ o. IsNarrow (vertices_of o)) os → IsPermutation os sorted → IsSorted way_cmp sorted → IsSortOf hs (halves_of sorted)
+pub sort_of_halves : (hs : List Half) (os sorted : List Oriented) → halves_of os ≡ hs → All (λ o. IsNarrow (vertices_of o)) os → IsPermutation os sorted →
+    IsSorted way_cmp sorted → IsSortOf hs (halves_of sorted)
 sort_of_halves hs os sorted known narrow moved up = record {
   moved = subst (λ l. IsPermutation l (halves_of sorted)) known (IsPermutation-map as_half os sorted moved);
   up = halves_sorted sorted (All-permutation (λ o. IsNarrow (vertices_of o)) os sorted moved narrow) up;
 }
 
 -- the triangle at a place, from its least vertex on, is the half-edge there
-pub half_there : (ts : List (List ℕ)) (p : ℕ) (o : Oriented) → p < length ts → vertices_of o ≡ least_first (triple_of (get_or ts p [])) → o.place ≡ p → as_half o ≡ half_of (orientation_edges (triples_of ts)) p
+pub half_there : (ts : List (List ℕ)) (p : ℕ) (o : Oriented) → p < length ts → vertices_of o ≡ least_first (triple_of (get_or ts p [])) → o.place ≡ p →
+    as_half o ≡ half_of (orientation_edges (triples_of ts)) p
 half_there ts p o low vertices place =
     let edge : orientation_edge (triple_of (get_or ts p [])) ≡ get_or (orientation_edges (triples_of ts)) p (0, 0) =
-    sym (get_or-map orientation_edge (triples_of ts) p (0, 0, 0) (0, 0) (omega (arith, low, length-map ts triple_of)) ∙ ap orientation_edge (get_or-map triple_of ts p [] (0, 0, 0) low)) in
+    sym (get_or-map orientation_edge (triples_of ts) p (0, 0, 0) (0, 0) (omega (arith, low, length-map ts triple_of))
+    ∙ ap orientation_edge (get_or-map triple_of ts p [] (0, 0, 0) low)) in
     (λ i. ((edge_of (vertices i)).0, (edge_of (vertices i)).1, place i)) ∙ (λ i. ((edge i).0, (edge i).1, p))
 
 -- it runs up where the second vertex is below the third
@@ -76,28 +79,34 @@ pub not_up : (o : Oriented) → (o.second < o.third → ⊥) → runs_up (as_hal
 not_up o above = grind (arith, nat_tests, above)
 
 -- those of the first half-edges of a list that run up, with one half-edge more
-up_longer : (f : ℕ → Half) (places : List ℕ) (i d : ℕ) → i < length places → filter runs_up (map f (take (i + 1) places)) ≡ filter runs_up (map f (take i places)) ++ cond (runs_up (f (get_or places i d))) (f (get_or places i d) ∷ []) []
+up_longer : (f : ℕ → Half) (places : List ℕ) (i d : ℕ) → i < length places →
+    filter runs_up (map f (take (i + 1) places)) ≡ filter runs_up (map f (take i places)) ++ cond (runs_up (f (get_or places i d))) (f (get_or places i d) ∷ []) []
 up_longer f places i d low =
     ap (λ l. filter runs_up (map f l)) (take_more places i d low) ∙ ap (filter runs_up) (map-append f (take i places) (get_or places i d ∷ []))
     ∙ filter-append runs_up (map f (take i places)) (f (get_or places i d) ∷ [])
 
 -- it is taken where it runs up
-pub taken : (f : ℕ → Half) (places : List ℕ) (i d : ℕ) (os new : List Oriented) (o : Oriented) → i < length places → halves_of os ≡ filter runs_up (map f (take i places)) → new ≡ os ++ o ∷ [] → as_half o ≡ f (get_or places i d) → runs_up (as_half o) ≡ true
+pub taken : (f : ℕ → Half) (places : List ℕ) (i d : ℕ) (os new : List Oriented) (o : Oriented) → i < length places →
+    halves_of os ≡ filter runs_up (map f (take i places)) → new ≡ os ++ o ∷ [] → as_half o ≡ f (get_or places i d) → runs_up (as_half o) ≡ true
     → halves_of new ≡ filter runs_up (map f (take (i + 1) places))
 taken f places i d os new o low known more is up =
     let none : List Half = [] in
-    ap halves_of more ∙ map-append as_half os (o ∷ []) ∙ (λ k. known k ++ is k ∷ none) ∙ ap (λ t. filter runs_up (map f (take i places)) ++ cond t (f (get_or places i d) ∷ []) []) (sym up ∙ ap runs_up is)
+    ap halves_of more ∙ map-append as_half os (o ∷ []) ∙ (λ k. known k ++ is k ∷ none)
+    ∙ ap (λ t. filter runs_up (map f (take i places)) ++ cond t (f (get_or places i d) ∷ []) []) (sym up ∙ ap runs_up is)
     ∙ sym (up_longer f places i d low)
 
 -- and left out where it does not
-pub left_out : (f : ℕ → Half) (places : List ℕ) (i d : ℕ) (os new : List Oriented) (o : Oriented) → i < length places → halves_of os ≡ filter runs_up (map f (take i places)) → new ≡ os → as_half o ≡ f (get_or places i d) → runs_up (as_half o) ≡ false
+pub left_out : (f : ℕ → Half) (places : List ℕ) (i d : ℕ) (os new : List Oriented) (o : Oriented) → i < length places →
+    halves_of os ≡ filter runs_up (map f (take i places)) → new ≡ os → as_half o ≡ f (get_or places i d) → runs_up (as_half o) ≡ false
     → halves_of new ≡ filter runs_up (map f (take (i + 1) places))
 left_out f places i d os new o low known same is down =
-    ap halves_of same ∙ known ∙ sym (append-nil (filter runs_up (map f (take i places)))) ∙ ap (λ t. filter runs_up (map f (take i places)) ++ cond t (f (get_or places i d) ∷ []) []) (sym down ∙ ap runs_up is)
+    ap halves_of same ∙ known ∙ sym (append-nil (filter runs_up (map f (take i places))))
+    ∙ ap (λ t. filter runs_up (map f (take i places)) ++ cond t (f (get_or places i d) ∷ []) []) (sym down ∙ ap runs_up is)
     ∙ sym (up_longer f places i d low)
 
 -- with one narrow triangle more, all are narrow
-pub all_narrow : (os new : List Oriented) (o : Oriented) → new ≡ os ++ o ∷ [] → All (λ p. IsNarrow (vertices_of p)) os → IsNarrow (vertices_of o) → All (λ p. IsNarrow (vertices_of p)) new
+pub all_narrow : (os new : List Oriented) (o : Oriented) → new ≡ os ++ o ∷ [] → All (λ p. IsNarrow (vertices_of p)) os → IsNarrow (vertices_of o) →
+    All (λ p. IsNarrow (vertices_of p)) new
 all_narrow os new o more narrow here = subst (All (λ p. IsNarrow (vertices_of p))) (sym more) (All-push (λ p. IsNarrow (vertices_of p)) os o narrow here)
 
 -- the other side of a narrow triangle is narrow

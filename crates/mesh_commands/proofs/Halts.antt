@@ -41,7 +41,8 @@ copy_worded from to (Err Starved) halts is = cc
 -- and no search for a winding number
 pub inside_worded : (file : Bytes) (ended : Result (Unit {0}) Halt) → IfErr ended (IsHaltOfInside file) → ended_status (halted ended) ≡ 1 → ⊥
 inside_worded file (Ok done) halts is = cc
-inside_worded file (Err (At name stop)) halts is = elim halts [ inl unread ↦ unread_worded name.now stop unread.1 is | inr later ↦ elim later [ inl unsaid ↦ cc | inr starved ↦ cc ] ]
+inside_worded file (Err (At name stop)) halts is =
+    elim halts [ inl unread ↦ unread_worded name.now stop unread.1 is | inr later ↦ elim later [ inl unsaid ↦ cc | inr starved ↦ cc ] ]
 inside_worded file (Err Reporting) halts is = cc
 inside_worded file (Err Starved) halts is = cc
 

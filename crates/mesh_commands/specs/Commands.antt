@@ -17,7 +17,8 @@ pub record IsMet {S O : Type 0} (s : OfShelf S) (o : OfSink O) (task : Task (Uni
   pub halts : IfErr ended MayHalt
 
 -- the same in some end, which the status and a line on standard error tell; where all was done, standard error stayed as it was
-pub record IsEnded {S O E : Type 0} (s : OfShelf S) (o : OfSink O) (e : OfSink E) (task : Task (Unit {0})) (MayHalt : Halt → Type 0) (old new : S × O × E) (status : Status) : Type 0 where
+pub record IsEnded {S O E : Type 0} (s : OfShelf S) (o : OfSink O) (e : OfSink E) (task : Task (Unit {0})) (MayHalt : Halt → Type 0) (old new : S × O × E)
+    (status : Status) : Type 0 where
   pub ended : Result (Unit {0}) Halt
   pub met : IsMet s o task MayHalt (old.0, old.1) (new.0, new.1) ended
   pub told : TellsAs (halted ended) (status_number status) (on_output e old.2) (on_output e new.2)

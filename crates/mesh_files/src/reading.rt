@@ -65,10 +65,11 @@ fn mesh_of_text(
 }
 
 /// Reads a mesh from a file of a shelf, where a unit has `digits` decimal digits on the grid: the file, as `read_file` does, then
-/// its text, which is ASCII STL where the name ends with `.stl`, ASCII case ignored, and else OBJ, and then whether the mesh is closed. After the stops of `read_file` come those of the text, first line first: a line that is
-/// wrong, or a count of points or triangles past its limit; and then the least edge without its reverse. Where a read gave nothing
-/// below the size that was stated, the shelf's count of such reads rises, but where it stands at 2^64 - 1, its last value, it stays. It
-/// takes memory for the file's bytes and the mesh.
+/// its text, which is ASCII STL where the name ends with `.stl`, ASCII case ignored, and else OBJ, and then whether the mesh is
+/// closed. After the stops of `read_file` come those of the text, first line first: a line that is wrong, or a count of points or
+/// triangles past its limit; and then the least edge without its reverse. Where a read gave nothing below the size that was
+/// stated, the shelf's count of such reads rises, but where it stands at 2^64 - 1, its last value, it stays. It takes memory for
+/// the file's bytes and the mesh.
 pub fn read_mesh<S: Shelf>(
     alloc: Global,
     name: &str,

@@ -23,7 +23,8 @@ further : (f : List ℤ → List ℤ) (i : ℕ) (p : List ℤ) (ps : List (List 
 further f i p ps = let one : suc (i + 1) ≡ suc i + 1 = omega arith in ap (λ k. all_on_grid (map f (drop k (p ∷ ps)))) one
 
 -- where the first rows are on the grid, all are so far as the rest is
-pub rest_decides : (f : List ℤ → List ℤ) (ps : List (List ℤ)) (i : ℕ) → i < length ps → is_grid_point (f (get_or ps i [])) ≡ true → all_on_grid (map f (drop i ps)) ≡ all_on_grid (map f (drop (i + 1) ps))
+pub rest_decides : (f : List ℤ → List ℤ) (ps : List (List ℤ)) (i : ℕ) → i < length ps → is_grid_point (f (get_or ps i [])) ≡ true →
+    all_on_grid (map f (drop i ps)) ≡ all_on_grid (map f (drop (i + 1) ps))
 rest_decides f [] i low is = absurd (omega (arith, low))
 rest_decides f (p ∷ ps) zero low is = rw is refl
 rest_decides f (p ∷ ps) (suc i) low is =
@@ -48,7 +49,8 @@ pub kept : (x : ℤ) → unsigned_abs x ≤ 2 ^ 60 → to_z w64 (of_z w64 x) ≡
 kept x h = omega (arith, ints, h)
 
 -- a product with a small factor, as it stands after it was kept
-pub kept_product : (f : ℤ) (n : ℕ) (x p : ℤ) → f ≡ pos n → n ≤ 1000000 → x ≡ p → unsigned_abs p ≤ 2 ^ 30 → to_z w64 (of_z w64 (to_z w64 (of_z w64 f) *ℤ to_z w64 (of_z w64 x))) ≡ pos n *ℤ p
+pub kept_product : (f : ℤ) (n : ℕ) (x p : ℤ) → f ≡ pos n → n ≤ 1000000 → x ≡ p → unsigned_abs p ≤ 2 ^ 30 →
+    to_z w64 (of_z w64 (to_z w64 (of_z w64 f) *ℤ to_z w64 (of_z w64 x))) ≡ pos n *ℤ p
 kept_product f n x p is few same small =
     let e : to_z w64 (of_z w64 f) ≡ pos n = omega (arith, ints, is, few) in
     let g : to_z w64 (of_z w64 x) ≡ p = omega (arith, ints, same, small) in

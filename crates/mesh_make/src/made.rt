@@ -9,7 +9,7 @@ ghost use Rattle.made_laws.specs.Solids.{IsSolid, AreFew, AreFine};
 use crate::fault::MakeFault;
 use crate::rows::{all_on_grid, push_points};
 use halfedge::{TwinFault, Twins};
-use mb_base::{Counted, Limits, NoMemory, Point};
+use mb_base::{Counted, Limits, NoMemory, Point, copied};
 use mesh_check::Mesh;
 use std::alloc::Global;
 
@@ -46,13 +46,6 @@ fn solid_of(alloc: Global, rows: &[[i64; 3]], triples: &[[u32; 3]]) -> Result<Me
     push_points(&mut points, rows)?;
     let triples = copied(alloc, triples)?;
     mesh_of(alloc, points, triples)
-}
-
-// A copy of triangles.
-fn copied(alloc: Global, triples: &[[u32; 3]]) -> Result<Vec<[u32; 3]>, NoMemory>
-    ensures { IfOk result (λ copy. copy.items ≡ triples.now) }
-{
-    Ok(triples.to_vec(alloc)?)
 }
 
 // Why these rows as points and so many triangles make no solid, which may be flat.

@@ -16,7 +16,7 @@ fn a_closed_mesh_keeps_its_lists(rt: HostRuntime) {
     assert!(rt; mesh.twins().twins() == [9, 6, 3, 2, 8, 10, 1, 11, 4, 0, 5, 7].as_slice());
 }
 
-// Whether this open edge is named of these triangles over so many points on a line, or none where they are closed.
+// Whether this open edge is named of these triangles over so many points on a line; where it is empty, whether they are closed.
 fn is_open_at(
     rt: &impl Abort,
     alloc: Global,
@@ -32,9 +32,9 @@ fn is_open_at(
     }
 }
 
-// How many points, the triangles over them, and the open edge that is named. The edges of a missing face are missing, so
-// that their reverses are open: 0 to 2, 3 to 0 and 2 to 3. An edge that two triangles use one way and one the other, as
-// from 1 to 0, comes after 0 to 2 and 0 to 4.
+// How many points, the triangles over them, and the open edge that is named, an empty list where they are closed. The edges of
+// a missing face are missing, so that their reverses are open: 0 to 2, 3 to 0 and 2 to 3. An edge that two triangles use one way
+// and one the other, as from 1 to 0, comes after 0 to 2 and 0 to 4.
 static FAULTS: [(&str, u8, &[[u32; 3]], &[u32]); 5] = [
     ("a sheet", 3, &[[0, 1, 2], [2, 1, 0]], &[]),
     ("two tetrahedra in one place", 4, &DOUBLED, &[]),

@@ -9,13 +9,26 @@ use std::process::Abort;
 use table::ROWS;
 use test_tables::read_meshes;
 
-// The numbers of patches and of those that stayed, which end a line: the first of one or two digits, the second of one. A blank is 0.
+// Whether a byte is a digit.
+fn is_digit(byte: u8) -> bool {
+    byte >= b'0' && byte <= b'9'
+}
+
+// The counts of these digits.
+fn counts(tens: u8, ones: u8, kept: u8) -> Option<(u64, u64)> {
+    if !is_digit(tens) || !is_digit(ones) || !is_digit(kept) {
+        return None;
+    }
+    let (tens, ones) = ((tens & 15) as u64, (ones & 15) as u64);
+    Some((10 * tens + ones, (kept & 15) as u64))
+}
+
+// The numbers of patches and of those that stayed, which end a line, a blank before each: the first of one or two digits, the
+// second of one.
 fn counts_of(line: &str) -> Option<(u64, u64)> {
     match line.as_bytes() {
-        [.., tens, ones, b' ', kept] => {
-            let (tens, ones) = ((*tens & 15) as u64, (*ones & 15) as u64);
-            Some((10 * tens + ones, (*kept & 15) as u64))
-        }
+        [.., b' ', ones, b' ', kept] => counts(b'0', *ones, *kept),
+        [.., b' ', tens, ones, b' ', kept] => counts(*tens, *ones, *kept),
         _ => None,
     }
 }

@@ -28,8 +28,11 @@ use Rattle.mesh_tidy.proofs.Left.{finish_number, number_below, number_one, start
 use Rattle.mesh_tidy.proofs.Queue.{lesser_is}
 
 -- a surface before and after the collapse of half-edge h
-module _ (points : List (List ℤ)) (each : All (λ p. length p ≡ 3) points) (old new : Surface) (h : ℕ) (marks : length new.left ≡ length new.triples) (good : AreGood (length points) (left_of old)) (good_new : AreGood (length points) (left_of new)) (has_h : Has old h)
-    (can_h : is_collapsible points (left_of old) (number_of old h) ≡ true) (c : HasCollapsed old new h) (doubts more : List ℕ) (all : AreDoubted points old (h ∷ doubts)) (stay : (x : ℕ) → Contains doubts x → Contains more x) where
+module _ (points : List (List ℤ)) (each : All (λ p. length p ≡ 3) points) (old new : Surface) (h : ℕ) (marks : length new.left ≡ length new.triples)
+    (good : AreGood (length points) (left_of old)) (good_new : AreGood (length points) (left_of new)) (has_h : Has old h)
+    (can_h : is_collapsible points (left_of old) (number_of old h) ≡ true) (c : HasCollapsed old new h) (doubts more : List ℕ)
+    (all : AreDoubted points old (h ∷ doubts)) (stay : (x : ℕ) →
+    Contains doubts x → Contains more x) where
   abbrev pub ts : List Triple
   ts = left_of old
 
@@ -49,7 +52,9 @@ module _ (points : List (List ℤ)) (each : All (λ p. length p ≡ 3) points) (
   k_in = omega (arith, k_low, length-all_edges ts)
 
   one_point : get_or points a [] ≡ get_or points b []
-  one_point = same_list (get_or points a []) (get_or points b []) (each a [] (start_below (length points) ts good.below k k_in)) (each b [] (finish_below (length points) ts good.below k k_in))
+  one_point =
+      same_list (get_or points a []) (get_or points b []) (each a [] (start_below (length points) ts good.below k k_in))
+      (each b [] (finish_below (length points) ts good.below k k_in))
       (are_met points (all_edges ts) a b (third_vertex ts k) (third_vertex ts (twin (all_edges ts) k)) can_h).at_one
 
   pub can : CanCollapse ts k a b (third_vertex ts k) (third_vertex ts (twin (all_edges ts) k))
@@ -92,27 +97,33 @@ module _ (points : List (List ℤ)) (each : All (λ p. length p ≡ 3) points) (
     finish_is : finish after (number_of new x) ≡ merged a b (finish (all_edges ts) before)
     finish_is =
         (λ i. finish (all_edges (c.left i)) (c.numbers x has i))
-        ∙ (runs_down ts k a b (third_vertex ts k) (third_vertex ts (twin (all_edges ts) k)) can before (start (all_edges ts) before) (finish (all_edges ts) before) (c.stay x has) runs).to
+        ∙ (runs_down ts k a b (third_vertex ts k) (third_vertex ts (twin (all_edges ts) k)) can before (start (all_edges ts) before)
+        (finish (all_edges ts) before) (c.stay x has) runs).to
 
     at_one : same_point (get_or points (start (all_edges ts) before) []) (get_or points (finish (all_edges ts) before) []) ≡ true
     at_one =
-        let met = are_met points after (start after (number_of new x)) (finish after (number_of new x)) (third_vertex (left_of new) (number_of new x)) (third_vertex (left_of new) (twin after (number_of new x))) can_x in
+        let met = are_met points after (start after (number_of new x)) (finish after (number_of new x)) (third_vertex (left_of new) (number_of new x))
+        (third_vertex (left_of new) (twin after (number_of new x))) can_x in
         let p = ap (λ v. get_or points v []) start_is ∙ point_stays points a b can.distinct one_point (start (all_edges ts) before) in
         let q = ap (λ v. get_or points v []) finish_is ∙ point_stays points a b can.distinct one_point (finish (all_edges ts) before) in
         sym (λ i. same_point (p i) (q i)) ∙ met.at_one
 
     -- as it can be collapsed by the definition of what is left
-    can_after : CanAfter ts k a b (third_vertex ts k) (third_vertex ts (twin (all_edges ts) k)) can before (start (all_edges ts) before) (finish (all_edges ts) before) (c.stay x has) runs
+    can_after : CanAfter ts k a b (third_vertex ts k) (third_vertex ts (twin (all_edges ts) k)) can before (start (all_edges ts) before)
+        (finish (all_edges ts) before) (c.stay x has) runs
     can_after =
         let own = can_of points (left_of new) good_new (number_of new x) low can_x in
-        let P : List Triple → ℕ → Type 0 = λ us n. CanCollapse us n (start (all_edges us) n) (finish (all_edges us) n) (third_vertex us n) (third_vertex us (twin (all_edges us) n)) in
+        let P : List Triple → ℕ → Type 0 = λ us n. CanCollapse us n (start (all_edges us) n) (finish (all_edges us) n) (third_vertex us n)
+        (third_vertex us (twin (all_edges us) n)) in
         subst (P (collapsed a b ts)) (c.numbers x has) (subst (λ us. P us (number_of new x)) c.left own)
 
     -- it could be collapsed before: its lesser was in doubt, and is none of the six that go
-    was_doubted : CouldBefore ts k a b (third_vertex ts k) (third_vertex ts (twin (all_edges ts) k)) can before (start (all_edges ts) before) (finish (all_edges ts) before) (c.stay x has) runs → HasLesser new more x
+    was_doubted : CouldBefore ts k a b (third_vertex ts k) (third_vertex ts (twin (all_edges ts) k)) can before (start (all_edges ts) before)
+        (finish (all_edges ts) before) (c.stay x has) runs → HasLesser new more x
     was_doubted w = inside l.among where
       l : HasLesser old (h ∷ doubts) x
-      l = all x (c.had x has) (can_back points ts before (start (all_edges ts) before) (finish (all_edges ts) before) (third_vertex ts before) (third_vertex ts (twin (all_edges ts) before)) w.could at_one)
+      l = all x (c.had x has) (can_back points ts before (start (all_edges ts) before) (finish (all_edges ts) before) (third_vertex ts before)
+          (third_vertex ts (twin (all_edges ts) before)) w.could at_one)
 
       o : ℕ
       o = l.other
@@ -142,9 +153,11 @@ module _ (points : List (List ℤ)) (each : All (λ p. length p ≡ 3) points) (
     -- its ends lie at one point
     met_one : same_point (get_or points (start after (number_of new x)) []) (get_or points (finish after (number_of new x)) []) ≡ true
     met_one =
-        (are_met points after (start after (number_of new x)) (finish after (number_of new x)) (third_vertex (left_of new) (number_of new x)) (third_vertex (left_of new) (twin after (number_of new x))) can_x).at_one
+        (are_met points after (start after (number_of new x)) (finish after (number_of new x)) (third_vertex (left_of new) (number_of new x))
+        (third_vertex (left_of new) (twin after (number_of new x))) can_x).at_one
 
-    lies_so : (y : ℕ) → Has new y → same_point (get_or points (start after (number_of new y)) []) (get_or points (finish after (number_of new y)) []) ≡ true → lies_at_one points new.triples y ≡ true
+    lies_so : (y : ℕ) → Has new y → same_point (get_or points (start after (number_of new y)) []) (get_or points (finish after (number_of new y)) []) ≡ true →
+        lies_at_one points new.triples y ≡ true
     lies_so y y_has e =
         let p = start_number new.left new.triples y y_has in
         let q = finish_number new.left new.triples y y_has in
@@ -158,7 +171,8 @@ module _ (points : List (List ℤ)) (each : All (λ p. length p ≡ 3) points) (
         let back = twin_runs_back after good_new.closed (number_of new x) (omega (arith, low, length-all_edges (left_of new))) in
         let s : start after (number_of new y) ≡ finish after (number_of new x) = ap (start after) (sym e) ∙ back.from in
         let f : finish after (number_of new y) ≡ start after (number_of new x) = ap (finish after) (sym e) ∙ back.to in
-        lies_so y y_has ((λ i. same_point (get_or points (s i) []) (get_or points (f i) [])) ∙ same_turned (get_or points (start after (number_of new x)) []) (get_or points (finish after (number_of new x)) []) met_one)
+        lies_so y y_has ((λ i. same_point (get_or points (s i) []) (get_or points (f i) [])) ∙ same_turned (get_or points (start after (number_of new x)) [])
+        (get_or points (finish after (number_of new x)) []) met_one)
 
   -- one that is asked again, by its number
   pub record AskedAgain (n : ℕ) : Type 0 where
@@ -178,10 +192,13 @@ module _ (points : List (List ℤ)) (each : All (λ p. length p ≡ 3) points) (
   across_b = to_b ts k a b (third_vertex ts k) (third_vertex ts (twin (all_edges ts) k)) can
 
   -- where those four are asked again, all that can be collapsed are in doubt
-  pub after_doubted : AskedAgain (number_after a b ts across_a) → AskedAgain (number_after a b ts across_d) → AskedAgain (number_after a b ts (next_half across_a)) → AskedAgain (number_after a b ts (next_half (next_half across_b))) →
+  pub after_doubted : AskedAgain (number_after a b ts across_a) → AskedAgain (number_after a b ts across_d) →
+      AskedAgain (number_after a b ts (next_half across_a)) → AskedAgain (number_after a b ts (next_half (next_half across_b))) →
       AreDoubted points new more
   after_doubted ya yd yc yb x has can_x =
-      elim (opens_near ts k a b (third_vertex ts k) (third_vertex ts (twin (all_edges ts) k)) can (before x has can_x) (start (all_edges ts) (before x has can_x)) (finish (all_edges ts) (before x has can_x)) (c.stay x has) (runs x has can_x) (can_after x has can_x)) as (λ _. HasLesser new more x) [
+      elim (opens_near ts k a b (third_vertex ts k) (third_vertex ts (twin (all_edges ts) k)) can (before x has can_x)
+      (start (all_edges ts) (before x has can_x)) (finish (all_edges ts) (before x has can_x)) (c.stay x has) (runs x has can_x) (can_after x has can_x))
+      as (λ _. HasLesser new more x) [
         | inl w ↦ was_doubted x has can_x w
         | inr (inl near) ↦ itself near
         | inr (inr near) ↦ of_twin near
@@ -198,7 +215,9 @@ module _ (points : List (List ℤ)) (each : All (λ p. length p ≡ 3) points) (
           let is = (λ i. twin (all_edges (c.left i)) (c.numbers x has i)) ∙ e ∙ sym y.is in
           twin_of x has can_x y.half y.there is (y.doubted (lies_turned x has can_x y.half y.there is))
 
-      itself : (n ≡ number_after a b ts across_a) ⊎ ((n ≡ number_after a b ts across_d) ⊎ ((n ≡ number_after a b ts (next_half across_a)) ⊎ (n ≡ number_after a b ts (next_half (next_half across_b))))) → HasLesser new more x
+      itself : (n ≡ number_after a b ts across_a) ⊎
+          ((n ≡ number_after a b ts across_d) ⊎ ((n ≡ number_after a b ts (next_half across_a)) ⊎ (n ≡ number_after a b ts (next_half (next_half across_b))))) →
+          HasLesser new more x
       itself (inl e) = as_itself (number_after a b ts across_a) ya e
       itself (inr (inl e)) = as_itself (number_after a b ts across_d) yd e
       itself (inr (inr (inl e))) = as_itself (number_after a b ts (next_half across_a)) yc e
@@ -207,7 +226,9 @@ module _ (points : List (List ℤ)) (each : All (λ p. length p ≡ 3) points) (
       m : ℕ
       m = twin (all_edges (collapsed a b ts)) n
 
-      of_twin : (m ≡ number_after a b ts across_a) ⊎ ((m ≡ number_after a b ts across_d) ⊎ ((m ≡ number_after a b ts (next_half across_a)) ⊎ (m ≡ number_after a b ts (next_half (next_half across_b))))) → HasLesser new more x
+      of_twin : (m ≡ number_after a b ts across_a) ⊎
+          ((m ≡ number_after a b ts across_d) ⊎ ((m ≡ number_after a b ts (next_half across_a)) ⊎ (m ≡ number_after a b ts (next_half (next_half across_b))))) →
+          HasLesser new more x
       of_twin (inl e) = as_twin (number_after a b ts across_a) ya e
       of_twin (inr (inl e)) = as_twin (number_after a b ts across_d) yd e
       of_twin (inr (inr (inl e))) = as_twin (number_after a b ts (next_half across_a)) yc e

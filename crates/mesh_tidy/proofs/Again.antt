@@ -21,7 +21,8 @@ use Rattle.mesh_tidy.proofs.NewSurface.{prev_is}
 
 -- a half-edge that can be collapsed, with its ends and the third vertices of both triangles
 pub can_at : (points : List (List ℤ)) (s : Surface) (h : ℕ) → AreGood (length points) (left_of s) → Has s h → is_collapsible points (left_of s) (number_of s h) ≡ true →
-    CanCollapse (left_of s) (number_of s h) (start (all_edges (left_of s)) (number_of s h)) (finish (all_edges (left_of s)) (number_of s h)) (third_vertex (left_of s) (number_of s h)) (third_vertex (left_of s) (twin (all_edges (left_of s)) (number_of s h)))
+    CanCollapse (left_of s) (number_of s h) (start (all_edges (left_of s)) (number_of s h)) (finish (all_edges (left_of s)) (number_of s h))
+    (third_vertex (left_of s) (number_of s h)) (third_vertex (left_of s) (twin (all_edges (left_of s)) (number_of s h)))
 can_at points s h good has can = can_of points (left_of s) good (number_of s h) (omega (arith, number_below s.left s.triples h has, length-all_edges (left_of s))) can
 
 -- what is in doubt stays so where nothing leaves doubt
@@ -33,7 +34,8 @@ pub record IsLeftAs (new : Surface) (y n : ℕ) : Type 0 where
   pub there : Has new y
   pub is : number_of new y ≡ n
 
-module _ (old new : Surface) (h : ℕ) (c : HasCollapsed old new h) (p q : ℕ) (can : CanCollapse (left_of old) (number_of old h) (start (all_edges (left_of old)) (number_of old h)) (finish (all_edges (left_of old)) (number_of old h)) p q) where
+module _ (old new : Surface) (h : ℕ) (c : HasCollapsed old new h) (p q : ℕ)
+    (can : CanCollapse (left_of old) (number_of old h) (start (all_edges (left_of old)) (number_of old h)) (finish (all_edges (left_of old)) (number_of old h)) p q) where
   abbrev pub ts : List Triple
   ts = left_of old
 
@@ -62,7 +64,8 @@ module _ (old new : Surface) (h : ℕ) (c : HasCollapsed old new h) (p q : ℕ) 
   -- from the vertex that stays to the third one
   pub to_third : (y : ℕ) → IsTwin old (prev_half h) y → IsLeftAs new y (number_after a b ts (ac ts k a b p q can))
   to_third y pair =
-      let before : number_of old (prev_half h) ≡ next_half (next_half k) = ap (number_of old) (prev_is h) ∙ next_number old.left (next_half h) ∙ ap next_half (next_number old.left h) in
+      let before : number_of old (prev_half h) ≡ next_half (next_half k) = ap (number_of old) (prev_is h) ∙ next_number old.left (next_half h)
+      ∙ ap next_half (next_number old.left h) in
       stays_as y (ac ts k a b p q can) pair.there (sym pair.is ∙ ap (twin (all_edges ts)) before) (ac_stays ts k a b p q can)
 
   pub after_third : (y : ℕ) → IsTwin old (prev_half h) y → IsLeftAs new (next_half y) (number_after a b ts (next_half (ac ts k a b p q can)))

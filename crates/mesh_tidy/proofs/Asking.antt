@@ -25,7 +25,8 @@ use Rattle.mesh_tidy.proofs.Counting.{dir_star}
 use Rattle.mesh_tidy.proofs.Left.{finish_number, next_marked, next_number, number_below, start_number}
 
 -- an edge runs as often as the star of its start has such half-edges
-pub dir_counts : (s : Surface) (tw : List ℕ) (stars : List (List ℕ)) → IsKept s tw stars → length stars ≡ s.vertices → (v w : ℕ) → v < s.vertices → dir (all_edges (left_of s)) v w ≡ count_by (ends_at s w) (get_or stars v [])
+pub dir_counts : (s : Surface) (tw : List ℕ) (stars : List (List ℕ)) → IsKept s tw stars → length stars ≡ s.vertices → (v w : ℕ) → v < s.vertices →
+    dir (all_edges (left_of s)) v w ≡ count_by (ends_at s w) (get_or stars v [])
 dir_counts s tw stars kept size v w low =
     dir_star s.left s.triples (get_or stars v []) v w kept.marks (All-get_or (All (λ h. h < 3 * length s.triples)) stars v [] (omega (arith, low, size)) kept.within)
     (λ h h_low on. kept.stand h (h_low, on) v low)
@@ -41,13 +42,16 @@ ends_other : (s : Surface) (w h : ℕ) → is_left s.left h ≡ true → finish 
 ends_other s w h on n = (λ i. on i && ne_eqb (finish (all_edges s.triples) h) w n i)
 
 -- counts over the first half-edges of a star
-pub edges_yes : (s : Surface) (w : ℕ) (star : List ℕ) (i : ℕ) → i < length star → is_left s.left (get_or star i 0) ≡ true → finish (all_edges s.triples) (get_or star i 0) ≡ w → count_by (ends_at s w) (take (i + 1) star) ≡ count_by (ends_at s w) (take i star) + 1
+pub edges_yes : (s : Surface) (w : ℕ) (star : List ℕ) (i : ℕ) → i < length star → is_left s.left (get_or star i 0) ≡ true →
+    finish (all_edges s.triples) (get_or star i 0) ≡ w → count_by (ends_at s w) (take (i + 1) star) ≡ count_by (ends_at s w) (take i star) + 1
 edges_yes s w star i low on e = count_by_more_yes (ends_at s w) star i 0 low (ends_yes s w (get_or star i 0) on e)
 
-pub edges_off : (s : Surface) (w : ℕ) (star : List ℕ) (i : ℕ) → i < length star → is_left s.left (get_or star i 0) ≡ false → count_by (ends_at s w) (take (i + 1) star) ≡ count_by (ends_at s w) (take i star)
+pub edges_off : (s : Surface) (w : ℕ) (star : List ℕ) (i : ℕ) → i < length star → is_left s.left (get_or star i 0) ≡ false →
+    count_by (ends_at s w) (take (i + 1) star) ≡ count_by (ends_at s w) (take i star)
 edges_off s w star i low off = count_by_more_no (ends_at s w) star i 0 low (ends_off s w (get_or star i 0) off)
 
-pub edges_other : (s : Surface) (w : ℕ) (star : List ℕ) (i : ℕ) → i < length star → is_left s.left (get_or star i 0) ≡ true → finish (all_edges s.triples) (get_or star i 0) ≢ w → count_by (ends_at s w) (take (i + 1) star) ≡ count_by (ends_at s w) (take i star)
+pub edges_other : (s : Surface) (w : ℕ) (star : List ℕ) (i : ℕ) → i < length star → is_left s.left (get_or star i 0) ≡ true →
+    finish (all_edges s.triples) (get_or star i 0) ≢ w → count_by (ends_at s w) (take (i + 1) star) ≡ count_by (ends_at s w) (take i star)
 edges_other s w star i low on n = count_by_more_no (ends_at s w) star i 0 low (ends_other s w (get_or star i 0) on n)
 
 -- the ends of the first half-edges of a star have the mark, the others that which they had
@@ -64,10 +68,12 @@ none_marked s star mark old = record { count = refl; each = λ v low. refl }
 module _ (s : Surface) (star : List ℕ) (mark : Bool) (i : ℕ) (old new : List Bool) (low : i < length star) (so_far : AreMarkedTo s star mark i old new) where
   -- one that is gone changes nothing
   pub passed_over : is_left s.left (get_or star i 0) ≡ false → AreMarkedTo s star mark (i + 1) old new
-  passed_over off = record { count = so_far.count; each = λ v v_low. so_far.each v v_low ∙ ap (λ n. cond (nat_lt 0 n) mark (get_or old v false)) (sym (edges_off s v star i low off)) }
+  passed_over off =
+      record { count = so_far.count; each = λ v v_low. so_far.each v v_low ∙ ap (λ n. cond (nat_lt 0 n) mark (get_or old v false)) (sym (edges_off s v star i low off)) }
 
   -- the end of another gets the mark
-  pub one_marked : (w : ℕ) → is_left s.left (get_or star i 0) ≡ true → finish (all_edges s.triples) (get_or star i 0) ≡ w → w < length old → AreMarkedTo s star mark (i + 1) old (set new w mark)
+  pub one_marked : (w : ℕ) → is_left s.left (get_or star i 0) ≡ true → finish (all_edges s.triples) (get_or star i 0) ≡ w → w < length old →
+      AreMarkedTo s star mark (i + 1) old (set new w mark)
   one_marked w on is w_low = record { count = length-set new w mark ∙ so_far.count; each = each } where
     each : (v : ℕ) → v < length old → get_or (set new w mark) v false ≡ cond (nat_lt 0 (count_by (ends_at s v) (take (i + 1) star))) mark (get_or old v false)
     each v v_low = by (cases_Bool (v == w)) where
@@ -75,28 +81,33 @@ module _ (s : Surface) (star : List ℕ) (mark : Bool) (i : ℕ) (old new : List
       by (inl e) =
           let same = eqb-true v w e in
           let some : 0 < count_by (ends_at s v) (take (i + 1) star) = omega (arith, edges_yes s v star i low on (is ∙ sym same)) in
-          ap (λ u. get_or (set new w mark) u false) same ∙ get_or-set_same new w mark false (omega (arith, w_low, so_far.count)) ∙ ap (λ b. cond b mark (get_or old v false)) (sym (above (count_by (ends_at s v) (take (i + 1) star)) some))
+          ap (λ u. get_or (set new w mark) u false) same ∙ get_or-set_same new w mark false (omega (arith, w_low, so_far.count))
+          ∙ ap (λ b. cond b mark (get_or old v false)) (sym (above (count_by (ends_at s v) (take (i + 1) star)) some))
       by (inr n) =
           let apart : v ≢ w = λ q. both_ways (v == w) n (eq-eqb v w q) in
           get_or-set_other new w v mark false apart ∙ so_far.each v v_low
           ∙ ap (λ n. cond (nat_lt 0 n) mark (get_or old v false)) (sym (edges_other s v star i low on (λ q. apart (sym q ∙ is))))
 
 -- after the whole star: the neighbours of its vertex
-pub all_marked : (s : Surface) (star : List ℕ) (v : ℕ) → ((w : ℕ) → dir (all_edges (left_of s)) v w ≡ count_by (ends_at s w) star) → (i : ℕ) (mark : Bool) (old new : List Bool) → length star ≤ i → AreMarkedTo s star mark i old new → AreNeighboursMarked (all_edges (left_of s)) v mark old new
+pub all_marked : (s : Surface) (star : List ℕ) (v : ℕ) → ((w : ℕ) → dir (all_edges (left_of s)) v w ≡ count_by (ends_at s w) star) →
+    (i : ℕ) (mark : Bool) (old new : List Bool) → length star ≤ i → AreMarkedTo s star mark i old new →
+    AreNeighboursMarked (all_edges (left_of s)) v mark old new
 all_marked s star v counts i mark old new past marked = record {
   count = marked.count;
   each = λ w w_low. marked.each w w_low ∙ ap (λ n. cond (nat_lt 0 n) mark (get_or old w false)) (ap (count_by (ends_at s w)) (take_all i star past) ∙ sym (counts w));
 }
 
 -- marks that were set are taken away again
-pub marks_go : (es : List (ℕ × ℕ)) (v : ℕ) (old between new : List Bool) → All (λ mark. mark ≡ false) old → AreNeighboursMarked es v true old between → AreNeighboursMarked es v false between new → new ≡ old
+pub marks_go : (es : List (ℕ × ℕ)) (v : ℕ) (old between new : List Bool) → All (λ mark. mark ≡ false) old → AreNeighboursMarked es v true old between →
+    AreNeighboursMarked es v false between new → new ≡ old
 marks_go es v old between new none set_them taken = ext_get_or false new old (taken.count ∙ set_them.count) each where
   each : (w : ℕ) → w < length new → get_or new w false ≡ get_or old w false
   each w low = by (nat_lt 0 (dir es v w)) (taken.each w (omega (arith, low, taken.count))) (set_them.each w w_low) where
     w_low : w < length old
     w_low = omega (arith, low, taken.count, set_them.count)
 
-    by : (b : Bool) → get_or new w false ≡ cond b false (get_or between w false) → get_or between w false ≡ cond b true (get_or old w false) → get_or new w false ≡ get_or old w false
+    by : (b : Bool) → get_or new w false ≡ cond b false (get_or between w false) → get_or between w false ≡ cond b true (get_or old w false) →
+        get_or new w false ≡ get_or old w false
     by true p q = p ∙ sym (none w false w_low)
     by false p q = p ∙ q
 
@@ -162,29 +173,31 @@ module _ (points : List (List ℤ)) (s : Surface) (good : AreGood (length points
   across = ap (third_vertex ts) pair.is ∙ third_number s g pair.there
 
   pub asked_yes : Asked → is_collapsible points ts k ≡ true
-  asked_yes m = can_back points ts k (start (all_edges ts) k) (finish (all_edges ts) k) (third_vertex ts k) (third_vertex ts (twin (all_edges ts) k)) can ((λ i. same_point (get_or points (from i) []) (get_or points (to i) [])) ∙ m.at_one) where
-    can : CanCollapse ts k (start (all_edges ts) k) (finish (all_edges ts) k) (third_vertex ts k) (third_vertex ts (twin (all_edges ts) k))
-    can = record {
-      three = good.three;
-      closed = good.closed;
-      below = omega (arith, k_low, length-all_edges ts);
-      starts = refl;
-      ends = refl;
-      third = refl;
-      across = refl;
-      distinct = λ e. not_back ts good.three k k (omega (arith, k_low, length-all_edges ts)) refl (e, sym e);
-      differ = λ e. m.differ (sym third ∙ e ∙ across);
-      ab = (λ i. dir (all_edges ts) (from i) (to i)) ∙ m.ab;
-      ac = (λ i. dir (all_edges ts) (from i) (third i)) ∙ m.ac;
-      ad = (λ i. dir (all_edges ts) (from i) (across i)) ∙ m.ad;
-      bc = (λ i. dir (all_edges ts) (to i) (third i)) ∙ m.bc;
-      bd = (λ i. dir (all_edges ts) (to i) (across i)) ∙ m.bd;
-      only = λ v p q. named v (m.only v (subst (λ u. 0 < dir (all_edges ts) u v) from p) (subst (λ u. 0 < dir (all_edges ts) u v) to q));
-    }
-      where
-        named : (v : ℕ) → (v ≡ third_vertex s.triples h) ⊎ (v ≡ third_vertex s.triples g) → (v ≡ third_vertex ts k) ⊎ (v ≡ third_vertex ts (twin (all_edges ts) k))
-        named v (inl e) = inl (e ∙ sym third)
-        named v (inr e) = inr (e ∙ sym across)
+  asked_yes m =
+      can_back points ts k (start (all_edges ts) k) (finish (all_edges ts) k) (third_vertex ts k) (third_vertex ts (twin (all_edges ts) k)) can
+      ((λ i. same_point (get_or points (from i) []) (get_or points (to i) [])) ∙ m.at_one) where
+        can : CanCollapse ts k (start (all_edges ts) k) (finish (all_edges ts) k) (third_vertex ts k) (third_vertex ts (twin (all_edges ts) k))
+        can = record {
+          three = good.three;
+          closed = good.closed;
+          below = omega (arith, k_low, length-all_edges ts);
+          starts = refl;
+          ends = refl;
+          third = refl;
+          across = refl;
+          distinct = λ e. not_back ts good.three k k (omega (arith, k_low, length-all_edges ts)) refl (e, sym e);
+          differ = λ e. m.differ (sym third ∙ e ∙ across);
+          ab = (λ i. dir (all_edges ts) (from i) (to i)) ∙ m.ab;
+          ac = (λ i. dir (all_edges ts) (from i) (third i)) ∙ m.ac;
+          ad = (λ i. dir (all_edges ts) (from i) (across i)) ∙ m.ad;
+          bc = (λ i. dir (all_edges ts) (to i) (third i)) ∙ m.bc;
+          bd = (λ i. dir (all_edges ts) (to i) (across i)) ∙ m.bd;
+          only = λ v p q. named v (m.only v (subst (λ u. 0 < dir (all_edges ts) u v) from p) (subst (λ u. 0 < dir (all_edges ts) u v) to q));
+        }
+          where
+            named : (v : ℕ) → (v ≡ third_vertex s.triples h) ⊎ (v ≡ third_vertex s.triples g) → (v ≡ third_vertex ts k) ⊎ (v ≡ third_vertex ts (twin (all_edges ts) k))
+            named v (inl e) = inl (e ∙ sym third)
+            named v (inr e) = inr (e ∙ sym across)
 
   yes_asked : is_collapsible points ts k ≡ true → Asked
   yes_asked y =

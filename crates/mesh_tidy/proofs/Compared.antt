@@ -14,7 +14,8 @@ abbrev pub equal_on : ℕ → List ℤ → List ℤ → Bool
 equal_on i p q = int_eq (coordinate_of p i) (coordinate_of q i)
 
 -- they compare as the points at their places
-pub compared : (points : List (List ℤ)) (i j : ℕ) (p q : List ℤ) → i < length points → j < length points → p ≡ get_or points i p → q ≡ get_or points j q → (b : Bool) → b ≡ (equal_on 0 p q && (equal_on 1 p q && equal_on 2 p q)) → b ≡ same_point (get_or points i []) (get_or points j [])
+pub compared : (points : List (List ℤ)) (i j : ℕ) (p q : List ℤ) → i < length points → j < length points → p ≡ get_or points i p → q ≡ get_or points j q →
+    (b : Bool) → b ≡ (equal_on 0 p q && (equal_on 1 p q && equal_on 2 p q)) → b ≡ same_point (get_or points i []) (get_or points j [])
 compared points i j p q i_low j_low p_is q_is b eq =
     let x = get_or_read points i p i_low p_is [] in
     let y = get_or_read points j q j_low q_is [] in

@@ -22,7 +22,8 @@ hits q xs h = cond (q h) (count_by (λ x. x == h) xs) 0
 -- with one more in front
 hits_first : (q : ℕ → Bool) (x : ℕ) (xs : List ℕ) (h : ℕ) → pos (hits q (x ∷ xs) h) ≡ where_same h x (pos (one_if (q h))) +ℤ pos (hits q xs h)
 hits_first q x xs h = by (q h) (cases_Bool (h == x)) where
-  by : (b : Bool) → ((h == x) ≡ true) ⊎ ((h == x) ≡ false) → pos (cond b (count_by (λ y. y == h) (x ∷ xs)) 0) ≡ where_same h x (pos (one_if b)) +ℤ pos (cond b (count_by (λ y. y == h) xs) 0)
+  by : (b : Bool) → ((h == x) ≡ true) ⊎ ((h == x) ≡ false) →
+      pos (cond b (count_by (λ y. y == h) (x ∷ xs)) 0) ≡ where_same h x (pos (one_if b)) +ℤ pos (cond b (count_by (λ y. y == h) xs) 0)
   by true (inl e) =
       let same : (x == h) ≡ true = eq-eqb x h (sym (eqb-true h x e)) in
       omega (arith, ints, count_by-cons (λ y. y == h) x xs, ap one_if same, where_same-at h x (pos 1) (eqb-true h x e))
@@ -63,7 +64,8 @@ length-marked [] (t ∷ ts) e = absurd (omega (arith, e))
 length-marked (m ∷ ms) [] e = absurd (omega (arith, e))
 length-marked (m ∷ ms) (t ∷ ts) e = omega (arith, length-marked ms ts (omega (arith, e)))
 
-marked_at : (ms : List Bool) (ts : List Triple) → length ms ≡ length ts → (h : ℕ) → get_or (marked_edges ms ts) h (false, (0, 0)) ≡ (get_or ms (h / 3) false, get_or (all_edges ts) h (0, 0))
+marked_at : (ms : List Bool) (ts : List Triple) → length ms ≡ length ts → (h : ℕ) →
+    get_or (marked_edges ms ts) h (false, (0, 0)) ≡ (get_or ms (h / 3) false, get_or (all_edges ts) h (0, 0))
 marked_at [] [] e h = refl
 marked_at [] (t ∷ ts) e h = absurd (omega (arith, e))
 marked_at (m ∷ ms) [] e h = absurd (omega (arith, e))
@@ -83,7 +85,8 @@ total-picked f [] ts = refl
 total-picked f (m ∷ ms) [] = refl
 total-picked f (m ∷ ms) (t ∷ ts) = by m (total-picked f ms ts) where
   by : (b : Bool) → total (passing f) (marked_edges ms ts) ≡ total (λ e. pos (one_if (f e))) (all_edges (picked ms ts)) →
-      total (passing f) ((b, (t.0, t.1)) ∷ (b, (t.1, t.2)) ∷ (b, (t.2, t.0)) ∷ marked_edges ms ts) ≡ total (λ e. pos (one_if (f e))) (all_edges (cond b (t ∷ []) [] ++ picked ms ts))
+      total (passing f) ((b, (t.0, t.1)) ∷ (b, (t.1, t.2)) ∷ (b, (t.2, t.0)) ∷ marked_edges ms ts) ≡ total (λ e. pos (one_if (f e)))
+      (all_edges (cond b (t ∷ []) [] ++ picked ms ts))
   by true rest = omega (arith, ints, rest)
   by false rest = omega (arith, ints, rest)
 
@@ -91,7 +94,8 @@ count_picked : (f : (ℕ × ℕ) → Bool) (ms : List Bool) (ts : List Triple) �
     total (λ e. pos (one_if (f e))) (all_edges (picked ms ts)) ≡ total (λ h. pos (one_if (is_left ms h && f (get_or (all_edges ts) h (0, 0))))) (upto (3 * length ts))
 count_picked f ms ts full =
     sym (total-picked f ms ts) ∙ total-places (passing f) (false, (0, 0)) (marked_edges ms ts)
-    ∙ total-same (λ i. passing f (get_or (marked_edges ms ts) i (false, (0, 0)))) (λ h. passing f (get_or ms (h / 3) false, get_or (all_edges ts) h (0, 0))) (λ h. ap (passing f) (marked_at ms ts full h)) (upto (length (marked_edges ms ts)))
+    ∙ total-same (λ i. passing f (get_or (marked_edges ms ts) i (false, (0, 0)))) (λ h. passing f (get_or ms (h / 3) false, get_or (all_edges ts) h (0, 0)))
+    (λ h. ap (passing f) (marked_at ms ts full h)) (upto (length (marked_edges ms ts)))
     ∙ ap (λ n. total (λ h. pos (one_if (is_left ms h && f (get_or (all_edges ts) h (0, 0))))) (upto n)) (length-marked ms ts full)
 
 -- how often an edge runs, as a total

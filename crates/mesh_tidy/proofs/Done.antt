@@ -38,7 +38,9 @@ none_there (x ∷ xs) none = absurd (none (omega arith))
 
 -- the first surface is tidied as the second is, with so many collapses before
 abbrev pub HasCome : List (List ℤ) → Surface → Surface → ℕ → Type 0
-HasCome points first now n = (labels : List (List ℕ)) → length labels ≡ length first.triples → tidied points (left_of first) (labels_of first labels) ≡ after n (tidied points (left_of now) (labels_of now labels))
+HasCome points first now n =
+    (labels : List (List ℕ)) → length labels ≡ length first.triples → tidied points (left_of first) (labels_of first labels)
+    ≡ after n (tidied points (left_of now) (labels_of now labels))
 
 module _ (points : List (List ℤ)) (each : All (λ p. length p ≡ 3) points) where
   -- where a half-edge that can be collapsed would be in doubt, and none is
@@ -71,7 +73,8 @@ module _ (points : List (List ℤ)) (each : All (λ p. length p ≡ 3) points) w
       let none : t.collapses ≡ 0 + t.collapses = omega arith in (λ i. record { triples = t.triples; labels = t.labels; collapses = none i })
 
   -- a collapse of the least that can be
-  module _ (first now new : Surface) (n h : ℕ) (count : length now.triples ≡ length first.triples) (good : AreGood (length points) (left_of now)) (has : Has now h) (can : is_collapsible points (left_of now) (number_of now h) ≡ true)
+  module _ (first now new : Surface) (n h : ℕ) (count : length now.triples ≡ length first.triples) (good : AreGood (length points) (left_of now))
+      (has : Has now h) (can : is_collapsible points (left_of now) (number_of now h) ≡ true)
       (least : least_collapsible points (left_of now) ≡ number_of now h) (c : HasCollapsed now new h) where
     abbrev pub ts : List Triple
     ts = left_of now
@@ -89,7 +92,8 @@ module _ (points : List (List ℤ)) (each : All (λ p. length p ≡ 3) points) w
         let k = number_of now h in
         let rest = tidied points (left_of new) (labels_of new labels) in
         let step = tidied_steps points each ts ls good there in
-        let at : one_more (tidied points (collapsed_at ts m) (labels_left_at ts m ls)) ≡ one_more (tidied points (collapsed_at ts k) (labels_left_at ts k ls)) = ap (λ n. one_more (tidied points (collapsed_at ts n) (labels_left_at ts n ls))) least in
+        let at : one_more (tidied points (collapsed_at ts m) (labels_left_at ts m ls)) ≡ one_more (tidied points (collapsed_at ts k) (labels_left_at ts k ls)) =
+        ap (λ n. one_more (tidied points (collapsed_at ts n) (labels_left_at ts n ls))) least in
         let labels_is = c.labels labels (same ∙ sym count) in
         let left : one_more rest ≡ one_more (tidied points (collapsed_at ts k) (labels_left_at ts k ls)) = (λ i. one_more (tidied points (c.left i) (labels_is i))) in
         let more : n + suc rest.collapses ≡ n + 1 + rest.collapses = omega arith in

@@ -39,7 +39,8 @@ added_there (x ∷ xs) k = by (nat_cmp k x) refl (added_there xs k) where
 pub others_there : (ks : List ℕ) (k y : ℕ) → Contains ks y → Contains (insert_key nat_cmp ks k) y
 others_there [] k y (i, low, is) = absurd (omega (arith, low))
 others_there (x ∷ xs) k y c = by (nat_cmp k x) c (others_there xs k y) where
-  by : (o : Ordering) → Contains (x ∷ xs) y → (Contains xs y → Contains (insert_key nat_cmp xs k) y) → Contains (match_ordering o (k ∷ x ∷ xs) (x ∷ xs) (x ∷ insert_key nat_cmp xs k)) y
+  by : (o : Ordering) → Contains (x ∷ xs) y → (Contains xs y → Contains (insert_key nat_cmp xs k) y) →
+      Contains (match_ordering o (k ∷ x ∷ xs) (x ∷ xs) (x ∷ insert_key nat_cmp xs k)) y
   by Less d rest = further k (x ∷ xs) y d
   by Equal d rest = d
   by Greater (zero, low, is) rest = (0, omega arith, is)

@@ -32,7 +32,8 @@ pub whole_number : (s : Surface) → length s.left ≡ length s.triples → All 
 whole_number s marks all h low = omega (arith, all_rank s.left all (h / 3) (omega (arith, low, marks)))
 
 -- at the start: of each half-edge of zero length and its twin the lesser
-pub first_doubted : (points : List (List ℤ)) (s : Surface) (doubts : List ℕ) → length s.left ≡ length s.triples → All (λ m. m ≡ true) s.left → left_of s ≡ s.triples → IsClosed (all_edges s.triples) →
+pub first_doubted : (points : List (List ℤ)) (s : Surface) (doubts : List ℕ) → length s.left ≡ length s.triples → All (λ m. m ≡ true) s.left →
+    left_of s ≡ s.triples → IsClosed (all_edges s.triples) →
     HasLesserAtOne points s.triples doubts → AreDoubted points s doubts
 first_doubted points s doubts marks all whole closed listed h has can =
     let es = all_edges s.triples in
@@ -53,20 +54,23 @@ abbrev pub AreListedTo : List (List ℤ) → List Triple → ℕ → List ℕ �
 AreListedTo points ts n doubts = (h : ℕ) → h < n → h < twin (all_edges ts) h → lies_at_one points ts h ≡ true → Contains doubts h
 
 -- one more is, or it is none of these
-pub listed_added : (points : List (List ℤ)) (ts : List Triple) (n : ℕ) (doubts : List ℕ) → AreListedTo points ts n doubts → AreListedTo points ts (n + 1) (insert_key nat_cmp doubts n)
+pub listed_added : (points : List (List ℤ)) (ts : List Triple) (n : ℕ) (doubts : List ℕ) → AreListedTo points ts n doubts →
+    AreListedTo points ts (n + 1) (insert_key nat_cmp doubts n)
 listed_added points ts n doubts so_far h low less at_one = elim (cases_eq h n) as (λ _. Contains (insert_key nat_cmp doubts n) h) [
   | inl e ↦ subst (Contains (insert_key nat_cmp doubts n)) (sym e) (added_there doubts n)
   | inr apart ↦ others_there doubts n h (so_far h (omega (arith, low, apart)) less at_one)
 ]
 
-pub listed_passed : (points : List (List ℤ)) (ts : List Triple) (n : ℕ) (doubts : List ℕ) → AreListedTo points ts n doubts → (n < twin (all_edges ts) n → lies_at_one points ts n ≡ true → ⊥) → AreListedTo points ts (n + 1) doubts
+pub listed_passed : (points : List (List ℤ)) (ts : List Triple) (n : ℕ) (doubts : List ℕ) → AreListedTo points ts n doubts →
+    (n < twin (all_edges ts) n → lies_at_one points ts n ≡ true → ⊥) → AreListedTo points ts (n + 1) doubts
 listed_passed points ts n doubts so_far none h low less at_one = elim (cases_eq h n) as (λ _. Contains doubts h) [
   | inl e ↦ absurd (none (subst (λ x. x < twin (all_edges ts) x) e less) (ap (lies_at_one points ts) (sym e) ∙ at_one))
   | inr apart ↦ so_far h (omega (arith, low, apart)) less at_one
 ]
 
 -- all together: of each and its twin the lesser
-pub listed_all : (points : List (List ℤ)) (ts : List Triple) (doubts : List ℕ) → All HasThree ts → IsClosed (all_edges ts) → AreListedTo points ts (3 * length ts) doubts → HasLesserAtOne points ts doubts
+pub listed_all : (points : List (List ℤ)) (ts : List Triple) (doubts : List ℕ) → All HasThree ts → IsClosed (all_edges ts) →
+    AreListedTo points ts (3 * length ts) doubts → HasLesserAtOne points ts doubts
 listed_all points ts doubts three closed listed h low at_one = by (cases_order h g) where
   es : List (ℕ × ℕ)
   es = all_edges ts

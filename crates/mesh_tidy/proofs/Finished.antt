@@ -31,14 +31,16 @@ module _ (m : Mesh) (each : All (λ p. length p ≡ 3) m.points) (accepted : IsA
   tidy_law t is = subst (IsTidyMesh m) (sym is) (tidy_meshes m each accepted)
 
   -- a surface of the whole mesh, and what is left of it
-  module _ (first last : Surface) (n : ℕ) (whole : left_of first ≡ m.triples) (all : labels_of first m.labels ≡ m.labels) (labels : length m.labels ≡ length first.triples) (has : HasTidied m.points first last n) where
+  module _ (first last : Surface) (n : ℕ) (whole : left_of first ≡ m.triples) (all : labels_of first m.labels ≡ m.labels)
+      (labels : length m.labels ≡ length first.triples) (has : HasTidied m.points first last n) where
     pub told : tidied m.points m.triples m.labels ≡ record { triples = left_of last; labels = labels_of last m.labels; collapses = n }
     told = sym (λ i. tidied m.points (whole i) (all i)) ∙ has m.labels labels
 
     pub sound_left : IsSound (length m.points) (left_of last)
     sound_left = subst (IsSound (length m.points)) (ap (λ (t : Tidied). t.triples) told) (sound m each accepted)
 
-    pub made_mesh : (t : Mesh) → t.points ≡ (soup_of m.points (left_of last) (labels_of last m.labels)).points → t.triples ≡ (soup_of m.points (left_of last) (labels_of last m.labels)).triples →
+    pub made_mesh : (t : Mesh) → t.points ≡ (soup_of m.points (left_of last) (labels_of last m.labels)).points →
+        t.triples ≡ (soup_of m.points (left_of last) (labels_of last m.labels)).triples →
         t.labels ≡ (soup_of m.points (left_of last) (labels_of last m.labels)).labels → t ≡ tidy_mesh m
     made_mesh t p q r = (λ i. record { points = p i; triples = q i; labels = r i }) ∙ sym (ap (mesh_of m.points) told)
 

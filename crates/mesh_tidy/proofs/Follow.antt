@@ -37,7 +37,8 @@ stays_marked ms i j k n m = get_or-set_other (set ms i false) j k false false m 
 
 -- before: marks, triangles and a half-edge of one with a mark that can be collapsed; after: the triangles renamed at the halves, in
 -- which each half-edge with a mark that starts at b is
-module _ (ms : List Bool) (ts us : List Triple) (full : length ms ≡ length ts) (count : length us ≡ length ts) (h g : ℕ) (h_has : Marked ms ts h) (g_has : Marked ms ts g) (a b c d : ℕ)
+module _ (ms : List Bool) (ts us : List Triple) (full : length ms ≡ length ts) (count : length us ≡ length ts) (h g : ℕ) (h_has : Marked ms ts h)
+    (g_has : Marked ms ts g) (a b c d : ℕ)
     (can : CanCollapse (picked ms ts) (number ms h) a b c d) (twin_is : twin (all_edges (picked ms ts)) (number ms h) ≡ number ms g)
     (halves : List ℕ) (renames : IsRenamed ts us halves b a) (all_b : (x : ℕ) → Marked ms ts x → start (all_edges ts) x ≡ b → Contains halves x) where
   abbrev pub left : List Triple
@@ -97,10 +98,12 @@ module _ (ms : List Bool) (ts us : List Triple) (full : length ms ≡ length ts)
           omega (arith, number_one ms ts full (3 * i + x % 3) x marked x_has numbers)
 
   -- the two have both vertices
-  gone_at : (x : ℕ) → Marked ms ts x → (number ms x / 3 ≡ number ms h / 3) ⊎ (number ms x / 3 ≡ twin (all_edges left) (number ms h) / 3) → stays a b (get_or ts (x / 3) (0, 0, 0)) ≡ false
+  gone_at : (x : ℕ) → Marked ms ts x → (number ms x / 3 ≡ number ms h / 3) ⊎ (number ms x / 3 ≡ twin (all_edges left) (number ms h) / 3) →
+      stays a b (get_or ts (x / 3) (0, 0, 0)) ≡ false
   gone_at x x_has near =
       let at : number ms x / 3 ≡ rank (λ m. m) ms (x / 3) = omega arith in
-      ap (stays a b) (sym (stands (x / 3) (omega (arith, x_has.0)) x_has.1)) ∙ ap (λ w. stays a b (get_or left w (0, 0, 0))) (sym at) ∙ goes_near left (number ms h) a b c d (number ms x) can near
+      ap (stays a b) (sym (stands (x / 3) (omega (arith, x_has.0)) x_has.1)) ∙ ap (λ w. stays a b (get_or left w (0, 0, 0))) (sym at)
+      ∙ goes_near left (number ms h) a b c d (number ms x) can near
 
   gone_h : stays a b (get_or ts (h / 3) (0, 0, 0)) ≡ false
   gone_h = gone_at h h_has (inl refl)

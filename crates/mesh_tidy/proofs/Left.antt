@@ -93,7 +93,8 @@ pub record Before (ms : List Bool) (ts : List Triple) (k : ℕ) : Type 0 where
   pub marked : Marked ms ts half
   pub is : number ms half ≡ k
 
-before_first : (m : Bool) (ms : List Bool) (t : Triple) (ts : List Triple) → m ≡ true → ((k : ℕ) → k < length (all_edges (picked ms ts)) → Before ms ts k) → (k : ℕ) → k < length (all_edges (t ∷ picked ms ts)) → Before (m ∷ ms) (t ∷ ts) k
+before_first : (m : Bool) (ms : List Bool) (t : Triple) (ts : List Triple) → m ≡ true → ((k : ℕ) → k < length (all_edges (picked ms ts)) → Before ms ts k) →
+    (k : ℕ) → k < length (all_edges (t ∷ picked ms ts)) → Before (m ∷ ms) (t ∷ ts) k
 before_first m ms t ts y rest zero low = record { half = 0; marked = (omega arith, y); is = refl }
 before_first m ms t ts y rest (suc zero) low = record { half = 1; marked = (omega arith, y); is = refl }
 before_first m ms t ts y rest (suc (suc zero)) low = record { half = 2; marked = (omega arith, y); is = refl }
@@ -187,11 +188,13 @@ module _ (p : Triple → Bool) (r : ℕ → ℕ) where
       by true true em et mark triple rest =
           let on : n ≡ true = mark ∙ ap (λ k. k && p t) em ∙ et in
           ap (λ k. cond k (u ∷ []) [] ++ picked ns us) on ∙ ap (λ v. v ∷ picked ns us) (triple on) ∙ ap (λ l. renamed_triple r t ∷ l) rest
-          ∙ sym (ap (λ k. map (renamed_triple r) (filter p (cond k (t ∷ []) [] ++ picked ms ts))) em ∙ ap (λ k. map (renamed_triple r) (cond k (t ∷ filter p (picked ms ts)) (filter p (picked ms ts)))) et)
+          ∙ sym (ap (λ k. map (renamed_triple r) (filter p (cond k (t ∷ []) [] ++ picked ms ts))) em
+          ∙ ap (λ k. map (renamed_triple r) (cond k (t ∷ filter p (picked ms ts)) (filter p (picked ms ts)))) et)
       by true false em et mark triple rest =
           let off : n ≡ false = mark ∙ ap (λ k. k && p t) em ∙ et in
           ap (λ k. cond k (u ∷ []) [] ++ picked ns us) off ∙ rest
-          ∙ sym (ap (λ k. map (renamed_triple r) (filter p (cond k (t ∷ []) [] ++ picked ms ts))) em ∙ ap (λ k. map (renamed_triple r) (cond k (t ∷ filter p (picked ms ts)) (filter p (picked ms ts)))) et)
+          ∙ sym (ap (λ k. map (renamed_triple r) (filter p (cond k (t ∷ []) [] ++ picked ms ts))) em
+          ∙ ap (λ k. map (renamed_triple r) (cond k (t ∷ filter p (picked ms ts)) (filter p (picked ms ts)))) et)
       by false y em et mark triple rest =
           let off : n ≡ false = mark ∙ ap (λ k. k && p t) em in
           ap (λ k. cond k (u ∷ []) [] ++ picked ns us) off ∙ rest ∙ sym (ap (λ k. map (renamed_triple r) (filter p (cond k (t ∷ []) [] ++ picked ms ts))) em)
@@ -214,7 +217,8 @@ module _ (p : Triple → Bool) (r : ℕ → ℕ) where
     where
       tail : (j : ℕ) → j < length ts → Follows (get_or ms j false) (get_or ns j false) (get_or ts j (0, 0, 0)) (get_or (drop 1 us) j (0, 0, 0))
       tail j low = moved us (all (suc j) (omega (arith, low))) where
-        moved : (vs : List Triple) → Follows (get_or ms j false) (get_or ns j false) (get_or ts j (0, 0, 0)) (get_or vs (suc j) (0, 0, 0)) → Follows (get_or ms j false) (get_or ns j false) (get_or ts j (0, 0, 0)) (get_or (drop 1 vs) j (0, 0, 0))
+        moved : (vs : List Triple) → Follows (get_or ms j false) (get_or ns j false) (get_or ts j (0, 0, 0)) (get_or vs (suc j) (0, 0, 0)) →
+            Follows (get_or ms j false) (get_or ns j false) (get_or ts j (0, 0, 0)) (get_or (drop 1 vs) j (0, 0, 0))
         moved [] f = f
         moved (v ∷ vs) f = f
 

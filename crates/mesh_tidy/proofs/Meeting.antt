@@ -52,7 +52,8 @@ module _ (s : Surface) (met : List Bool) (c d : ℕ) where
   ends_among h v off ends on =
       let parts = and_parts (get_or s.left (h / 3) false) (to h == v) ends in
       let is = eqb-true (to h) v parts.1 in
-      let left : (get_or s.left (h / 3) false && (get_or met v false && (not (v == c) && not (v == d)))) ≡ false = sym (ap (λ w. get_or s.left (h / 3) false && (get_or met w false && (not (w == c) && not (w == d)))) is) ∙ off in
+      let left : (get_or s.left (h / 3) false && (get_or met v false && (not (v == c) && not (v == d)))) ≡ false =
+      sym (ap (λ w. get_or s.left (h / 3) false && (get_or met w false && (not (w == c) && not (w == d)))) is) ∙ off in
       let rest : (get_or met v false && (not (v == c) && not (v == d))) ≡ false = sym (ap (λ b. b && (get_or met v false && (not (v == c) && not (v == d)))) parts.0) ∙ left in
       one_of v on (get_or met v false) (v == c) (v == d) refl refl refl rest
 
@@ -90,7 +91,8 @@ joined_below : (n : ℕ) (ts : List Triple) → All (IsBelow n) ts → (v w : �
 joined_below n ts below v w some = let f = found (all_edges ts) v w some in omega (arith, finish_below n ts below f.place f.runs.low, f.runs.to)
 
 -- where the neighbours of a have marks, those of b with one are just the common ones
-pub meet_just : (s : Surface) → IsSurface s → (a b c d : ℕ) (old met : List Bool) → length old ≡ s.vertices → All (λ mark. mark ≡ false) old → AreNeighboursMarked (all_edges (left_of s)) a true old met →
+pub meet_just : (s : Surface) → IsSurface s → (a b c d : ℕ) (old met : List Bool) → length old ≡ s.vertices → All (λ mark. mark ≡ false) old →
+    AreNeighboursMarked (all_edges (left_of s)) a true old met →
     (result : Bool) → IsTrue result ↔ MeetsOnly s met b c d → IsTrue result ↔ MeetOnly (all_edges (left_of s)) a b c d
 meet_just s whole a b c d old met full none marked result told = (
   λ none_else. met_only (all_edges (left_of s)) a b c d old met none marked (inside a) (told.0 none_else),

@@ -46,7 +46,8 @@ module _ (a b s : ℕ) (apart : a ≢ b) where
     by (inr k) = ap (λ w. one_if (w == v)) (merged_other a b s (λ q. both_ways (s == b) k (eq-eqb s b q)))
 
 -- a half-edge that stood once in the star of its start does so afterwards
-pub stands_joined : (stars : List (List ℕ)) (a b h s : ℕ) → a ≢ b → a < length stars → b < length stars → ((v : ℕ) → v < length stars → count_by (λ x. x == h) (get_or stars v []) ≡ one_if (s == v)) →
+pub stands_joined : (stars : List (List ℕ)) (a b h s : ℕ) → a ≢ b → a < length stars → b < length stars →
+    ((v : ℕ) → v < length stars → count_by (λ x. x == h) (get_or stars v []) ≡ one_if (s == v)) →
     (v : ℕ) → v < length stars → count_by (λ x. x == h) (get_or (joined stars a b) v []) ≡ one_if (merged a b s == v)
 stands_joined stars a b h s apart a_low b_low once v low = by (cases_Bool (v == a)) (cases_Bool (v == b)) where
   star_a : List ℕ
@@ -69,4 +70,5 @@ stands_joined stars a b h s apart a_low b_low once v low = by (cases_Bool (v == 
   by (inr n) (inr m) =
       let not_a : v ≢ a = λ q. both_ways (v == a) n (eq-eqb v a q) in
       let not_b : v ≢ b = λ q. both_ways (v == b) m (eq-eqb v b q) in
-      ap (count_by (λ x. x == h)) (get_or-set_other (set stars b []) a v (star_a ++ star_b) [] not_a ∙ get_or-set_other stars b v [] [] not_b) ∙ once v low ∙ sym (at_another a b s apart v not_a not_b)
+      ap (count_by (λ x. x == h)) (get_or-set_other (set stars b []) a v (star_a ++ star_b) [] not_a ∙ get_or-set_other stars b v [] [] not_b) ∙ once v low
+      ∙ sym (at_another a b s apart v not_a not_b)

@@ -43,7 +43,8 @@ pub twins_in : (s : Surface) (tw : List ℕ) → ((x : ℕ) → Has s x → IsTw
 twins_in s tw each x has = let t = each x has in record { there = t.there; is = t.is }
 
 -- the parts of a surface before the collapse of half-edge h, and its triangles afterwards
-module _ (s : Surface) (tw : List ℕ) (stars : List (List ℕ)) (kept : IsKept s tw stars) (size : length stars ≡ s.vertices) (h : ℕ) (h_has : Has s h) (a b c d : ℕ) (can : CanCollapse (left_of s) (number_of s h) a b c d) (a_low : a < s.vertices) (b_low : b < s.vertices)
+module _ (s : Surface) (tw : List ℕ) (stars : List (List ℕ)) (kept : IsKept s tw stars) (size : length stars ≡ s.vertices) (h : ℕ) (h_has : Has s h)
+    (a b c d : ℕ) (can : CanCollapse (left_of s) (number_of s h) a b c d) (a_low : a < s.vertices) (b_low : b < s.vertices)
     (us : List Triple) (count : length us ≡ length s.triples) (renames : IsRenamed s.triples us (get_or (joined stars a b) a []) b a) where
   abbrev pub g : ℕ
   g = get_or tw h 0
@@ -61,9 +62,15 @@ module _ (s : Surface) (tw : List ℕ) (stars : List (List ℕ)) (kept : IsKept 
   -- what starts at b is in the star that is renamed
   all_b : (x : ℕ) → Has s x → start (all_edges s.triples) x ≡ b → Contains (get_or (joined stars a b) a []) x
   all_b x x_has e =
-      let named : (merged a b (start (all_edges s.triples) x) == a) ≡ true = eq-eqb (merged a b (start (all_edges s.triples) x)) a (merged_second a b (start (all_edges s.triples) x) e) in
+      let named : (merged a b (start (all_edges s.triples) x) == a) ≡ true = eq-eqb (merged a b (start (all_edges s.triples) x)) a
+      (merged_second a b (start (all_edges s.triples) x) e) in
       occurs (get_or (joined stars a b) a []) x
-      (omega (arith, stands_joined stars a b x (start (all_edges s.triples) x) can.distinct (omega (arith, a_low, size)) (omega (arith, b_low, size)) (stood x x_has) a (omega (arith, a_low, size)), ap one_if named))
+      (omega (
+        arith,
+        stands_joined stars a b x (start (all_edges s.triples) x) can.distinct (omega (arith, a_low, size)) (omega (arith, b_low, size))
+            (stood x x_has) a (omega (arith, a_low, size)),
+        ap one_if named,
+      ))
 
   pub left_is : left_of new ≡ collapsed a b (left_of s)
   left_is = left_follows s.left s.triples us kept.marks count h g h_has g_twin.there a b c d can g_twin.is (get_or (joined stars a b) a []) renames all_b
@@ -82,7 +89,8 @@ module _ (s : Surface) (tw : List ℕ) (stars : List (List ℕ)) (kept : IsKept 
   triple_at x x_has =
       let at : number_of s x / 3 ≡ rank (λ m. m) s.left (x / 3) = omega arith in
       ap (λ w. get_or (left_of s) w (0, 0, 0)) at
-      ∙ stands s.left s.triples us kept.marks count h g h_has g_twin.there a b c d can g_twin.is (get_or (joined stars a b) a []) renames all_b (x / 3) (omega (arith, x_has.0)) x_has.1
+      ∙ stands s.left s.triples us kept.marks count h g h_has g_twin.there a b c d can g_twin.is (get_or (joined stars a b) a []) renames all_b (x / 3)
+      (omega (arith, x_has.0)) x_has.1
 
   parts : (x : ℕ) → Has new x → (get_or s.left (x / 3) false ≡ true) × (stays a b (get_or s.triples (x / 3) (0, 0, 0)) ≡ true)
   parts x has = and_parts (get_or s.left (x / 3) false) (stays a b (get_or s.triples (x / 3) (0, 0, 0))) (sym (mark_is (x / 3) (omega (arith, has.0, count))) ∙ has.1)
@@ -96,19 +104,24 @@ module _ (s : Surface) (tw : List ℕ) (stars : List (List ℕ)) (kept : IsKept 
   pub has_still : (x : ℕ) → Has s x → stays a b (get_or (left_of s) (number_of s x / 3) (0, 0, 0)) ≡ true → Has new x
   has_still x x_has on = (
     omega (arith, x_has.0, count),
-    mark_is (x / 3) (omega (arith, x_has.0)) ∙ and_from (get_or s.left (x / 3) false) (stays a b (get_or s.triples (x / 3) (0, 0, 0))) x_has.1 (sym (ap (stays a b) (triple_at x x_has)) ∙ on),
+    mark_is (x / 3) (omega (arith, x_has.0)) ∙ and_from (get_or s.left (x / 3) false) (stays a b (get_or s.triples (x / 3) (0, 0, 0))) x_has.1
+        (sym (ap (stays a b) (triple_at x x_has)) ∙ on),
   )
 
   -- the twins that the new list has
-  pub twins_new : (x : ℕ) → Has new x → IsTwin new x (get_or (tw2 s.left new.left s.triples us kept.marks tw kept.full (twins_in s tw kept.twins) h h_has a b c d can left_is numbers had stay has_still) x 0)
-  twins_new x has = let t = new_twins s.left new.left s.triples us kept.marks tw kept.full (twins_in s tw kept.twins) h h_has a b c d can left_is numbers had stay has_still x has in record { there = t.there; is = t.is }
+  pub twins_new : (x : ℕ) → Has new x →
+      IsTwin new x (get_or (tw2 s.left new.left s.triples us kept.marks tw kept.full (twins_in s tw kept.twins) h h_has a b c d can left_is numbers had stay has_still) x 0)
+  twins_new x has =
+      let t = new_twins s.left new.left s.triples us kept.marks tw kept.full (twins_in s tw kept.twins) h h_has a b c d can left_is numbers had stay has_still x
+      has in record { there = t.there; is = t.is }
 
   -- and the stars
   pub stand_new : (x : ℕ) → Has new x → (v : ℕ) → v < s.vertices → count_by (λ y. y == x) (get_or (joined stars a b) v []) ≡ one_if (start (all_edges us) x == v)
   stand_new x has v low =
       let before = had x has in
       stands_joined stars a b x (start (all_edges s.triples) x) can.distinct (omega (arith, a_low, size)) (omega (arith, b_low, size)) (stood x before) v (omega (arith, low, size))
-      ∙ sym (ap (λ w. one_if (w == v)) (start_follows s.left s.triples us kept.marks count h g h_has g_twin.there a b c d can g_twin.is (get_or (joined stars a b) a []) renames all_b x before))
+      ∙ sym (ap (λ w. one_if (w == v))
+      (start_follows s.left s.triples us kept.marks count h g h_has g_twin.there a b c d can g_twin.is (get_or (joined stars a b) a []) renames all_b x before))
 
   -- the list of twins afterwards
   abbrev pub new_twins_list : List ℕ
@@ -122,7 +135,9 @@ module _ (s : Surface) (tw : List ℕ) (stars : List (List ℕ)) (kept : IsKept 
   first_is = ap (λ w. paired tw (get_or tw (next_half h) 0) (get_or tw w 0)) (prev_is h)
 
   read : (w : ℕ) → w / 3 ≡ g / 3 → get_or first_pair w 0 ≡ get_or tw w 0
-  read w near = ap (λ l. get_or l w 0) first_is ∙ second_read s.left new.left s.triples us kept.marks tw kept.full (twins_in s tw kept.twins) h h_has a b c d can left_is numbers had stay has_still w near
+  read w near =
+      ap (λ l. get_or l w 0) first_is ∙ second_read s.left new.left s.triples us kept.marks tw kept.full (twins_in s tw kept.twins) h h_has a b c d can left_is
+      numbers had stay has_still w near
 
   next_read : get_or first_pair (next_half g) 0 ≡ get_or tw (next_half g) 0
   next_read = read (next_half g) (omega arith)
@@ -139,18 +154,33 @@ module _ (s : Surface) (tw : List ℕ) (stars : List (List ℕ)) (kept : IsKept 
   cb_in = cb_low s.left new.left s.triples us kept.marks tw kept.full (twins_in s tw kept.twins) h h_has a b c d can left_is numbers had stay has_still
 
   pub ac_in : get_or tw (prev_half h) 0 < length tw
-  ac_in = subst (λ w. get_or tw w 0 < length tw) (sym (prev_is h)) (ac_low s.left new.left s.triples us kept.marks tw kept.full (twins_in s tw kept.twins) h h_has a b c d can left_is numbers had stay has_still)
+  ac_in =
+      subst (λ w. get_or tw w 0 < length tw) (sym (prev_is h))
+      (ac_low s.left new.left s.triples us kept.marks tw kept.full (twins_in s tw kept.twins) h h_has a b c d can left_is numbers had stay has_still)
 
   pub da_in : get_or first_pair (next_half g) 0 < length first_pair
-  da_in = omega (arith, next_read, length-paired tw (get_or tw (next_half h) 0) (get_or tw (prev_half h) 0), da_low s.left new.left s.triples us kept.marks tw kept.full (twins_in s tw kept.twins) h h_has a b c d can left_is numbers had stay has_still)
+  da_in =
+      omega (
+        arith,
+        next_read,
+        length-paired tw (get_or tw (next_half h) 0) (get_or tw (prev_half h) 0),
+        da_low s.left new.left s.triples us kept.marks tw kept.full (twins_in s tw kept.twins) h h_has a b c d can left_is numbers had stay has_still,
+      )
 
   pub bd_in : get_or first_pair (prev_half g) 0 < length first_pair
-  bd_in = omega (arith, prev_read, length-paired tw (get_or tw (next_half h) 0) (get_or tw (prev_half h) 0), bd_low s.left new.left s.triples us kept.marks tw kept.full (twins_in s tw kept.twins) h h_has a b c d can left_is numbers had stay has_still)
+  bd_in =
+      omega (
+        arith,
+        prev_read,
+        length-paired tw (get_or tw (next_half h) 0) (get_or tw (prev_half h) 0),
+        bd_low s.left new.left s.triples us kept.marks tw kept.full (twins_in s tw kept.twins) h h_has a b c d can left_is numbers had stay has_still,
+      )
 
   -- ends stay below the number of vertices
   start_low : (x : ℕ) → x < length (all_edges us) → start (all_edges us) x < s.vertices
   start_low x low =
-      let was : start (all_edges s.triples) x < s.vertices = start_below s.vertices s.triples kept.below x (omega (arith, low, count, length-all_edges us, length-all_edges s.triples)) in
+      let was : start (all_edges s.triples) x < s.vertices = start_below s.vertices s.triples kept.below x
+      (omega (arith, low, count, length-all_edges us, length-all_edges s.triples)) in
       elim (renames.either x) as (λ _. start (all_edges us) x < s.vertices) [
         | inl e ↦ omega (arith, e, was)
         | inr e ↦ omega (arith, e, merged_low (start (all_edges s.triples) x) was)
@@ -194,7 +224,14 @@ module _ (s : Surface) (tw : List ℕ) (stars : List (List ℕ)) (kept : IsKept 
     below = below;
     three = subst (All HasThree) (sym left_is) (three_stay a b (left_of s) kept.three);
     closed = subst (λ l. IsClosed (all_edges l)) (sym left_is) (stays_closed a b can.distinct (left_of s) kept.closed);
-    full = omega (arith, length-paired (paired tw (get_or tw (next_half h) 0) (get_or tw (next_half (next_half h)) 0)) (get_or tw (next_half g) 0) (get_or tw (next_half (next_half g)) 0), length-paired tw (get_or tw (next_half h) 0) (get_or tw (next_half (next_half h)) 0), kept.full, count);
+    full = omega (
+      arith,
+      length-paired (paired tw (get_or tw (next_half h) 0) (get_or tw (next_half (next_half h)) 0)) (get_or tw (next_half g) 0)
+          (get_or tw (next_half (next_half g)) 0),
+      length-paired tw (get_or tw (next_half h) 0) (get_or tw (next_half (next_half h)) 0),
+      kept.full,
+      count,
+    );
     twins = twins_new;
     within = within;
     stand = stand_new;

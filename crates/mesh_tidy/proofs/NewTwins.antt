@@ -34,9 +34,12 @@ pub record IsTwinIn (ms : List Bool) (ts : List Triple) (x y : ℕ) : Type 0 whe
   pub is : twin (all_edges (picked ms ts)) (number ms x) ≡ number ms y
 
 -- before: marks, triangles, twins and a half-edge that can be collapsed; after: marks and triangles that follow the definition
-module _ (ms ns : List Bool) (ts us : List Triple) (full : length ms ≡ length ts) (tw : List ℕ) (long : length tw ≡ 3 * length ts) (each : (x : ℕ) → Marked ms ts x → IsTwinIn ms ts x (get_or tw x 0)) (h : ℕ) (h_has : Marked ms ts h) (a b c d : ℕ)
-    (can : CanCollapse (picked ms ts) (number ms h) a b c d) (left_is : picked ns us ≡ collapsed a b (picked ms ts)) (numbers : (x : ℕ) → number ns x ≡ number_after a b (picked ms ts) (number ms x))
-    (had : (x : ℕ) → Marked ns us x → Marked ms ts x) (stay : (x : ℕ) → Marked ns us x → Stays (stays a b) (picked ms ts) (number ms x)) (has : (x : ℕ) → Marked ms ts x → stays a b (get_or (picked ms ts) (number ms x / 3) (0, 0, 0)) ≡ true → Marked ns us x) where
+module _ (ms ns : List Bool) (ts us : List Triple) (full : length ms ≡ length ts) (tw : List ℕ) (long : length tw ≡ 3 * length ts)
+    (each : (x : ℕ) → Marked ms ts x → IsTwinIn ms ts x (get_or tw x 0)) (h : ℕ) (h_has : Marked ms ts h) (a b c d : ℕ)
+    (can : CanCollapse (picked ms ts) (number ms h) a b c d) (left_is : picked ns us ≡ collapsed a b (picked ms ts)) (numbers : (x : ℕ) →
+    number ns x ≡ number_after a b (picked ms ts) (number ms x))
+    (had : (x : ℕ) → Marked ns us x → Marked ms ts x) (stay : (x : ℕ) → Marked ns us x → Stays (stays a b) (picked ms ts) (number ms x)) (has : (x : ℕ) →
+    Marked ms ts x → stays a b (get_or (picked ms ts) (number ms x / 3) (0, 0, 0)) ≡ true → Marked ns us x) where
   abbrev pub left : List Triple
   left = picked ms ts
 
@@ -100,10 +103,12 @@ module _ (ms ns : List Bool) (ts us : List Triple) (full : length ms ≡ length 
   bd_has = left_with y_bd (bd left k a b c d can) (next_twin (next_half g) (next_marked ms ts g g_twin.there)).there bd_is (bd_stays left k a b c d can)
 
   -- twins afterwards, by the definition
-  twin_by : (x y m n : ℕ) → Marked ns us y → number ms x ≡ m → number ms y ≡ n → twin (all_edges (collapsed a b left)) (number_after a b left m) ≡ number_after a b left n → IsTwinIn ns us x y
+  twin_by : (x y m n : ℕ) → Marked ns us y → number ms x ≡ m → number ms y ≡ n →
+      twin (all_edges (collapsed a b left)) (number_after a b left m) ≡ number_after a b left n → IsTwinIn ns us x y
   twin_by x y m n y_has e f is = record {
     there = y_has;
-    is = (λ i. twin (all_edges (left_is i)) (numbers x i)) ∙ ap (λ w. twin (all_edges (collapsed a b left)) (number_after a b left w)) e ∙ is ∙ sym (numbers y ∙ ap (number_after a b left) f);
+    is = (λ i. twin (all_edges (left_is i)) (numbers x i)) ∙ ap (λ w. twin (all_edges (collapsed a b left)) (number_after a b left w)) e ∙ is
+        ∙ sym (numbers y ∙ ap (number_after a b left) f);
   }
 
   -- different starts or ends, different half-edges
@@ -123,22 +128,36 @@ module _ (ms ns : List Bool) (ts us : List Triple) (full : length ms ≡ length 
   run_apart x y u v p q r s never e = never (sym r.from ∙ ap (start (all_edges left)) e ∙ s.from, sym r.to ∙ ap (finish (all_edges left)) e ∙ s.to)
 
   da_not_bd : y_da ≢ y_bd
-  da_not_bd = apart_by y_da y_bd (da left k a b c d can) (bd left k a b c d can) da_is bd_is (run_apart (da left k a b c d can) (bd left k a b c d can) d a b d (da_runs left k a b c d can) (bd_runs left k a b c d can) (λ q. a_not_d left k a b c d can q.1))
+  da_not_bd =
+      apart_by y_da y_bd (da left k a b c d can) (bd left k a b c d can) da_is bd_is
+      (run_apart (da left k a b c d can) (bd left k a b c d can) d a b d (da_runs left k a b c d can) (bd_runs left k a b c d can) (λ q. a_not_d left k a b c d can q.1))
 
   cb_not_ac : y_cb ≢ y_ac
-  cb_not_ac = apart_by y_cb y_ac (cb left k a b c d can) (ac left k a b c d can) cb_is ac_is (run_apart (cb left k a b c d can) (ac left k a b c d can) c b a c (cb_runs left k a b c d can) (ac_runs left k a b c d can) (λ q. a_not_c left k a b c d can (sym q.0)))
+  cb_not_ac =
+      apart_by y_cb y_ac (cb left k a b c d can) (ac left k a b c d can) cb_is ac_is
+      (run_apart (cb left k a b c d can) (ac left k a b c d can) c b a c (cb_runs left k a b c d can) (ac_runs left k a b c d can)
+      (λ q. a_not_c left k a b c d can (sym q.0)))
 
   cb_not_da : y_cb ≢ y_da
-  cb_not_da = apart_by y_cb y_da (cb left k a b c d can) (da left k a b c d can) cb_is da_is (run_apart (cb left k a b c d can) (da left k a b c d can) c b d a (cb_runs left k a b c d can) (da_runs left k a b c d can) (λ q. can.differ q.0))
+  cb_not_da =
+      apart_by y_cb y_da (cb left k a b c d can) (da left k a b c d can) cb_is da_is
+      (run_apart (cb left k a b c d can) (da left k a b c d can) c b d a (cb_runs left k a b c d can) (da_runs left k a b c d can) (λ q. can.differ q.0))
 
   cb_not_bd : y_cb ≢ y_bd
-  cb_not_bd = apart_by y_cb y_bd (cb left k a b c d can) (bd left k a b c d can) cb_is bd_is (run_apart (cb left k a b c d can) (bd left k a b c d can) c b b d (cb_runs left k a b c d can) (bd_runs left k a b c d can) (λ q. b_not_c left k a b c d can (sym q.0)))
+  cb_not_bd =
+      apart_by y_cb y_bd (cb left k a b c d can) (bd left k a b c d can) cb_is bd_is
+      (run_apart (cb left k a b c d can) (bd left k a b c d can) c b b d (cb_runs left k a b c d can) (bd_runs left k a b c d can)
+      (λ q. b_not_c left k a b c d can (sym q.0)))
 
   ac_not_da : y_ac ≢ y_da
-  ac_not_da = apart_by y_ac y_da (ac left k a b c d can) (da left k a b c d can) ac_is da_is (run_apart (ac left k a b c d can) (da left k a b c d can) a c d a (ac_runs left k a b c d can) (da_runs left k a b c d can) (λ q. a_not_d left k a b c d can q.0))
+  ac_not_da =
+      apart_by y_ac y_da (ac left k a b c d can) (da left k a b c d can) ac_is da_is
+      (run_apart (ac left k a b c d can) (da left k a b c d can) a c d a (ac_runs left k a b c d can) (da_runs left k a b c d can) (λ q. a_not_d left k a b c d can q.0))
 
   ac_not_bd : y_ac ≢ y_bd
-  ac_not_bd = apart_by y_ac y_bd (ac left k a b c d can) (bd left k a b c d can) ac_is bd_is (run_apart (ac left k a b c d can) (bd left k a b c d can) a c b d (ac_runs left k a b c d can) (bd_runs left k a b c d can) (λ q. can.distinct q.0))
+  ac_not_bd =
+      apart_by y_ac y_bd (ac left k a b c d can) (bd left k a b c d can) ac_is bd_is
+      (run_apart (ac left k a b c d can) (bd left k a b c d can) a c b d (ac_runs left k a b c d can) (bd_runs left k a b c d can) (λ q. can.distinct q.0))
 
   -- so each that is left has its twin in the new list
   pub new_twins : (x : ℕ) → Marked ns us x → IsTwinIn ns us x (get_or tw2 x 0)
@@ -155,12 +174,14 @@ module _ (ms ns : List Bool) (ts us : List Triple) (full : length ms ≡ length 
         let old = each x x_had in
         let value : get_or tw2 x 0 ≡ get_or tw x 0 = at_other tw1 y_da y_bd x n_da n_bd ∙ at_other tw y_cb y_ac x n_cb n_ac in
         let differs : (y m : ℕ) → Marked ms ts y → number ms y ≡ m → x ≢ y → number ms x ≢ m = λ y m y_has e n q. n (number_one ms ts full x y x_had y_has (q ∙ sym e)) in
-        let keeps = twin_other left k a b c d can (number ms x) (stay x x_has) (differs y_ac (ac left k a b c d can) (had y_ac ac_has) ac_is n_ac) (differs y_bd (bd left k a b c d can) (had y_bd bd_has) bd_is n_bd)
+        let keeps = twin_other left k a b c d can (number ms x) (stay x x_has) (differs y_ac (ac left k a b c d can) (had y_ac ac_has) ac_is n_ac)
+        (differs y_bd (bd left k a b c d can) (had y_bd bd_has) bd_is n_bd)
         (differs y_cb (cb left k a b c d can) (had y_cb cb_has) cb_is n_cb) (differs y_da (da left k a b c d can) (had y_da da_has) da_is n_da) in
         let y_has : Marked ns us (get_or tw x 0) = left_with (get_or tw x 0) (twin (all_edges left) (number ms x)) old.there (sym old.is) keeps.stays in
         subst (IsTwinIn ns us x) (sym value) (twin_by x (get_or tw x 0) (number ms x) (twin (all_edges left) (number ms x)) y_has refl (sym old.is) keeps.is)
 
-    by : ((x == y_bd) ≡ true) ⊎ ((x == y_bd) ≡ false) → ((x == y_da) ≡ true) ⊎ ((x == y_da) ≡ false) → ((x == y_ac) ≡ true) ⊎ ((x == y_ac) ≡ false) → ((x == y_cb) ≡ true) ⊎ ((x == y_cb) ≡ false) → IsTwinIn ns us x (get_or tw2 x 0)
+    by : ((x == y_bd) ≡ true) ⊎ ((x == y_bd) ≡ false) → ((x == y_da) ≡ true) ⊎ ((x == y_da) ≡ false) → ((x == y_ac) ≡ true) ⊎ ((x == y_ac) ≡ false) →
+        ((x == y_cb) ≡ true) ⊎ ((x == y_cb) ≡ false) → IsTwinIn ns us x (get_or tw2 x 0)
     by (inl e) i j l =
         put y_bd y_da (eqb-true x y_bd e) (at_second tw1 y_da y_bd (omega (arith, low_of y_bd (had y_bd bd_has), length-paired tw y_cb y_ac)))
         (twin_by y_bd y_da (bd left k a b c d can) (da left k a b c d can) da_has bd_is da_is (twin_bd left k a b c d can))

@@ -51,7 +51,8 @@ surface_good s n e whole = record {
   below = all_picked (IsBelow n) s.left s.triples (subst (λ k. All (IsBelow k) s.triples) e whole.below);
 }
 
-module _ (points : List (List ℤ)) (each : All (λ p. length p ≡ 3) points) (s : Surface) (marks : length s.left ≡ length s.triples) (good : AreGood (length points) (left_of s)) (k : ℕ) (rest : List ℕ) (all : AreDoubted points s (k ∷ rest)) where
+module _ (points : List (List ℤ)) (each : All (λ p. length p ≡ 3) points) (s : Surface) (marks : length s.left ≡ length s.triples)
+    (good : AreGood (length points) (left_of s)) (k : ℕ) (rest : List ℕ) (all : AreDoubted points s (k ∷ rest)) where
   abbrev pub ts : List Triple
   ts = left_of s
 

@@ -63,13 +63,16 @@ module _ (before now : List Triple) (halves : List ℕ) (i old new : ℕ) (low :
   renamed_same other = record { listed = λ h inside. listed h (before_or h inside); either = so_far.either } where
     listed : (h : ℕ) → Contains (take i halves) h ⊎ (x ≡ h) → start (all_edges now) h ≡ merged new old (start (all_edges before) h)
     listed h (inl c) = so_far.listed h c
-    listed h (inr e) = subst (λ y. start (all_edges now) y ≡ merged new old (start (all_edges before) y)) e (elim (so_far.either x) as (λ _. start (all_edges now) x ≡ merged new old (start (all_edges before) x)) [
-      | inl same ↦ same ∙ sym (merged_other new old (start (all_edges before) x) (λ q. other (same ∙ q)))
-      | inr is ↦ is
-    ])
+    listed h (inr e) =
+        subst (λ y. start (all_edges now) y ≡ merged new old (start (all_edges before) y)) e
+        (elim (so_far.either x) as (λ _. start (all_edges now) x ≡ merged new old (start (all_edges before) x)) [
+          | inl same ↦ same ∙ sym (merged_other new old (start (all_edges before) x) (λ q. other (same ∙ q)))
+          | inr is ↦ is
+        ])
 
   -- one that starts at the old vertex starts at the new one
-  pub renamed_more : (after : List Triple) → start (all_edges now) x ≡ old → start (all_edges after) x ≡ new → ((h : ℕ) → h ≢ x → start (all_edges after) h ≡ start (all_edges now) h) → IsRenamed before after (take (i + 1) halves) old new
+  pub renamed_more : (after : List Triple) → start (all_edges now) x ≡ old → start (all_edges after) x ≡ new →
+      ((h : ℕ) → h ≢ x → start (all_edges after) h ≡ start (all_edges now) h) → IsRenamed before after (take (i + 1) halves) old new
   renamed_more after was is others = record { listed = λ h inside. listed h (cases_eq h x) (before_or h inside); either = λ h. either h (cases_eq h x) } where
     named : start (all_edges after) x ≡ merged new old (start (all_edges before) x)
     named = is ∙ sym (merged_second new old (start (all_edges before) x) first) where
@@ -89,7 +92,9 @@ module _ (before now : List Triple) (halves : List ℕ) (i old new : ℕ) (low :
 
     either : (h : ℕ) → (h ≡ x) ⊎ (h ≢ x) → (start (all_edges after) h ≡ start (all_edges before) h) ⊎ (start (all_edges after) h ≡ merged new old (start (all_edges before) h))
     either h (inl e) = inr (subst (λ y. start (all_edges after) y ≡ merged new old (start (all_edges before) y)) (sym e) named)
-    either h (inr n) = elim (so_far.either h) as (λ _. (start (all_edges after) h ≡ start (all_edges before) h) ⊎ (start (all_edges after) h ≡ merged new old (start (all_edges before) h))) [
-      | inl same ↦ inl (others h n ∙ same)
-      | inr put ↦ inr (others h n ∙ put)
-    ]
+    either h (inr n) =
+        elim (so_far.either h) as (λ _.
+        (start (all_edges after) h ≡ start (all_edges before) h) ⊎ (start (all_edges after) h ≡ merged new old (start (all_edges before) h))) [
+          | inl same ↦ inl (others h n ∙ same)
+          | inr put ↦ inr (others h n ∙ put)
+        ]

@@ -31,8 +31,10 @@ on_err (Ok x) p = tt
 on_err (Err e) p = p
 
 -- one vector more, which holds nothing, for one vertex more
-pub empty_more : (lists more : List (Vec ℕ Global)) (v : Vec ℕ Global) → more ≡ lists ++ v ∷ [] → v.items ≡ [] → held lists ≡ stars_of (length lists) [] → held more ≡ stars_of (length more) []
+pub empty_more : (lists more : List (Vec ℕ Global)) (v : Vec ℕ Global) → more ≡ lists ++ v ∷ [] → v.items ≡ [] → held lists ≡ stars_of (length lists) [] →
+    held more ≡ stars_of (length more) []
 empty_more lists more v is none so_far =
     let count : length lists + 1 ≡ length more = omega (arith, ap length is, length_push lists v) in
-    ap held is ∙ map_push (λ (y : Vec ℕ Global). y.items) lists v ∙ (λ i. so_far i ++ none i ∷ []) ∙ sym (map_push (star_of []) (upto (length lists)) (length lists)) ∙ ap (map (star_of [])) (sym (upto_more (length lists)))
+    ap held is ∙ map_push (λ (y : Vec ℕ Global). y.items) lists v ∙ (λ i. so_far i ++ none i ∷ [])
+    ∙ sym (map_push (star_of []) (upto (length lists)) (length lists)) ∙ ap (map (star_of [])) (sym (upto_more (length lists)))
     ∙ ap (λ n. stars_of n []) count

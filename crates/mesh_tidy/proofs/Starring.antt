@@ -33,35 +33,41 @@ star_more : (es : List (ℕ × ℕ)) (n v : ℕ) → star_to es (n + 1) v ≡ st
 star_more es n v = ap (filter (λ h. start es h == v)) (upto_more n) ∙ filter-append (λ h. start es h == v) (upto n) (n ∷ [])
 
 -- it stands behind those of its start
-pub stars_more : (vertices : ℕ) (es : List (ℕ × ℕ)) (n v : ℕ) → v < vertices → start es n ≡ v → set (stars_to vertices es n) v (get_or (stars_to vertices es n) v [] ++ n ∷ []) ≡ stars_to vertices es (n + 1)
-stars_more vertices es n v low from = ext_get_or [] (set stars v (get_or stars v [] ++ n ∷ [])) (stars_to vertices es (n + 1)) (omega (arith, length-set stars v (get_or stars v [] ++ n ∷ []), length-stars_to vertices es n, length-stars_to vertices es (n + 1))) each where
-  stars : List (List ℕ)
-  stars = stars_to vertices es n
+pub stars_more : (vertices : ℕ) (es : List (ℕ × ℕ)) (n v : ℕ) → v < vertices → start es n ≡ v →
+    set (stars_to vertices es n) v (get_or (stars_to vertices es n) v [] ++ n ∷ []) ≡ stars_to vertices es (n + 1)
+stars_more vertices es n v low from =
+    ext_get_or [] (set stars v (get_or stars v [] ++ n ∷ [])) (stars_to vertices es (n + 1))
+    (omega (arith, length-set stars v (get_or stars v [] ++ n ∷ []), length-stars_to vertices es n, length-stars_to vertices es (n + 1))) each where
+      stars : List (List ℕ)
+      stars = stars_to vertices es n
 
-  each : (i : ℕ) → i < length (set stars v (get_or stars v [] ++ n ∷ [])) → get_or (set stars v (get_or stars v [] ++ n ∷ [])) i [] ≡ get_or (stars_to vertices es (n + 1)) i []
-  each i within = by (cases_Bool (i == v)) ∙ sym (star_at vertices es (n + 1) i i_low ∙ star_more es n i) where
-    i_low : i < vertices
-    i_low = omega (arith, within, length-set stars v (get_or stars v [] ++ n ∷ []), length-stars_to vertices es n)
+      each : (i : ℕ) → i < length (set stars v (get_or stars v [] ++ n ∷ [])) → get_or (set stars v (get_or stars v [] ++ n ∷ [])) i [] ≡ get_or (stars_to vertices es (n + 1)) i []
+      each i within = by (cases_Bool (i == v)) ∙ sym (star_at vertices es (n + 1) i i_low ∙ star_more es n i) where
+        i_low : i < vertices
+        i_low = omega (arith, within, length-set stars v (get_or stars v [] ++ n ∷ []), length-stars_to vertices es n)
 
-    by : ((i == v) ≡ true) ⊎ ((i == v) ≡ false) → get_or (set stars v (get_or stars v [] ++ n ∷ [])) i [] ≡ star_to es n i ++ cond (start es n == i) (n ∷ []) []
-    by (inl e) =
-        let is = eqb-true i v e in
-        ap (λ w. get_or (set stars v (get_or stars v [] ++ n ∷ [])) w []) is ∙ get_or-set_same stars v (get_or stars v [] ++ n ∷ []) [] (omega (arith, low, length-stars_to vertices es n))
-        ∙ ap (λ l. l ++ n ∷ []) (star_at vertices es n v low ∙ ap (star_to es n) (sym is)) ∙ ap (λ b. star_to es n i ++ cond b (n ∷ []) []) (sym (eq-eqb (start es n) i (from ∙ sym is)))
-    by (inr m) =
-        let apart : i ≢ v = λ q. both_ways (i == v) m (eq-eqb i v q) in
-        get_or-set_other stars v i (get_or stars v [] ++ n ∷ []) [] apart ∙ star_at vertices es n i i_low ∙ sym (append-nil (star_to es n i))
-        ∙ ap (λ b. star_to es n i ++ cond b (n ∷ []) []) (sym (other (cases_Bool (start es n == i)) apart))
-      where
-        other : ((start es n == i) ≡ true) ⊎ ((start es n == i) ≡ false) → i ≢ v → (start es n == i) ≡ false
-        other (inl y) apart = absurd (apart (sym (eqb-true (start es n) i y) ∙ from))
-        other (inr k) apart = k
+        by : ((i == v) ≡ true) ⊎ ((i == v) ≡ false) → get_or (set stars v (get_or stars v [] ++ n ∷ [])) i [] ≡ star_to es n i ++ cond (start es n == i) (n ∷ []) []
+        by (inl e) =
+            let is = eqb-true i v e in
+            ap (λ w. get_or (set stars v (get_or stars v [] ++ n ∷ [])) w []) is ∙ get_or-set_same stars v (get_or stars v [] ++ n ∷ []) []
+            (omega (arith, low, length-stars_to vertices es n))
+            ∙ ap (λ l. l ++ n ∷ []) (star_at vertices es n v low ∙ ap (star_to es n) (sym is))
+            ∙ ap (λ b. star_to es n i ++ cond b (n ∷ []) []) (sym (eq-eqb (start es n) i (from ∙ sym is)))
+        by (inr m) =
+            let apart : i ≢ v = λ q. both_ways (i == v) m (eq-eqb i v q) in
+            get_or-set_other stars v i (get_or stars v [] ++ n ∷ []) [] apart ∙ star_at vertices es n i i_low ∙ sym (append-nil (star_to es n i))
+            ∙ ap (λ b. star_to es n i ++ cond b (n ∷ []) []) (sym (other (cases_Bool (start es n == i)) apart))
+          where
+            other : ((start es n == i) ≡ true) ⊎ ((start es n == i) ≡ false) → i ≢ v → (start es n == i) ≡ false
+            other (inl y) apart = absurd (apart (sym (eqb-true (start es n) i y) ∙ from))
+            other (inr k) apart = k
 
 -- how often a member that passes occurs among those that pass
 pub count-filter : (q : ℕ → Bool) (h : ℕ) (xs : List ℕ) → q h ≡ true → count_by (λ x. x == h) (filter q xs) ≡ count_by (λ x. x == h) xs
 count-filter q h [] at = refl
 count-filter q h (x ∷ xs) at = by (q x) refl (cases_Bool (x == h)) (count-filter q h xs at) where
-  by : (b : Bool) → q x ≡ b → ((x == h) ≡ true) ⊎ ((x == h) ≡ false) → count_by (λ y. y == h) (filter q xs) ≡ count_by (λ y. y == h) xs → count_by (λ y. y == h) (cond b (x ∷ filter q xs) (filter q xs)) ≡ count_by (λ y. y == h) (x ∷ xs)
+  by : (b : Bool) → q x ≡ b → ((x == h) ≡ true) ⊎ ((x == h) ≡ false) → count_by (λ y. y == h) (filter q xs) ≡ count_by (λ y. y == h) xs →
+      count_by (λ y. y == h) (cond b (x ∷ filter q xs) (filter q xs)) ≡ count_by (λ y. y == h) (x ∷ xs)
   by true e s rest = omega (arith, count_by-cons (λ y. y == h) x (filter q xs), count_by-cons (λ y. y == h) x xs, rest)
   by false e (inl y) rest = absurd (both_ways (q x) e (ap q (eqb-true x h y) ∙ at))
   by false e (inr n) rest = omega (arith, count_by-cons (λ y. y == h) x xs, ap one_if n, rest)
@@ -70,7 +76,8 @@ count-filter q h (x ∷ xs) at = by (q x) refl (cases_Bool (x == h)) (count-filt
 count-filter_none : (q : ℕ → Bool) (h : ℕ) (xs : List ℕ) → q h ≡ false → count_by (λ x. x == h) (filter q xs) ≡ 0
 count-filter_none q h [] off = refl
 count-filter_none q h (x ∷ xs) off = by (q x) refl (cases_Bool (x == h)) (count-filter_none q h xs off) where
-  by : (b : Bool) → q x ≡ b → ((x == h) ≡ true) ⊎ ((x == h) ≡ false) → count_by (λ y. y == h) (filter q xs) ≡ 0 → count_by (λ y. y == h) (cond b (x ∷ filter q xs) (filter q xs)) ≡ 0
+  by : (b : Bool) → q x ≡ b → ((x == h) ≡ true) ⊎ ((x == h) ≡ false) → count_by (λ y. y == h) (filter q xs) ≡ 0 →
+      count_by (λ y. y == h) (cond b (x ∷ filter q xs) (filter q xs)) ≡ 0
   by true e (inl y) rest = absurd (both_ways (q x) (ap q (eqb-true x h y) ∙ off) e)
   by true e (inr n) rest = omega (arith, count_by-cons (λ y. y == h) x (filter q xs), ap one_if n, rest)
   by false e s rest = rest
@@ -93,7 +100,8 @@ one_from k (suc n) h low high = by (cases_Bool (k == h)) (λ l. one_from (suc k)
       omega (arith, count_by-cons (λ x. x == h) k (up_from (suc k) n), ap one_if m, later (omega (arith, low, apart)))
 
 -- each edge stands once in the star of its start, and in no other
-pub stars_stand : (vertices : ℕ) (es : List (ℕ × ℕ)) (h : ℕ) → h < length es → (v : ℕ) → v < vertices → count_by (λ x. x == h) (get_or (stars_of vertices es) v []) ≡ one_if (start es h == v)
+pub stars_stand : (vertices : ℕ) (es : List (ℕ × ℕ)) (h : ℕ) → h < length es → (v : ℕ) → v < vertices →
+    count_by (λ x. x == h) (get_or (stars_of vertices es) v []) ≡ one_if (start es h == v)
 stars_stand vertices es h h_low v low = ap (count_by (λ x. x == h)) (star_at vertices es (length es) v low) ∙ by (cases_Bool (start es h == v)) where
   by : ((start es h == v) ≡ true) ⊎ ((start es h == v) ≡ false) → count_by (λ x. x == h) (star_to es (length es) v) ≡ one_if (start es h == v)
   by (inl e) = count-filter (λ x. start es x == v) h (upto (length es)) e ∙ one_from 0 (length es) h (omega arith) (omega (arith, h_low)) ∙ sym (ap one_if e)
@@ -101,19 +109,24 @@ stars_stand vertices es h h_low v low = ap (count_by (λ x. x == h)) (star_at ve
 
 -- and each is one of the edges
 pub stars_within : (vertices : ℕ) (es : List (ℕ × ℕ)) (n : ℕ) → length es ≡ n → All (All (λ h. h < n)) (stars_of vertices es)
-stars_within vertices es n count = All-map (All (λ h. h < n)) (star_of es) (upto vertices) (All-from_get_or (λ v. All (λ h. h < n) (star_of es v)) (upto vertices) 0 (λ i low. each (get_or (upto vertices) i 0))) where
-  below : All (λ h. h < n) (upto (length es))
-  below = All-from_get_or (λ h. h < n) (upto (length es)) 0 (λ i low. omega (arith, low, count, length-up_from 0 (length es), get_or-up_from 0 (length es) i 0 (omega (arith, low, length-up_from 0 (length es)))))
+stars_within vertices es n count =
+    All-map (All (λ h. h < n)) (star_of es) (upto vertices)
+    (All-from_get_or (λ v. All (λ h. h < n) (star_of es v)) (upto vertices) 0 (λ i low. each (get_or (upto vertices) i 0))) where
+      below : All (λ h. h < n) (upto (length es))
+      below =
+          All-from_get_or (λ h. h < n) (upto (length es)) 0
+          (λ i low. omega (arith, low, count, length-up_from 0 (length es), get_or-up_from 0 (length es) i 0 (omega (arith, low, length-up_from 0 (length es)))))
 
-  each : (v : ℕ) → All (λ h. h < n) (star_of es v)
-  each v = All-filter (λ h. start es h == v) (λ h. h < n) (upto (length es)) below
+      each : (v : ℕ) → All (λ h. h < n) (star_of es v)
+      each v = All-filter (λ h. start es h == v) (λ h. h < n) (upto (length es)) below
 
 -- the star without what has no mark
 abbrev pub pruned : List Bool → List (List ℕ) → ℕ → List (List ℕ)
 pruned left stars v = set stars v (filter (is_left left) (get_or stars v []))
 
 -- what is kept stays so
-pub pruned_kept : (s : Surface) (tw : List ℕ) (stars : List (List ℕ)) (v : ℕ) → IsKept s tw stars → length stars ≡ s.vertices → v < length stars → IsKept s tw (pruned s.left stars v)
+pub pruned_kept : (s : Surface) (tw : List ℕ) (stars : List (List ℕ)) (v : ℕ) → IsKept s tw stars → length stars ≡ s.vertices → v < length stars →
+    IsKept s tw (pruned s.left stars v)
 pruned_kept s tw stars v kept size low = record {
   marks = kept.marks;
   few = kept.few;
@@ -122,7 +135,8 @@ pruned_kept s tw stars v kept size low = record {
   closed = kept.closed;
   full = kept.full;
   twins = kept.twins;
-  within = All-set (All (λ h. h < 3 * length s.triples)) stars v (filter (is_left s.left) star) (All-filter (is_left s.left) (λ h. h < 3 * length s.triples) star (All-get_or (All (λ h. h < 3 * length s.triples)) stars v [] low kept.within)) kept.within;
+  within = All-set (All (λ h. h < 3 * length s.triples)) stars v (filter (is_left s.left) star)
+      (All-filter (is_left s.left) (λ h. h < 3 * length s.triples) star (All-get_or (All (λ h. h < 3 * length s.triples)) stars v [] low kept.within)) kept.within;
   stand = stand;
 }
   where

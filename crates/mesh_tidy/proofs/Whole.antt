@@ -66,9 +66,11 @@ module _ (n : ℕ) (ts : List Triple) (accepted : IsAccepted n ts) (marks : List
     }
 
 -- the same for the lists as they are made: from the triangles of a mesh, with stars in a list
-pub made_kept : (n : ℕ) (us ts : List Triple) → IsAccepted n us → ts ≡ us → (marks : List Bool) → length marks ≡ length ts → All (λ m. m ≡ true) marks → (tw : List ℕ) → IsTwinned us tw → (stars : List (List ℕ)) →
+pub made_kept : (n : ℕ) (us ts : List Triple) → IsAccepted n us → ts ≡ us → (marks : List Bool) → length marks ≡ length ts → All (λ m. m ≡ true) marks →
+    (tw : List ℕ) → IsTwinned us tw → (stars : List (List ℕ)) →
     stars ≡ stars_of n (all_edges ts) → IsKept (record { triples = ts; left = marks; vertices = length stars }) tw stars
 made_kept n us ts accepted same marks count all tw twinned stars is =
     let size : n ≡ length stars = sym (ap length is ∙ length-stars_to n (all_edges ts) (length (all_edges ts))) in
     let kept = whole_kept n ts (subst (IsAccepted n) (sym same) accepted) marks count all tw (subst (λ l. IsTwinned l tw) (sym same) twinned) in
-    subst (λ st. IsKept (record { triples = ts; left = marks; vertices = length stars }) tw st) (sym is) (subst (λ k. IsKept (record { triples = ts; left = marks; vertices = k }) tw (stars_of n (all_edges ts))) size kept)
+    subst (λ st. IsKept (record { triples = ts; left = marks; vertices = length stars }) tw st) (sym is)
+    (subst (λ k. IsKept (record { triples = ts; left = marks; vertices = k }) tw (stars_of n (all_edges ts))) size kept)

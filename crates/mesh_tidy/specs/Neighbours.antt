@@ -10,7 +10,9 @@ ends_at s w h = get_or s.left (h / 3) false && (finish (all_edges s.triples) h =
 
 -- the half-edge is left, and ends at a vertex that has a mark and is neither c nor d
 abbrev pub meets_another : Surface → List Bool → ℕ → ℕ → ℕ → Bool
-meets_another s met c d h = get_or s.left (h / 3) false && (get_or met (finish (all_edges s.triples) h) false && (not (finish (all_edges s.triples) h == c) && not (finish (all_edges s.triples) h == d)))
+meets_another s met c d h =
+    get_or s.left (h / 3) false && (get_or met (finish (all_edges s.triples) h) false
+    && (not (finish (all_edges s.triples) h == c) && not (finish (all_edges s.triples) h == d)))
 
 -- one edge runs from a to b, and one from each of them to c and to d
 abbrev pub are_single : List (ℕ × ℕ) → ℕ → ℕ → ℕ → ℕ → Bool

@@ -68,8 +68,11 @@ pub record HasCollapsed (old new : Surface) (h : ℕ) : Type 0 where
   pub count : length new.triples ≡ length old.triples
   pub vertices : new.vertices ≡ old.vertices
   pub had : (x : ℕ) → Has new x → Has old x
-  pub stay : (x : ℕ) → Has new x → (number_of old x < 3 * length (left_of old)) × (stays (start (all_edges (left_of old)) (number_of old h)) (finish (all_edges (left_of old)) (number_of old h)) (get_or (left_of old) (number_of old x / 3) (0, 0, 0)) ≡ true)
-  pub has : (x : ℕ) → Has old x → stays (start (all_edges (left_of old)) (number_of old h)) (finish (all_edges (left_of old)) (number_of old h)) (get_or (left_of old) (number_of old x / 3) (0, 0, 0)) ≡ true → Has new x
+  pub stay : (x : ℕ) → Has new x →
+      (number_of old x < 3 * length (left_of old)) × (stays (start (all_edges (left_of old)) (number_of old h))
+      (finish (all_edges (left_of old)) (number_of old h)) (get_or (left_of old) (number_of old x / 3) (0, 0, 0)) ≡ true)
+  pub has : (x : ℕ) → Has old x → stays (start (all_edges (left_of old)) (number_of old h)) (finish (all_edges (left_of old)) (number_of old h))
+      (get_or (left_of old) (number_of old x / 3) (0, 0, 0)) ≡ true → Has new x
   pub numbers : (x : ℕ) → Has new x →
       number_of new x ≡ number_after (start (all_edges (left_of old)) (number_of old h)) (finish (all_edges (left_of old)) (number_of old h)) (left_of old) (number_of old x)
 

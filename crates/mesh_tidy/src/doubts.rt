@@ -6,8 +6,8 @@ ghost use Rattle.mesh_terms.specs.Meshes.{IsBelow, triples_of};
 ghost use Rattle.mesh_tidy.specs.Doubts.{AreHalves, HasLesser, HasLesserAtOne, lies_at_one};
 ghost use Rattle.mesh_tidy.specs.Surface.{Has};
 
-use crate::halves::{end, start};
 use crate::surface::Surface;
+use halfedge::halves::{end, start};
 use mb_base::{NoMemory, Point};
 use mesh_check::Mesh;
 use std::alloc::Global;

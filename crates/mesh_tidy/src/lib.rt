@@ -6,7 +6,6 @@
 #![tactic(auto)]
 
 mod doubts;
-mod halves;
 mod stars;
 mod surface;
 mod tidied;

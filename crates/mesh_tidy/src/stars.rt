@@ -6,7 +6,7 @@ ghost use Rattle.mesh_terms.specs.Limits.{most_triangles};
 ghost use Rattle.mesh_terms.specs.Meshes.{IsBelow, triples_of};
 ghost use Rattle.mesh_tidy.specs.Stars.{is_left, stars_of};
 
-use crate::halves::start;
+use halfedge::halves::start;
 use mb_base::NoMemory;
 use std::alloc::Global;
 use std::marker::Model;

@@ -15,8 +15,8 @@ mod asking;
 mod collapsing;
 mod kept;
 
-use crate::halves::{end, previous, start};
 use crate::stars::Stars;
+use halfedge::halves::{end, previous, start};
 use mb_base::NoMemory;
 use mesh_check::{Mesh, marked, mesh_of_used, with_marked_labels};
 use std::alloc::Global;

@@ -12,9 +12,9 @@ ghost use Rattle.mesh_tidy.specs.Doubts.{AreDoubted, AreHalves};
 ghost use Rattle.mesh_tidy.specs.Surface.{Has, HasCollapsed, HasTidied, IsSurface, left_of, number_of};
 
 use crate::doubts::{doubt, first_doubts};
-use crate::halves::{next, previous};
 use crate::surface::Surface;
 use crate::tidied::Tidied;
+use halfedge::halves::{next, previous};
 use mb_base::{NoMemory, Point};
 use mesh_check::Mesh;
 use std::alloc::Global;

@@ -64,7 +64,11 @@ stopped-then a b held_old held_mid told_old told_mid told_new room_old room_mid 
     record {
       part = record {
         part = p.sent ++ part;
-        first = (rest, append_assoc p.sent part rest ∙ ap (λ x. p.sent ++ x) q.part.first.1 ∙ sym (append_assoc p.sent held_mid b) ∙ ap (λ x. x ++ b) p.split ∙ append_assoc held_old a b);
+        first = (
+          rest,
+          append_assoc p.sent part rest ∙ ap (λ x. p.sent ++ x) q.part.first.1 ∙ sym (append_assoc p.sent held_mid b) ∙ ap (λ x. x ++ b) p.split
+              ∙ append_assoc held_old a b,
+        );
         added = added_twice told_old told_mid told_new p.sent part p.told q.part.added;
         taken = lowered_by_both p.sent part room_old room_mid room_new p.room q.part.taken;
       };
@@ -144,7 +148,8 @@ pub line_stopped : {X : Type 0} (f : X → Bytes) (xs : List X) (i : ℕ) (d x :
 line_stopped f xs i d x is within held_old held_mid put told_old told_mid told_new room_old room_mid room_new p line q =
     let P : Bytes → Type 0 = λ text. Stopped text held_old told_old told_new room_old room_new in
     let more = passed-put (flat_map f (take i xs)) (f x) held_old held_mid put told_old told_mid room_old room_mid p line in
-    let page = subst P (flat_map-more f xs i d x is within) (stopped-page (flat_map f (take i xs) ++ f x) held_old put told_old told_mid told_new room_old room_mid room_new more q) in
+    let page = subst P (flat_map-more f xs i d x is within)
+    (stopped-page (flat_map f (take i xs) ++ f x) held_old put told_old told_mid told_new room_old room_mid room_new more q) in
     subst P (flat_map-split f xs (i + 1)) (stopped-longer (flat_map f (take (i + 1) xs)) (flat_map f (drop (i + 1) xs)) held_old told_old told_new room_old room_new page)
 
 -- the last of the page came after the text

@@ -12,7 +12,8 @@ module _ {K : Type 0} (k : OfSink K) where
   kept-same s = record { other = refl; second = refl; rest = refl; loan = refl; other_spare = refl }
 
   pub kept-then : (s t u : K) → Kept k s t → Kept k t u → Kept k s u
-  kept-then s t u p q = record { other = q.other ∙ p.other; second = q.second ∙ p.second; rest = q.rest ∙ p.rest; loan = q.loan ∙ p.loan; other_spare = q.other_spare ∙ p.other_spare }
+  kept-then s t u p q =
+      record { other = q.other ∙ p.other; second = q.second ∙ p.second; rest = q.rest ∙ p.rest; loan = q.loan ∙ p.loan; other_spare = q.other_spare ∙ p.other_spare }
 
   -- nothing was written
   pub wrote-none : (held : Bytes) (s : K) → Wrote k [] (held, held) (s, s)
@@ -41,7 +42,8 @@ module _ {K : Type 0} (k : OfSink K) where
 
   module _ {X : Type 0} (f : X → Bytes) (xs : List X) (i : ℕ) (d x : X) (is : x ≡ get_or xs i d) (within : i < length xs) (h0 h1 : Bytes) (s t : K) where
     -- the text of one element more was written
-    pub element-wrote : (h2 : Bytes) (u : K) → Wrote k (flat_map f (take i xs)) (h0, h1) (s, t) → Wrote k (f x) (h1, h2) (t, u) → Wrote k (flat_map f (take (i + 1) xs)) (h0, h2) (s, u)
+    pub element-wrote : (h2 : Bytes) (u : K) → Wrote k (flat_map f (take i xs)) (h0, h1) (s, t) → Wrote k (f x) (h1, h2) (t, u) →
+        Wrote k (flat_map f (take (i + 1) xs)) (h0, h2) (s, u)
     element-wrote h2 u p q =
         let P : Bytes → Type 0 = λ text. Wrote k text (h0, h2) (s, u) in
         subst P (flat_map-more f xs i d x is within) (wrote-then (flat_map f (take i xs)) (f x) h0 h1 h2 s t u p q)

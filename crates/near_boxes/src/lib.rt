@@ -1,7 +1,7 @@
 //! The numbers of the boxes of a tree that are near an area, ascending.
 #![tactic(auto)]
 
-ghost use Rattle.std.specs.Prelude.{◌≡◌, OnOk};
+ghost use Rattle.std.specs.Prelude.{◌≡◌, IfOk, IsTrue, OnOk};
 ghost use Rattle.box_tree.specs.Touching.{touching_numbers};
 
 use box_tree::Tree;
@@ -18,4 +18,20 @@ pub fn find_near(near: &mut Vec<u32>, tree: &Tree, area: Box3) -> Result<(), NoM
     }
     near.sort_unstable();
     Ok(())
+}
+
+/// Makes the same list where there are at most so many, and tells whether that is so. Where there are more the list has some of
+/// them.
+pub fn find_few(near: &mut Vec<u32>, tree: &Tree, most: usize, area: Box3) -> Result<bool, NoMemory>
+    ensures { IfOk result (λ few. IsTrue few → near.new.items ≡ touching_numbers tree.now area) }
+{
+    near.clear();
+    for number in tree.touching(area) {
+        if near.len() == most {
+            return Ok(false);
+        }
+        near.push(number)?;
+    }
+    near.sort_unstable();
+    Ok(true)
 }

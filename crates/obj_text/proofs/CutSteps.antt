@@ -24,7 +24,8 @@ cut_at-some p (c ∷ cs) zero inside place = by_test (p c) refl place where
   by_test true e place = cut_at-here p c cs e
   by_test false e place = absurd (omega (arith, position_or_len-past p c cs e))
 cut_at-some p (c ∷ cs) (suc n) inside place = by_test (p c) refl place (cut_at-some p cs n (omega arith)) where
-  by_test : (b : Bool) → p c ≡ b → position_or_len p (c ∷ cs) ≡ suc n → (position_or_len p cs ≡ n → cut_at p cs ≡ (take n cs, Some (drop (suc n) cs))) → cut_at p (c ∷ cs) ≡ (c ∷ take n cs, Some (drop (suc n) cs))
+  by_test : (b : Bool) → p c ≡ b → position_or_len p (c ∷ cs) ≡ suc n → (position_or_len p cs ≡ n → cut_at p cs ≡ (take n cs, Some (drop (suc n) cs))) →
+      cut_at p (c ∷ cs) ≡ (c ∷ take n cs, Some (drop (suc n) cs))
   by_test true e place later = absurd (omega (arith, position_or_len-here p c cs e))
   by_test false e place later =
       cut_at-past p c cs e ∙ ap (λ (r : List ℕ × Option (List ℕ)). (c ∷ r.0, r.1)) (later (omega (arith, position_or_len-past p c cs e)))

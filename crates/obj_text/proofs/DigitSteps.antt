@@ -25,7 +25,8 @@ value_from-full n v cs = ⊎_elim
     (cases_lt v n)
 
 -- one more digit
-pub value_from-step : (n v i : ℕ) (word : List ℕ) → i < length word → min (value_from v (drop i word)) n ≡ min (value_from (min (v * 10 + (get_or word i 0 - 48)) n) (drop (suc i) word)) n
+pub value_from-step : (n v i : ℕ) (word : List ℕ) → i < length word →
+    min (value_from v (drop i word)) n ≡ min (value_from (min (v * 10 + (get_or word i 0 - 48)) n) (drop (suc i) word)) n
 value_from-step n v i word inside =
     ap (λ (cs : List ℕ). min (value_from v cs) n) (drop-cons word i 0 inside)
     ∙ sym (value_from-full n (v * 10 + (get_or word i 0 - 48)) (drop (suc i) word))
@@ -36,7 +37,8 @@ all_digits-step i word inside digit =
     ap all_digits (drop-cons word i 0 inside) ∙ ap (λ (b : Bool). b && all_digits (drop (suc i) word)) digit
 
 -- what the digits at the front spell with one more
-pub spelled-step : (before value i : ℕ) (text : List ℕ) → i < length text → value ≡ value_from before (take i text) → value * 10 + (get_or text i 0 - 48) ≡ value_from before (take (i + 1) text)
+pub spelled-step : (before value i : ℕ) (text : List ℕ) → i < length text → value ≡ value_from before (take i text) →
+    value * 10 + (get_or text i 0 - 48) ≡ value_from before (take (i + 1) text)
 spelled-step before value i text inside spelled =
     ap (λ (v : ℕ). v * 10 + (get_or text i 0 - 48)) spelled
     ∙ sym (ap (value_from before) (take_more text i 0 inside) ∙ value_from-append before (take i text) (get_or text i 0 ∷ []))

@@ -25,7 +25,8 @@ begins_word-before_blank (x ∷ xs) ys = refl
 pub words_of-parted : (xs ys : List ℕ) → words_of (xs ++ 32 ∷ ys) ≡ words_of xs ++ words_of ys
 words_of-parted [] ys = refl
 words_of-parted (c ∷ cs) ys = by_blank (is_blank c) refl (words_of-parted cs ys) where
-  by_next : (b : Bool) → is_blank c ≡ false → begins_word cs ≡ b → words_of (cs ++ 32 ∷ ys) ≡ words_of cs ++ words_of ys → words_of (c ∷ (cs ++ 32 ∷ ys)) ≡ words_of (c ∷ cs) ++ words_of ys
+  by_next : (b : Bool) → is_blank c ≡ false → begins_word cs ≡ b → words_of (cs ++ 32 ∷ ys) ≡ words_of cs ++ words_of ys →
+      words_of (c ∷ (cs ++ 32 ∷ ys)) ≡ words_of (c ∷ cs) ++ words_of ys
   by_next true e f h =
       words_of-more c (cs ++ 32 ∷ ys) e (begins_word-before_blank cs ys ∙ f)
       ∙ ap (add_first c) h

@@ -22,14 +22,16 @@ put_after old v (Err kind) = refl
 put_after old v (Ok values) = ap (λ (vs : List ℕ). Ok vs) (sym (append_assoc old (v ∷ []) values))
 
 -- a word more was read
-pub read_after-more : (f : List ℕ → Result ℕ ℕ) (word : List ℕ) (words : List (List ℕ)) (old new : List ℕ) → IsRead f word old new → read_after old (each_read f (word ∷ words)) ≡ read_after new (each_read f words)
+pub read_after-more : (f : List ℕ → Result ℕ ℕ) (word : List ℕ) (words : List (List ℕ)) (old new : List ℕ) → IsRead f word old new →
+    read_after old (each_read f (word ∷ words)) ≡ read_after new (each_read f words)
 read_after-more f word words old new read =
     ap (λ (r : Result ℕ ℕ). read_after old (put_read r (each_read f words))) read.reads
     ∙ put_after old read.value (each_read f words)
     ∙ ap (λ (vs : List ℕ). read_after vs (each_read f words)) (sym read.added)
 
 -- a fault of the next word
-pub read_after-fault : (f : List ℕ → Result ℕ ℕ) (word : List ℕ) (words : List (List ℕ)) (old : List ℕ) (kind : ℕ) → f word ≡ Err kind → read_after old (each_read f (word ∷ words)) ≡ Err kind
+pub read_after-fault : (f : List ℕ → Result ℕ ℕ) (word : List ℕ) (words : List (List ℕ)) (old : List ℕ) (kind : ℕ) → f word ≡ Err kind →
+    read_after old (each_read f (word ∷ words)) ≡ Err kind
 read_after-fault f word words old kind e = ap (λ (r : Result ℕ ℕ). read_after old (put_read r (each_read f words))) e
 
 -- three words or more are not too few
@@ -43,14 +45,17 @@ on_line-fault : {A B : Type 0} (n : ℕ) (r : Result A ℕ) (all : Result B ℕ)
 on_line-fault {A} {B} n (Err kind) all f same e = let is : Bad n kind ≡ f = cc in ap (on_line n) (same kind refl) ∙ ap (λ (g : Fault). Err g) is
 on_line-fault n (Ok a) all f same e = absurd (cc)
 
-pub IsFaultOf-all : {A B : Type 0} (n : ℕ) (r : Result A ℕ) (all : Result B ℕ) (given : Result B Fault) (e : TextFault) → given ≡ on_line n all → ((kind : ℕ) → r ≡ Err kind → all ≡ Err kind) → IsFaultOf (on_line n r) e → IsFaultOf given e
+pub IsFaultOf-all : {A B : Type 0} (n : ℕ) (r : Result A ℕ) (all : Result B ℕ) (given : Result B Fault) (e : TextFault) → given ≡ on_line n all →
+    ((kind : ℕ) → r ≡ Err kind → all ≡ Err kind) → IsFaultOf (on_line n r) e → IsFaultOf given e
 IsFaultOf-all n r all given e is same fault = by_fault (fault_of e) fault where
   by_fault : (o : Option Fault) → IfSome o (λ f. on_line n r ≡ Err f) → IfSome o (λ f. given ≡ Err f)
   by_fault None h = tt
   by_fault (Some f) h = is ∙ on_line-fault n r all f same h
 
 -- the fault of an item, after those that were read, is that of the face
-pub fault_at : (count n : ℕ) (words : List (List ℕ)) (word : List ℕ) (rest : List (List ℕ)) (old : List ℕ) (e : TextFault) → 3 ≤ length words → each_read (item_vertex count) words ≡ read_after old (each_read (item_vertex count) (word ∷ rest)) → IsFaultOf (on_line n (item_vertex count word)) e → IsFaultOf (face_vertices count n words) e
+pub fault_at : (count n : ℕ) (words : List (List ℕ)) (word : List ℕ) (rest : List (List ℕ)) (old : List ℕ) (e : TextFault) → 3 ≤ length words →
+    each_read (item_vertex count) words ≡ read_after old (each_read (item_vertex count) (word ∷ rest)) → IsFaultOf (on_line n (item_vertex count word)) e →
+    IsFaultOf (face_vertices count n words) e
 fault_at count n words word rest old e three left fault =
     IsFaultOf-all n (item_vertex count word) (each_read (item_vertex count) words) (face_vertices count n words) e (face_vertices-three count n words three)
     (λ kind h. left ∙ read_after-fault (item_vertex count) word rest old kind h) fault
@@ -87,7 +92,8 @@ module _ (f : List ℕ → Result ℕ ℕ) (words : List (List ℕ)) (a b c : Li
   fault_of_three kind e = split ∙ ap (λ (r : Result (List ℕ) ℕ). then_after r (each_read f rest)) e
 
 -- the next word was read
-pub read_after-next : (f : List ℕ → Result ℕ ℕ) (word : List ℕ) (words rest : List (List ℕ)) (old new : List ℕ) → words ≡ word ∷ rest → IsRead f word old new → read_after old (each_read f words) ≡ read_after new (each_read f rest)
+pub read_after-next : (f : List ℕ → Result ℕ ℕ) (word : List ℕ) (words rest : List (List ℕ)) (old new : List ℕ) → words ≡ word ∷ rest → IsRead f word old new →
+    read_after old (each_read f words) ≡ read_after new (each_read f rest)
 read_after-next f word words rest old new e read =
     ap (λ (ws : List (List ℕ)). read_after old (each_read f ws)) e ∙ read_after-more f word rest old new read
 

@@ -34,7 +34,8 @@ pub IsPlain-word : (w : List ℕ) → IsPlainWord w → IsPlain w
 IsPlain-word w p = record { word = record { some = p.some; marks = Above-plain w p.plain }; no_comment = is_comment-plain w p.plain; no_end = last_is-plain w p.plain }
 
 -- a line that does not go on has its own words
-word_lines-alone : (n : ℕ) (l : List ℕ) (ls : List (List ℕ)) → is_continued l ≡ false → word_lines (joined_from n (l ∷ ls)) ≡ (n, before_comment (words_of l)) ∷ word_lines (joined_from (suc n) ls)
+word_lines-alone : (n : ℕ) (l : List ℕ) (ls : List (List ℕ)) → is_continued l ≡ false →
+    word_lines (joined_from n (l ∷ ls)) ≡ (n, before_comment (words_of l)) ∷ word_lines (joined_from (suc n) ls)
 word_lines-alone n l ls e = rw e refl
 
 -- a byte above 13 is no LF
@@ -67,9 +68,11 @@ words-plain w a b c p q r s = ap before_comment (words_of-spaced w a b c p.word 
 
 -- their line does not go on
 is_continued-plain : (w a b c : List ℕ) → IsPlain c → is_continued (spaced w a b c) ≡ false
-is_continued-plain w a b c s = ap (λ (e : Bool). e && not (begins_comment (words_of (spaced w a b c)))) (ap (last_is 92) (regrouped w a b c) ∙ last_is-word (w ++ 32 ∷ (a ++ 32 ∷ (b ++ 32 ∷ []))) c s) where
-  regrouped : (w a b c : List ℕ) → spaced w a b c ≡ (w ++ 32 ∷ (a ++ 32 ∷ (b ++ 32 ∷ []))) ++ c
-  regrouped w a b c = simp append_assoc
+is_continued-plain w a b c s =
+    ap (λ (e : Bool). e && not (begins_comment (words_of (spaced w a b c))))
+    (ap (last_is 92) (regrouped w a b c) ∙ last_is-word (w ++ 32 ∷ (a ++ 32 ∷ (b ++ 32 ∷ []))) c s) where
+      regrouped : (w a b c : List ℕ) → spaced w a b c ≡ (w ++ 32 ∷ (a ++ 32 ∷ (b ++ 32 ∷ []))) ++ c
+      regrouped w a b c = simp append_assoc
 
 -- so it is the first line, with these words
 pub words-first : (n w : ℕ) (a b c : List ℕ) (cr : Bool) (text rest : List ℕ) → text ≡ with_line w a b c cr rest → 92 < w → IsPlain a → IsPlain b → IsPlain c →
@@ -79,7 +82,8 @@ words-first n w a b c cr text rest split high q r s =
     let next : suc n ≡ n + 1 = omega arith in
     let line = spaced (w ∷ []) a b c in
     ap (λ (t : List ℕ). word_lines (joined_from n (lines_of t))) (split ∙ with_line-is w a b c cr rest)
-    ∙ ap (λ (ls : List (List ℕ)). word_lines (joined_from n ls)) (lines_of-ended cr line rest (Above-lower 13 31 line (omega arith) (Above-spaced (w ∷ []) a b c p.word q.word r.word s.word)))
+    ∙ ap (λ (ls : List (List ℕ)). word_lines (joined_from n ls))
+    (lines_of-ended cr line rest (Above-lower 13 31 line (omega arith) (Above-spaced (w ∷ []) a b c p.word q.word r.word s.word)))
     ∙ word_lines-alone n line (lines_of rest) (is_continued-plain (w ∷ []) a b c s)
     ∙ ap (λ (ws : List (List ℕ)). (n, ws) ∷ word_lines (joined_from (suc n) (lines_of rest))) (words-plain (w ∷ []) a b c p q r s)
     ∙ ap (λ (m : ℕ). (n, (w ∷ []) ∷ a ∷ b ∷ c ∷ []) ∷ word_lines (joined_from m (lines_of rest))) next

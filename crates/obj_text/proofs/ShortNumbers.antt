@@ -33,7 +33,8 @@ size-kept k j ds fs places = ap (λ (t : ℤ). scaled (digits_value (ds ++ fs)) 
 lowered : (k r n : ℕ) → r ≡ k + suc n → (pos 0 -ℤ pos r) +ℤ pos k ≡ negsuc n
 lowered k r n places = omega (arith, ints)
 
-size-dropped : (k : ℕ) (ds fs : List ℕ) (b : ℕ) (back : List ℕ) → length fs ≡ k → all_digits (b ∷ back) ≡ true → size_of k (parts_so ds (fs ++ b ∷ back)) ≡ digits_value (ds ++ fs) + carry_of b
+size-dropped : (k : ℕ) (ds fs : List ℕ) (b : ℕ) (back : List ℕ) → length fs ≡ k → all_digits (b ∷ back) ≡ true →
+    size_of k (parts_so ds (fs ++ b ∷ back)) ≡ digits_value (ds ++ fs) + carry_of b
 size-dropped k ds fs b back full digits =
     ap (λ (t : ℤ). scaled (digits_value (ds ++ (fs ++ b ∷ back))) t) (lowered k (length (fs ++ b ∷ back)) (length back) (omega (arith, full, length-append fs (b ∷ back))))
     ∙ ap (λ (l : List ℕ). scaled (digits_value l) (negsuc (length back))) (sym (append_assoc ds fs (b ∷ back)))
@@ -44,7 +45,8 @@ spelled_behind : (ds text : List ℕ) (whole kept count : ℕ) → SpellsOn whol
 spelled_behind ds text whole kept count s e = value_from-append 0 ds (take count text) ∙ ap (λ (v : ℕ). value_from v (take count text)) e ∙ sym s.spelled
 
 -- the digits at the front of a text are dropped
-pub drops_front : (n carry : ℕ) (text lost rest : List ℕ) → n ≡ position_or_len (λ c. not (is_digit c)) text → lost ≡ take n text → rest ≡ drop n text → carry ≡ carry_by lost → Drops text carry rest
+pub drops_front : (n carry : ℕ) (text lost rest : List ℕ) → n ≡ position_or_len (λ c. not (is_digit c)) text → lost ≡ take n text → rest ≡ drop n text →
+    carry ≡ carry_by lost → Drops text carry rest
 drops_front n carry text lost rest place front back carries = record {
   lost = lost;
   split = sym (take-append-drop n text) ∙ ap (λ (t : List ℕ). t ++ drop n text) (sym front) ∙ ap (λ (t : List ℕ). lost ++ t) (sym back);
@@ -53,7 +55,8 @@ drops_front n carry text lost rest place front back carries = record {
 }
 
 -- all digits behind a point are kept
-pub ends_kept : (k whole kept count places : ℕ) (text rest : List ℕ) → SpellsOn whole text kept count → rest ≡ drop count text → count + places ≡ k → EndsSize k whole text (kept * 10 ^ places) rest
+pub ends_kept : (k whole kept count places : ℕ) (text rest : List ℕ) → SpellsOn whole text kept count → rest ≡ drop count text → count + places ≡ k →
+    EndsSize k whole text (kept * 10 ^ places) rest
 ends_kept k whole kept count places text rest s back few = record {
   fraction = take count text;
   split = sym (take-append-drop count text) ∙ ap (λ (t : List ℕ). take count text ++ t) (sym back);
@@ -69,7 +72,8 @@ sized_by k ds fs [] full digits =
     ap (λ (l : List ℕ). size_of k (parts_so ds l)) (append-nil fs) ∙ size-kept k 0 ds fs (omega (arith, full)) ∙ omega arith
 sized_by k ds fs (b ∷ back) full digits = size-dropped k ds fs b back full digits
 
-pub ends_dropped : (k whole kept count carry : ℕ) (text rest after : List ℕ) → SpellsOn whole text kept count → rest ≡ drop count text → count ≡ k → Drops rest carry after → EndsSize k whole text (kept + carry) after
+pub ends_dropped : (k whole kept count carry : ℕ) (text rest after : List ℕ) → SpellsOn whole text kept count → rest ≡ drop count text → count ≡ k →
+    Drops rest carry after → EndsSize k whole text (kept + carry) after
 ends_dropped k whole kept count carry text rest after s back full d = record {
   fraction = take count text ++ d.lost;
   split =
@@ -82,7 +86,8 @@ ends_dropped k whole kept count carry text rest after s back full d = record {
 }
 
 -- a number with a point
-pub begins_with : (k whole size count : ℕ) (text rest fraction after : List ℕ) → SpellsOn 0 text whole count → 0 < count → rest ≡ drop count text → rest ≡ 46 ∷ fraction → EndsSize k whole fraction size after → BeginsSize k text size after
+pub begins_with : (k whole size count : ℕ) (text rest fraction after : List ℕ) → SpellsOn 0 text whole count → 0 < count → rest ≡ drop count text →
+    rest ≡ 46 ∷ fraction → EndsSize k whole fraction size after → BeginsSize k text size after
 begins_with k whole size count text rest fraction after s some back point e = record {
   whole = take count text;
   fraction = Some e.fraction;
@@ -102,7 +107,9 @@ plain-digit d digit = grind (arith, nat_tests)
 
 plain-digits : (ds rest : List ℕ) → all_digits ds ≡ true → all_plain rest ≡ true → all_plain (ds ++ rest) ≡ true
 plain-digits [] rest digits plain = plain
-plain-digits (d ∷ ds) rest digits plain = both (is_plain d) (all_plain (ds ++ rest)) (plain-digit d (left (is_digit d) (all_digits ds) digits)) (plain-digits ds rest (right (is_digit d) (all_digits ds) digits) plain)
+plain-digits (d ∷ ds) rest digits plain =
+    both (is_plain d) (all_plain (ds ++ rest)) (plain-digit d (left (is_digit d) (all_digits ds) digits))
+    (plain-digits ds rest (right (is_digit d) (all_digits ds) digits) plain)
 
 plain-only : (ds : List ℕ) → all_digits ds ≡ true → all_plain ds ≡ true
 plain-only ds digits = ap all_plain (sym (append-nil ds)) ∙ plain-digits ds [] digits refl
@@ -140,7 +147,8 @@ under_sign-first (c ∷ cs) = by_minus (c == 45) refl (minus_first (c ∷ cs)) r
   by_minus true e s is = let same : c ≡ 45 = grind (arith, nat_tests) in ap (λ (d : ℕ). d ∷ cs) same ∙ sym (ap (λ (r : Bool × List ℕ). under_sign r.0 r.1) is)
   by_minus false e s is = sym (ap (λ (r : Bool × List ℕ). under_sign r.0 r.1) is)
 
-signed-mantissa : (negative : Bool) (ds : List ℕ) (o : Option (List ℕ)) → 0 < length ds → all_digits ds ≡ true → signed (under_sign negative (mantissa ds o)) ≡ (negative, mantissa ds o)
+signed-mantissa : (negative : Bool) (ds : List ℕ) (o : Option (List ℕ)) → 0 < length ds → all_digits ds ≡ true →
+    signed (under_sign negative (mantissa ds o)) ≡ (negative, mantissa ds o)
 signed-mantissa true ds o some digits = refl
 signed-mantissa false ds None some digits = ap signed (sym (append-nil ds)) ∙ signed-digits ds [] some digits ∙ ap (λ (l : List ℕ). (false, l)) (append-nil ds)
 signed-mantissa false ds (Some fs) some digits = signed-digits ds (46 ∷ fs) some digits
@@ -157,11 +165,13 @@ parts-mantissa negative ds None some digits more =
     number_parts-runs negative (under_sign negative ds) ds ds [] [] [] (signed-mantissa negative ds None some digits) (sym (append-nil ds)) digits refl (refl, refl) refl refl
     ∙ parts_some negative ds [] some
 parts-mantissa negative ds (Some fs) some digits more =
-    number_parts-runs negative (under_sign negative (ds ++ 46 ∷ fs)) (ds ++ 46 ∷ fs) ds (46 ∷ fs) fs [] (signed-mantissa negative ds (Some fs) some digits) refl digits refl (sym (append-nil fs)) more refl
+    number_parts-runs negative (under_sign negative (ds ++ 46 ∷ fs)) (ds ++ 46 ∷ fs) ds (46 ∷ fs) fs [] (signed-mantissa negative ds (Some fs) some digits) refl
+    digits refl (sym (append-nil fs)) more refl
     ∙ parts_some negative ds fs some
 
 -- so it reads as its size under its sign
-reads_so : (k size : ℕ) (negative : Bool) (ds : List ℕ) (o : Option (List ℕ)) → 0 < length ds → all_digits ds ≡ true → all_digits (or_empty o) ≡ true → size ≡ size_of k (parts_so ds (or_empty o)) → size ≤ 2 ^ 30 →
+reads_so : (k size : ℕ) (negative : Bool) (ds : List ℕ) (o : Option (List ℕ)) → 0 < length ds → all_digits ds ≡ true → all_digits (or_empty o) ≡ true →
+    size ≡ size_of k (parts_so ds (or_empty o)) → size ≤ 2 ^ 30 →
     coordinate k (under_sign negative (mantissa ds o)) ≡ Ok (with_sign negative size)
 reads_so k size negative ds o some digits more sized on =
     ap (λ (p : Option Parts). on_grid (option_map (value_of k) p)) (parts-mantissa negative ds o some digits more)
@@ -169,7 +179,8 @@ reads_so k size negative ds o some digits more sized on =
     ∙ ap (λ (b : Bool). if b then Ok (with_sign negative size) else Err 4) (on_grid-size negative size on)
 
 -- a text begins with a number that reads where its size is on the grid
-pub begins_short : (k size : ℕ) (negative : Bool) (value : ℤ) (text unsigned rest : List ℕ) → negative ≡ (minus_first text).0 → unsigned ≡ (minus_first text).1 → BeginsSize k unsigned size rest → size ≤ 2 ^ 30 → value ≡ with_sign negative size → BeginsWord k text value rest
+pub begins_short : (k size : ℕ) (negative : Bool) (value : ℤ) (text unsigned rest : List ℕ) → negative ≡ (minus_first text).0 →
+    unsigned ≡ (minus_first text).1 → BeginsSize k unsigned size rest → size ≤ 2 ^ 30 → value ≡ with_sign negative size → BeginsWord k text value rest
 begins_short k size negative value text unsigned rest sign after b on is = record {
   word = under_sign negative (mantissa b.whole b.fraction);
   split =

@@ -9,11 +9,13 @@
 //! |---|---|
 //! | `v` | three to seven: x, y and z as decimal numbers, and up to four that are not looked at |
 //! | `f` | three or more items `i`, `i/j`, `i//k` or `i/j/k`, each number an optional `-` and digits |
-//! | `g` | the label of the triangles of the faces after it: all words, joined by one blank, with `_` for a byte that is below 33, 127 or a backslash, the first 64 bytes of them, without a blank at the end |
+//! | `g` | all words: the label of the triangles of the faces after it |
 //! | `vt` `vn` `o` `s` `usemtl` `mtllib` `l` `p` | the line is passed over |
 //!
 //! The number i of an item names the i-th point so far, counted from 1, or counts back from the last, which
-//! is -1. A face of n items is n - 2 triangles: its first item with each two that follow one another.
+//! is -1. A face of n items is n - 2 triangles: its first item with each two that follow one another. A label
+//! is the words joined by one blank, with `_` for a byte that is below 33, 127 or a backslash, the first 64
+//! bytes of them, without a blank at the end.
 #![tactic(auto)]
 
 ghost use Rattle.std.specs.Prelude.{◌≡◌, ◌≤◌, Ok, IfOk, IfErr};

@@ -38,7 +38,12 @@ impl Model for Gathered {
 
     ghost Value = { TheGathered };
 
-    ghost view = { λ g. record { points = g.points.items; triples = triples_of g.triples.items; labels = labels_for (triples_of g.triples.items) g.groups.labels; label = g.groups.label } };
+    ghost view = { λ g. record {
+      points = g.points.items;
+      triples = triples_of g.triples.items;
+      labels = labels_for (triples_of g.triples.items) g.groups.labels;
+      label = g.groups.label;
+    } };
 
     ghost invariant = { λ g. IsGathering (length g.points.items) (triples_of g.triples.items) g.groups.labels };
 }
@@ -189,7 +194,12 @@ impl Gathered {
         requires below { IsBelow (length self.old.points) (a, b, c) }
         requires apart { HasThree (a, b, c) }
         requires room { length self.old.triples < most_triangles }
-        ensures { OnOk result (self.new ≡ record { points = self.old.points; triples = self.old.triples ++ (a, b, c) ∷ []; labels = self.old.labels ++ self.old.label ∷ []; label = self.old.label }) }
+        ensures { OnOk result (self.new ≡ record {
+          points = self.old.points;
+          triples = self.old.triples ++ (a, b, c) ∷ [];
+          labels = self.old.labels ++ self.old.label ∷ [];
+          label = self.old.label;
+        }) }
     {
         let before = self.triples.len();
         self.triples.push([a as u32, b as u32, c as u32])?;

@@ -65,10 +65,14 @@ module _ {k : Rule} {w : Between} (rule : IsRule k w) (settle : Settle) (settlin
       (hits_in_order test21 q p (all_listed test21 q p q_known.fine p_known.fine (λ e f l m a b. (laws.present f e m l b a, laws.size f e m l b a)))).0
 
   turns12 : Turns test12 p q
-  turns12 = λ t a b. (edge_face_laws rule settle settling).turn_p (edge_of p.corners a b) (face_of q.corners t) refl refl refl (edge_fine p.corners p_known.fine a b) (face_fine q.corners q_known.fine t)
+  turns12 =
+      λ t a b. (edge_face_laws rule settle settling).turn_p (edge_of p.corners a b) (face_of q.corners t) refl refl refl (edge_fine p.corners p_known.fine a b)
+      (face_fine q.corners q_known.fine t)
 
   turns21 : Turns test21 q p
-  turns21 = λ t a b. (face_edge_laws rule settle settling).turn_q (face_of p.corners t) (edge_of q.corners a b) refl refl refl (face_fine p.corners p_known.fine t) (edge_fine q.corners q_known.fine a b)
+  turns21 =
+      λ t a b. (face_edge_laws rule settle settling).turn_q (face_of p.corners t) (edge_of q.corners a b) refl refl refl (face_fine p.corners p_known.fine t)
+      (edge_fine q.corners q_known.fine a b)
 
   lifts12 : Lifts test12 p q up (λ a b. sides (a, b))
   lifts12 = λ t a b. lift (vertex_face k w) (edge_edge k w) (p_point w settle) (pc a) (pc b) (qc t.0) (qc t.1) (qc t.2)
@@ -81,7 +85,8 @@ module _ {k : Rule} {w : Between} (rule : IsRule k w) (settle : Settle) (settlin
     turns = λ x y.
         let p_edge = edge_of p.corners a b in
         let q_edge = edge_of q.corners x y in
-        let reverse = ap shadow_of ((laws11 rule).reverse_q p_edge q_edge 0 1 (omega arith) (omega arith) refl refl (edge_fine p.corners p_known.fine a b) (edge_fine q.corners q_known.fine x y)) in
+        let reverse = ap shadow_of ((laws11 rule).reverse_q p_edge q_edge 0 1 (omega arith) (omega arith) refl refl (edge_fine p.corners p_known.fine a b)
+        (edge_fine q.corners q_known.fine x y)) in
         let turn = turned_shadow (edge_edge k w p_edge q_edge) in
         omega (arith, ints, reverse, turn);
   }
@@ -91,7 +96,8 @@ module _ {k : Rule} {w : Between} (rule : IsRule k w) (settle : Settle) (settlin
     turns = λ x y.
         let p_edge = edge_of p.corners x y in
         let q_edge = edge_of q.corners a b in
-        let reverse = ap shadow_of ((laws11 rule).reverse_p p_edge q_edge 0 1 (omega arith) (omega arith) refl refl (edge_fine p.corners p_known.fine x y) (edge_fine q.corners q_known.fine a b)) in
+        let reverse = ap shadow_of ((laws11 rule).reverse_p p_edge q_edge 0 1 (omega arith) (omega arith) refl refl (edge_fine p.corners p_known.fine x y)
+        (edge_fine q.corners q_known.fine a b)) in
         let turn = turned_shadow (edge_edge k w p_edge q_edge) in
         omega (arith, ints, reverse, turn);
   }
@@ -103,9 +109,11 @@ module _ {k : Rule} {w : Between} (rule : IsRule k w) (settle : Settle) (settlin
     x12 = x12_listed;
     x21 = x21_listed;
     conserved = record {
-      p_edges = edges_conserve p q test12 up (λ a b. sides (a, b)) (hits_of test12 p q) (λ v. get_or (map (λ c. winding (vertex_face k w) c q) p.corners) v (pos 0)) p_known q_known turns12 lifts12 odd12 refl
+      p_edges = edges_conserve p q test12 up (λ a b. sides (a, b)) (hits_of test12 p q)
+          (λ v. get_or (map (λ c. winding (vertex_face k w) c q) p.corners) v (pos 0)) p_known q_known turns12 lifts12 odd12 refl
           (winding_listed (λ c. winding (vertex_face k w) c q) p.corners (map (λ c. winding (vertex_face k w) c q) p.corners) refl);
-      q_edges = edges_conserve q p test21 down (λ c d e. sides e (c, d)) (hits_of test21 q p) (λ v. get_or (map (λ c. winding_back (face_vertex k w) p c) q.corners) v (pos 0)) q_known p_known turns21 lifts21 odd21 refl
+      q_edges = edges_conserve q p test21 down (λ c d e. sides e (c, d)) (hits_of test21 q p)
+          (λ v. get_or (map (λ c. winding_back (face_vertex k w) p c) q.corners) v (pos 0)) q_known p_known turns21 lifts21 odd21 refl
           (winding_listed (λ c. winding_back (face_vertex k w) p c) q.corners (map (λ c. winding_back (face_vertex k w) p c) q.corners) refl);
       pairs = pairs_agree p q test12 test21 up down sides p_known q_known turns12 turns21 lifts12 lifts21;
     };

@@ -45,9 +45,11 @@ module _ (P : List ℤ → Type 0) where
   rows row each [] = All-nil (λ x. P x.at)
   rows row each (h ∷ hs) = All-append (λ x. P x.at) (row h) (flat_map row hs) (each h) (rows row each hs)
 
-  pub hits_hold : (test : CrossTest) (edges faces : Side) → ((h f : ℕ) → IfSome (test (edge_at edges h) (face_at faces f)) (λ c. P c.at)) → All (λ x. P x.at) (hits_of test edges faces)
+  pub hits_hold : (test : CrossTest) (edges faces : Side) → ((h f : ℕ) → IfSome (test (edge_at edges h) (face_at faces f)) (λ c. P c.at)) →
+      All (λ x. P x.at) (hits_of test edges faces)
   hits_hold test edges faces each =
-      rows (hits_along test edges faces) (λ h. along (λ f. test (edge_at edges h) (face_at faces f)) (each h) h (upto (length faces.triples))) (lower_halves (all_edges edges.triples))
+      rows (hits_along test edges faces) (λ h. along (λ f. test (edge_at edges h) (face_at faces f)) (each h) h (upto (length faces.triples)))
+      (lower_halves (all_edges edges.triples))
 
 -- where all corners of a list are whole, so is the one at any place: past the end it is blank
 whole_at : (cs : List Corner) → AllWhole cs → (i : ℕ) → IsWholeCorner (corner_at cs i)
@@ -60,7 +62,8 @@ whole_at (c ∷ cs) h (suc i) = whole_at cs (All-tail IsWholeCorner c cs h) i
 
 -- and so are the corners of an edge and of a triangle
 edge_whole : (cs : List Corner) → AllWhole cs → (a b : ℕ) → AllWhole (edge_of cs a b)
-edge_whole cs h a b = All-cons IsWholeCorner (corner_at cs a) (corner_at cs b ∷ []) (whole_at cs h a) (All-cons IsWholeCorner (corner_at cs b) [] (whole_at cs h b) (All-nil IsWholeCorner))
+edge_whole cs h a b =
+    All-cons IsWholeCorner (corner_at cs a) (corner_at cs b ∷ []) (whole_at cs h a) (All-cons IsWholeCorner (corner_at cs b) [] (whole_at cs h b) (All-nil IsWholeCorner))
 
 face_whole : (cs : List Corner) → AllWhole cs → (t : Triple) → AllWhole (face_of cs t)
 face_whole cs h t = All-cons IsWholeCorner (corner_at cs t.0) (edge_of cs t.1 t.2) (whole_at cs h t.0) (edge_whole cs h t.1 t.2)
@@ -92,7 +95,8 @@ unfolding crossed
 crossed_at n at three = any_holds (λ c. length c.at ≡ 3) n (record { number = n; at = at }) (λ _. three)
 
 -- three coordinates, where each point that is placed has three
-crossing_at : (ends edges : ShadowTest) (place : Spot → Spot → List ℤ) (a b u v t : Corner) → ((d s : Spot) → length (place d s) ≡ 3) → IfSome (crossing ends edges place a b u v t) (λ c. length c.at ≡ 3)
+crossing_at : (ends edges : ShadowTest) (place : Spot → Spot → List ℤ) (a b u v t : Corner) → ((d s : Spot) → length (place d s) ≡ 3) →
+    IfSome (crossing ends edges place a b u v t) (λ c. length c.at ≡ 3)
 unfolding crossing
 crossing_at ends edges place a b u v t three =
     let pairs = edge_pairs ends edges a b u v t in
@@ -120,8 +124,10 @@ module _ {k : Rule} {w : Between} (rule : IsRule k w) (settle : Settle) (settlin
           let g = face_at q f in
           let fine = edge_fine p.corners p_known.fine a b in
           answer_boxed e (edge_face_crossing k w settle e g) fine
-          (crossing_at (vertex_face k w) (edge_edge k w) (p_point w settle) (corner_at e 0) (corner_at e 1) (corner_at g 0) (corner_at g 1) (corner_at g 2) (p_point_three w settle))
-          ((edge_face_laws rule settle settling).inside_p e g refl refl refl fine (face_fine q.corners q_known.fine t) (edge_whole p.corners p_known.whole a b) (face_whole q.corners q_known.whole t))
+          (crossing_at (vertex_face k w) (edge_edge k w) (p_point w settle) (corner_at e 0) (corner_at e 1) (corner_at g 0) (corner_at g 1) (corner_at g 2)
+          (p_point_three w settle))
+          ((edge_face_laws rule settle settling).inside_p e g refl refl refl fine (face_fine q.corners q_known.fine t) (edge_whole p.corners p_known.whole a b)
+          (face_whole q.corners q_known.whole t))
 
   pub q_hits_on_grid : All (λ x. IsPoint x.at) (hits_of (λ edge face. face_edge_crossing k w settle face edge) q p)
   q_hits_on_grid = hits_hold IsPoint (λ edge face. face_edge_crossing k w settle face edge) q p each
@@ -135,5 +141,7 @@ module _ {k : Rule} {w : Between} (rule : IsRule k w) (settle : Settle) (settlin
           let g = face_at p f in
           let fine = edge_fine q.corners q_known.fine a b in
           answer_boxed e (face_edge_crossing k w settle g e) fine
-          (crossing_at (mirror (face_vertex k w)) (mirror (edge_edge k w)) (q_point w settle) (corner_at e 0) (corner_at e 1) (corner_at g 0) (corner_at g 1) (corner_at g 2) (q_point_three w settle))
-          ((face_edge_laws rule settle settling).inside_q g e refl refl refl (face_fine p.corners p_known.fine t) fine (face_whole p.corners p_known.whole t) (edge_whole q.corners q_known.whole a b))
+          (crossing_at (mirror (face_vertex k w)) (mirror (edge_edge k w)) (q_point w settle) (corner_at e 0) (corner_at e 1) (corner_at g 0) (corner_at g 1)
+          (corner_at g 2) (q_point_three w settle))
+          ((face_edge_laws rule settle settling).inside_q g e refl refl refl (face_fine p.corners p_known.fine t) fine (face_whole p.corners p_known.whole t)
+          (edge_whole q.corners q_known.whole a b))

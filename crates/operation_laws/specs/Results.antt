@@ -87,7 +87,7 @@ pub record GivesResults (k : ℕ) (limits : Limits) (script : Bytes) : Type 0 wh
 abbrev pub ScriptsGiveResults : Type 0
 ScriptsGiveResults = (k : ℕ) (limits : Limits) → k ≤ 6 → IsLawful limits → (script : Bytes) → GivesResults k limits script
 
--- and remeshing keeps all of the mesh of a name
+-- and what remeshing keeps holds of the mesh of each name
 abbrev pub GivesRemeshed : ℕ → Limits → Bytes → Type 0
 GivesRemeshed k limits script =
     (files : Files) (lines : List Line) (state : State) → HavePlaces lines → (steps_task meanings_under k limits script lines at_first files).result ≡ Ok state

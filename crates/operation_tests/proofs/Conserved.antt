@@ -9,7 +9,8 @@ use Rattle.mb_base.specs.declared.results.Hit.{Hit}
 use Rattle.side_terms.specs.Conservation.{hit_number}
 
 -- the number after one more hit
-pub one_more_hit : (hs : List Hit) (e f i : ℕ) (h : Hit) → i < length hs → get_or hs i h ≡ h → hit_number (take (i + 1) hs) e f ≡ hit_number (take i hs) e f +ℤ cond ((h.edge == e) && (h.face == f)) h.number (pos 0)
+pub one_more_hit : (hs : List Hit) (e f i : ℕ) (h : Hit) → i < length hs → get_or hs i h ≡ h →
+    hit_number (take (i + 1) hs) e f ≡ hit_number (take i hs) e f +ℤ cond ((h.edge == e) && (h.face == f)) h.number (pos 0)
 one_more_hit hs e f i h below is =
     let step : take (i + 1) hs ≡ take i hs ++ h ∷ [] = rw is at (take_more hs i h below) in
     ap (λ (l : List Hit). hit_number l e f) step ∙ total_push (λ (k : Hit). cond ((k.edge == e) && (k.face == f)) k.number (pos 0)) (take i hs) h

@@ -30,4 +30,5 @@ first_counted op m = counted (reduced_mesh m) (leans_of op (reduced_mesh m)) (le
 -- those of the second
 pub second_counted : (m : Mesh) → components_of (second_side m) ≡ component_count (length (reduced_mesh m).points) (all_edges (reduced_mesh m).triples)
 second_counted m =
-    counted (reduced_mesh m) (replicate (length (reduced_mesh m).points) (false ∷ false ∷ false ∷ [])) (length-replicate (length (reduced_mesh m).points) (false ∷ false ∷ false ∷ []))
+    counted (reduced_mesh m) (replicate (length (reduced_mesh m).points) (false ∷ false ∷ false ∷ []))
+    (length-replicate (length (reduced_mesh m).points) (false ∷ false ∷ false ∷ []))

@@ -37,7 +37,7 @@ fn answer_of(
     }
 }
 
-// Compares that answer with a row, which begins with it.
+// Compares that answer with a row, which begins with it and has no more words than the change takes.
 fn expect_answer(
     rt: &impl Abort,
     alloc: Global,
@@ -51,7 +51,10 @@ fn expect_answer(
     let expected = words.next().expect(rt, "an answer");
     let outcome = to_the_nearest(rt, alloc, op, p, q);
     let answer = answer_of(rt, alloc, op, p, q, outcome, &mut words);
-    assert!(rt; answer == expected, "{meshes}: {row}");
+    assert!(rt;
+        answer == expected && words.next().is_none(),
+        "{meshes}: {row}"
+    );
 }
 
 // The same for the meshes of a line.
@@ -62,11 +65,12 @@ fn expect_row(rt: &impl Abort, alloc: Global, meshes: &str, row: &str) {
 
 // Compares the answers for the pairs of a table, the first line of three each, with the next rows.
 fn expect_answers(rt: &impl Abort, alloc: Global, table: &str, rows: &mut Lines) {
-    for (at, line) in table.lines().enumerate() {
-        if at % 3 == 0 {
-            let row = rows.next().expect(rt, "a row");
-            expect_row(rt, alloc, line, row);
-        }
+    let mut lines = table.lines();
+    while let Some(meshes) = lines.next() {
+        let _ = lines.next().expect(rt, "a second line");
+        let _ = lines.next().expect(rt, "a third line");
+        let row = rows.next().expect(rt, "a row");
+        expect_row(rt, alloc, meshes, row);
     }
 }
 

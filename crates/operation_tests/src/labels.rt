@@ -87,8 +87,8 @@ fn is_union_of(
     audit(alloc, Op::Union, p, q, &kernels, &outcome).expect(rt, "memory")
 }
 
-// What an audit says of the union of a body and a post with labels, as that of these, of one of them with one of two others
-// without labels, and of the union of those as that of these.
+// What an audit says of the union of two meshes with labels: taken as that of these; as that where the first has none; as that
+// where the second has none; and of the union of two without labels, taken as that of the two with labels.
 fn answers(
     rt: &impl Abort,
     alloc: Global,
@@ -104,7 +104,7 @@ fn answers(
     ]
 }
 
-// That of the body and the post of this module, and two others.
+// The same of this module's body and post, beside two without labels.
 fn answers_beside(rt: &impl Abort, alloc: Global, plain: (&Mesh, &Mesh)) -> [bool; 4] {
     let body = read(rt, alloc, BODY);
     let post = read(rt, alloc, POST);

@@ -151,20 +151,21 @@ fn has_the_numbers_worked_out(rt: HostRuntime) {
     }
 }
 
-// How many half-edges a union of a post and a box has too many for a result where so many are the limit; 0 where it has one.
-fn seen_of(rt: &impl Abort, alloc: Global, halfedges: u32) -> u64 {
+// How many half-edges a union of a post and a box needs, where they are more than the limit; none where it has a result.
+fn above_limit(rt: &impl Abort, alloc: Global, halfedges: u32) -> Option<u64> {
     let (p, q) = read_meshes(alloc, POST_IN_BOX).expect(rt, "two meshes");
     let limits = Limits::of(22_470, 210, 140, halfedges).expect(rt, "limits");
     let kernels = Grid { rounding: Nearest };
     match operated(alloc, Op::Union, &p, &q, &kernels, &limits) {
-        Ok(_) => 0,
-        Err(PrescribeFault::TooLarge { seen }) => seen,
+        Ok(_) => None,
+        Err(PrescribeFault::TooLarge { seen }) => Some(seen),
         Err(PrescribeFault::NoMemory) => panic!(rt; "no memory"),
     }
 }
 
 #[test]
 fn half_edges_above_the_limit_are_too_many(rt: HostRuntime) {
-    assert!(rt; seen_of(&rt, rt.alloc(), 83) == 84);
-    assert!(rt; seen_of(&rt, rt.alloc(), 84) == 0);
+    let needed = above_limit(&rt, rt.alloc(), 83).expect(&rt, "too many");
+    assert!(rt; needed == 84);
+    assert!(rt; above_limit(&rt, rt.alloc(), 84).is_none());
 }

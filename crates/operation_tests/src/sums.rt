@@ -66,7 +66,7 @@ fn counted<L: Ledger>(
     let kernels = Grid { rounding: Nearest };
     match boolean(alloc, op, p, q, &kernels, &Limits::program(), steps) {
         Ok(outcome) => Ok((outcome.mesh.points().len(), most)),
-        Err(_) => Err("few half-edges".into()),
+        Err(_) => Err("too many half-edges, or no memory".into()),
     }
 }
 

@@ -12,6 +12,9 @@ use std::alloc::Global;
 use std::process::Abort;
 use std::test::Fail;
 
+// The size of the greatest coordinate, and the most that a number of a row has.
+const END: i64 = 1 << 30;
+
 // The value of a digit.
 fn digit(byte: u8) -> Result<i64, Fail> {
     if byte < b'0' || byte > b'9' {
@@ -20,15 +23,30 @@ fn digit(byte: u8) -> Result<i64, Fail> {
     Ok((byte - b'0') as i64)
 }
 
+// The size of a number after one more digit.
+fn grown(size: Option<i64>, byte: u8) -> Result<i64, Fail> {
+    let size = size
+        .unwrap_or(0)
+        .wrapping_mul(10)
+        .wrapping_add(digit(byte)?);
+    if size > END {
+        return Err("a number beyond the grid".into());
+    }
+    Ok(size)
+}
+
 // Adds a number of this size, above 0 or below, if one has begun.
 fn push_number(numbers: &mut Vec<i64>, size: Option<i64>, is_below: bool) -> Result<(), Fail> {
     if let Some(size) = size {
         numbers.push(if is_below { size.wrapping_neg() } else { size })?;
+    } else if is_below {
+        return Err("a minus sign without digits".into());
     }
     Ok(())
 }
 
-// The whole numbers of a line, and how many of them stand before its sign =.
+// The whole numbers of a line, with blanks between them, and how many of them stand before its sign =. There is one such sign,
+// after a blank.
 fn numbers_of(alloc: Global, line: &str) -> Result<(Vec<i64>, usize), Fail> {
     let mut numbers = Vec::new(alloc);
     let mut before = 0usize;
@@ -40,15 +58,17 @@ fn numbers_of(alloc: Global, line: &str) -> Result<(Vec<i64>, usize), Fail> {
             size = None;
             is_below = false;
         } else if *byte == b'=' {
+            if size.is_some() || is_below || before != 0 {
+                return Err("a second sign =, or one within a number".into());
+            }
             before = numbers.len();
         } else if *byte == b'-' {
+            if size.is_some() || is_below {
+                return Err("a minus sign within a number".into());
+            }
             is_below = true;
         } else {
-            size = Some(
-                size.unwrap_or(0)
-                    .wrapping_mul(10)
-                    .wrapping_add(digit(*byte)?),
-            );
+            size = Some(grown(size, *byte)?);
         }
     }
     push_number(&mut numbers, size, is_below)?;
@@ -207,6 +227,9 @@ fn given<K: Flats>(
     }
     let second = end_from(rt, row, 3)?;
     let third = end_from(rt, row, second)?;
+    if end_from(rt, row, third)? != row.len() {
+        return Err("a row".into());
+    }
     let first = first_two(rt, alloc, row, second, kernels)?;
     let last = ring_at(rt, alloc, row, third)?;
     told(rt, alloc, op_of(row[1]), &first.outline, &last, kernels)

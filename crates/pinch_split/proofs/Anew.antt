@@ -55,7 +55,8 @@ start_of_fan ts of first known h below =
     walked g within (n, e) = ap (start (old ts)) (sym e) ∙ times_start ts known.closed g within n
 
 -- half-edges of one fan start at one vertex
-pub same_start : (ts : List Triple) (of first : List ℕ) → HasFans ts of first → (h g : ℕ) → h < length (old ts) → g < length (old ts) → fan of h ≡ fan of g → start (old ts) h ≡ start (old ts) g
+pub same_start : (ts : List Triple) (of first : List ℕ) → HasFans ts of first → (h g : ℕ) → h < length (old ts) → g < length (old ts) → fan of h ≡ fan of g →
+    start (old ts) h ≡ start (old ts) g
 same_start ts of first known h g h_below g_below same =
     start_of_fan ts of first known h h_below ∙ ap (λ k. start (old ts) (get_or first k 0)) same ∙ sym (start_of_fan ts of first known g g_below)
 
@@ -80,7 +81,8 @@ twin_start ts of first known h below =
 -- and ends where it starts
 pub twin_finish : (ts : List Triple) (of first : List ℕ) → HasFans ts of first → (h : ℕ) → h < length (old ts) → finish (anew ts of) (twin (old ts) h) ≡ start (anew ts of) h
 twin_finish ts of first known h below =
-    finish_anew ts of first known (twin (old ts) h) (twin_runs_back (old ts) known.closed h below).within ∙ ap (fan of) (twin_twin (old ts) known.closed h below) ∙ sym (start_anew ts of h below)
+    finish_anew ts of first known (twin (old ts) h) (twin_runs_back (old ts) known.closed h below).within
+    ∙ ap (fan of) (twin_twin (old ts) known.closed h below) ∙ sym (start_anew ts of h below)
 
 -- the fans at both ends of a half-edge differ
 pub fans_differ : (ts : List Triple) (of first : List ℕ) → HasFans ts of first → (h : ℕ) → h < length (old ts) → fan of h ≢ fan of (next_half h)
@@ -170,7 +172,8 @@ closed_anew ts of first known = closed_from_sums (anew ts of) vanishes
     opposite : (f : ℕ → ℕ → ℤ) → IsOdd f → (h : ℕ) → h < length (old ts) → term f (twin (old ts) h) ≡ neg_ℤ (term f h)
     opposite f odd h below =
         let turned = odd.turns (finish (anew ts of) h) (start (anew ts of) h) in
-        let same : term f (twin (old ts) h) ≡ f (finish (anew ts of) h) (start (anew ts of) h) = λ i. f (twin_start ts of first known h below i) (twin_finish ts of first known h below i) in
+        let same : term f (twin (old ts) h) ≡ f (finish (anew ts of) h) (start (anew ts of) h) = λ i. f (twin_start ts of first known h below i)
+        (twin_finish ts of first known h below i) in
         omega (arith, ints, turned, same)
 
     vanishes : (f : ℕ → ℕ → ℤ) → IsOdd f → total (along f) (anew ts of) ≡ pos 0

@@ -39,7 +39,8 @@ triples_back ts of first known = same_lists (map (named_by from) (corners of n))
         let a = old_start ts of first known (3 * i) (omega (arith, below, halves)) in
         let b = old_start ts of first known (3 * i + 1) (omega (arith, below, halves)) in
         let c = old_start ts of first known (3 * i + 2) (omega (arith, below, halves)) in
-        get_or-map (named_by from) (corners of n) i (0, 0, 0) d within ∙ (λ j. named_by from (corner_at (fan of) n i (0, 0, 0) below j)) ∙ (λ j. (a j, b j, c j)) ∙ sym (triple_starts ts i d below)
+        get_or-map (named_by from) (corners of n) i (0, 0, 0) d within ∙ (λ j. named_by from (corner_at (fan of) n i (0, 0, 0) below j))
+        ∙ (λ j. (a j, b j, c j)) ∙ sym (triple_starts ts i d below)
 
 -- the fans lie where their old vertices do, and each old vertex has a fan
 pub fans_come_from : (points : List (List ℤ)) (ts : List Triple) (of first : List ℕ) → IsAccepted (length points) ts → HasFans ts of first →
@@ -75,7 +76,8 @@ triples_stay n ts below = same_lists (map (named_by (upto n)) ts) ts (length-map
     each i d low =
         let within : i < length ts = omega (arith, low, length-map ts (named_by (upto n))) in
         let t = below i d within in
-        get_or-map (named_by (upto n)) ts i d d within ∙ (λ j. (own_place n (get_or ts i d).0 0 t.a j, own_place n (get_or ts i d).1 0 t.b j, own_place n (get_or ts i d).2 0 t.c j))
+        get_or-map (named_by (upto n)) ts i d d within
+        ∙ (λ j. (own_place n (get_or ts i d).0 0 t.a j, own_place n (get_or ts i d).1 0 t.b j, own_place n (get_or ts i d).2 0 t.c j))
 
 -- and points where they are
 pub vertices_stay : (points : List (List ℤ)) → ComeFrom points points (upto (length points))

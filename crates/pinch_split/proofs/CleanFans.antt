@@ -43,8 +43,10 @@ first_found (e ∷ es) v zero below is = record { least = omega (arith, here); s
 first_found (e ∷ es) v (suc h) below is = by (e.0 == v) refl (first_found es v h (omega (arith, below)) is)
   where
     by : (b : Bool) → (e.0 == v) ≡ b → IsFirstAt es v h → IsFirstAt (e ∷ es) v (suc h)
-    by true y later = let here : first_at (e ∷ es) v ≡ 0 = ap (λ b. cond b 0 (suc (first_at es v))) y in record { least = omega (arith, here); starts = ap (start (e ∷ es)) here ∙ eqb-true e.0 v y }
-    by false n later = let on : first_at (e ∷ es) v ≡ suc (first_at es v) = ap (λ b. cond b 0 (suc (first_at es v))) n in record { least = omega (arith, on, later.least); starts = ap (start (e ∷ es)) on ∙ later.starts }
+    by true y later = let here : first_at (e ∷ es) v ≡ 0 = ap (λ b. cond b 0 (suc (first_at es v))) y in
+        record { least = omega (arith, here); starts = ap (start (e ∷ es)) here ∙ eqb-true e.0 v y }
+    by false n later = let on : first_at (e ∷ es) v ≡ suc (first_at es v) = ap (λ b. cond b 0 (suc (first_at es v))) n in
+        record { least = omega (arith, on, later.least); starts = ap (start (e ∷ es)) on ∙ later.starts }
 
 -- a half-edge that starts at v
 abbrev pub HasHalf : List Triple → ℕ → Type 0
@@ -84,7 +86,8 @@ vertex_fans points ts accepted clean = record {
   reached = λ h below. let is = first_of (start es h) (vertex_below h below) in
       subst (λ f. SameFan es f h) (sym (mine h below)) (clean (first_at es (start es h)) h is.0 below is.1);
   returns = λ k low. let is = first_of k (omega (arith, low, count)) in
-      subst (λ f. (m : ℕ) × (0 < m) × (around_times es m f ≡ f)) (sym (first_is k (omega (arith, low, count)))) (round (first_at es k) (returns (around es) (λ g. twin es (prev_half g)) n inverse (first_at es k) is.0));
+      subst (λ f. (m : ℕ) × (0 < m) × (around_times es m f ≡ f)) (sym (first_is k (omega (arith, low, count))))
+      (round (first_at es k) (returns (around es) (λ g. twin es (prev_half g)) n inverse (first_at es k) is.0));
   least = λ h below. subst (λ f. f ≤ h) (sym (mine h below)) (first_found es (start es h) h below refl).least;
   by_start = λ j k less low. omega (arith, less, starts_at j (omega (arith, less, low, count)), starts_at k (omega (arith, low, count)));
   by_half = λ j k less low same. absurd (omega (arith, less, same, starts_at j (omega (arith, less, low, count)), starts_at k (omega (arith, low, count))));
@@ -133,7 +136,8 @@ vertex_fans points ts accepted clean = record {
     round f r = (r.steps, r.some, r.back)
 
 -- a triple has the starts of its half-edges
-pub triple_starts : (ts : List Triple) (i : ℕ) (d : Triple) → i < length ts → get_or ts i d ≡ (start (all_edges ts) (3 * i), start (all_edges ts) (3 * i + 1), start (all_edges ts) (3 * i + 2))
+pub triple_starts : (ts : List Triple) (i : ℕ) (d : Triple) → i < length ts →
+    get_or ts i d ≡ (start (all_edges ts) (3 * i), start (all_edges ts) (3 * i + 1), start (all_edges ts) (3 * i + 2))
 triple_starts [] i d low = absurd (omega (arith, low))
 triple_starts (t ∷ ts) zero d low = refl
 triple_starts (t ∷ ts) (suc i) d low =
@@ -199,9 +203,12 @@ unchanged points ts accepted clean = record {
     same_triples = same_lists (corners ofs (length ts)) ts (length-corners (λ h. get_or ofs h 0) (length ts)) (λ i d l.
         let low : i < length ts = omega (arith, l, length-corners (λ h. get_or ofs h 0) (length ts)) in
         let full = length-all_edges ts in
-        corner_at (λ h. get_or ofs h 0) (length ts) i d low ∙ (λ j. (at (3 * i) (omega (arith, low, full)) j, at (3 * i + 1) (omega (arith, low, full)) j, at (3 * i + 2) (omega (arith, low, full)) j)) ∙ sym (triple_starts ts i d low))
+        corner_at (λ h. get_or ofs h 0) (length ts) i d low
+        ∙ (λ j. (at (3 * i) (omega (arith, low, full)) j, at (3 * i + 1) (omega (arith, low, full)) j, at (3 * i + 2) (omega (arith, low, full)) j))
+        ∙ sym (triple_starts ts i d low))
 
     all_points : points ≡ points_of points (upto m)
     all_points = same_lists points (points_of points (upto m)) (sym (length-map (upto m) (λ v. get_or points v []) ∙ length-up_from 0 m)) (λ k d l.
         let first : 0 + k ≡ k = omega arith in
-        get_or_default points k d [] l ∙ ap (λ v. get_or points v []) (sym (get_or-up_from 0 m k 0 l ∙ first)) ∙ sym (get_or-map (λ v. get_or points v []) (upto m) k 0 d (omega (arith, l, length-up_from 0 m))))
+        get_or_default points k d [] l ∙ ap (λ v. get_or points v []) (sym (get_or-up_from 0 m k 0 l ∙ first))
+        ∙ sym (get_or-map (λ v. get_or points v []) (upto m) k 0 d (omega (arith, l, length-up_from 0 m))))

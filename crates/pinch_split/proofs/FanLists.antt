@@ -53,7 +53,8 @@ among : (es : List (ℕ × ℕ)) (k n z : ℕ) → Contains (flat_map (fans_at e
 among es k zero z (i, l, e) = absurd (omega (arith, l))
 among es k (suc n) z inside = by (Contains-append_cases (fans_at es k) (flat_map (fans_at es) (up_from (suc k) n)) z inside) (λ later. among es (suc k) n z later)
   where
-    by : Contains (fans_at es k) z ⊎ Contains (flat_map (fans_at es) (up_from (suc k) n)) z → (Contains (flat_map (fans_at es) (up_from (suc k) n)) z → IsFirst es (suc k) n z) → IsFirst es k (suc n) z
+    by : Contains (fans_at es k) z ⊎ Contains (flat_map (fans_at es) (up_from (suc k) n)) z →
+        (Contains (flat_map (fans_at es) (up_from (suc k) n)) z → IsFirst es (suc k) n z) → IsFirst es k (suc n) z
     by (inl here) rest = let r = at_vertex es k z here in record { low = r.low; high = omega (arith, r.high); below = r.below; itself = r.itself }
     by (inr later) rest = let r = rest later in record { low = omega (arith, r.low); high = omega (arith, r.high); below = r.below; itself = r.itself }
 
@@ -63,7 +64,8 @@ inside es k zero z r = absurd (omega (arith, r.low, r.high))
 inside es k (suc n) z r = elim (cases_eq (start es z) k) as (λ _. Contains (flat_map (fans_at es) (up_from k (suc n))) z) [
   | inl e ↦
       let passes = and_from (start es z == k) (least_of_fan es z == z) (eq-eqb (start es z) k e) (eq-eqb (least_of_fan es z) z r.itself) in
-      Contains-append_left (fans_at es k) (flat_map (fans_at es) (up_from (suc k) n)) z (kept (is_least_at es k) 0 (length es) z (record { low = omega arith; high = omega (arith, r.below); passes = passes }))
+      Contains-append_left (fans_at es k) (flat_map (fans_at es) (up_from (suc k) n)) z
+      (kept (is_least_at es k) 0 (length es) z (record { low = omega arith; high = omega (arith, r.below); passes = passes }))
   | inr d ↦
       Contains-append_right (fans_at es k) (flat_map (fans_at es) (up_from (suc k) n)) z
       (inside es (suc k) n z (record { low = omega (arith, r.low, d); high = omega (arith, r.high); below = r.below; itself = r.itself }))
@@ -102,7 +104,8 @@ rises_append es xs ys up later across j k less below = elim (cases_lt k n) as (�
 -- the list for one vertex rises
 vertex_rises : (es : List (ℕ × ℕ)) (v : ℕ) → Rises es (fans_at es v)
 vertex_rises es v j k less below =
-    let first = at_vertex es v (get_or (fans_at es v) j 0) (j, omega (arith, less, below), get_or_default (fans_at es v) j (get_or (fans_at es v) j 0) 0 (omega (arith, less, below))) in
+    let first = at_vertex es v (get_or (fans_at es v) j 0)
+    (j, omega (arith, less, below), get_or_default (fans_at es v) j (get_or (fans_at es v) j 0) 0 (omega (arith, less, below))) in
     let second = at_vertex es v (get_or (fans_at es v) k 0) (k, below, get_or_default (fans_at es v) k (get_or (fans_at es v) k 0) 0 below) in
     record { starts = omega (arith, first.high, second.low); halves = λ _. filter-ascends (is_least_at es v) 0 (length es) j k less below }
 
@@ -143,7 +146,8 @@ first_is_all points ts of first accepted known =
         (fan of z, l, get_or_default first (fan of z) z 0 l ∙ sym (least_is_first ts of first known z r.below) ∙ r.itself)
 
 -- and each half-edge's number
-pub fan_is_number : (points : ℕ) (ts : List Triple) (of first : List ℕ) → IsAccepted points ts → HasFans ts of first → (h : ℕ) → h < length (old ts) → fan_of points (old ts) h ≡ fan of h
+pub fan_is_number : (points : ℕ) (ts : List Triple) (of first : List ℕ) → IsAccepted points ts → HasFans ts of first → (h : ℕ) → h < length (old ts) →
+    fan_of points (old ts) h ≡ fan of h
 fan_is_number points ts of first accepted known h below =
     ap (position_or_len test) (sym (first_is_all points ts of first accepted known))
     ∙ position_or_len_is test first k 0 (omega (arith, number)) (λ j less. ne_eqb (get_or first j 0) (least_of_fan (old ts) h) (λ same. before j less (same ∙ mine)))
@@ -181,4 +185,6 @@ corners_are_split points ts of first accepted known =
     same_lists (corners of n) (split_triples points ts) (length-corners f n ∙ sym (length-corners g n))
     (λ t d l.
     let low : t < n = omega (arith, l, length-corners f n) in
-    corner_at f n t d low ∙ (λ i. (same (3 * t) (omega (arith, low, full)) i, same (3 * t + 1) (omega (arith, low, full)) i, same (3 * t + 2) (omega (arith, low, full)) i)) ∙ sym (corner_at g n t d low))
+    corner_at f n t d low
+    ∙ (λ i. (same (3 * t) (omega (arith, low, full)) i, same (3 * t + 1) (omega (arith, low, full)) i, same (3 * t + 2) (omega (arith, low, full)) i))
+    ∙ sym (corner_at g n t d low))

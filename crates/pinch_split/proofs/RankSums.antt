@@ -39,10 +39,12 @@ before_suc g i = elim (cases_lt g i) as (λ _. nat_lt (suc g) (suc i) ≡ nat_lt
 pub rank_sum : {X : Type 0} (p : X → Bool) (xs : List X) (d : X) (i : ℕ) → i ≤ length xs → pos (rank p xs i) ≡ total (counts p xs d i) (upto (length xs))
 rank_sum p [] d i low = refl
 rank_sum p (x ∷ xs) d zero low =
-    sym (total-upto_same (counts p (x ∷ xs) d 0) (λ g. pos 0) (length (x ∷ xs)) (λ g b. none_before (p (get_or (x ∷ xs) g d)) (nat_lt g 0) (le-ltb g 0 (omega arith))) ∙ total-zero (upto (length (x ∷ xs))))
+    sym (total-upto_same (counts p (x ∷ xs) d 0) (λ g. pos 0) (length (x ∷ xs))
+    (λ g b. none_before (p (get_or (x ∷ xs) g d)) (nat_lt g 0) (le-ltb g 0 (omega arith))) ∙ total-zero (upto (length (x ∷ xs))))
 rank_sum p (x ∷ xs) d (suc i) low =
     let each = total-upto_same (λ g. counts p (x ∷ xs) d (suc i) (suc g)) (counts p xs d i) (length xs) (λ g b. ap (λ c. pos (one_if (p (get_or xs g d) && c))) (before_suc g i)) in
-    let later : total (counts p (x ∷ xs) d (suc i)) (up_from 1 (length xs)) ≡ pos (rank p xs i) = total-shift (counts p (x ∷ xs) d (suc i)) 0 (length xs) ∙ each ∙ sym (rank_sum p xs d i (omega (arith, low))) in
+    let later : total (counts p (x ∷ xs) d (suc i)) (up_from 1 (length xs)) ≡ pos (rank p xs i) = total-shift (counts p (x ∷ xs) d (suc i)) 0 (length xs) ∙ each
+    ∙ sym (rank_sum p xs d i (omega (arith, low))) in
     sum_of (one_if (p x)) (rank p xs i) ∙ sym (λ j. pos (here (p x) (nat_lt 0 (suc i)) (lt-ltb 0 (suc i) (omega arith)) j) +ℤ later j)
   where
     sum_of : (a b : ℕ) → pos (a + b) ≡ pos a +ℤ pos b

@@ -20,14 +20,18 @@ use Rattle.pinch_split.proofs.Anew.{HasFans, old, anew, fan, length-anew, same_s
 use Rattle.pinch_split.proofs.RankSums.{counts, rank_sum}
 
 -- half-edges that run the same way anew ran the same way
-ran_alike : (ts : List Triple) (of first : List ℕ) → HasFans ts of first → (k h : ℕ) → k < length (old ts) → h < length (old ts) → start (anew ts of) k ≡ start (anew ts of) h → finish (anew ts of) k ≡ finish (anew ts of) h →
+ran_alike : (ts : List Triple) (of first : List ℕ) → HasFans ts of first → (k h : ℕ) → k < length (old ts) → h < length (old ts) →
+    start (anew ts of) k ≡ start (anew ts of) h → finish (anew ts of) k ≡ finish (anew ts of) h →
     (start (old ts) k ≡ start (old ts) h) × (finish (old ts) k ≡ finish (old ts) h)
 ran_alike ts of first known k h k_below h_below starts ends =
     let back_k = twin_runs_back (old ts) known.closed k k_below in
     let back_h = twin_runs_back (old ts) known.closed h h_below in
     let fans : fan of k ≡ fan of h = sym (start_anew ts of k k_below) ∙ starts ∙ start_anew ts of h h_below in
-    let twins : fan of (twin (old ts) k) ≡ fan of (twin (old ts) h) = sym (finish_anew ts of first known k k_below) ∙ ends ∙ finish_anew ts of first known h h_below in
-    (same_start ts of first known k h k_below h_below fans, sym back_k.from ∙ same_start ts of first known (twin (old ts) k) (twin (old ts) h) back_k.within back_h.within twins ∙ back_h.from)
+    let twins : fan of (twin (old ts) k) ≡ fan of (twin (old ts) h) = sym (finish_anew ts of first known k k_below) ∙ ends ∙ finish_anew ts of first known h h_below in (
+      same_start ts of first known k h k_below h_below fans,
+      sym back_k.from ∙ same_start ts of first known (twin (old ts) k) (twin (old ts) h) back_k.within
+          back_h.within twins ∙ back_h.from,
+    )
 
 -- twins of half-edges that run the same way stand in their order
 same_order : (es : List (ℕ × ℕ)) → ((h g : ℕ) → h < g → g < length es → start es h ≡ start es g → finish es h ≡ finish es g → twin es h < twin es g) →
@@ -62,7 +66,8 @@ same_count ts of first known h k h_below k_below =
         ap (λ c. pos (one_if c)) (same_order (old ts) (twin_keeps_order (old ts) known.closed) k h k_below h_below was.0 was.1)
 
 -- the twin has the rank of the half-edge
-same_rank : (ts : List Triple) (of first : List ℕ) → HasFans ts of first → (h : ℕ) → h < length (old ts) → rank (runs_against (anew ts of) h) (anew ts of) (twin (old ts) h) ≡ rank (runs_as (anew ts of) h) (anew ts of) h
+same_rank : (ts : List Triple) (of first : List ℕ) → HasFans ts of first → (h : ℕ) → h < length (old ts) →
+    rank (runs_against (anew ts of) h) (anew ts of) (twin (old ts) h) ≡ rank (runs_as (anew ts of) h) (anew ts of) h
 same_rank ts of first known h below =
     let es = anew ts of in
     let m = length (old ts) in
@@ -96,7 +101,8 @@ twin_stays ts of first known h below =
 pub twins_stay : (ts : List Triple) (of first : List ℕ) → HasFans ts of first → twins_of (corners of (length ts)) ≡ twins_of ts
 twins_stay ts of first known =
     let full = length-anew ts of in
-    let count : length (twins_of (corners of (length ts))) ≡ length (anew ts of) = length-map (upto (length (anew ts of))) (twin (anew ts of)) ∙ length-up_from 0 (length (anew ts of)) in
+    let count : length (twins_of (corners of (length ts))) ≡ length (anew ts of) = length-map (upto (length (anew ts of))) (twin (anew ts of))
+    ∙ length-up_from 0 (length (anew ts of)) in
     let count_old : length (twins_of ts) ≡ length (old ts) = length-map (upto (length (old ts))) (twin (old ts)) ∙ length-up_from 0 (length (old ts)) in
     same_lists (twins_of (corners of (length ts))) (twins_of ts) (count ∙ full ∙ sym count_old)
     (λ h d low.

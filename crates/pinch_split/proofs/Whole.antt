@@ -39,7 +39,8 @@ start_below n (t ∷ ts) below (suc (suc (suc h))) low = start_below n ts (All-t
 pub starts_below : (points : ℕ) (ts : List Triple) (of first : List ℕ) → IsAccepted points ts → HasFans ts of first → All (λ v. v < points) (starts_of ts first)
 starts_below points ts of first accepted known k d low =
     let within : k < length first = omega (arith, low, length-map first (start (all_edges ts))) in
-    subst (λ v. v < points) (sym (get_or-map (start (all_edges ts)) first k 0 d within)) (start_below points ts accepted.mesh.below (get_or first k 0) (known.fans.first_in k within).0)
+    subst (λ v. v < points) (sym (get_or-map (start (all_edges ts)) first k 0 d within))
+    (start_below points ts accepted.mesh.below (get_or first k 0) (known.fans.first_in k within).0)
 
 -- each half-edge has its fan
 pub as_many_fans : (ts : List Triple) (of first : List ℕ) → HasFans ts of first → length of ≡ 3 * length ts
@@ -91,7 +92,8 @@ again ts of first known = same_lists (map (renamed r) (anew ts of)) (old ts) (le
     same h below =
         let back = twin_runs_back (old ts) known.closed h below in
         let starts : r (start (anew ts of) h) ≡ start (old ts) h = ap r (start_anew ts of h below) ∙ sym (start_of_fan ts of first known h below) in
-        let ends : r (finish (anew ts of) h) ≡ finish (old ts) h = ap r (finish_anew ts of first known h below) ∙ sym (start_of_fan ts of first known (twin (old ts) h) back.within) ∙ back.from in
+        let ends : r (finish (anew ts of) h) ≡ finish (old ts) h = ap r (finish_anew ts of first known h below)
+        ∙ sym (start_of_fan ts of first known (twin (old ts) h) back.within) ∙ back.from in
         λ i. (starts i, ends i)
 
     each : (h : ℕ) (d : ℕ × ℕ) → h < length (map (renamed r) (anew ts of)) → get_or (map (renamed r) (anew ts of)) h d ≡ get_or (old ts) h d

@@ -1,13 +1,12 @@
 // The lists of a split mesh, from its fans.
 ghost use Rattle.std.specs.Prelude.{◌≡◌, ◌<◌, ◌≤◌, ◌*◌, IfOk, length};
 ghost use Rattle.std.specs.List.{All};
-ghost use Rattle.chain_terms.specs.Chains.{all_edges};
-ghost use Rattle.chain_terms.specs.Ranks.{start};
 ghost use Rattle.chain_terms.specs.Sums.{upto};
 ghost use Rattle.mesh_terms.specs.Limits.{most_points, most_triangles};
 ghost use Rattle.mesh_terms.specs.Meshes.{triples_of};
 ghost use Rattle.pinch_split.specs.Given.{corners, starts_of, points_of};
 
+use halfedge::halves::start;
 use mb_base::{NoMemory, Point};
 use std::alloc::Global;
 
@@ -21,14 +20,6 @@ pub fn starts(alloc: Global, triples: &[[u32; 3]], halves: &[u32]) -> Result<Vec
         from.push(start(triples, *half))?;
     }
     Ok(from)
-}
-
-// The vertex where half-edge h starts.
-fn start(triples: &[[u32; 3]], h: u32) -> u32
-    requires { h < 3 * length triples.now }
-    ensures { result ≡ start (all_edges (triples_of triples.now)) h }
-{
-    triples[h as usize / 3][h as usize % 3]
 }
 
 /// The points of these vertices.

@@ -16,7 +16,7 @@ ghost use Rattle.pinch_split.specs.Given.{corners, starts_of, points_of};
 use crate::lists::{corners, numbers, points_at, starts};
 use crate::result::Split;
 use halfedge::{Fans, TwinFault, Twins};
-use mb_base::{NoMemory, Point};
+use mb_base::{NoMemory, Point, copied};
 use mesh_check::Mesh;
 use std::alloc::Global;
 
@@ -41,13 +41,6 @@ pub fn split(alloc: Global, points: &[Point], triples: &[[u32; 3]]) -> Result<Sp
 {
     let triples = copied(alloc, triples)?;
     split_over(alloc, points, triples)
-}
-
-// A copy of triangles.
-fn copied(alloc: Global, triples: &[[u32; 3]]) -> Result<Vec<[u32; 3]>, NoMemory>
-    ensures { IfOk result (λ copy. copy.items ≡ triples.now) }
-{
-    Ok(triples.to_vec(alloc)?)
 }
 
 /// The same of triangles that it takes over, of which it makes no copy.

@@ -1,10 +1,9 @@
 -- A patch of one triangle is filled anew by this triangle: its rim is one loop of three half-edges, which is cut into one triangle that turns left.
-use Rattle.std.proofs.Common.{◌≡◌, ◌<◌, ◌≤◌, ◌+◌, ◌*◌, ◌/◌, ◌∷◌, ◌++◌, ◌∙◌, ◌==◌, ℕ, ℤ, zero, suc, pos, negsuc, Bool, List, [], true, false, ap, arith, cond, filter, get_or, length, map, refl, sym}
-use Rattle.std.specs.Prelude.{◌≤ℤ◌, ◌-ℤ◌, ◌&&◌, ◌||◌, int_le, int_lt, nat_le, neg_ℤ, not}
+use Rattle.std.proofs.Common.{◌≡◌, ◌<◌, ◌≤◌, ◌+◌, ◌*◌, ◌/◌, ◌∷◌, ◌++◌, ◌∙◌, ◌==◌, ℕ, ℤ, suc, pos, Bool, List, [], true, false, ap, arith, cond, filter, length, map, refl, sym}
+use Rattle.std.specs.Prelude.{◌&&◌, ◌||◌, nat_le, not}
 use Rattle.std.specs.List.{All, concat, list_all}
-use Rattle.std.proofs.Math.IntN.{*ℤ_comm}
-use Rattle.std.proofs.lemmas.Bool.{both_ways, eq-eqb, eqb-true, le-leb, le-ltb, lt-ltb, ne_eqb}
-use Rattle.std.proofs.lemmas.Int.{ints}
+use Rattle.std.specs.Ordering.{int_eq}
+use Rattle.std.proofs.lemmas.Bool.{false_from_ne_true, both_ways, eq-eqb, eqb-true, ne_eqb}
 use Rattle.std.proofs.lemmas.List.Elements.{All-cons, All-nil}
 use Rattle.chain_terms.specs.Chains.{all_edges}
 use Rattle.chain_terms.specs.Cycles.{cycles, cycles_within, follow, put_first}
@@ -12,32 +11,32 @@ use Rattle.chain_terms.specs.Permutations.{times}
 use Rattle.chain_terms.specs.Ranks.{start, twin}
 use Rattle.chain_terms.specs.Sums.{up_from}
 use Rattle.chain_laws.specs.Ascending.{Ascends}
-use Rattle.face_plane.specs.Planes.{Plane, area, exchanged, flat_point, is_turned, orient, plane_drop, plane_of, point_at, settled_plane, swapped, turn}
+use Rattle.face_plane.specs.Planes.{area, flat_point, orient, plane_drop, plane_of, point_at, turn}
 use Rattle.face_plane.specs.Rings.{in_list}
+use Rattle.face_plane.proofs.Dropped.{drop_below, turn_on_axis}
 use Rattle.halfedge.proofs.Around.{pair_up}
 use Rattle.halfedge.proofs.Edges.{length-all_edges}
-use Rattle.hole_joining.specs.Bridges.{join_holes, joined}
-use Rattle.hole_joining.specs.Holes.{from_start, put_all, ring_list}
-use Rattle.hole_joining.proofs.Loops.{settled_up}
 use Rattle.made_laws.specs.Laws.{IsGiven}
 use Rattle.mesh_terms.specs.Halves.{around, next_half}
 use Rattle.mesh_terms.specs.Limits.{most_halfedges}
 use Rattle.mesh_terms.specs.Meshes.{Mesh, Triple}
-use Rattle.mesh_terms.specs.Points.{coordinate_of, cross_product}
+use Rattle.mesh_terms.specs.Points.{cross_product}
 use Rattle.planar_patches.proofs.Corners.{flat_from}
 use Rattle.planar_patches.proofs.RimSteps.{many_steps, steps_by_triangles}
+use Rattle.pinch_split.proofs.CleanFans.{triple_starts}
 use Rattle.remesh_laws.specs.Patches.{IsPatch}
 use Rattle.remesh_laws.proofs.Dropping.{is_three}
-use Rattle.remesh_laws.proofs.Planes.{drop_below, drop_counts}
+use Rattle.remesh_laws.proofs.Planes.{drop_counts}
 use Rattle.remesh_laws.proofs.Rims.{AreTriangles, first_kept}
 use Rattle.remesh_terms.specs.Derived.{has_three, triple_at}
 use Rattle.remesh_terms.specs.Patches.{Patch, is_flat}
 use Rattle.remesh_terms.specs.Refilled.{is_better, is_refilled, new_triangles, not_left, numbered_from, old_triangles, over_vertices, patch_drop, patch_filling, patch_loops, patch_plane, patch_points, patch_vertices}
 use Rattle.remesh_terms.specs.Rims.{is_rim, rim, rim_loops, rim_next, rim_steps}
-use Rattle.ring_cutting.specs.Cuts.{Cut, cut_ring}
+use Rattle.ring_cutting.specs.Cuts.{Cut}
 use Rattle.ring_cutting.proofs.Members.{all_in, true-in_list}
-use Rattle.triangulate.specs.Fills.{both, cuts, fill_of}
-use Rattle.triangulate.proofs.Areas.{areas}
+use Rattle.triangulate.specs.Fills.{fill_of}
+use Rattle.triangulate.proofs.Rings.{fill_of-loops}
+use Rattle.std.proofs.lemmas.Bool.Decides.{Decides-int_eq}
 
 -- an edge is followed from its start, and taken out
 one_edge : (v w n : ℕ) (es : List (ℕ × ℕ)) → follow (suc n) v ((v, w) ∷ es) ≡ put_first v (follow n w es)
@@ -75,37 +74,6 @@ one_member s (x ∷ []) inside one = ap (λ y. y ∷ []) (eqb-true x s (first (x
     first false h = h
 one_member s (x ∷ y ∷ xs) inside one = absurd (omega (arith, one))
 
--- the turn in the plane that drops an axis is the coordinate of the cross product on this axis
-turn_on_axis : (drop_axis : ℕ) (a b c : List ℤ) → drop_axis < 3 →
-    turn (flat_point drop_axis a) (flat_point drop_axis b) (flat_point drop_axis c) ≡ coordinate_of (cross_product a b c) drop_axis
-turn_on_axis zero a b c axis = refl
-turn_on_axis (suc zero) a b c axis = refl
-turn_on_axis (suc (suc zero)) a b c axis = refl
-turn_on_axis (suc (suc (suc k))) a b c axis = absurd (omega (arith, axis))
-
--- exchanged points turn the other way
-turn_exchanged : (p q r : ℤ × ℤ) → turn (swapped p) (swapped q) (swapped r) ≡ neg_ℤ (turn p q r)
-turn_exchanged p q r = omega (arith, ints, *ℤ_comm (q.1 -ℤ p.1) (r.0 -ℤ p.0), *ℤ_comm (q.0 -ℤ p.0) (r.1 -ℤ p.1))
-
--- so where three places lie on no line, they do not where the plane is turned
-still_turns : (at : Plane) (b : Bool) → (orient at 0 1 2 ≡ pos 0 → ⊥) → orient (cond b (exchanged at) at) 0 1 2 ≡ pos 0 → ⊥
-still_turns at true some e = some (omega (arith, ints, e, turn_exchanged (at 0) (at 1) (at 2)))
-still_turns at false some e = some e
-
--- a number from 0 on, by its tests, and one that is not 0
-ring_test : (z : ℤ) → pos 0 ≤ℤ z → int_le (pos 0) z ≡ true
-ring_test (pos n) h = le-leb 0 n (omega arith)
-ring_test (negsuc n) h = absurd (omega (arith, ints, h))
-
-hole_test : (z : ℤ) → pos 0 ≤ℤ z → int_lt z (pos 0) ≡ false
-hole_test (pos n) h = le-ltb n 0 (omega arith)
-hole_test (negsuc n) h = absurd (omega (arith, ints, h))
-
-left_test : (z : ℤ) → pos 0 ≤ℤ z → (z ≡ pos 0 → ⊥) → int_lt (pos 0) z ≡ true
-left_test (pos zero) h some = absurd (some refl)
-left_test (pos (suc n)) h some = lt-ltb 0 (suc n) (omega arith)
-left_test (negsuc n) h some = absurd (omega (arith, ints, h))
-
 -- the loop of three places, and their triangle, which is not forced
 abbrev round : List ℕ
 round = 0 ∷ 1 ∷ 2 ∷ []
@@ -113,36 +81,15 @@ round = 0 ∷ 1 ∷ 2 ∷ []
 abbrev one_cut : Cut
 one_cut = record { triples = (0, 1, 2) ∷ []; forced = 0 }
 
--- the doubled area of the loop is the turn of the triangle
-area_of_round : (at : Plane) → area at round ≡ orient at 0 1 2
-area_of_round at = let same = areas at (round ∷ []) ((0, 1, 2) ∷ []) (λ f odd. refl) in omega (arith, ints, same)
-
--- a loop that is no hole is the one ring
-one_ring : (at : Plane) → pos 0 ≤ℤ area at round → join_holes at (round ∷ []) ≡ round ∷ []
-one_ring at up =
-    ap (λ b. joined at (ring_list at (round ∷ [])) (put_all at [] (map (from_start at) (cond b (round ∷ []) [])))) (hole_test (area at round) up)
-    ∙ ap (λ b. cond b (round ∷ []) []) (ring_test (area at round) up)
-
--- a ring of three places that turn left is cut into their triangle
-ring_cut : (at : Plane) → int_lt (pos 0) (orient at 0 1 2) ≡ true → cut_ring at round ≡ one_cut
-ring_cut at left = ap (λ b. record { triples = (0, 1, 2) ∷ []; forced = cond b 0 1 }) left
-
--- so a loop of three places that lie on no line is filled by their triangle
+-- a loop of three places that lie on no line is filled by their triangle
 round_filled : (drop_axis : ℕ) (points : List (List ℤ)) → (orient (plane_of drop_axis (point_at points)) 0 1 2 ≡ pos 0 → ⊥) → fill_of drop_axis points (round ∷ []) ≡ one_cut
 round_filled drop_axis points some =
     let at = plane_of drop_axis (point_at points) in
-    let s = settled_plane at (round ∷ []) in
-    let same = area_of_round s in
-    let up : pos 0 ≤ℤ area s round = omega (arith, ints, settled_up at (round ∷ [])) in
-    let left = left_test (orient s 0 1 2) (omega (arith, ints, up, same)) (still_turns at (is_turned at (round ∷ [])) some) in
-    ap (cuts s) (one_ring s up) ∙ ap (λ c. both c (cuts s [])) (ring_cut s left)
-
--- the three half-edges of a triangle start at its vertices
-half_starts : (ts : List Triple) (s : ℕ) → s < length ts →
-    let t = get_or ts s (0, 0, 0) in let from = start (all_edges ts) in (from (3 * s) ≡ t.0) × (from (suc (3 * s)) ≡ t.1) × (from (suc (suc (3 * s))) ≡ t.2)
-half_starts [] s low = absurd (omega (arith, low))
-half_starts (t ∷ ts) zero low = (refl, refl, refl)
-half_starts (t ∷ ts) (suc s) low = let later : 3 * suc s ≡ suc (suc (suc (3 * s))) = omega arith in rw later (half_starts ts s (omega (arith, low)))
+    let turned = turn (at 0) (at 1) (at 2) in
+    let apart : int_eq turned (pos 0) ≡ false = false_from_ne_true (int_eq turned (pos 0)) (λ t. some ((Decides-int_eq turned (pos 0)).0 t)) in
+    fill_of-loops drop_axis points 0 1 2 1 (at 0) (at 1) (at 2)
+    (record { first = λ i l. ap at (omega (arith, l)); second = λ i l. ap at (omega (arith, l)); third = λ i l. ap at (omega (arith, l)) })
+    ∙ ap (λ t. record { triples = (0, 1, 2) ∷ []; forced = cond t 1 0 }) apart
 
 -- the rim of a triangle alone
 module _ (ts : List Triple) (are : AreTriangles ts) (s : ℕ) (low : s < length ts) where
@@ -224,8 +171,11 @@ module _ (m : Mesh) (given : IsGiven m) (p : Patch) (is : IsPatch m p) (one : le
 
   vertices_are : patch_vertices m p ≡ t.0 ∷ t.1 ∷ t.2 ∷ []
   vertices_are =
-      let starts = half_starts m.triples s low in
-      ap (λ loops. map (start (all_edges m.triples)) (concat loops)) loop_is ∙ (λ i. starts.0 i ∷ starts.1 i ∷ starts.2 i ∷ [])
+      let from = start (all_edges m.triples) in
+      let one : suc (3 * s) ≡ 3 * s + 1 = omega arith in
+      let two : suc (suc (3 * s)) ≡ 3 * s + 2 = omega arith in
+      ap (λ loops. map from (concat loops)) loop_is ∙ (λ i. from (3 * s) ∷ from (one i) ∷ from (two i) ∷ [])
+      ∙ sym (ap (λ (v : Triple). v.0 ∷ v.1 ∷ v.2 ∷ []) (triple_starts m.triples s (0, 0, 0) low))
 
   points_are : patch_points m p ≡ point_at m.points t.0 ∷ point_at m.points t.1 ∷ point_at m.points t.2 ∷ []
   points_are = ap (map (point_at m.points)) vertices_are

@@ -31,6 +31,7 @@ use crate::triangle::corners;
 use crate::weld::has_three;
 use face_loops::Loop;
 use face_plane::{FacePlane, FlatPoint};
+use halfedge::halves::start;
 use mb_base::{NoMemory, Point, Segment};
 use mesh_check::Mesh;
 use ring_cutting::Filled;
@@ -121,14 +122,6 @@ fn face_plane_of(mesh: &Mesh, t: u32) -> FacePlane
 {
     let [a, b, c] = corners(mesh, t);
     FacePlane::of(a, b, c)
-}
-
-// The vertex where a half-edge starts.
-fn start(triples: &[[u32; 3]], half: u32) -> u32
-    requires { half < 3 * length triples.now }
-    ensures { result ≡ start (all_edges (triples_of triples.now)) half }
-{
-    triples[half as usize / 3][half as usize % 3]
 }
 
 // The vertices where the half-edges of loops start, one loop after the other.

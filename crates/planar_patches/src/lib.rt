@@ -1,6 +1,6 @@
 //! Remeshing: `remesh` welds the points of a closed mesh that lie at one place, and fills each flat patch of its triangles
 //! anew. A patch is what is joined across edges in one plane, with one label; flat triangles and triangles that are turned over
-//! go wherever its rim can be filled without them. Volume, labels and the planes of all faces stay.
+//! go from every patch that is filled without a forced triangle. The volume stays, and each patch its plane and label.
 #![tactic(auto)]
 
 mod derived;

@@ -14,7 +14,8 @@ use mb_base::NoMemory;
 use mesh_check::Mesh;
 use std::alloc::Global;
 
-/// Triangles over the vertices of a mesh, for each a triangle of it that has its label, and how many patches stayed as they were.
+/// Triangles over the vertices of a mesh, for each a triangle of it that has its label, and of how many patches the filling was not
+/// taken.
 #[derive(Drop)]
 pub struct Refilling {
     pub triples: Vec<[u32; 3]>,

@@ -1,7 +1,7 @@
 // What remeshing gives.
 use mesh_check::Mesh;
 
-/// A remeshed mesh, how many patches the welded mesh had, and how many of them stayed as they were.
+/// A remeshed mesh, how many patches the welded mesh had, and of how many the filling was not taken.
 #[derive(Drop)]
 pub struct Remeshed {
     pub mesh: Mesh,

@@ -21,8 +21,8 @@ use mesh_check::Mesh;
 use std::alloc::Global;
 
 /// The remeshed mesh. First points that lie at one place are welded, and there is again one vertex for each fan. Then the
-/// triangles are told into patches: from each triangle with an area, in order, all that is joined to it across edges, in its
-/// plane and with its label. The rim of each patch is filled anew, by the rule by which operations fill faces. The filling is
+/// triangles are told into patches: from each triangle with an area that is in none yet, in order, all that is joined to it across
+/// edges, in its plane and with its label, and in no patch yet. The rim of each patch is filled anew, by the rule by which operations fill faces. The filling is
 /// taken where no triangle has two places of one vertex, it has no more triangles than the patch, and none was forced, or fewer
 /// than the patch has triangles that do not turn left in its plane, or as many and there are fewer triangles; else, and where
 /// the rim has more than 60,000,000 half-edges, the patch stays as it was, and is counted as kept. A patch stands at the place

@@ -17,7 +17,7 @@ use mesh_check::Mesh;
 pub struct SeedPlane {
     normal: [i128; 3],
     level: i128,
-    ghost few: { All (λ n. unsigned_abs n ≤ 2 ^ 63) normal },
+    ghost small: { All (λ n. unsigned_abs n ≤ 2 ^ 63) normal },
 }
 
 impl SeedPlane {

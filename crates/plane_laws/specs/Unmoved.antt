@@ -96,13 +96,25 @@ module _ (m : ℤ) (great : pos 1 <ℤ m) where
         record {
           side = false;
           crossed =
-              record { a = vertex_weak false c d a cd ha; b = vertex_weak true c d b cd hb; c = edge_weak true a b c ab hc; d = edge_weak false a b d ab hd; some = apart false c d a b ha hb };
+              record {
+                a = vertex_weak false c d a cd ha;
+                b = vertex_weak true c d b cd hb;
+                c = edge_weak true a b c ab hc;
+                d = edge_weak false a b d ab hd;
+                some = apart false c d a b ha hb;
+              };
         }
     by false ha hb hc hd =
         record {
           side = true;
           crossed =
-              record { a = vertex_weak true c d a cd ha; b = vertex_weak false c d b cd hb; c = edge_weak false a b c ab hc; d = edge_weak true a b d ab hd; some = apart true c d a b ha hb };
+              record {
+                a = vertex_weak true c d a cd ha;
+                b = vertex_weak false c d b cd hb;
+                c = edge_weak false a b c ab hc;
+                d = edge_weak true a b d ab hd;
+                some = apart true c d a b ha hb;
+              };
         }
 
   -- whether a vertex of P is over an edge of Q

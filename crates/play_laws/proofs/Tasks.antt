@@ -59,7 +59,8 @@ follows xs r next a is = ap (λ r. joined xs r next) is
 does_then : {A B : Type 0} (p : Part A) (q : Part B) (w m v : World) (r : Result B Why) → m ≡ done_all p.actions w → Does q m v r
     → Does (record { actions = p.actions ++ q.actions; result = q.result }) w v r
 does_then p q w m v (Ok b) reached done = record { gives = done.gives; all_done = done.all_done ∙ ap (done_all q.actions) reached ∙ sym (done_all-append p.actions q.actions w) }
-does_then p q w m v (Err (Refused why)) reached done = record { gives = done.gives; all_done = done.all_done ∙ ap (done_all q.actions) reached ∙ sym (done_all-append p.actions q.actions w) }
+does_then p q w m v (Err (Refused why)) reached done =
+    record { gives = done.gives; all_done = done.all_done ∙ ap (done_all q.actions) reached ∙ sym (done_all-append p.actions q.actions w) }
 does_then p q w m v (Err (Unread name)) reached done =
     let P : World → Type 0 = λ m. StopsAt q.actions (Ask name) m v in
     stops_later p.actions q.actions (Ask name) w v (subst P reached done)
@@ -100,7 +101,8 @@ does_stop p next w v Starved done = in_part p.result
     in_part (Ok a) = before_longer p.actions (next a).actions w v done
 
 -- counts that rose after counts that stayed
-rises_then : {B : Type 0} (first mid_tells : Bool) (before mid now : Faults) (r : Result B Why) → mid_tells ≡ first → mid ≡ before → Rises mid_tells mid now r → Rises first before now r
+rises_then : {B : Type 0} (first mid_tells : Bool) (before mid now : Faults) (r : Result B Why) → mid_tells ≡ first → mid ≡ before → Rises mid_tells mid now r →
+    Rises first before now r
 rises_then first mid_tells before mid now r told calm rises =
     let P : Bool → Type 0 = λ t. Rises t before now r in
     let Q : Faults → Type 0 = λ f. Rises mid_tells f now r in

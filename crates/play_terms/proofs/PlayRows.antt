@@ -28,11 +28,13 @@ small = record { file_bytes = 400; points = 210; triangles = 140; halfedges = 83
 
 -- the cube from 0 to 10
 abbrev cube : Bytes
-cube = codes "v 0 0 0\nv 10 0 0\nv 0 10 0\nv 10 10 0\nv 0 0 10\nv 10 0 10\nv 0 10 10\nv 10 10 10\nf 1 4 2\nf 1 3 4\nf 5 6 8\nf 5 8 7\nf 1 2 5\nf 2 6 5\nf 2 4 8\nf 2 8 6\nf 4 3 7\nf 4 7 8\nf 1 5 7\nf 1 7 3\n"
+cube =
+    codes "v 0 0 0\nv 10 0 0\nv 0 10 0\nv 10 10 0\nv 0 0 10\nv 10 0 10\nv 0 10 10\nv 10 10 10\nf 1 4 2\nf 1 3 4\nf 5 6 8\nf 5 8 7\nf 1 2 5\nf 2 6 5\nf 2 4 8\nf 2 8 6\nf 4 3 7\nf 4 7 8\nf 1 5 7\nf 1 7 3\n"
 
 -- a box that stands through its top
 abbrev box : Bytes
-box = codes "v 3 4 5\nv 6 4 5\nv 3 7 5\nv 6 7 5\nv 3 4 20\nv 6 4 20\nv 3 7 20\nv 6 7 20\nf 1 4 2\nf 1 3 4\nf 5 6 8\nf 5 8 7\nf 1 2 5\nf 2 6 5\nf 2 4 8\nf 2 8 6\nf 4 3 7\nf 4 7 8\nf 1 5 7\nf 1 7 3\n"
+box =
+    codes "v 3 4 5\nv 6 4 5\nv 3 7 5\nv 6 7 5\nv 3 4 20\nv 6 4 20\nv 3 7 20\nv 6 7 20\nf 1 4 2\nf 1 3 4\nf 5 6 8\nf 5 8 7\nf 1 2 5\nf 2 6 5\nf 2 4 8\nf 2 8 6\nf 4 3 7\nf 4 7 8\nf 1 5 7\nf 1 7 3\n"
 
 -- the two in one, as a program that was written apart from this one gives it
 abbrev union_text : Bytes
@@ -62,7 +64,8 @@ united = record {
 -- an operation of which a table knows the union of the cube and the box alone
 abbrev tabled : Mesh → Mesh → Combined
 tabled p q =
-    if bytes_eq (obj_text 0 p.points p.triples p.labels) cube && bytes_eq (obj_text 0 q.points q.triples q.labels) box then record { mesh = united; p_kept = 8; q_kept = 4; crossings = 10; forced = 0; halfedges = 84 }
+    if bytes_eq (obj_text 0 p.points p.triples p.labels) cube && bytes_eq (obj_text 0 q.points q.triples q.labels) box
+    then record { mesh = united; p_kept = 8; q_kept = 4; crossings = 10; forced = 0; halfedges = 84 }
     else record { mesh = record { points = []; triples = []; labels = [] }; p_kept = 0; q_kept = 0; crossings = 0; forced = 0; halfedges = 0 }
 
 abbrev table : KernelKind → Meanings
@@ -194,7 +197,8 @@ measures_a_union = refl
 
 -- operations before the choice of exact kernels, and after it
 chooses_kernels : alone program (codes "box a 0 0 0 10 10 10\nunion u a a\nexact\nunion v a a\nexact\nunion w u a\n")
-    ≡ says (codes "u = union a a: kept 8 0, crossings 0, forced 0" ∷ codes "v = union a a: kept 0 0, crossings 0, forced 0" ∷ codes "w = union u a: kept 0 0, crossings 0, forced 0" ∷ [])
+    ≡ says (codes "u = union a a: kept 8 0, crossings 0, forced 0" ∷ codes "v = union a a: kept 0 0, crossings 0, forced 0" ∷ codes
+    "w = union u a: kept 0 0, crossings 0, forced 0" ∷ [])
 unfolding digits chars is_utf8 encode_utf8 number_of number_fault
 chooses_kernels = refl
 
@@ -250,4 +254,5 @@ record MeshesAreRefused : Type 0 where
 
 meshes_are_refused : MeshesAreRefused
 unfolding digits chars is_utf8 encode_utf8 number_of number_fault
-meshes_are_refused = record { flat_box = refl; turned_box = refl; flat_tetra = refl; flat_prism = refl; outside = refl; shifted = refl; scaled = refl; points = refl; triangles = refl }
+meshes_are_refused =
+    record { flat_box = refl; turned_box = refl; flat_tetra = refl; flat_prism = refl; outside = refl; shifted = refl; scaled = refl; points = refl; triangles = refl }

@@ -34,11 +34,13 @@ tetrahedron = corners ++ three_faces ++ line_of (codes "f 3 1 4")
 
 -- a cube as a modelling program writes it
 abbrev modelled_cube : Bytes
-modelled_cube = codes "# made by a modeller\nmtllib cube.mtl\no Cube\nv 0.000000 0.000000 0.000000\nv 10.000000 0.000000 0.000000\nv 0.000000 10.000000 0.000000\nv 10.000000 10.000000 0.000000\nv 0.000000 0.000000 10.000000\nv 10.000000 0.000000 10.000000\nv 0.000000 10.000000 10.000000\nv 10.000000 10.000000 10.000000\nvn 0.0000 0.0000 -1.0000\nvt 0.000000 0.000000\nusemtl Material\ns off\nf 1/1/1 3/1/1 4/1/1 2/1/1\nf 5//1 6//1 8//1 7//1\nf 1 2 6 5\nf 2/1 4/1 8/1 6/1\nf -5 -6 -2 \\\n-1\nf 1 5 7 3\n"
+modelled_cube =
+    codes "# made by a modeller\nmtllib cube.mtl\no Cube\nv 0.000000 0.000000 0.000000\nv 10.000000 0.000000 0.000000\nv 0.000000 10.000000 0.000000\nv 10.000000 10.000000 0.000000\nv 0.000000 0.000000 10.000000\nv 10.000000 0.000000 10.000000\nv 0.000000 10.000000 10.000000\nv 10.000000 10.000000 10.000000\nvn 0.0000 0.0000 -1.0000\nvt 0.000000 0.000000\nusemtl Material\ns off\nf 1/1/1 3/1/1 4/1/1 2/1/1\nf 5//1 6//1 8//1 7//1\nf 1 2 6 5\nf 2/1 4/1 8/1 6/1\nf -5 -6 -2 \\\n-1\nf 1 5 7 3\n"
 
 -- its copy
 abbrev plain_cube : Bytes
-plain_cube = codes "v 0 0 0\nv 10 0 0\nv 0 10 0\nv 10 10 0\nv 0 0 10\nv 10 0 10\nv 0 10 10\nv 10 10 10\nf 1 3 4\nf 1 4 2\nf 5 6 8\nf 5 8 7\nf 1 2 6\nf 1 6 5\nf 2 4 8\nf 2 8 6\nf 4 3 7\nf 4 7 8\nf 1 5 7\nf 1 7 3\n"
+plain_cube =
+    codes "v 0 0 0\nv 10 0 0\nv 0 10 0\nv 10 10 0\nv 0 0 10\nv 10 0 10\nv 0 10 10\nv 10 10 10\nf 1 3 4\nf 1 4 2\nf 5 6 8\nf 5 8 7\nf 1 2 6\nf 1 6 5\nf 2 4 8\nf 2 8 6\nf 4 3 7\nf 4 7 8\nf 1 5 7\nf 1 7 3\n"
 
 -- a winding number that is told by the first coordinate alone, and operations that give nothing
 abbrev told : Meanings
@@ -73,17 +75,26 @@ record FaultsAreTold : Type 0 where
   index : ending (play_on (tetrahedron ++ line_of (codes "f 1 2 5"))) ≡ faulty (codes "t.obj:9: 6 BadIndex")
   repeated : ending (play_on (tetrahedron ++ line_of (codes "f 1 2 -4"))) ≡ faulty (codes "t.obj:9: 7 FaceRepeatsVertex")
 
-copies_the_tetrahedron : play_on tetrahedron ≡ record { actions = Ask (codes "t.obj") ∷ Write (codes "u.obj") tetrahedron ∷ Say (line_of (codes "copied u.obj: points 4, triangles 4, unused 0")) ∷ []; result = Ok tt }
+copies_the_tetrahedron : play_on tetrahedron
+    ≡ record {
+      actions = Ask (codes "t.obj") ∷ Write (codes "u.obj") tetrahedron ∷ Say (line_of (codes "copied u.obj: points 4, triangles 4, unused 0")) ∷ [];
+      result = Ok tt;
+    }
 unfolding digits
 copies_the_tetrahedron = refl
 
 -- the group of each triangle, where it is not the one before
 copies_groups : play_on (corners ++ codes "g red  blue\nf 1 3 2\nf 1 2 4\ng\nf 2 3 4\nf 3 1 4\n")
-    ≡ record { actions = Ask (codes "t.obj") ∷ Write (codes "u.obj") (corners ++ codes "g red blue\nf 1 3 2\nf 1 2 4\ng\nf 2 3 4\nf 3 1 4\n") ∷ Say (line_of (codes "copied u.obj: points 4, triangles 4, unused 0")) ∷ []; result = Ok tt }
+    ≡ record {
+      actions = Ask (codes "t.obj") ∷ Write (codes "u.obj") (corners ++ codes "g red blue\nf 1 3 2\nf 1 2 4\ng\nf 2 3 4\nf 3 1 4\n") ∷ Say
+          (line_of (codes "copied u.obj: points 4, triangles 4, unused 0")) ∷ [];
+      result = Ok tt;
+    }
 unfolding digits
 copies_groups = refl
 
-copies_an_empty_file : play_on [] ≡ record { actions = Ask (codes "t.obj") ∷ Write (codes "u.obj") [] ∷ Say (line_of (codes "copied u.obj: points 0, triangles 0, unused 0")) ∷ []; result = Ok tt }
+copies_an_empty_file : play_on []
+    ≡ record { actions = Ask (codes "t.obj") ∷ Write (codes "u.obj") [] ∷ Say (line_of (codes "copied u.obj: points 0, triangles 0, unused 0")) ∷ []; result = Ok tt }
 unfolding digits
 copies_an_empty_file = refl
 
@@ -92,11 +103,19 @@ refuses_an_open_mesh : ending (play_on (corners ++ three_faces))
 unfolding digits
 refuses_an_open_mesh = refl
 
-drops_an_unused_point : play_on (corners ++ line_of (codes "v 5 5 5") ++ three_faces ++ line_of (codes "f 3 1 4")) ≡ record { actions = Ask (codes "t.obj") ∷ Write (codes "u.obj") tetrahedron ∷ Say (line_of (codes "copied u.obj: points 4, triangles 4, unused 1")) ∷ []; result = Ok tt }
+drops_an_unused_point : play_on (corners ++ line_of (codes "v 5 5 5") ++ three_faces ++ line_of (codes "f 3 1 4"))
+    ≡ record {
+      actions = Ask (codes "t.obj") ∷ Write (codes "u.obj") tetrahedron ∷ Say (line_of (codes "copied u.obj: points 4, triangles 4, unused 1")) ∷ [];
+      result = Ok tt;
+    }
 unfolding digits
 drops_an_unused_point = refl
 
-copies_a_modelled_cube : play_on modelled_cube ≡ record { actions = Ask (codes "t.obj") ∷ Write (codes "u.obj") plain_cube ∷ Say (line_of (codes "copied u.obj: points 8, triangles 12, unused 0")) ∷ []; result = Ok tt }
+copies_a_modelled_cube : play_on modelled_cube
+    ≡ record {
+      actions = Ask (codes "t.obj") ∷ Write (codes "u.obj") plain_cube ∷ Say (line_of (codes "copied u.obj: points 8, triangles 12, unused 0")) ∷ [];
+      result = Ok tt;
+    }
 unfolding digits
 copies_a_modelled_cube = refl
 
@@ -116,13 +135,15 @@ refuses_other_words : ending (play told program (codes "copy" ∷ codes "t.obj" 
     ≡ refused_with 1 [] (codes "usage: manifold_tool copy IN OUT, inside FILE X Y Z or run SCRIPT, each with --digits K")
 refuses_other_words = refl
 
-says_a_winding_number : play told program (codes "inside" ∷ codes "t.obj" ∷ codes "2" ∷ codes "07" ∷ codes "0" ∷ []) (only (codes "t.obj") tetrahedron) ≡ record { actions = Ask (codes "t.obj") ∷ Say (line_of (codes "winding 20000")) ∷ []; result = Ok tt }
+says_a_winding_number : play told program (codes "inside" ∷ codes "t.obj" ∷ codes "2" ∷ codes "07" ∷ codes "0" ∷ []) (only (codes "t.obj") tetrahedron)
+    ≡ record { actions = Ask (codes "t.obj") ∷ Say (line_of (codes "winding 20000")) ∷ []; result = Ok tt }
 unfolding digits
 says_a_winding_number = refl
 
 -- the first three facets of the tetrahedron
 abbrev three_facets : Bytes
-three_facets = codes "facet normal 0 0 0\nouter loop\nvertex 0 0 0\nvertex 0 1 0\nvertex 1 0 0\nendloop\nendfacet\nfacet normal 0 0 0\nouter loop\nvertex 0 0 0\nvertex 1 0 0\nvertex 0 0 1\nendloop\nendfacet\nfacet normal 0 0 0\nouter loop\nvertex 1 0 0\nvertex 0 1 0\nvertex 0 0 1\nendloop\nendfacet\n"
+three_facets =
+    codes "facet normal 0 0 0\nouter loop\nvertex 0 0 0\nvertex 0 1 0\nvertex 1 0 0\nendloop\nendfacet\nfacet normal 0 0 0\nouter loop\nvertex 0 0 0\nvertex 1 0 0\nvertex 0 0 1\nendloop\nendfacet\nfacet normal 0 0 0\nouter loop\nvertex 1 0 0\nvertex 0 1 0\nvertex 0 0 1\nendloop\nendfacet\n"
 
 -- and a last one with a corner of its own
 abbrev with_last : Bytes → Bytes
@@ -140,15 +161,18 @@ welded = codes "v 0 0 0\nv 0 1 0\nv 1 0 0\nv 0 0 1\nf 1 2 3\nf 1 3 4\nf 3 2 4\nf
 abbrev copied : Bytes → Bytes → Bytes → Part (Unit {0})
 copied from to bytes = play told program (codes "copy" ∷ from ∷ to ∷ []) (only from bytes)
 
-writes_stl : copied (codes "t.obj") (codes "t.stl") tetrahedron ≡ record { actions = Ask (codes "t.obj") ∷ Write (codes "t.stl") solid ∷ Say (line_of (codes "copied t.stl: points 4, triangles 4, unused 0")) ∷ []; result = Ok tt }
+writes_stl : copied (codes "t.obj") (codes "t.stl") tetrahedron
+    ≡ record { actions = Ask (codes "t.obj") ∷ Write (codes "t.stl") solid ∷ Say (line_of (codes "copied t.stl: points 4, triangles 4, unused 0")) ∷ []; result = Ok tt }
 unfolding digits
 writes_stl = refl
 
-reads_stl : copied (codes "t.StL") (codes "u.obj") solid ≡ record { actions = Ask (codes "t.StL") ∷ Write (codes "u.obj") welded ∷ Say (line_of (codes "copied u.obj: points 4, triangles 4, unused 0")) ∷ []; result = Ok tt }
+reads_stl : copied (codes "t.StL") (codes "u.obj") solid
+    ≡ record { actions = Ask (codes "t.StL") ∷ Write (codes "u.obj") welded ∷ Say (line_of (codes "copied u.obj: points 4, triangles 4, unused 0")) ∷ []; result = Ok tt }
 unfolding digits
 reads_stl = refl
 
-welds_corners_after_rounding : copied (codes "c.stl") (codes "u.obj") (with_last (codes "1.00001") ++ codes "endsolid") ≡ record { actions = Ask (codes "c.stl") ∷ Write (codes "u.obj") welded ∷ Say (line_of (codes "copied u.obj: points 4, triangles 4, unused 0")) ∷ []; result = Ok tt }
+welds_corners_after_rounding : copied (codes "c.stl") (codes "u.obj") (with_last (codes "1.00001") ++ codes "endsolid")
+    ≡ record { actions = Ask (codes "c.stl") ∷ Write (codes "u.obj") welded ∷ Say (line_of (codes "copied u.obj: points 4, triangles 4, unused 0")) ∷ []; result = Ok tt }
 unfolding digits
 welds_corners_after_rounding = refl
 
@@ -157,7 +181,8 @@ refuses_corners_a_step_apart : ending (copied (codes "c.stl") (codes "u.obj") (w
 unfolding digits
 refuses_corners_a_step_apart = refl
 
-refuses_a_cut_solid : ending (copied (codes "t.stl") (codes "u.obj") (codes "solid manifold\nfacet normal 0 0 0\nouter loop\nvertex 0 0 0\nvertex 0 1 0\nvertex 1 0 0\nendloop\nendfacet\n"))
+refuses_a_cut_solid : ending
+    (copied (codes "t.stl") (codes "u.obj") (codes "solid manifold\nfacet normal 0 0 0\nouter loop\nvertex 0 0 0\nvertex 0 1 0\nvertex 1 0 0\nendloop\nendfacet\n"))
     ≡ refused_with 4 (Ask (codes "t.stl") ∷ []) (codes "t.stl:9: 10 NotStl")
 unfolding digits
 refuses_a_cut_solid = refl

@@ -9,7 +9,8 @@ takes_digits_after_the_names = refl
 takes_digits_in_one_word : command (codes "copy" ∷ codes "--digits=6" ∷ codes "a.obj" ∷ codes "b.obj" ∷ []) ≡ Some (CopyFile 6 (codes "a.obj") (codes "b.obj"))
 takes_digits_in_one_word = refl
 
-takes_any_operand_after_the_end : command (codes "inside" ∷ codes "cube.obj" ∷ codes "--" ∷ codes "-5" ∷ codes "4" ∷ codes "3" ∷ []) ≡ Some (InsideFile 4 (codes "cube.obj") (negsuc 49999 ∷ pos 40000 ∷ pos 30000 ∷ []))
+takes_any_operand_after_the_end : command (codes "inside" ∷ codes "cube.obj" ∷ codes "--" ∷ codes "-5" ∷ codes "4" ∷ codes "3" ∷ [])
+    ≡ Some (InsideFile 4 (codes "cube.obj") (negsuc 49999 ∷ pos 40000 ∷ pos 30000 ∷ []))
 takes_any_operand_after_the_end = refl
 
 takes_a_second_end_as_an_operand : command (codes "copy" ∷ codes "--" ∷ codes "a.obj" ∷ codes "--" ∷ codes "b.obj" ∷ []) ≡ None

@@ -95,7 +95,8 @@ are_made = record {
 record HaveNoValue : Type 0 where
   numbers : AreBad 1 24 (codes "box a 0 0 0 1 1 1e" ∷ codes "tetra t nan 0 0 6" ∷ (codes "tetra t 0 0 0 " ++ 255 ∷ []) ∷ codes "prism p 1073741825 0 0 4 5" ∷ [])
   below : AreBad 2 24 (one (codes "shift s t 0 -1073741825 0") ∷ [])
-  whole : AreBad 1 24 (codes "lattice l 0 0" ∷ codes "lattice l 61 0" ∷ codes "lattice l +1 0" ∷ codes "lattice l 1. 0" ∷ codes "lattice l 00000001 0" ∷ codes "lattice l 1 1000000" ∷ [])
+  whole : AreBad 1 24 (codes "lattice l 0 0" ∷ codes "lattice l 61 0" ∷ codes "lattice l +1 0" ∷ codes "lattice l 1. 0" ∷ codes "lattice l 00000001 0" ∷ codes
+      "lattice l 1 1000000" ∷ [])
   factors : AreBad 2 24 (one (codes "scale s t 0") ∷ one (codes "scale s t 1000001") ∷ [])
   axes : AreBad 2 24 (one (codes "mirror m t X") ∷ one (codes "turn m t w") ∷ one (codes "turn m t xy") ∷ [])
   counts : AreBad 1 21 (codes "box a 0 0 0 1 1" ∷ codes "tetra t 0 0 0 6 6" ∷ codes "measure" ∷ codes "exact a" ∷ codes "tidy a" ∷ codes "tidy a b c" ∷ codes "remesh a" ∷ [])
@@ -106,11 +107,25 @@ record HaveNoValue : Type 0 where
 
 have_no_value : HaveNoValue
 unfolding chars is_utf8 encode_utf8 number_of number_fault
-have_no_value = record { numbers = refl; below = refl; whole = refl; factors = refl; axes = refl; counts = refl; name_first = refl; old_first = refl; old_name_first = refl; measured = refl }
+have_no_value =
+    record {
+      numbers = refl;
+      below = refl;
+      whole = refl;
+      factors = refl;
+      axes = refl;
+      counts = refl;
+      name_first = refl;
+      old_first = refl;
+      old_name_first = refl;
+      measured = refl;
+    }
 
 -- no command; too few words or too many; no name; a name that no line before gave a mesh; no file of a known kind
 record AreRefused : Type 0 where
-  words : AreBad 1 20 (codes "Load a c.obj" ∷ codes "loads a c.obj" ∷ codes "measures a" ∷ codes "exactly" ∷ (239 ∷ 187 ∷ 191 ∷ 239 ∷ 187 ∷ 191 ∷ codes "load a c.obj") ∷ codes "load\r a c.obj" ∷ codes "cut" ∷ [])
+  words : AreBad 1 20
+      (codes "Load a c.obj" ∷ codes "loads a c.obj" ∷ codes "measures a" ∷ codes "exactly" ∷ (239 ∷ 187 ∷ 191 ∷ 239 ∷ 187 ∷ 191 ∷ codes "load a c.obj") ∷ codes
+      "load\r a c.obj" ∷ codes "cut" ∷ [])
   counts : AreBad 3 21 (two (codes "union u a") ∷ two (codes "union u a b_2 a") ∷ [])
   counts_first : AreBad 1 21 (codes "load a #c.obj" ∷ codes "load 1 c.ply d" ∷ [])
   names : AreBad 1 22 (codes "load 1a c.obj" ∷ codes "load _a c.obj" ∷ codes "load a-b c.obj" ∷ (codes "load " ++ replicate 33 65 ++ codes " c.obj") ∷ [])

@@ -28,7 +28,8 @@ save_line name file m = line_of (codes "save " ++ name ++ codes " " ++ file ++ s
 -- , components C, euler E, volume6 V
 abbrev pub measures_text : Mesh → Bytes
 measures_text m =
-    codes ", components " ++ decimal (component_count (length m.points) (all_edges m.triples)) ++ codes ", euler " ++ signed_decimal (euler_of (length m.points) (length m.triples)) ++
+    codes ", components " ++ decimal (component_count (length m.points) (all_edges m.triples)) ++ codes ", euler "
+    ++ signed_decimal (euler_of (length m.points) (length m.triples)) ++
     codes ", volume6 " ++ signed_decimal (volume6_of m.points m.triples)
 
 -- NAME: points P, triangles T, components C, euler E, volume6 V

@@ -122,7 +122,8 @@ by_number status n is = same status ∙ ap numbered is where
 pub done_or_starved : (status : Status) (n : ℕ) → status_number status ≡ n → (n ≡ 0) ⊎ (n ≡ 8) → IsDoneOrStarved status
 done_or_starved status n is which = elim which [ inl zero ↦ inl (by_number status 0 (is ∙ zero)) | inr eight ↦ inr (by_number status 8 (is ∙ eight)) ]
 
-module _ {S O E : Type 0} (s : OfShelf S) (o : OfSink O) (e : OfSink E) (old new : S × O × E) (reads : s.read_faults old.0 < 2 ^ 64 - 1) (writes : s.write_faults old.0 < 2 ^ 64 - 1) (outs : o.faults old.1 < 2 ^ 64 - 1) where
+module _ {S O E : Type 0} (s : OfShelf S) (o : OfSink O) (e : OfSink E) (old new : S × O × E) (reads : s.read_faults old.0 < 2 ^ 64 - 1)
+    (writes : s.write_faults old.0 < 2 ^ 64 - 1) (outs : o.faults old.1 < 2 ^ 64 - 1) where
   -- the counts rise with the status of a task that was met
   pub rise_on : (t : Task (Unit {0})) (status : ℕ) → MeetsAs s o e t old new status → RiseOn s o (old.0, old.1) (new.0, new.1) status
   rise_on t status met =

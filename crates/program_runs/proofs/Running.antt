@@ -52,7 +52,8 @@ script_worded script (Err halt.NoMemory) halts is = cc
 module _ {S O E : Type 0} (s : OfShelf S) (o : OfSink O) (e : OfSink E) (limits : Limits) (words : Option Command) (old new : S × O × E) (before now : ℕ) (status : Status) where
   -- a command that the words ask for
   command_run : (command : Command) (MayHalt : Halt → Type 0) → words ≡ Some command → IsEnded s o e (command_task meanings limits (Some command)) MayHalt old new status
-      → ((ended : Result (Unit {0}) Halt) → IfErr ended MayHalt → ended_status (halted ended) ≡ 1 → ⊥) → IsCounted limits (Some command) (s.tells old.0) (s.files old.0) before now status
+      → ((ended : Result (Unit {0}) Halt) → IfErr ended MayHalt → ended_status (halted ended) ≡ 1 → ⊥) → IsCounted limits (Some command) (s.tells old.0)
+      (s.files old.0) before now status
       → IsRunOf s o e limits words old new before now status
   command_run command MayHalt asked ends no_words steps =
       let worded : status ≡ statuses.Usage → ⊥ = λ is. no_words ends.ended ends.met.halts (sym ends.told.0 ∙ ap status_number is) in
@@ -68,15 +69,19 @@ module _ {S O E : Type 0} (s : OfShelf S) (o : OfSink O) (e : OfSink E) (limits 
         steps = steps;
       })
 
-  pub point_run : (k : ℕ) (file : Bytes) (point : List ℤ) → words ≡ Some (InsideFile k file point) → IsEnded s o e (inside_task k windings limits file point) (IsHaltOfInside file) old new status
+  pub point_run : (k : ℕ) (file : Bytes) (point : List ℤ) → words ≡ Some (InsideFile k file point) →
+      IsEnded s o e (inside_task k windings limits file point) (IsHaltOfInside file) old new status
       → now ≡ before + steps_of_point status → IsRunOf s o e limits words old new before now status
   point_run k file point asked ends counted =
-      command_run (InsideFile k file point) (IsHaltOfInside file) asked ends (inside_worded file) (point_counted limits (s.tells old.0) (s.files old.0) k file point before now status counted)
+      command_run (InsideFile k file point) (IsHaltOfInside file) asked ends (inside_worded file)
+      (point_counted limits (s.tells old.0) (s.files old.0) k file point before now status counted)
 
-  pub script_run : (k : ℕ) (script : Bytes) → words ≡ Some (RunScript k script) → IsEnded s o e (script_task operations.meanings k limits script) (IsHaltOfScript script) old new status
+  pub script_run : (k : ℕ) (script : Bytes) → words ≡ Some (RunScript k script) →
+      IsEnded s o e (script_task operations.meanings k limits script) (IsHaltOfScript script) old new status
       → (IsTrue (s.tells old.0) → now ≤ before + script_cost operations.meanings k limits script (s.files old.0)) → IsRunOf s o e limits words old new before now status
   script_run k script asked ends cost =
-      command_run (RunScript k script) (IsHaltOfScript script) asked ends (script_worded script) (script_counted limits (s.tells old.0) (s.files old.0) k script before now status cost)
+      command_run (RunScript k script) (IsHaltOfScript script) asked ends (script_worded script)
+      (script_counted limits (s.tells old.0) (s.files old.0) k script before now status cost)
 
 module _ {S O E : Type 0} (s : OfShelf S) (o : OfSink O) (e : OfSink E) (limits : Limits) (words : Option Command) (steps : ℕ) where
   pub copy_run : (k : ℕ) (from to : Bytes) (old new : S × O × E) (status : Status) → words ≡ Some (CopyFile k from to)
@@ -90,7 +95,8 @@ module _ {S O E : Type 0} (s : OfShelf S) (o : OfSink O) (e : OfSink E) (limits 
       → IsRunOf s o e limits words (shelf, out, err) (shelf, out, told) steps steps statuses.Usage
   refused_run shelf out err told none line =
       let now = seen_of s o shelf out in
-      let refused : Meets (command_task meanings limits None) now now (Err (Refused NoCommand)) = record { tells = refl; faults = refl; does = λ t. record { gives = refl; all_done = refl } } in
+      let refused : Meets (command_task meanings limits None) now now (Err (Refused NoCommand)) =
+      record { tells = refl; faults = refl; does = λ t. record { gives = refl; all_done = refl } } in
       let P : Option Command → Type 0 = λ w. IsRunOf s o e limits w (shelf, out, err) (shelf, out, told) steps steps statuses.Usage in
       subst P (sym none)
       (record {

@@ -26,7 +26,8 @@ pub record IsSoundPlay (limits : Limits) (words : List Bytes) : Type 0 where
   pub remeshed : CommandRemeshes limits (command words)
 
 -- a run on these words over a shelf, an output and standard error, with its steps and its status
-pub record IsSoundRun {S O E : Type 0} (s : OfShelf S) (o : OfSink O) (e : OfSink E) (limits : Limits) (words : List Bytes) (old new : S × O × E) (before now : ℕ) (status : Status) : Type 0 where
+pub record IsSoundRun {S O E : Type 0} (s : OfShelf S) (o : OfSink O) (e : OfSink E) (limits : Limits) (words : List Bytes) (old new : S × O × E)
+    (before now : ℕ) (status : Status) : Type 0 where
   pub run : IsRunOf s o e limits (command words) old new before now status
   pub counts : RiseOn s o (old.0, old.1) (new.0, new.1) (status_number status)
   pub complete : IsUntroubled s o limits words (old.0, old.1) (new.0, new.1) → IsDoneOrStarved status

@@ -13,7 +13,7 @@ CommandGivesResults limits (Some (CopyFile k from to)) = Unit {0}
 CommandGivesResults limits (Some (InsideFile k file p)) = Unit {0}
 CommandGivesResults limits (Some (RunScript k script)) = GivesResults k limits script
 
--- and remeshing keeps all of the mesh of a name
+-- and what remeshing keeps holds of the mesh of each name
 abbrev pub CommandRemeshes : Limits → Option Command → Type 0
 CommandRemeshes limits None = Unit {0}
 CommandRemeshes limits (Some (CopyFile k from to)) = Unit {0}

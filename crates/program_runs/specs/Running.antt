@@ -24,7 +24,8 @@ pub record IsCounted (limits : Limits) (what : Option Command) (tells : Bool) (f
   pub uncounted : (IsRun what → ⊥) → (status ≡ Done → ⊥) → (status ≡ WriteFault → ⊥) → now ≡ before
 
 -- all of it, where None stands for words of no command
-pub record IsRunOf {S O E : Type 0} (s : OfShelf S) (o : OfSink O) (e : OfSink E) (limits : Limits) (what : Option Command) (old new : S × O × E) (before now : ℕ) (status : Status) : Type 0 where
+pub record IsRunOf {S O E : Type 0} (s : OfShelf S) (o : OfSink O) (e : OfSink E) (limits : Limits) (what : Option Command) (old new : S × O × E)
+    (before now : ℕ) (status : Status) : Type 0 where
   pub usage : status ≡ Usage → what ≡ None
   pub no_command : what ≡ None → IsUsageOrStarved status
   pub refused : status ≡ Usage → IsReported lines.usage (on_output e old.2) (on_output e new.2)

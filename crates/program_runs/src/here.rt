@@ -20,7 +20,7 @@ use steps::Steps;
 
 /// The program over the current folder, which counts its steps for nobody. What the folder holds can't be told. So of a run it says what needs no told
 /// files: the status with its line on `err`; that the faults of `out` rise with status 7 alone; and of the play of the words, whatever the files, how
-/// what it writes is read again and what its operations give.
+/// what it writes is read again, what its operations give, and what remeshing keeps.
 pub fn start_here<R: Files, O: Sink, E: Sink, L: Ledger>(
     rt: &R,
     alloc: Global,

@@ -1,5 +1,5 @@
 -- What a patch keeps.
-use Rattle.std.proofs.Common.{◌≡◌, ◌*◌, ◌+◌, ◌/◌, ◌<◌, ◌≤◌, ◌∷◌, ◌∙◌, ℕ, zero, suc, ℤ, pos, List, [], true, false, ap, arith, get_or, inl, inr, length, map, refl, subst, sym}
+use Rattle.std.proofs.Common.{◌≡◌, ◌/◌, ◌<◌, ◌≤◌, ◌∷◌, ℕ, zero, suc, ℤ, pos, List, [], true, ap, arith, get_or, inl, inr, length, refl, subst, sym}
 use Rattle.std.specs.Prelude.{◌&&◌, bytes_eq, not}
 use Rattle.std.specs.List.{All, AllPass}
 use Rattle.std.specs.Ordering.{int_eq}
@@ -14,7 +14,6 @@ use Rattle.chain_terms.specs.Ranks.{start, twin}
 use Rattle.chain_laws.specs.Chains.{boundary_same}
 use Rattle.face_plane.specs.Planes.{point_at}
 use Rattle.face_plane.specs.Rings.{in_list}
-use Rattle.halfedge.proofs.Edges.{length-all_edges}
 use Rattle.made_laws.specs.Laws.{IsGiven}
 use Rattle.made_terms.specs.Volume.{volume6_of}
 use Rattle.mesh_terms.specs.Labels.{label_at}
@@ -24,7 +23,8 @@ use Rattle.remesh_laws.specs.Laws.{IsKept, LiesIn, PatchesAreKept}
 use Rattle.remesh_laws.specs.Patches.{IsPatch}
 use Rattle.remesh_laws.proofs.Dropping.{three_of}
 use Rattle.remesh_laws.proofs.Filling.{are_taken, few_not_left, low_places, new_chain, new_left, rim_are, stayed_triangles, taken_triangles, vertex_of_place}
-use Rattle.remesh_laws.proofs.Planes.{LieIn, drop_below, drop_counts, plane_volume}
+use Rattle.face_plane.proofs.Dropped.{drop_below}
+use Rattle.remesh_laws.proofs.Planes.{LieIn, drop_counts, plane_volume}
 use Rattle.remesh_laws.proofs.Reaching.{patches_are_patches}
 use Rattle.remesh_terms.specs.Derived.{has_three, triple_at}
 use Rattle.remesh_terms.specs.Patches.{Patch, is_flat, is_like, level, lies_in_plane, normal, scalar}

@@ -1,9 +1,8 @@
 -- In a plane the volume of triangles is a multiple of their areas, and these are those of their boundary.
-use Rattle.std.proofs.Common.{◌≡◌, ◌*◌, ◌<◌, ◌≤◌, ◌∷◌, ◌∙◌, ℕ, zero, suc, ℤ, pos, negsuc, Bool, List, [], true, false, ap, arith, cond, refl, sym}
-use Rattle.std.specs.Prelude.{◌+ℤ◌, ◌-ℤ◌, ◌*ℤ◌, ◌&&◌, if◌then◌else◌, nat_lt, not, unsigned_abs}
+use Rattle.std.proofs.Common.{◌≡◌, ◌*◌, ◌<◌, ◌∷◌, ◌∙◌, ℕ, zero, suc, ℤ, pos, List, [], ap, arith, refl, sym}
+use Rattle.std.specs.Prelude.{◌+ℤ◌, ◌-ℤ◌, ◌*ℤ◌, not, unsigned_abs}
 use Rattle.std.specs.List.{All}
 use Rattle.std.proofs.Math.IntN.{*ℤ-zero, *ℤ_comm}
-use Rattle.std.proofs.lemmas.Bool.{ltb-false, ltb-true}
 use Rattle.std.proofs.lemmas.Int.{ints, unsigned_abs-mul}
 use Rattle.std.proofs.lemmas.List.Elements.{All-weaker}
 use Rattle.chain_terms.specs.Chains.{all_edges}
@@ -13,7 +12,8 @@ use Rattle.chain_laws.specs.Areas.{area_at, orientation}
 use Rattle.chain_laws.specs.Products.{mul-add, mul-assoc, mul-sub, sub-mul, total-times}
 use Rattle.chain_laws.specs.Sums.{total-same_all}
 use Rattle.chain_laws.proofs.Areas.{area_odd, areas_of_triangles}
-use Rattle.face_plane.specs.Planes.{flat_point, greatest_axis, plane_drop, point_at, turn}
+use Rattle.face_plane.specs.Planes.{flat_point, plane_drop, point_at, turn}
+use Rattle.face_plane.proofs.Dropped.{all_none, no_size}
 use Rattle.made_terms.specs.Volume.{determinant, triangle_determinant, volume6_of}
 use Rattle.mesh_terms.specs.Meshes.{Triple}
 use Rattle.mesh_terms.specs.Points.{coordinate_of, cross_product, cross_x, cross_y, cross_z}
@@ -161,55 +161,14 @@ plane_determinant n d (suc (suc zero)) a b c axis a_in b_in c_in =
     ∙ ap (λ z. d *ℤ z) (sym (turn_area (flat_point 2 a) (flat_point 2 b) (flat_point 2 c)))
 plane_determinant n d (suc (suc (suc k))) a b c axis a_in b_in c_in = absurd (omega (arith, axis))
 
--- a number without a size is 0
-no_size : (z : ℤ) → unsigned_abs z ≡ 0 → z ≡ pos 0
-no_size (pos zero) e = refl
-no_size (pos (suc m)) e = absurd (omega (arith, e))
-no_size (negsuc m) e = absurd (omega (arith, e))
-
--- where the greatest of three numbers is 0, all are
-record AllNone (x y z : ℤ) : Type 0 where
-  x_none : x ≡ pos 0
-  y_none : y ≡ pos 0
-  z_none : z ≡ pos 0
-
-all_none : (x y z : ℤ) → coordinate_of (x ∷ y ∷ z ∷ []) (greatest_axis (unsigned_abs x) (unsigned_abs y) (unsigned_abs z)) ≡ pos 0 → AllNone x y z
-all_none x y z e =
-    let sizes : ℤ → ℕ = unsigned_abs in by (nat_lt (sizes z) (sizes x)) (nat_lt (sizes z) (sizes y)) (nat_lt (sizes y) (sizes x)) refl refl refl e
-  where
-    size_of : (u : ℤ) → u ≡ pos 0 → unsigned_abs u ≡ 0
-    size_of u e = ap unsigned_abs e
-
-    by : (p q r : Bool) → nat_lt (unsigned_abs z) (unsigned_abs x) ≡ p → nat_lt (unsigned_abs z) (unsigned_abs y) ≡ q → nat_lt (unsigned_abs y) (unsigned_abs x) ≡ r →
-        coordinate_of (x ∷ y ∷ z ∷ []) (if not p && not q then 2 else if not r then 1 else 0) ≡ pos 0 → AllNone x y z
-    by false false r xz yz xy e =
-        let none = size_of z e in
-        record {
-          x_none = no_size x (omega (arith, ltb-false (unsigned_abs z) (unsigned_abs x) xz, none));
-          y_none = no_size y (omega (arith, ltb-false (unsigned_abs z) (unsigned_abs y) yz, none));
-          z_none = e;
-        }
-    by true q false xz yz xy e = absurd (omega (arith, size_of y e, ltb-true (unsigned_abs z) (unsigned_abs x) xz, ltb-false (unsigned_abs y) (unsigned_abs x) xy))
-    by true q true xz yz xy e = absurd (omega (arith, size_of x e, ltb-true (unsigned_abs z) (unsigned_abs x) xz))
-    by false true false xz yz xy e = absurd (omega (arith, size_of y e, ltb-true (unsigned_abs z) (unsigned_abs y) yz))
-    by false true true xz yz xy e = absurd (omega (arith, size_of x e, ltb-true (unsigned_abs y) (unsigned_abs x) xy))
-
 -- the dropped axis is one on which the normal is not 0, where it is not 0 on all
 pub drop_counts : (a b c : List ℤ) → (cross_product a b c ≡ pos 0 ∷ pos 0 ∷ pos 0 ∷ [] → ⊥) → coordinate_of (cross_product a b c) (plane_drop a b c) ≡ pos 0 → ⊥
-drop_counts a b c some zero_there = let none = all_none (cross_x a b c) (cross_y a b c) (cross_z a b c)
-    zero_there in let x = none.x_none in let y = none.y_none in let z = none.z_none in some cc
-
-pub drop_below : (a b c : List ℤ) → plane_drop a b c < 3
-drop_below a b c =
-    let sizes : ℤ → ℕ = unsigned_abs in
-    by (nat_lt (sizes (cross_z a b c)) (sizes (cross_x a b c))) (nat_lt (sizes (cross_z a b c)) (sizes (cross_y a b c))) (nat_lt (sizes (cross_y a b c)) (sizes (cross_x a b c)))
-  where
-    by : (p q r : Bool) → (if not p && not q then 2 else if not r then 1 else 0) < 3
-    by false false r = omega arith
-    by false true true = omega arith
-    by false true false = omega arith
-    by true q true = omega arith
-    by true q false = omega arith
+drop_counts a b c some zero_there =
+    let none = all_none (cross_x a b c) (cross_y a b c) (cross_z a b c) zero_there in
+    let x = none.x_none in
+    let y = none.y_none in
+    let z = none.z_none in
+    some cc
 
 -- a factor that is not 0 can be divided out
 no_product : (a b : ℕ) → a * b ≡ 0 → (a ≡ 0 → ⊥) → b ≡ 0

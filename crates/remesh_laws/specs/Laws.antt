@@ -18,10 +18,10 @@ use Rattle.tidy_terms.specs.PointTriples.{count_at, same_point}
 abbrev pub surplus_at : List (List ℤ) → (List ℤ × List ℤ × List ℤ) → List Triple → ℤ
 surplus_at points ps ts = pos (count_at points ps ts) -ℤ pos (count_at points (ps.0, ps.2, ps.1) ts)
 
--- as many at each three different points
+-- the same surplus at each three different points
 abbrev pub KeepsSurface : Mesh → Mesh → Type 0
-KeepsSurface m w = (p q r : List ℤ) → same_point p q ≡ false → same_point q r ≡ false →
-    same_point r p ≡ false → surplus_at w.points (p, q, r) w.triples ≡ surplus_at m.points (p, q, r) m.triples
+KeepsSurface m w = (p q r : List ℤ) → same_point p q ≡ false → same_point q r ≡ false → same_point r p ≡ false →
+    surplus_at w.points (p, q, r) w.triples ≡ surplus_at m.points (p, q, r) m.triples
 
 -- what welding keeps of a mesh
 pub record IsWelded (m w : Mesh) : Type 0 where

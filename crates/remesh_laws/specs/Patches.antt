@@ -27,7 +27,7 @@ pub record IsPatch (m : Mesh) (p : Patch) : Type 0 where
 abbrev pub times_taken : List Patch → ℕ → ℕ
 times_taken all t = count_by (λ p. in_list t p.triangles) all
 
--- all patches are ones; no triangle is in two, and each with an area is in one
+-- each of the list is a patch; no triangle is in two, and each with an area is in one
 pub record ArePatches (m : Mesh) (all : List Patch) : Type 0 where
   pub each : All (IsPatch m) all
   pub once : (t : ℕ) → t < length m.triples → times_taken all t < 2

@@ -82,7 +82,7 @@ not_left at ts = count_by (λ t. not (is_left at t)) ts
 abbrev pub is_better : ℕ → ℕ → ℕ → ℕ → Bool
 is_better forced bad new old = forced == 0 || nat_lt forced bad || (forced == bad && nat_lt new old)
 
--- a rim can be filled; and no triangle of the filling has two places of one vertex, it has no more triangles, and is better
+-- the rim is not too long to be filled; and no triangle of the filling has two places of one vertex, it has no more triangles, and is better
 abbrev pub is_refilled : Mesh → Patch → Bool
 is_refilled m p =
     let new = new_triangles m p in

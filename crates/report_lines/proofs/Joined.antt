@@ -53,7 +53,8 @@ part_of_next f xs i d old mid new room room_mid room_new low added taken part =
             ∙ all_texts f xs i d low,
       );
       added = added_twice old mid new before part.part added part.added;
-      taken = lowered_twice room room_mid room_new (length before) (length part.part) taken part.taken ∙ ap (λ (n : ℕ). option_map (λ free. free - n) room) (sym (length-append before part.part));
+      taken = lowered_twice room room_mid room_new (length before) (length part.part) taken part.taken ∙ ap (λ (n : ℕ). option_map (λ free. free - n) room)
+          (sym (length-append before part.part));
     }
 
 -- no texts

@@ -4,7 +4,8 @@ use Rattle.text_terms.specs.Written.{line_of}
 use Rattle.run_terms.specs.Files.{Bytes}
 
 -- three texts, each with a number, put into a line one after the other
-pub three_put : (a x b y c z put_y put_z first second third last : Bytes) → first ≡ a ++ x → second ≡ first ++ (b ++ put_y) → third ≡ second ++ (c ++ put_z) → last ≡ third ++ codes "\n"
+pub three_put : (a x b y c z put_y put_z first second third last : Bytes) → first ≡ a ++ x → second ≡ first ++ (b ++ put_y) → third ≡ second ++ (c ++ put_z) →
+    last ≡ third ++ codes "\n"
     → put_y ≡ y → put_z ≡ z → last ≡ line_of (a ++ x ++ b ++ y ++ c ++ z)
 three_put a x b y c z put_y put_z first second third last one two three end is_y is_z =
     let before : second ≡ a ++ x ++ b ++ y = two ∙ (λ i. one i ++ (b ++ is_y i)) ∙ sym (append_assoc (a ++ x) b y) in

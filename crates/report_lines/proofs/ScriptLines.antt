@@ -21,7 +21,8 @@ pub two_before : (a b text line : Bytes) → line ≡ line_of text → a ++ (b +
 two_before a b text line is = sym (append_assoc a b (line ++ [])) ∙ ap (λ t. a ++ b ++ t) (append-nil line ∙ is) ∙ sym (append_assoc (a ++ b) text (10 ∷ []))
 
 -- the word of an operation with what stands round it, before a text
-op_parts : (op : Op) (left right text : Bytes) → (codes " = " ++ op_word op ++ codes " ") ++ (left ++ (codes " " ++ (right ++ text))) ≡ codes " = " ++ (operation_text op left right ++ text)
+op_parts : (op : Op) (left right text : Bytes) → (codes " = " ++ op_word op ++ codes " ") ++ (left ++ (codes " " ++ (right ++ text))) ≡ codes " = "
+    ++ (operation_text op left right ++ text)
 op_parts op left right text =
     let word = op_word op in
     let rest = left ++ (codes " " ++ (right ++ text)) in

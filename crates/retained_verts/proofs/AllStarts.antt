@@ -34,12 +34,14 @@ by_copy p q cs names =
     let Q = all_edges q.triples in
     let test : ListName → Copy → Bool = λ name c. int_lt (pos 0) (standing P Q name c) in
     sym (total_pos (λ name. length (starts P Q cs name)) names)
-    ∙ total-same (λ name. pos (length (starts P Q cs name))) (λ name. total (λ c. pos (one_if (test name c))) cs) (λ name. ap pos (length-places (test name) no_copy cs) ∙ sym (total-count_by (test name) cs)) names
+    ∙ total-same (λ name. pos (length (starts P Q cs name))) (λ name. total (λ c. pos (one_if (test name c))) cs)
+    (λ name. ap pos (length-places (test name) no_copy cs) ∙ sym (total-count_by (test name) cs)) names
     ∙ total-swap (λ name c. pos (one_if (test name c))) names cs
     ∙ total-same (λ c. total (λ name. pos (one_if (test name c))) names) (λ c. pos (start_count p q names c)) (λ c. total-count_by (λ name. test name c) names) cs
 
 -- and of the lists of many faces
-by_face : (p q : Side) (cs : List Copy) (lists : ℕ → List ListName) (n : ℕ) → pos (sum_by (λ f. count_starts p q cs (lists f)) (upto n)) ≡ total (λ c. total (λ f. pos (start_count p q (lists f) c)) (upto n)) cs
+by_face : (p q : Side) (cs : List Copy) (lists : ℕ → List ListName) (n : ℕ) →
+    pos (sum_by (λ f. count_starts p q cs (lists f)) (upto n)) ≡ total (λ c. total (λ f. pos (start_count p q (lists f) c)) (upto n)) cs
 by_face p q cs lists n =
     sym (total_pos (λ f. count_starts p q cs (lists f)) (upto n))
     ∙ total-same (λ f. pos (count_starts p q cs (lists f))) (λ f. total (λ c. pos (start_count p q (lists f) c)) cs) (λ f. by_copy p q cs (lists f)) (upto n)
@@ -59,7 +61,8 @@ corner_sum t v three = elim (cases_Bool (has t v)) as (λ _. same t.0 v + (same 
   | inr n ↦ no_corner t v n ∙ sym (ap one_if n)
 ]
 
-corners_sum : (ts : List Triple) (v : ℕ) → All HasThree ts → total (λ f. let t = get_or ts f (0, 0, 0) in pos (same t.0 v + (same t.1 v + same t.2 v))) (upto (length ts)) ≡ pos (triples_at ts v)
+corners_sum : (ts : List Triple) (v : ℕ) → All HasThree ts → total (λ f. let t = get_or ts f (0, 0, 0) in pos (same t.0 v + (same t.1 v + same t.2 v)))
+    (upto (length ts)) ≡ pos (triples_at ts v)
 corners_sum ts v three =
     let corners : Triple → ℤ = λ t. pos (same t.0 v + (same t.1 v + same t.2 v)) in
     sym (total-places corners (0, 0, 0) ts)
@@ -77,7 +80,8 @@ two_of a b n one other =
     omega (arith, ints, split, total-add (λ f. pos (same f a)) (λ f. pos (same f b)) (upto n), one_face a n one, one_face b n other)
 
 -- over all faces of both sides
-over_faces : (p q : Side) → IsSide p → IsSide q → (x : Origin) → IsFrom p q x → total (λ f. pos (p_count p q x f)) (upto (length p.triples)) +ℤ total (λ g. pos (q_count p q x g)) (upto (length q.triples)) ≡ pos (faces_of p q x)
+over_faces : (p q : Side) → IsSide p → IsSide q → (x : Origin) → IsFrom p q x →
+    total (λ f. pos (p_count p q x f)) (upto (length p.triples)) +ℤ total (λ g. pos (q_count p q x g)) (upto (length q.triples)) ≡ pos (faces_of p q x)
 over_faces p q p_known q_known (PVertex v) from = omega (arith, ints, corners_sum p.triples v p_known.accepted.mesh.three, total-zero (upto (length q.triples)))
 over_faces p q p_known q_known (QVertex v) from = omega (arith, ints, corners_sum q.triples v q_known.accepted.mesh.three, total-zero (upto (length p.triples)))
 over_faces p q p_known q_known (PEdge e g) from =
@@ -89,29 +93,35 @@ over_faces p q p_known q_known (QEdge e f) from =
 
 -- of one copy
 of_copy : (p q : Side) → IsSide p → IsSide q → (c : Copy) → IsFrom p q c.origin →
-    total (λ f. pos (start_count p q (lists_of_p (length q.triples) f) c)) (upto (length p.triples)) +ℤ total (λ g. pos (start_count p q (lists_of_q (length p.triples) g) c)) (upto (length q.triples)) ≡ pos (faces_of p q c.origin)
+    total (λ f. pos (start_count p q (lists_of_p (length q.triples) f) c)) (upto (length p.triples)) +ℤ total
+    (λ g. pos (start_count p q (lists_of_q (length p.triples) g) c)) (upto (length q.triples)) ≡ pos (faces_of p q c.origin)
 of_copy p q p_known q_known c from =
     let m = length p.triples in
     let n = length q.triples in
-    let at_p = total-upto_same (λ f. pos (start_count p q (lists_of_p n f) c)) (λ f. pos (p_count p q c.origin f)) m (λ f below. ap pos (p_starts p q p_known q_known c from f below)) in
-    let at_q = total-upto_same (λ g. pos (start_count p q (lists_of_q m g) c)) (λ g. pos (q_count p q c.origin g)) n (λ g below. ap pos (q_starts p q p_known q_known c from g below)) in
+    let at_p = total-upto_same (λ f. pos (start_count p q (lists_of_p n f) c)) (λ f. pos (p_count p q c.origin f)) m
+    (λ f below. ap pos (p_starts p q p_known q_known c from f below)) in
+    let at_q = total-upto_same (λ g. pos (start_count p q (lists_of_q m g) c)) (λ g. pos (q_count p q c.origin g)) n
+    (λ g below. ap pos (q_starts p q p_known q_known c from g below)) in
     omega (arith, ints, at_p, at_q, over_faces p q p_known q_known c.origin from)
 
 -- the copies of what is included
 of_included : (p q : Side) (is : List Included) → total (λ c. pos (faces_of p q c.origin)) (flat_map copies_of is) ≡ total (λ i. pos (nat_abs i.number * faces_of p q i.origin)) is
 of_included p q is =
     total-flat_map (λ c. pos (faces_of p q c.origin)) copies_of is
-    ∙ total-same (λ i. total (λ c. pos (faces_of p q c.origin)) (copies_of i)) (λ i. pos (nat_abs i.number * faces_of p q i.origin)) (λ i. total-replicate (λ c. pos (faces_of p q c.origin)) (nat_abs i.number) (copy_of i) ∙ product (nat_abs i.number) (faces_of p q i.origin)) is
+    ∙ total-same (λ i. total (λ c. pos (faces_of p q c.origin)) (copies_of i)) (λ i. pos (nat_abs i.number * faces_of p q i.origin))
+    (λ i. total-replicate (λ c. pos (faces_of p q c.origin)) (nat_abs i.number) (copy_of i) ∙ product (nat_abs i.number) (faces_of p q i.origin)) is
   where
     product : (a b : ℕ) → pos a *ℤ pos b ≡ pos (a * b)
     product a b = omega (arith, ints)
 
 -- vertices and hits
-of_vertices : (p q : Side) (origin : ℕ → Origin) (number : ℤ → ℤ) (ws : List ℤ) (ps : List (List ℤ)) (n : ℕ) (ts : List Triple) → n ≡ length ws → ((v : ℕ) → faces_of p q (origin v) ≡ triples_at ts v) →
+of_vertices : (p q : Side) (origin : ℕ → Origin) (number : ℤ → ℤ) (ws : List ℤ) (ps : List (List ℤ)) (n : ℕ) (ts : List Triple) → n ≡ length ws →
+    ((v : ℕ) → faces_of p q (origin v) ≡ triples_at ts v) →
     total (λ i. pos (nat_abs i.number * faces_of p q i.origin)) (included_vertices origin number ws ps n) ≡ pos (vertex_halfedges number ws ts)
 of_vertices p q origin number ws ps n ts long faces =
     let s : ℕ → ℕ = λ v. nat_abs (number (get_or ws v (pos 0))) in
-    total-map (λ (i : Included). pos (nat_abs i.number * faces_of p q i.origin)) (λ v. record { origin = origin v; number = number (get_or ws v (pos 0)); point = get_or ps v [] }) (upto n)
+    total-map (λ (i : Included). pos (nat_abs i.number * faces_of p q i.origin))
+    (λ v. record { origin = origin v; number = number (get_or ws v (pos 0)); point = get_or ps v [] }) (upto n)
     ∙ total-same (λ v. pos (s v * faces_of p q (origin v))) (λ v. pos (s v * triples_at ts v)) (λ v. ap (λ k. pos (s v * k)) (faces v)) (upto n)
     ∙ ap (λ m. total (λ v. pos (s v * triples_at ts v)) (upto m)) long ∙ total_pos (λ v. s v * triples_at ts v) (upto (length ws))
 
@@ -119,7 +129,8 @@ of_hits : (p q : Side) (op : Op) (origin : ℕ → ℕ → Origin) (hs : List Hi
     total (λ i. pos (nat_abs i.number * faces_of p q i.origin)) (included_hits origin (hit_number_of op) hs) ≡ pos (3 * hit_count op hs)
 of_hits p q op origin hs three =
     let s : Hit → ℕ = λ h. nat_abs (hit_number_of op h.number) in
-    let listed = total-map (λ (i : Included). pos (nat_abs i.number * faces_of p q i.origin)) (λ h. record { origin = origin h.edge h.face; number = hit_number_of op h.number; point = h.at }) hs in
+    let listed = total-map (λ (i : Included). pos (nat_abs i.number * faces_of p q i.origin))
+    (λ h. record { origin = origin h.edge h.face; number = hit_number_of op h.number; point = h.at }) hs in
     let each = total-same (λ h. pos (s h * faces_of p q (origin h.edge h.face))) (λ h. pos 3 *ℤ pos (s h)) (λ h. ap (λ k. pos (s h * k)) (three h.edge h.face) ∙ thrice (s h)) hs in
     omega (arith, ints, listed, each, total-times (pos 3) (λ h. pos (s h)) hs, total_pos s hs)
   where
@@ -127,7 +138,8 @@ of_hits p q op origin hs three =
     thrice n = omega (arith, ints)
 
 -- so the half-edges are counted by the starts
-pub all_starts : (op : Op) (p q : Side) (n : Numbers) → IsSide p → IsSide q → length n.w03 ≡ length p.corners → length n.w30 ≡ length q.corners → AreHits (all_edges p.triples) (length q.triples) n.x12 → AreHits (all_edges q.triples) (length p.triples) n.x21 →
+pub all_starts : (op : Op) (p q : Side) (n : Numbers) → IsSide p → IsSide q → length n.w03 ≡ length p.corners → length n.w30 ≡ length q.corners →
+    AreHits (all_edges p.triples) (length q.triples) n.x12 → AreHits (all_edges q.triples) (length p.triples) n.x21 →
     prescribed_halfedges op p q n ≡ count_all_starts p q (prescribed op p q n)
 all_starts op p q n p_known q_known p_long q_long x12 x21 =
     let cs = prescribed op p q n in
@@ -139,9 +151,12 @@ all_starts op p q n p_known q_known p_long q_long x12 x21 =
     let at_p : Copy → ℤ = λ c. total (λ f. pos (start_count p q (lists_of_p (length q.triples) f) c)) (upto (length p.triples)) in
     let at_q : Copy → ℤ = λ c. total (λ g. pos (start_count p q (lists_of_q (length p.triples) g) c)) (upto (length q.triples)) in
     let both = total-add at_p at_q cs in
-    let each = total-same_all (λ c. at_p c +ℤ at_q c) (λ c. pos (faces_of p q c.origin)) cs (All-weaker (λ c. IsFrom p q c.origin) (λ c. at_p c +ℤ at_q c ≡ pos (faces_of p q c.origin)) (of_copy p q p_known q_known) cs (all_from op p q n x12 x21)) in
-    let one : total w pv ≡ pos (vertex_halfedges (p_number op) n.w03 p.triples) = of_vertices p q PVertex (p_number op) n.w03 _ (length p.corners) p.triples (sym p_long) (λ v. refl) in
-    let two : total w qv ≡ pos (vertex_halfedges (q_number op) n.w30 q.triples) = of_vertices p q QVertex (q_number op) n.w30 _ (length q.corners) q.triples (sym q_long) (λ v. refl) in
+    let each = total-same_all (λ c. at_p c +ℤ at_q c) (λ c. pos (faces_of p q c.origin)) cs
+    (All-weaker (λ c. IsFrom p q c.origin) (λ c. at_p c +ℤ at_q c ≡ pos (faces_of p q c.origin)) (of_copy p q p_known q_known) cs (all_from op p q n x12 x21)) in
+    let one : total w pv ≡ pos (vertex_halfedges (p_number op) n.w03 p.triples) = of_vertices p q PVertex (p_number op) n.w03 _ (length p.corners) p.triples
+    (sym p_long) (λ v. refl) in
+    let two : total w qv ≡ pos (vertex_halfedges (q_number op) n.w30 q.triples) = of_vertices p q QVertex (q_number op) n.w30 _ (length q.corners) q.triples
+    (sym q_long) (λ v. refl) in
     let three : total w ph ≡ pos (3 * hit_count op n.x12) = of_hits p q op PEdge n.x12 (λ e f. refl) in
     let four : total w qh ≡ pos (3 * hit_count op n.x21) = of_hits p q op QEdge n.x21 (λ e f. refl) in
     omega (

@@ -61,7 +61,8 @@ cancels c c3 x y s e =
     let d = mul-neg c3 s in omega (arith, ints, a, b, d)
 
 -- along a half-edge of P
-half_p_sum : (op : Op) (p q : Side) (n : Numbers) → IsSide p → AreHits (all_edges p.triples) (length q.triples) n.x12 → AreConserved p q n → (h : ℕ) → h < length (all_edges p.triples) →
+half_p_sum : (op : Op) (p q : Side) (n : Numbers) → IsSide p → AreHits (all_edges p.triples) (length q.triples) n.x12 → AreConserved p q n → (h : ℕ) →
+    h < length (all_edges p.triples) →
     total (standing (all_edges p.triples) (all_edges q.triples) (HalfP h)) (prescribed op p q n) ≡ pos 0
 half_p_sum op p q n p_known x12 kept h below =
     let P = all_edges p.triples in
@@ -71,8 +72,10 @@ half_p_sum op p q n p_known x12 kept h below =
     let w : ℕ → ℤ = λ v. get_or n.w03 v (pos 0) in
     let vertices = length p.corners in
     let ends = ends_below p p_known h below in
-    let pv = total-vertices P Q name PVertex (p_number op) n.w03 (points_of p.corners) vertices ∙ total-ends (λ v. p_number op (w v)) (start P h) (finish P h) vertices ends.from ends.to in
-    let qv = total-vertices P Q name QVertex (q_number op) n.w30 (points_of q.corners) (length q.corners) ∙ no_weight (λ v. q_number op (get_or n.w30 v (pos 0))) (upto (length q.corners)) in
+    let pv = total-vertices P Q name PVertex (p_number op) n.w03 (points_of p.corners) vertices
+    ∙ total-ends (λ v. p_number op (w v)) (start P h) (finish P h) vertices ends.from ends.to in
+    let qv = total-vertices P Q name QVertex (q_number op) n.w30 (points_of q.corners) (length q.corners)
+    ∙ no_weight (λ v. q_number op (get_or n.w30 v (pos 0))) (upto (length q.corners)) in
     let ph = total-hits P Q name PEdge (hit_number_of op) n.x12 ∙ total-against c3 (λ k. k.number) (λ k. way P h k.edge) (λ k. neg_ℤ (way P h k.edge)) n.x12 (λ k. refl) in
     let qh = total-hits P Q name QEdge (hit_number_of op) n.x21 ∙ no_weight (λ k. hit_number_of op k.number) n.x21 in
     let sum = along_all P (go_back p p_known) (length q.triples) n.x12 x12 h below in
@@ -85,7 +88,8 @@ half_p_sum op p q n p_known x12 kept h below =
     added e f g h i = omega (arith, ints, e, f, g, h, i)
 
 -- along a half-edge of Q
-half_q_sum : (op : Op) (p q : Side) (n : Numbers) → IsSide q → AreHits (all_edges q.triples) (length p.triples) n.x21 → AreConserved p q n → (h : ℕ) → h < length (all_edges q.triples) →
+half_q_sum : (op : Op) (p q : Side) (n : Numbers) → IsSide q → AreHits (all_edges q.triples) (length p.triples) n.x21 → AreConserved p q n → (h : ℕ) →
+    h < length (all_edges q.triples) →
     total (standing (all_edges p.triples) (all_edges q.triples) (HalfQ h)) (prescribed op p q n) ≡ pos 0
 half_q_sum op p q n q_known x21 kept h below =
     let P = all_edges p.triples in
@@ -95,8 +99,10 @@ half_q_sum op p q n q_known x21 kept h below =
     let w : ℕ → ℤ = λ v. get_or n.w30 v (pos 0) in
     let vertices = length q.corners in
     let ends = ends_below q q_known h below in
-    let pv = total-vertices P Q name PVertex (p_number op) n.w03 (points_of p.corners) (length p.corners) ∙ no_weight (λ v. p_number op (get_or n.w03 v (pos 0))) (upto (length p.corners)) in
-    let qv = total-vertices P Q name QVertex (q_number op) n.w30 (points_of q.corners) vertices ∙ total-ends (λ v. q_number op (w v)) (start Q h) (finish Q h) vertices ends.from ends.to in
+    let pv = total-vertices P Q name PVertex (p_number op) n.w03 (points_of p.corners) (length p.corners)
+    ∙ no_weight (λ v. p_number op (get_or n.w03 v (pos 0))) (upto (length p.corners)) in
+    let qv = total-vertices P Q name QVertex (q_number op) n.w30 (points_of q.corners) vertices
+    ∙ total-ends (λ v. q_number op (w v)) (start Q h) (finish Q h) vertices ends.from ends.to in
     let ph = total-hits P Q name PEdge (hit_number_of op) n.x12 ∙ no_weight (λ k. hit_number_of op k.number) n.x12 in
     let qh = total-hits P Q name QEdge (hit_number_of op) n.x21 ∙ total-against c3 (λ k. k.number) (λ k. way Q h k.edge) (λ k. neg_ℤ (way Q h k.edge)) n.x21 (λ k. refl) in
     let sum = along_all Q (go_back q q_known) (length p.triples) n.x21 x21 h below in
@@ -114,19 +120,23 @@ cond_neg true z = refl
 cond_neg false z = refl
 
 -- of a pair of faces, seen from the face of P
-pair_p_sum : (op : Op) (p q : Side) (n : Numbers) → IsSide p → IsSide q → AreHits (all_edges p.triples) (length q.triples) n.x12 → AreHits (all_edges q.triples) (length p.triples) n.x21 → AreConserved p q n →
+pair_p_sum : (op : Op) (p q : Side) (n : Numbers) → IsSide p → IsSide q → AreHits (all_edges p.triples) (length q.triples) n.x12 →
+    AreHits (all_edges q.triples) (length p.triples) n.x21 → AreConserved p q n →
     (f g : ℕ) → f < length p.triples → g < length q.triples → total (standing (all_edges p.triples) (all_edges q.triples) (PairP f g)) (prescribed op p q n) ≡ pos 0
 pair_p_sum op p q n p_known q_known x12 x21 kept f g f_below g_below =
     let P = all_edges p.triples in
     let Q = all_edges q.triples in
     let name = PairP f g in
     let c3 = constant op 2 in
-    let pv = total-vertices P Q name PVertex (p_number op) n.w03 (points_of p.corners) (length p.corners) ∙ no_weight (λ v. p_number op (get_or n.w03 v (pos 0))) (upto (length p.corners)) in
-    let qv = total-vertices P Q name QVertex (q_number op) n.w30 (points_of q.corners) (length q.corners) ∙ no_weight (λ v. q_number op (get_or n.w30 v (pos 0))) (upto (length q.corners)) in
+    let pv = total-vertices P Q name PVertex (p_number op) n.w03 (points_of p.corners) (length p.corners)
+    ∙ no_weight (λ v. p_number op (get_or n.w03 v (pos 0))) (upto (length p.corners)) in
+    let qv = total-vertices P Q name QVertex (q_number op) n.w30 (points_of q.corners) (length q.corners)
+    ∙ no_weight (λ v. q_number op (get_or n.w30 v (pos 0))) (upto (length q.corners)) in
     let of_p : Hit → ℤ = λ k. cond (k.face == g) (way_round P f k.edge) (pos 0) in
     let of_q : Hit → ℤ = λ k. cond (k.face == f) (way_round Q g k.edge) (pos 0) in
     let ph = total-hits P Q name PEdge (hit_number_of op) n.x12 ∙ total-factor c3 (λ k. k.number) of_p n.x12 in
-    let qh = total-hits P Q name QEdge (hit_number_of op) n.x21 ∙ total-against c3 (λ k. k.number) of_q (λ k. cond (k.face == f) (neg_ℤ (way_round Q g k.edge)) (pos 0)) n.x21 (λ k. cond_neg (k.face == f) (way_round Q g k.edge)) in
+    let qh = total-hits P Q name QEdge (hit_number_of op) n.x21
+    ∙ total-against c3 (λ k. k.number) of_q (λ k. cond (k.face == f) (neg_ℤ (way_round Q g k.edge)) (pos 0)) n.x21 (λ k. cond_neg (k.face == f) (way_round Q g k.edge)) in
     let p_round = along_round P (go_back p p_known) (length q.triples) n.x12 x12 f g (omega (arith, f_below, length-all_edges p.triples)) in
     let q_round = along_round Q (go_back q q_known) (length p.triples) n.x21 x21 g f (omega (arith, g_below, length-all_edges q.triples)) in
     let same : total (λ k. k.number *ℤ of_p k) n.x12 ≡ total (λ k. k.number *ℤ of_q k) n.x21 = sym p_round ∙ kept.pairs.same f g f_below g_below ∙ q_round in
@@ -152,9 +162,11 @@ pair_q_sum op p q n f g sum =
     total-same (standing P Q (PairQ g f)) (λ c. neg_ℤ (standing P Q (PairP f g) c)) (other_way P Q f g) cs ∙ total-neg (standing P Q (PairP f g)) cs ∙ ap neg_ℤ sum
 
 -- so every list is balanced
-pub balanced : (op : Op) (p q : Side) (n : Numbers) → IsSide p → IsSide q → AreHits (all_edges p.triples) (length q.triples) n.x12 → AreHits (all_edges q.triples) (length p.triples) n.x21 →
+pub balanced : (op : Op) (p q : Side) (n : Numbers) → IsSide p → IsSide q → AreHits (all_edges p.triples) (length q.triples) n.x12 →
+    AreHits (all_edges q.triples) (length p.triples) n.x21 →
     AreConserved p q n → IsBalanced p q (prescribed op p q n)
-balanced op p q n p_known q_known x12 x21 kept = record { even = λ name inside. even_from_sum (all_edges p.triples) (all_edges q.triples) (prescribed op p q n) name (sum name inside) }
+balanced op p q n p_known q_known x12 x21 kept =
+    record { even = λ name inside. even_from_sum (all_edges p.triples) (all_edges q.triples) (prescribed op p q n) name (sum name inside) }
   where
     sum : (name : ListName) → IsListOf (length p.triples) (length q.triples) name → total (standing (all_edges p.triples) (all_edges q.triples) name) (prescribed op p q n) ≡ pos 0
     sum (HalfP h) inside = half_p_sum op p q n p_known x12 kept h (omega (arith, inside, length-all_edges p.triples))

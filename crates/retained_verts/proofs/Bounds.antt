@@ -33,15 +33,18 @@ pairs_tail : (h : Hit) (hs : List Hit) → AllPairs IsBefore (h ∷ hs) → AllP
 pairs_tail h hs a i j d l m = a (suc i) (suc j) d (omega (arith, l)) (omega (arith, m))
 
 -- ascending hits from a key on
-few_from : (edges faces : ℕ) (low : ℕ) (hs : List Hit) → low ≤ edges * faces → All (λ h. low ≤ key faces h) hs → All (λ h. h.edge < edges) hs → All (λ h. h.face < faces) hs → AllPairs IsBefore hs → length hs + low ≤ edges * faces
+few_from : (edges faces : ℕ) (low : ℕ) (hs : List Hit) → low ≤ edges * faces → All (λ h. low ≤ key faces h) hs → All (λ h. h.edge < edges) hs →
+    All (λ h. h.face < faces) hs → AllPairs IsBefore hs → length hs + low ≤ edges * faces
 few_from edges faces low [] room from on_edges on_faces order = omega (arith, room)
 few_from edges faces low (h ∷ hs) room from on_edges on_faces order =
     let here : low ≤ key faces h = All-head (λ k. low ≤ key faces k) h hs from in
     let edge : h.edge < edges = All-head (λ k. k.edge < edges) h hs on_edges in
     let face : h.face < faces = All-head (λ k. k.face < faces) h hs on_faces in
     let below = key_below edges faces h edge face in
-    let later : All (λ k. suc (key faces h) ≤ key faces k) hs = All-weaker (IsBefore h) (λ k. suc (key faces h) ≤ key faces k) (λ k b. key_before faces h k face b) hs (pairs_head h hs order) in
-    let rest = few_from edges faces (suc (key faces h)) hs (omega (arith, below)) later (All-tail (λ k. k.edge < edges) h hs on_edges) (All-tail (λ k. k.face < faces) h hs on_faces) (pairs_tail h hs order) in
+    let later : All (λ k. suc (key faces h) ≤ key faces k) hs = All-weaker (IsBefore h) (λ k. suc (key faces h) ≤ key faces k)
+    (λ k b. key_before faces h k face b) hs (pairs_head h hs order) in
+    let rest = few_from edges faces (suc (key faces h)) hs (omega (arith, below)) later (All-tail (λ k. k.edge < edges) h hs on_edges)
+    (All-tail (λ k. k.face < faces) h hs on_faces) (pairs_tail h hs order) in
     omega (arith, here, rest)
 
 -- hits of lower half-edges with faces are at most as many as pairs
@@ -59,5 +62,6 @@ bounded e f m a b = let l = mul-le-mul_right f a in let r = mul-le-mul_left (3 *
 pub few_between : (edges faces : Side) (hs : List Hit) → IsSide edges → IsSide faces → AreHits (all_edges edges.triples) (length faces.triples) hs → length hs ≤ most_hits
 few_between edges faces hs one other known =
     let pairs = few_hits (all_edges edges.triples) (length faces.triples) hs known in
-    let most = bounded (length (all_edges edges.triples)) (length faces.triples) most_triangles (omega (arith, length-all_edges edges.triples, one.accepted.mesh.few_triples)) other.accepted.mesh.few_triples in
+    let most = bounded (length (all_edges edges.triples)) (length faces.triples) most_triangles
+    (omega (arith, length-all_edges edges.triples, one.accepted.mesh.few_triples)) other.accepted.mesh.few_triples in
     omega (arith, pairs, most)

@@ -31,7 +31,8 @@ counted_no_more : (s k c : ℕ) → c ≡ 0 → s * (k + c) ≡ s * k
 counted_no_more s k c e = ap (λ n. s * (k + n)) e ∙ omega arith
 
 -- a vertex is at most one of the three of a triangle
-one_corner : (t : Triple) (v k s : ℕ) → HasThree t → pos (s * (k + cond (has t v) 1 0)) ≡ pos (s * k) +ℤ (where_same v t.0 (pos s) +ℤ (where_same v t.1 (pos s) +ℤ where_same v t.2 (pos s)))
+one_corner : (t : Triple) (v k s : ℕ) → HasThree t →
+    pos (s * (k + cond (has t v) 1 0)) ≡ pos (s * k) +ℤ (where_same v t.0 (pos s) +ℤ (where_same v t.1 (pos s) +ℤ where_same v t.2 (pos s)))
 one_corner t v k s three =
     let n : ℕ = cond (has t v) 1 0 in
     let Goal : Type 0 = pos (s * (k + n)) ≡ pos (s * k) +ℤ (where_same v t.0 (pos s) +ℤ (where_same v t.1 (pos s) +ℤ where_same v t.2 (pos s))) in
@@ -40,19 +41,47 @@ one_corner t v k s three =
           let b : t.1 ≡ v → ⊥ = λ e. three.ab (a ∙ sym e) in
           let c : t.2 ≡ v → ⊥ = λ e. three.ca (e ∙ sym a) in
           let here : n ≡ 1 = ap (λ x. cond x 1 0) (has_is t v true false false (eq-eqb t.0 v a) (ne_eqb t.1 v b) (ne_eqb t.2 v c)) in
-          omega (arith, ints, counted_once s k n here, where_same-at v t.0 (pos s) (sym a), where_same-apart v t.1 (pos s) (λ e. b (sym e)), where_same-apart v t.2 (pos s) (λ e. c (sym e)))
+          omega (
+            arith,
+            ints,
+            counted_once s k n here,
+            where_same-at v t.0 (pos s) (sym a),
+            where_same-apart v t.1 (pos s) (λ e. b (sym e)),
+            where_same-apart v t.2 (pos s) (λ e. c (sym e)),
+          )
       | inr a ↦ elim (cases_eq t.1 v) as (λ _. Goal) [
         | inl b ↦
             let c : t.2 ≡ v → ⊥ = λ e. three.bc (b ∙ sym e) in
             let here : n ≡ 1 = ap (λ x. cond x 1 0) (has_is t v false true false (ne_eqb t.0 v a) (eq-eqb t.1 v b) (ne_eqb t.2 v c)) in
-            omega (arith, ints, counted_once s k n here, where_same-apart v t.0 (pos s) (λ e. a (sym e)), where_same-at v t.1 (pos s) (sym b), where_same-apart v t.2 (pos s) (λ e. c (sym e)))
+            omega (
+              arith,
+              ints,
+              counted_once s k n here,
+              where_same-apart v t.0 (pos s) (λ e. a (sym e)),
+              where_same-at v t.1 (pos s) (sym b),
+              where_same-apart v t.2 (pos s) (λ e. c (sym e)),
+            )
         | inr b ↦ elim (cases_eq t.2 v) as (λ _. Goal) [
           | inl c ↦
               let here : n ≡ 1 = ap (λ x. cond x 1 0) (has_is t v false false true (ne_eqb t.0 v a) (ne_eqb t.1 v b) (eq-eqb t.2 v c)) in
-              omega (arith, ints, counted_once s k n here, where_same-apart v t.0 (pos s) (λ e. a (sym e)), where_same-apart v t.1 (pos s) (λ e. b (sym e)), where_same-at v t.2 (pos s) (sym c))
+              omega (
+                arith,
+                ints,
+                counted_once s k n here,
+                where_same-apart v t.0 (pos s) (λ e. a (sym e)),
+                where_same-apart v t.1 (pos s) (λ e. b (sym e)),
+                where_same-at v t.2 (pos s) (sym c),
+              )
           | inr c ↦
               let none : n ≡ 0 = ap (λ x. cond x 1 0) (has_is t v false false false (ne_eqb t.0 v a) (ne_eqb t.1 v b) (ne_eqb t.2 v c)) in
-              omega (arith, ints, counted_no_more s k n none, where_same-apart v t.0 (pos s) (λ e. a (sym e)), where_same-apart v t.1 (pos s) (λ e. b (sym e)), where_same-apart v t.2 (pos s) (λ e. c (sym e)))
+              omega (
+                arith,
+                ints,
+                counted_no_more s k n none,
+                where_same-apart v t.0 (pos s) (λ e. a (sym e)),
+                where_same-apart v t.1 (pos s) (λ e. b (sym e)),
+                where_same-apart v t.2 (pos s) (λ e. c (sym e)),
+              )
         ]
       ]
     ]
@@ -63,7 +92,8 @@ pub corners_more : (s : ℕ → ℕ) (n : ℕ) (ts : List Triple) (t : Triple) �
 corners_more s n ts t three below =
     let at : ℕ → ℕ → ℤ = λ c v. where_same v c (pos (s v)) in
     let before : ℕ → ℤ = λ v. pos (s v * triples_at ts v) in
-    let each = total-same (λ v. pos (s v * triples_at (ts ++ t ∷ []) v)) (λ v. before v +ℤ (at t.0 v +ℤ (at t.1 v +ℤ at t.2 v))) (λ v. ap (λ k. pos (s v * k)) (count_more ts t v) ∙ one_corner t v (triples_at ts v) (s v) three) (upto n) in
+    let each = total-same (λ v. pos (s v * triples_at (ts ++ t ∷ []) v)) (λ v. before v +ℤ (at t.0 v +ℤ (at t.1 v +ℤ at t.2 v)))
+    (λ v. ap (λ k. pos (s v * k)) (count_more ts t v) ∙ one_corner t v (triples_at ts v) (s v) three) (upto n) in
     let first = total-add before (λ v. at t.0 v +ℤ (at t.1 v +ℤ at t.2 v)) (upto n) in
     let second = total-add (at t.0) (λ v. at t.1 v +ℤ at t.2 v) (upto n) in
     let third = total-add (at t.1) (at t.2) (upto n) in

@@ -28,21 +28,29 @@ counted value half pair n u d s up down ups downs = record {
 }
 
 -- where every value is 0
-pub counted_none : (value : ListName → ℤ) (half pair : ℕ → ListName) (n : ℕ) → ((i : ℕ) → value (half i) ≡ pos 0) → ((k : ℕ) → value (pair k) ≡ pos 0) → CountsTo value (map half (upto 3) ++ map pair (upto n)) 0
+pub counted_none : (value : ListName → ℤ) (half pair : ℕ → ListName) (n : ℕ) → ((i : ℕ) → value (half i) ≡ pos 0) → ((k : ℕ) → value (pair k) ≡ pos 0) →
+    CountsTo value (map half (upto 3) ++ map pair (upto n)) 0
 counted_none value half pair n halves pairs =
     let up : (i : ℕ) → above (value (half i)) ≡ 0 = λ i. ap above (halves i) in
     let down : (i : ℕ) → below (value (half i)) ≡ 0 = λ i. ap below (halves i) in
-    counted value half pair n 0 0 0 (count_none (λ k. int_lt (pos 0) (value (pair k))) n (λ k. ap (int_lt (pos 0)) (pairs k))) (count_none (λ k. int_lt (value (pair k)) (pos 0)) n (λ k. ap (λ z. int_lt z (pos 0)) (pairs k)))
+    counted value half pair n 0 0 0 (count_none (λ k. int_lt (pos 0) (value (pair k))) n (λ k. ap (int_lt (pos 0)) (pairs k)))
+    (count_none (λ k. int_lt (value (pair k)) (pos 0)) n (λ k. ap (λ z. int_lt z (pos 0)) (pairs k)))
     (omega (arith, up 0, up 1, up 2)) (omega (arith, down 0, down 1, down 2))
 
 -- the half-edges of a face against a vertex
 pub ends_at : (ts : List Triple) (f a : ℕ) → f < length ts → (let t = get_or ts f (0, 0, 0) in let es = all_edges ts in
-    (at_end es (3 * f + 0) a ≡ pos (same t.0 a) -ℤ pos (same t.1 a)) × (at_end es (3 * f + 1) a ≡ pos (same t.1 a) -ℤ pos (same t.2 a)) × (at_end es (3 * f + 2) a ≡ pos (same t.2 a) -ℤ pos (same t.0 a)))
+    (at_end es (3 * f + 0) a ≡ pos (same t.0 a) -ℤ pos (same t.1 a)) × (at_end es (3 * f + 1) a ≡ pos (same t.1 a) -ℤ pos (same t.2 a)) × (at_end es
+    (3 * f + 2) a ≡ pos (same t.2 a) -ℤ pos (same t.0 a)))
 ends_at ts f a below =
     let t = get_or ts f (0, 0, 0) in
     let es = all_edges ts in
-    let of : (e e' : ℕ × ℕ) → e ≡ e' → at_same e.0 a -ℤ at_same e.1 a ≡ pos (same e'.0 a) -ℤ pos (same e'.1 a) = λ e e' same_edge. ap (λ (x : ℕ × ℕ). at_same x.0 a -ℤ at_same x.1 a) same_edge ∙ omega (arith, ints, at_same_is e'.0 a, at_same_is e'.1 a) in
-    (of (get_or es (3 * f + 0) (0, 0)) (t.0, t.1) (half_of_face ts f 0 below (omega arith)), of (get_or es (3 * f + 1) (0, 0)) (t.1, t.2) (half_of_face ts f 1 below (omega arith)), of (get_or es (3 * f + 2) (0, 0)) (t.2, t.0) (half_of_face ts f 2 below (omega arith)))
+    let of : (e e' : ℕ × ℕ) → e ≡ e' → at_same e.0 a -ℤ at_same e.1 a ≡ pos (same e'.0 a) -ℤ pos (same e'.1 a) =
+    λ e e' same_edge. ap (λ (x : ℕ × ℕ). at_same x.0 a -ℤ at_same x.1 a) same_edge ∙ omega (arith, ints, at_same_is e'.0 a, at_same_is e'.1 a) in (
+      of (get_or es (3 * f + 0) (0, 0)) (t.0, t.1) (half_of_face ts f 0 below (omega arith)),
+      of (get_or es (3 * f + 1) (0, 0)) (t.1, t.2)
+          (half_of_face ts f 1 below (omega arith)),
+      of (get_or es (3 * f + 2) (0, 0)) (t.2, t.0) (half_of_face ts f 2 below (omega arith)),
+    )
 
 -- three vertices, one of which at most is a
 pub at_most_one : (t : Triple) (a : ℕ) → HasThree t → same t.0 a + (same t.1 a + same t.2 a) ≤ 1
@@ -74,8 +82,11 @@ pub vertex_counts : (value : ListName → ℤ) (half pair : ℕ → ListName) (n
 vertex_counts value half pair n ts f a below three halves pairs =
     let t = get_or ts f (0, 0, 0) in
     let at = ends_at ts f a below in
-    let sides = round_three (same t.0 a) (same t.1 a) (same t.2 a) (value (half 0)) (value (half 1)) (value (half 2)) (at_most_one t a three) (halves 0 ∙ at.0) (halves 1 ∙ at.1) (halves 2 ∙ at.2) in
-    counted value half pair n 0 0 (same t.0 a + (same t.1 a + same t.2 a)) (count_none (λ k. int_lt (pos 0) (value (pair k))) n (λ k. ap (int_lt (pos 0)) (pairs k))) (count_none (λ k. int_lt (value (pair k)) (pos 0)) n (λ k. ap (λ z. int_lt z (pos 0)) (pairs k)))
+    let sides = round_three (same t.0 a) (same t.1 a) (same t.2 a) (value (half 0)) (value (half 1)) (value (half 2)) (at_most_one t a three) (halves 0 ∙ at.0)
+    (halves 1 ∙ at.1) (halves 2 ∙ at.2) in
+    counted value half pair n 0 0 (same t.0 a + (same t.1 a + same t.2 a))
+    (count_none (λ k. int_lt (pos 0) (value (pair k))) n (λ k. ap (int_lt (pos 0)) (pairs k)))
+    (count_none (λ k. int_lt (value (pair k)) (pos 0)) n (λ k. ap (λ z. int_lt z (pos 0)) (pairs k)))
     sides.0 sides.1
 
 -- three differences, with a minus, and their sum, where one of all six numbers at most is 1
@@ -86,8 +97,10 @@ three_and_sum a b c a' b' c' x y z w few p q r s =
     let i = unit_parts x (difference_within x a' a (omega (arith, few)) (omega (arith, few)) (omega (arith, ints, p))) in
     let j = unit_parts y (difference_within y b' b (omega (arith, few)) (omega (arith, few)) (omega (arith, ints, q))) in
     let k = unit_parts z (difference_within z c' c (omega (arith, few)) (omega (arith, few)) (omega (arith, ints, r))) in
-    let l = unit_parts w (difference_within w (a + (b + c)) (a' + (b' + c')) (omega (arith, few)) (omega (arith, few)) s) in
-    (omega (arith, ints, few, p, q, r, s, i.value, i.one, j.value, j.one, k.value, k.one, l.value, l.one), omega (arith, ints, few, p, q, r, s, i.value, i.one, j.value, j.one, k.value, k.one, l.value, l.one))
+    let l = unit_parts w (difference_within w (a + (b + c)) (a' + (b' + c')) (omega (arith, few)) (omega (arith, few)) s) in (
+      omega (arith, ints, few, p, q, r, s, i.value, i.one, j.value, j.one, k.value, k.one, l.value, l.one),
+      omega (arith, ints, few, p, q, r, s, i.value, i.one, j.value, j.one, k.value, k.one, l.value, l.one),
+    )
 
 -- a value at one number alone, tested
 test_above : (t : Bool) (w : ℤ) → int_lt (pos 0) (cond t w (pos 0)) ≡ cond t (int_lt (pos 0) w) false
@@ -109,8 +122,10 @@ edge_counts value half pair n es f e other inside apart halves pairs =
     let second = one_of_three f t in
     let few = not_both f (e / 3) (t / 3) apart in
     let at : (i : ℕ) → value (half i) ≡ neg_ℤ (pos (same (3 * f + i) e) -ℤ pos (same (3 * f + i) t)) = λ i. halves i ∙ ap neg_ℤ (way_is es (3 * f + i) e) in
-    let whole : w ≡ pos (same (3 * f + 0) e + (same (3 * f + 1) e + same (3 * f + 2) e)) -ℤ pos (same (3 * f + 0) t + (same (3 * f + 1) t + same (3 * f + 2) t)) = omega (arith, ints, way_round_is es f e, first, second) in
-    let sides = three_and_sum (same (3 * f + 0) e) (same (3 * f + 1) e) (same (3 * f + 2) e) (same (3 * f + 0) t) (same (3 * f + 1) t) (same (3 * f + 2) t) (value (half 0)) (value (half 1)) (value (half 2)) w
+    let whole : w ≡ pos (same (3 * f + 0) e + (same (3 * f + 1) e + same (3 * f + 2) e)) -ℤ pos
+    (same (3 * f + 0) t + (same (3 * f + 1) t + same (3 * f + 2) t)) = omega (arith, ints, way_round_is es f e, first, second) in
+    let sides = three_and_sum (same (3 * f + 0) e) (same (3 * f + 1) e) (same (3 * f + 2) e) (same (3 * f + 0) t) (same (3 * f + 1) t) (same (3 * f + 2) t)
+    (value (half 0)) (value (half 1)) (value (half 2)) w
     (omega (arith, first, second, few)) (at 0) (at 1) (at 2) whole in
     counted value half pair n (above w) (below w) (same f (e / 3) + same f (t / 3))
     (count_one (λ k. int_lt (pos 0) (value (pair k))) (int_lt (pos 0) w) other n inside (λ k. ap (int_lt (pos 0)) (pairs k) ∙ test_above (other == k) w))

@@ -16,21 +16,24 @@ map-replicate f zero x = refl
 map-replicate f (suc n) x = ap (λ r. f x ∷ r) (map-replicate f n x)
 
 -- what one more adds to a field of the copies
-pub field_more : {A : Type 0} (field : Copy → A) (is : List Included) (i : Included) → map field (flat_map copies_of (is ++ i ∷ [])) ≡ map field (flat_map copies_of is) ++ replicate (nat_abs i.number) (field (copy_of i))
+pub field_more : {A : Type 0} (field : Copy → A) (is : List Included) (i : Included) →
+    map field (flat_map copies_of (is ++ i ∷ [])) ≡ map field (flat_map copies_of is) ++ replicate (nat_abs i.number) (field (copy_of i))
 field_more field is i =
     ap (map field) (flat_map-append copies_of is (i ∷ [])) ∙ map-append field (flat_map copies_of is) (copies_of i ++ [])
     ∙ ap (λ r. map field (flat_map copies_of is) ++ r) (ap (map field) (append-nil (copies_of i)) ∙ map-replicate field (nat_abs i.number) (copy_of i))
 
 -- one vertex more
 pub vertices_more : (origin : ℕ → Origin) (number : ℤ → ℤ) (ws : List ℤ) (ps : List (List ℤ)) (v : ℕ) →
-    included_vertices origin number ws ps (v + 1) ≡ included_vertices origin number ws ps v ++ record { origin = origin v; number = number (get_or ws v (pos 0)); point = get_or ps v [] } ∷ []
+    included_vertices origin number ws ps (v + 1) ≡ included_vertices origin number ws ps v
+    ++ record { origin = origin v; number = number (get_or ws v (pos 0)); point = get_or ps v [] } ∷ []
 vertices_more origin number ws ps v =
     let f : ℕ → Included = λ u. record { origin = origin u; number = number (get_or ws u (pos 0)); point = get_or ps u [] } in
     ap (map f) (upto_more v) ∙ map_push f (upto v) v
 
 -- one hit more
 pub hits_more : (origin : ℕ → ℕ → Origin) (number : ℤ → ℤ) (hs : List Hit) (i : ℕ) (d : Hit) → i < length hs →
-    included_hits origin number (take (i + 1) hs) ≡ included_hits origin number (take i hs) ++ (let h = get_or hs i d in record { origin = origin h.edge h.face; number = number h.number; point = h.at }) ∷ []
+    included_hits origin number (take (i + 1) hs) ≡ included_hits origin number (take i hs)
+    ++ (let h = get_or hs i d in record { origin = origin h.edge h.face; number = number h.number; point = h.at }) ∷ []
 hits_more origin number hs i d below =
     let f : Hit → Included = λ h. record { origin = origin h.edge h.face; number = number h.number; point = h.at } in
     ap (map f) (take_more hs i d below) ∙ map_push f (take i hs) (get_or hs i d)
@@ -48,14 +51,17 @@ grown field new old before is is' i n x pushed stood more times same =
 
 -- the copies of four lists, one after the other
 pub in_order : {A : Type 0} (field : Copy → A) (is js ks ls : List Included) (a b c d e : List A) →
-    a ≡ [] → b ≡ a ++ map field (flat_map copies_of is) → c ≡ b ++ map field (flat_map copies_of js) → d ≡ c ++ map field (flat_map copies_of ks) → e ≡ d ++ map field (flat_map copies_of ls) →
+    a ≡ [] → b ≡ a ++ map field (flat_map copies_of is) → c ≡ b ++ map field (flat_map copies_of js) → d ≡ c ++ map field (flat_map copies_of ks) →
+    e ≡ d ++ map field (flat_map copies_of ls) →
     e ≡ map field (flat_map copies_of (is ++ (js ++ (ks ++ ls))))
 in_order {A = A} field is js ks ls a b c d e none first second third fourth =
     let m : List Included → List A = λ l. map field (flat_map copies_of l) in
     let one = append_assoc (m is) (m js) (m ks) in
     let two = append_assoc (m is) (m js ++ m ks) (m ls) in
     let three = append_assoc (m js) (m ks) (m ls) in
-    let parts : m (is ++ (js ++ (ks ++ ls))) ≡ m is ++ (m js ++ (m ks ++ m ls)) = joined field is (js ++ (ks ++ ls)) ∙ ap (λ r. m is ++ r) (joined field js (ks ++ ls) ∙ ap (λ r. m js ++ r) (joined field ks ls)) in cc
+    let parts : m (is ++ (js ++ (ks ++ ls))) ≡ m is ++ (m js ++ (m ks ++ m ls)) = joined field is (js ++ (ks ++ ls))
+    ∙ ap (λ r. m is ++ r) (joined field js (ks ++ ls) ∙ ap (λ r. m js ++ r) (joined field ks ls)) in cc
   where
-    joined : {A : Type 0} (field : Copy → A) (xs ys : List Included) → map field (flat_map copies_of (xs ++ ys)) ≡ map field (flat_map copies_of xs) ++ map field (flat_map copies_of ys)
+    joined : {A : Type 0} (field : Copy → A) (xs ys : List Included) →
+        map field (flat_map copies_of (xs ++ ys)) ≡ map field (flat_map copies_of xs) ++ map field (flat_map copies_of ys)
     joined field xs ys = ap (map field) (flat_map-append copies_of xs ys) ∙ map-append field (flat_map copies_of xs) (flat_map copies_of ys)

@@ -81,12 +81,14 @@ half_as_sum es back faces hits known h g inside =
       | inl low ↦
           ap (λ b. if b then hit_number hits h g else neg_ℤ (hit_number hits t g)) (lt-ltb h t low)
           ∙ total-same_all (λ k. cond ((k.edge == h) && (k.face == g)) k.number (pos 0)) (λ k. cond (k.face == g) (k.number *ℤ way es h k.edge) (pos 0)) hits
-          (All-weaker OnEdge (λ k. cond ((k.edge == h) && (k.face == g)) k.number (pos 0) ≡ cond (k.face == g) (k.number *ℤ way es h k.edge) (pos 0)) (λ k on. added (k.edge == h) (k.face == g) k.number (way es h k.edge) (way_lower es back h k.edge on.0 on.1 low)) hits known.on_edges)
+          (All-weaker OnEdge (λ k. cond ((k.edge == h) && (k.face == g)) k.number (pos 0) ≡ cond (k.face == g) (k.number *ℤ way es h k.edge) (pos 0))
+          (λ k on. added (k.edge == h) (k.face == g) k.number (way es h k.edge) (way_lower es back h k.edge on.0 on.1 low)) hits known.on_edges)
       | inr up ↦
           ap (λ b. if b then hit_number hits h g else neg_ℤ (hit_number hits t g)) (le-ltb h t up)
           ∙ sym (total-neg (λ k. cond ((k.edge == t) && (k.face == g)) k.number (pos 0)) hits)
           ∙ total-same_all (λ k. neg_ℤ (cond ((k.edge == t) && (k.face == g)) k.number (pos 0))) (λ k. cond (k.face == g) (k.number *ℤ way es h k.edge) (pos 0)) hits
-          (All-weaker OnEdge (λ k. neg_ℤ (cond ((k.edge == t) && (k.face == g)) k.number (pos 0)) ≡ cond (k.face == g) (k.number *ℤ way es h k.edge) (pos 0)) (λ k on. taken (k.edge == t) (k.face == g) k.number (way es h k.edge) (way_upper es back h k.edge inside on.0 on.1 up)) hits known.on_edges)
+          (All-weaker OnEdge (λ k. neg_ℤ (cond ((k.edge == t) && (k.face == g)) k.number (pos 0)) ≡ cond (k.face == g) (k.number *ℤ way es h k.edge) (pos 0))
+          (λ k on. taken (k.edge == t) (k.face == g) k.number (way es h k.edge) (way_upper es back h k.edge inside on.0 on.1 up)) hits known.on_edges)
     ]
 
 -- with all faces
@@ -97,7 +99,9 @@ along_all es back faces hits known h inside =
     total-same (half_number es hits h) (λ g. total (λ k. cond (k.face == g) (z k) (pos 0)) hits) (λ g. half_as_sum es back faces hits known h g inside) (upto faces)
     ∙ total-swap (λ g k. cond (k.face == g) (z k) (pos 0)) (upto faces) hits
     ∙ total-same_all (λ k. total (λ g. cond (k.face == g) (z k) (pos 0)) (upto faces)) z hits
-    (All-weaker (λ k. k.face < faces) (λ k. total (λ g. cond (k.face == g) (z k) (pos 0)) (upto faces) ≡ z k) (λ k below. total-same (λ g. cond (k.face == g) (z k) (pos 0)) (λ g. where_same g k.face (z k)) (λ g. turned k.face g (z k)) (upto faces) ∙ one_hit (z k) k.face faces below) hits known.on_faces)
+    (All-weaker (λ k. k.face < faces) (λ k. total (λ g. cond (k.face == g) (z k) (pos 0)) (upto faces) ≡ z k)
+    (λ k below. total-same (λ g. cond (k.face == g) (z k) (pos 0)) (λ g. where_same g k.face (z k)) (λ g. turned k.face g (z k)) (upto faces)
+    ∙ one_hit (z k) k.face faces below) hits known.on_faces)
 
 -- what a hit adds round a face
 round_added : (b : Bool) (n : ℤ) (w : ℕ → ℤ) → total (λ i. cond b (n *ℤ w i) (pos 0)) (upto 3) ≡ n *ℤ cond b (total w (upto 3)) (pos 0)
@@ -108,6 +112,8 @@ round_added false n w = total-zero (upto 3) ∙ not_once n (pos 0) refl
 pub along_round : (es : List (ℕ × ℕ)) → GoBack es → (faces : ℕ) (hits : List Hit) → AreHits es faces hits → (f g : ℕ) → 3 * f + 3 ≤ length es →
     total (λ i. half_number es hits (3 * f + i) g) (upto 3) ≡ total (λ k. k.number *ℤ cond (k.face == g) (way_round es f k.edge) (pos 0)) hits
 along_round es back faces hits known f g inside =
-    total-upto_same (λ i. half_number es hits (3 * f + i) g) (λ i. total (λ k. cond (k.face == g) (k.number *ℤ way es (3 * f + i) k.edge) (pos 0)) hits) 3 (λ i three. half_as_sum es back faces hits known (3 * f + i) g (omega (arith, three, inside)))
+    total-upto_same (λ i. half_number es hits (3 * f + i) g) (λ i. total (λ k. cond (k.face == g) (k.number *ℤ way es (3 * f + i) k.edge) (pos 0)) hits) 3
+    (λ i three. half_as_sum es back faces hits known (3 * f + i) g (omega (arith, three, inside)))
     ∙ total-swap (λ i k. cond (k.face == g) (k.number *ℤ way es (3 * f + i) k.edge) (pos 0)) (upto 3) hits
-    ∙ total-same (λ k. total (λ i. cond (k.face == g) (k.number *ℤ way es (3 * f + i) k.edge) (pos 0)) (upto 3)) (λ k. k.number *ℤ cond (k.face == g) (way_round es f k.edge) (pos 0)) (λ k. round_added (k.face == g) k.number (λ i. way es (3 * f + i) k.edge)) hits
+    ∙ total-same (λ k. total (λ i. cond (k.face == g) (k.number *ℤ way es (3 * f + i) k.edge) (pos 0)) (upto 3))
+    (λ k. k.number *ℤ cond (k.face == g) (way_round es f k.edge) (pos 0)) (λ k. round_added (k.face == g) k.number (λ i. way es (3 * f + i) k.edge)) hits

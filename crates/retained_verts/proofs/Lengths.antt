@@ -23,10 +23,18 @@ sizes is = sum_by (λ i. nat_abs i.number) is
 
 length-copies : (is : List Included) → length (flat_map copies_of is) ≡ sizes is
 length-copies [] = refl
-length-copies (i ∷ is) = omega (arith, length-append (copies_of i) (flat_map copies_of is), length-replicate (nat_abs i.number) (copy_of i), length-copies is, sum_by-cons (λ k. nat_abs k.number) i is)
+length-copies (i ∷ is) =
+    omega (
+      arith,
+      length-append (copies_of i) (flat_map copies_of is),
+      length-replicate (nat_abs i.number) (copy_of i),
+      length-copies is,
+      sum_by-cons (λ k. nat_abs k.number) i is,
+    )
 
 -- those of vertices, where each has a winding number
-sizes-vertices : (origin : ℕ → Origin) (number : ℤ → ℤ) (ws : List ℤ) (ps : List (List ℤ)) (n : ℕ) → n ≡ length ws → sizes (included_vertices origin number ws ps n) ≡ vertex_count number ws
+sizes-vertices : (origin : ℕ → Origin) (number : ℤ → ℤ) (ws : List ℤ) (ps : List (List ℤ)) (n : ℕ) → n ≡ length ws →
+    sizes (included_vertices origin number ws ps n) ≡ vertex_count number ws
 sizes-vertices origin number ws ps n long =
     let is = included_vertices origin number ws ps n in
     let size : Included → ℤ = λ i. pos (nat_abs i.number) in
@@ -42,7 +50,8 @@ sizes-hits op origin hs =
     omega (arith, ints, total_pos (λ i. nat_abs i.number) is, by_hit, total_pos (λ h. nat_abs (hit_number_of op h.number)) hs)
 
 -- all copies
-pub all_copies_counted : (op : Op) (p q : Side) (n : Numbers) → length n.w03 ≡ length p.corners → length n.w30 ≡ length q.corners → length (prescribed op p q n) ≡ p_kept op n + q_kept op n + crossing_count op n
+pub all_copies_counted : (op : Op) (p q : Side) (n : Numbers) → length n.w03 ≡ length p.corners → length n.w30 ≡ length q.corners →
+    length (prescribed op p q n) ≡ p_kept op n + q_kept op n + crossing_count op n
 all_copies_counted op p q n p_long q_long =
     let pv = p_vertices op p n in
     let qv = q_vertices op q n in
@@ -53,7 +62,17 @@ all_copies_counted op p q n p_long q_long =
     let two : sizes qv ≡ q_kept op n = sizes-vertices _ (q_number op) n.w30 _ (length q.corners) (sym q_long) in
     let three : sizes ph ≡ hit_count op n.x12 = sizes-hits op _ n.x12 in
     let four : sizes qh ≡ hit_count op n.x21 = sizes-hits op _ n.x21 in
-    omega (arith, length-copies (pv ++ (qv ++ (ph ++ qh))), sum_by-append size pv (qv ++ (ph ++ qh)), sum_by-append size qv (ph ++ qh), sum_by-append size ph qh, one, two, three, four)
+    omega (
+      arith,
+      length-copies (pv ++ (qv ++ (ph ++ qh))),
+      sum_by-append size pv (qv ++ (ph ++ qh)),
+      sum_by-append size qv (ph ++ qh),
+      sum_by-append size ph qh,
+      one,
+      two,
+      three,
+      four,
+    )
 
 -- a sum of larger terms
 larger : (f g : ℕ → ℕ) (k n : ℕ) → ((i : ℕ) → k ≤ i → i < k + n → f i ≤ g i) → sum_by f (up_from k n) ≤ sum_by g (up_from k n)
@@ -74,10 +93,12 @@ some_triple ts v used =
 kept_at_most : (number : ℤ → ℤ) (ws : List ℤ) (side : Side) → IsSide side → length ws ≡ length side.corners → vertex_count number ws ≤ vertex_halfedges number ws side.triples
 kept_at_most number ws side known long =
     let s : ℕ → ℕ = λ v. nat_abs (number (get_or ws v (pos 0))) in
-    let each = larger s (λ v. s v * triples_at side.triples v) 0 (length ws) (λ v a b. let m = mul-le-mul_left (s v) (some_triple side.triples v (known.accepted.mesh.used v (omega (arith, b, long)))) in omega (arith, m)) in
+    let each = larger s (λ v. s v * triples_at side.triples v) 0 (length ws)
+    (λ v a b. let m = mul-le-mul_left (s v) (some_triple side.triples v (known.accepted.mesh.used v (omega (arith, b, long)))) in omega (arith, m)) in
     omega (arith, ints, each, total_pos (λ w. nat_abs (number w)) ws, total-places (λ w. pos (nat_abs (number w))) (pos 0) ws, total_pos s (upto (length ws)))
 
 -- and no more copies than half-edges
-pub few_copies : (op : Op) (p q : Side) (n : Numbers) → IsSide p → IsSide q → length n.w03 ≡ length p.corners → length n.w30 ≡ length q.corners → p_kept op n + q_kept op n + crossing_count op n ≤ prescribed_halfedges op p q n
+pub few_copies : (op : Op) (p q : Side) (n : Numbers) → IsSide p → IsSide q → length n.w03 ≡ length p.corners → length n.w30 ≡ length q.corners →
+    p_kept op n + q_kept op n + crossing_count op n ≤ prescribed_halfedges op p q n
 few_copies op p q n p_known q_known p_long q_long =
     omega (arith, kept_at_most (p_number op) n.w03 p p_known p_long, kept_at_most (q_number op) n.w30 q q_known q_long)

@@ -35,12 +35,15 @@ upto_below : (n : ℕ) → All (λ v. v < n) (upto n)
 upto_below n = All-from_get_or (λ v. v < n) (upto n) 0 (λ i l. let below : i < n = omega (arith, length-up_from 0 n, l) in omega (arith, get_or-up_from 0 n i 0 below, below))
 
 -- vertices
-all_vertices : (P : Origin → Type 0) (origin : ℕ → Origin) (number : ℤ → ℤ) (ws : List ℤ) (ps : List (List ℤ)) (n : ℕ) → ((v : ℕ) → v < n → P (origin v)) → All (λ i. P i.origin) (included_vertices origin number ws ps n)
+all_vertices : (P : Origin → Type 0) (origin : ℕ → Origin) (number : ℤ → ℤ) (ws : List ℤ) (ps : List (List ℤ)) (n : ℕ) → ((v : ℕ) → v < n → P (origin v)) →
+    All (λ i. P i.origin) (included_vertices origin number ws ps n)
 all_vertices P origin number ws ps n h =
-    All-map (λ i. P i.origin) (λ v. record { origin = origin v; number = number (get_or ws v (pos 0)); point = get_or ps v [] }) (upto n) (All-weaker (λ v. v < n) (λ v. P (origin v)) h (upto n) (upto_below n))
+    All-map (λ i. P i.origin) (λ v. record { origin = origin v; number = number (get_or ws v (pos 0)); point = get_or ps v [] }) (upto n)
+    (All-weaker (λ v. v < n) (λ v. P (origin v)) h (upto n) (upto_below n))
 
 -- hits
-all_hits : (P : Origin → Type 0) (origin : ℕ → ℕ → Origin) (number : ℤ → ℤ) (hs : List Hit) → All (λ h. P (origin h.edge h.face)) hs → All (λ i. P i.origin) (included_hits origin number hs)
+all_hits : (P : Origin → Type 0) (origin : ℕ → ℕ → Origin) (number : ℤ → ℤ) (hs : List Hit) → All (λ h. P (origin h.edge h.face)) hs →
+    All (λ i. P i.origin) (included_hits origin number hs)
 all_hits P origin number hs h = All-map (λ i. P i.origin) (λ k. record { origin = origin k.edge k.face; number = number k.number; point = k.at }) hs h
 
 -- the edge and the face of each hit
@@ -60,7 +63,8 @@ all_from op p q n x12 x21 =
     all_copies P (pv ++ (qv ++ (ph ++ qh)))
     (All-append I pv (qv ++ (ph ++ qh)) (all_vertices P PVertex (p_number op) n.w03 (points_of p.corners) (length p.corners) (λ v l. l))
     (All-append I qv (ph ++ qh) (all_vertices P QVertex (q_number op) n.w30 (points_of q.corners) (length q.corners) (λ v l. l))
-    (All-append I ph qh (all_hits P PEdge (hit_number_of op) n.x12 (on_both (all_edges p.triples) (length q.triples) n.x12 x12)) (all_hits P QEdge (hit_number_of op) n.x21 (on_both (all_edges q.triples) (length p.triples) n.x21 x21)))))
+    (All-append I ph qh (all_hits P PEdge (hit_number_of op) n.x12 (on_both (all_edges p.triples) (length q.triples) n.x12 x12))
+    (all_hits P QEdge (hit_number_of op) n.x21 (on_both (all_edges q.triples) (length p.triples) n.x21 x21)))))
 
 -- where a test holds somewhere, a member passes
 pub record Passes {X : Type 0} (p : X → Bool) (xs : List X) (d : X) : Type 0 where

@@ -43,7 +43,13 @@ pub count_lists : {X : Type 0} (test : X → Bool) (half pair : ℕ → X) (n : 
     count_by test (map half (upto 3) ++ map pair (upto n)) ≡ one_if (test (half 0)) + (one_if (test (half 1)) + (one_if (test (half 2)) + count_by (λ k. test (pair k)) (upto n)))
 count_lists test half pair n =
     let rest = map pair (upto n) in
-    omega (arith, count_by-cons test (half 0) (half 1 ∷ half 2 ∷ rest), count_by-cons test (half 1) (half 2 ∷ rest), count_by-cons test (half 2) rest, count_by-map test pair (upto n))
+    omega (
+      arith,
+      count_by-cons test (half 0) (half 1 ∷ half 2 ∷ rest),
+      count_by-cons test (half 1) (half 2 ∷ rest),
+      count_by-cons test (half 2) rest,
+      count_by-map test pair (upto n),
+    )
 
 -- tests that agree below n have one count
 pub count_same : (s t : ℕ → Bool) (n : ℕ) → ((k : ℕ) → k < n → s k ≡ t k) → count_by s (upto n) ≡ count_by t (upto n)

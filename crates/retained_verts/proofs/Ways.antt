@@ -37,7 +37,13 @@ OneOfThree f e = same (3 * f + 0) e + (same (3 * f + 1) e + same (3 * f + 2) e) 
 -- a half-edge is one of the three of its face, and of no other
 pub one_of_three : (f e : ℕ) → same (3 * f + 0) e + (same (3 * f + 1) e + same (3 * f + 2) e) ≡ same f (e / 3)
 one_of_three f e = elim (cases_eq (3 * f + 0) e) as (λ _. OneOfThree f e) [
-  | inl a ↦ omega (arith, same_yes (3 * f + 0) e a, same_no (3 * f + 1) e (λ x. omega (arith, a, x)), same_no (3 * f + 2) e (λ x. omega (arith, a, x)), same_yes f (e / 3) (omega (arith, a)))
+  | inl a ↦ omega (
+    arith,
+    same_yes (3 * f + 0) e a,
+    same_no (3 * f + 1) e (λ x. omega (arith, a, x)),
+    same_no (3 * f + 2) e (λ x. omega (arith, a, x)),
+    same_yes f (e / 3) (omega (arith, a)),
+  )
   | inr a ↦ elim (cases_eq (3 * f + 1) e) as (λ _. OneOfThree f e) [
     | inl b ↦ omega (arith, same_no (3 * f + 0) e a, same_yes (3 * f + 1) e b, same_no (3 * f + 2) e (λ x. omega (arith, b, x)), same_yes f (e / 3) (omega (arith, b)))
     | inr b ↦ elim (cases_eq (3 * f + 2) e) as (λ _. OneOfThree f e) [

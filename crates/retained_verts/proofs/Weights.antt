@@ -36,12 +36,14 @@ weight p q name i = i.number *ℤ incidence p q name i.origin
 pub total-copies : (p q : List (ℕ × ℕ)) (name : ListName) (is : List Included) → total (standing p q name) (flat_map copies_of is) ≡ total (weight p q name) is
 total-copies p q name is =
     total-flat_map (standing p q name) copies_of is
-    ∙ total-same (λ i. total (standing p q name) (copies_of i)) (weight p q name) (λ i. total-replicate (standing p q name) (nat_abs i.number) (copy_of i) ∙ signed_size i.number (incidence p q name i.origin)) is
+    ∙ total-same (λ i. total (standing p q name) (copies_of i)) (weight p q name)
+    (λ i. total-replicate (standing p q name) (nat_abs i.number) (copy_of i) ∙ signed_size i.number (incidence p q name i.origin)) is
 
 -- vertices, and hits
 pub total-vertices : (p q : List (ℕ × ℕ)) (name : ListName) (origin : ℕ → Origin) (number : ℤ → ℤ) (ws : List ℤ) (ps : List (List ℤ)) (n : ℕ) →
     total (weight p q name) (included_vertices origin number ws ps n) ≡ total (λ v. number (get_or ws v (pos 0)) *ℤ incidence p q name (origin v)) (upto n)
-total-vertices p q name origin number ws ps n = total-map (weight p q name) (λ v. record { origin = origin v; number = number (get_or ws v (pos 0)); point = get_or ps v [] }) (upto n)
+total-vertices p q name origin number ws ps n =
+    total-map (weight p q name) (λ v. record { origin = origin v; number = number (get_or ws v (pos 0)); point = get_or ps v [] }) (upto n)
 
 pub total-hits : (p q : List (ℕ × ℕ)) (name : ListName) (origin : ℕ → ℕ → Origin) (number : ℤ → ℤ) (hs : List Hit) →
     total (weight p q name) (included_hits origin number hs) ≡ total (λ h. number h.number *ℤ incidence p q name (origin h.edge h.face)) hs
@@ -65,7 +67,8 @@ picked z s v = elim (cases_eq s v) as (λ _. z *ℤ at_same s v ≡ where_same v
 pub total-ends : (number : ℕ → ℤ) (s f n : ℕ) → s < n → f < n → total (λ v. number v *ℤ (at_same s v -ℤ at_same f v)) (upto n) ≡ number s -ℤ number f
 total-ends number s f n from to =
     let at : ℕ → ℕ → ℤ = λ c v. where_same v c (number v) in
-    let each = total-same (λ v. number v *ℤ (at_same s v -ℤ at_same f v)) (λ v. at s v -ℤ at f v) (λ v. let m = mul-sub (number v) (at_same s v) (at_same f v) in omega (arith, ints, m, picked (number v) s v, picked (number v) f v)) (upto n) in
+    let each = total-same (λ v. number v *ℤ (at_same s v -ℤ at_same f v)) (λ v. at s v -ℤ at f v)
+    (λ v. let m = mul-sub (number v) (at_same s v) (at_same f v) in omega (arith, ints, m, picked (number v) s v, picked (number v) f v)) (upto n) in
     let split = total-sub (at s) (at f) (upto n) in
     let first : total (at s) (upto n) ≡ number s = one_hit_of number s n from in
     let last : total (at f) (upto n) ≡ number f = one_hit_of number f n to in
@@ -125,10 +128,13 @@ incidence_within p q (PairP f g) x = pair_within p q f g x
 incidence_within p q (PairQ g f) x = within_neg (in_pair p q f g x) (pair_within p q f g x)
 
 pub standing_within : (p q : List (ℕ × ℕ)) (name : ListName) (c : Copy) → IsWithin (standing p q name c) 1
-standing_within p q name c = within_cond c.negative (neg_ℤ (incidence p q name c.origin)) (incidence p q name c.origin) (within_neg (incidence p q name c.origin) (incidence_within p q name c.origin)) (incidence_within p q name c.origin)
+standing_within p q name c =
+    within_cond c.negative (neg_ℤ (incidence p q name c.origin)) (incidence p q name c.origin)
+    (within_neg (incidence p q name c.origin) (incidence_within p q name c.origin)) (incidence_within p q name c.origin)
 
 -- a sum of such numbers is how many are above 0 less how many are below
-total-units : {X : Type 0} (f : X → ℤ) → ((x : X) → IsWithin (f x) 1) → (xs : List X) → total f xs ≡ pos (count_by (λ x. int_lt (pos 0) (f x)) xs) -ℤ pos (count_by (λ x. int_lt (f x) (pos 0)) xs)
+total-units : {X : Type 0} (f : X → ℤ) → ((x : X) → IsWithin (f x) 1) → (xs : List X) →
+    total f xs ≡ pos (count_by (λ x. int_lt (pos 0) (f x)) xs) -ℤ pos (count_by (λ x. int_lt (f x) (pos 0)) xs)
 total-units f within [] = refl
 total-units f within (x ∷ xs) =
     let parts = unit_parts (f x) (within x) in
@@ -137,9 +143,25 @@ total-units f within (x ∷ xs) =
 -- the places that pass a test are as many as the members
 pub length-places : {X : Type 0} (test : X → Bool) (d : X) (xs : List X) → length (filter (λ v. test (get_or xs v d)) (upto (length xs))) ≡ count_by test xs
 length-places test d xs =
-    omega (arith, ints, length-filter (λ v. test (get_or xs v d)) (upto (length xs)), total-count_by test xs, total-count_by (λ v. test (get_or xs v d)) (upto (length xs)), total-places (λ x. pos (one_if (test x))) d xs)
+    omega (
+      arith,
+      ints,
+      length-filter (λ v. test (get_or xs v d)) (upto (length xs)),
+      total-count_by test xs,
+      total-count_by (λ v. test (get_or xs v d))
+          (upto (length xs)),
+      total-places (λ x. pos (one_if (test x))) d xs,
+    )
 
 -- where the standings add up to 0, there are as many starts as ends
 pub even_from_sum : (p q : List (ℕ × ℕ)) (cs : List Copy) (name : ListName) → total (standing p q name) cs ≡ pos 0 → length (starts p q cs name) ≡ length (ends p q cs name)
 even_from_sum p q cs name sum =
-    omega (arith, ints, sum, total-units (standing p q name) (standing_within p q name) cs, length-places (λ c. int_lt (pos 0) (standing p q name c)) no_copy cs, length-places (λ c. int_lt (standing p q name c) (pos 0)) no_copy cs)
+    omega (
+      arith,
+      ints,
+      sum,
+      total-units (standing p q name) (standing_within p q name) cs,
+      length-places (λ c. int_lt (pos 0) (standing p q name c)) no_copy
+          cs,
+      length-places (λ c. int_lt (standing p q name c) (pos 0)) no_copy cs,
+    )

@@ -66,5 +66,6 @@ module _ (script : Bytes) (line : ℕ) (name old : Bytes) (motion : Motion) (nam
   pub moved_so : {X : Type 0} (x : X) → IsRefusedFor (motion_fault motion m.points) (Ok x) → (after : Named) → after ≡ with_name name (moved_mesh motion m) named → (now : Seen)
       → Meets (move_task script line name old motion named) now now (Ok after)
   moved_so x why after same now =
-      let P : Mesh → Type 0 = λ n. Meets (then_task (give (made script line (motion_fault motion n.points) (moved_mesh motion n))) (λ m. give (Ok (with_name name m named)))) now now (Ok after) in
+      let P : Mesh → Type 0 = λ n. Meets
+      (then_task (give (made script line (motion_fault motion n.points) (moved_mesh motion n))) (λ m. give (Ok (with_name name m named)))) now now (Ok after) in
       subst P (sym is) (made_so script line name (moved_mesh motion m) named (motion_fault motion m.points) x why after same now)

@@ -58,7 +58,8 @@ module _ (means : KernelKind → Meanings) (k : ℕ) (limits : Limits) (script :
     next_numbers = sound_next.0.numbers
 
     -- what the lines from this one on cost
-    cost_from : (files : Files) → cost_of (drop at lines) after files ≡ step_cost l.1 after.named + cost_after (doing l after files) files (λ b now. cost_of (drop (at + 1) lines) b now)
+    cost_from : (files : Files) →
+        cost_of (drop at lines) after files ≡ step_cost l.1 after.named + cost_after (doing l after files) files (λ b now. cost_of (drop (at + 1) lines) b now)
     cost_from files = ap (λ ls. cost_of ls after files) first
 
     module _ (there : Seen) (now : ℕ) (most : now ≤ steps + step_cost l.1 after.named) where
@@ -85,7 +86,8 @@ module _ (means : KernelKind → Meanings) (k : ℕ) (limits : Limits) (script :
         met : Meets (doing l after) here there (Ok b)
         met = meets_then step (λ n. give (Ok (state_after l.1 after n))) names (Ok b) here there there did_step (meets_given (Ok b) b there refl)
 
-        after_files : IsTrue start.tells → cost_after (doing l after here.world.files) here.world.files (λ b now. cost_of (drop (at + 1) lines) b now) ≡ cost_of (drop (at + 1) lines) b there.world.files
+        after_files : IsTrue start.tells →
+            cost_after (doing l after here.world.files) here.world.files (λ b now. cost_of (drop (at + 1) lines) b now) ≡ cost_of (drop (at + 1) lines) b there.world.files
         after_files told =
             let P : Bool → Type 0 = λ t. IsTrue t in
             let did = met.does (subst P (sym done.tells) told) in

@@ -26,7 +26,8 @@ module _ (means : KernelKind → Meanings) (k : ℕ) (limits : Limits) (name : B
   doing lines = then_task (steps_task means k limits name lines at_first) (λ _. give (Ok tt))
 
   -- a faulty text, or want of memory
-  pub text_refused : (text : Bytes) (fault : ScriptFault) (now : Seen) → IsFaultOf (script k text) fault → Meets (text_task means k limits name text) now now (Err (why_of_fault name fault))
+  pub text_refused : (text : Bytes) (fault : ScriptFault) (now : Seen) → IsFaultOf (script k text) fault →
+      Meets (text_task means k limits name text) now now (Err (why_of_fault name fault))
   text_refused text (Bad line kind) now is =
       meets_stop (give (script_checked name (script k text))) doing (why_of_fault name (Bad line kind)) now now
       (meets_refused (script_checked name (script k text)) _ now (ap (script_checked name) is))

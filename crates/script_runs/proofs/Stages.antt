@@ -138,7 +138,8 @@ module _ (name : Bytes) (of m : Mesh) (named : Named) (is : of ≡ m) (out told 
       (meets_given (Ok named) named (beside on told) refl))
 
 -- the mesh of a name, which is this one, is tidied, by so many collapses
-module _ (name old : Bytes) (of m : Mesh) (named : Named) (is : of ≡ m) (collapses : ℕ) (count : collapses ≡ (tidied m.points m.triples m.labels).collapses) (out told : OnOutput) where
+module _ (name old : Bytes) (of m : Mesh) (named : Named) (is : of ≡ m) (collapses : ℕ) (count : collapses ≡ (tidied m.points m.triples m.labels).collapses)
+    (out told : OnOutput) where
   abbrev tidying : Mesh → Task Named
   tidying mesh = tidy_task name old mesh named
 

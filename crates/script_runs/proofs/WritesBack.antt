@@ -10,5 +10,6 @@ use Rattle.script_runs.specs.Operations.{meanings}
 use Rattle.play_terms.specs.Plays.{script_task}
 
 -- whatever the files, by the law of what operations give
-pub script_back : (k : ℕ) (limits : Limits) (name : Bytes) → k ≤ 6 → IsLawful limits → OperationsAreReadable → (files : Files) → All (WritesReadable k limits) (script_task meanings k limits name files).actions
+pub script_back : (k : ℕ) (limits : Limits) (name : Bytes) → k ≤ 6 → IsLawful limits → OperationsAreReadable → (files : Files) →
+    All (WritesReadable k limits) (script_task meanings k limits name files).actions
 script_back k limits name few lawful law files = (script_keeps meanings k limits few lawful (law k limits few lawful) name).actions files

@@ -15,7 +15,8 @@ use planar_patches::remesh;
 use report_lines::say_remeshed;
 use std::alloc::Global;
 
-/// Gives a name the remeshed mesh of another, and reports on the output how many patches there were, and how many stayed as they were.
+/// Gives a name the remeshed mesh of another, and reports on the output how many patches there were, and of how many
+/// the filling was not taken.
 pub fn remesh_mesh<'a, O: Sink>(
     alloc: Global,
     name: &'a str,

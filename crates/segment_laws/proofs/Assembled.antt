@@ -30,7 +30,8 @@ pub record StartsOn (p q : Side) (cs : List Copy) (place : ℕ → List ℤ) (v 
   pub known : face < source_count p q
   pub once : out (segments_of p q cs place face) v ≡ 1
 
-starts_on : (p q : Side) (cs : List Copy) (place : ℕ → List ℤ) → IsBalanced p q cs → (v : ℕ) → v < length cs → (x : ℕ) → x < source_count p q → (names : List ListName) → lists_of p q x ≡ names →
+starts_on : (p q : Side) (cs : List Copy) (place : ℕ → List ℤ) → IsBalanced p q cs → (v : ℕ) → v < length cs → (x : ℕ) → x < source_count p q →
+    (names : List ListName) → lists_of p q x ≡ names →
     StandsInTwo p q names (get_or cs v no_copy) → StartsOn p q cs place v
 starts_on p q cs place balance v inside x below names are two =
     record { face = x; known = below; once = occurs p q cs place balance x below v inside ∙ ap (λ l. start_count p q l (get_or cs v no_copy)) are ∙ two.one_start }
@@ -40,11 +41,13 @@ starts_somewhere p q cs place stand balance v inside =
     let m = length p.triples in
     let n = length q.triples in
     elim (stand.somewhere v no_copy inside) as (λ _. StartsOn p q cs place v) [
-      | inl r ↦ starts_on p q cs place balance v inside r.0 (omega (arith, r.1)) (lists_of_p n r.0) (cond-true (nat_lt r.0 m) (lists_of_p n r.0) (lists_of_q m (r.0 - m)) (lt-ltb r.0 m r.1)) r.2
+      | inl r ↦ starts_on p q cs place balance v inside r.0 (omega (arith, r.1)) (lists_of_p n r.0)
+          (cond-true (nat_lt r.0 m) (lists_of_p n r.0) (lists_of_q m (r.0 - m)) (lt-ltb r.0 m r.1)) r.2
       | inr r ↦
           let x = m + r.0 in
           let back : x - m ≡ r.0 = omega arith in
-          starts_on p q cs place balance v inside x (omega (arith, r.1)) (lists_of_q m r.0) (cond-false (nat_lt x m) (lists_of_p n x) (lists_of_q m (x - m)) (le-ltb x m (omega arith)) ∙ ap (lists_of_q m) back) r.2
+          starts_on p q cs place balance v inside x (omega (arith, r.1)) (lists_of_q m r.0)
+          (cond-false (nat_lt x m) (lists_of_p n x) (lists_of_q m (x - m)) (le-ltb x m (omega arith)) ∙ ap (lists_of_q m) back) r.2
     ]
 
 -- a triple has the start of each of its edges
@@ -62,7 +65,8 @@ used_start ts e inside =
     list_any_at (λ t. has t e.0) ts k r.from r.listed.1 (ap (λ t. has t e.0) r.listed.2 ∙ has_start r.from e r.inside)
 
 -- a vertex that starts a segment of a face is used by all triples with the boundary of the segments
-pub vertices_stay : (p q : Side) (cs : List Copy) (place : ℕ → List ℤ) → IsSide p → IsSide q → NoOpposite p.triples → NoOpposite q.triples → AreNamed p q cs → (x : ℕ) → x < source_count p q →
+pub vertices_stay : (p q : Side) (cs : List Copy) (place : ℕ → List ℤ) → IsSide p → IsSide q → NoOpposite p.triples → NoOpposite q.triples → AreNamed p q cs →
+    (x : ℕ) → x < source_count p q →
     (ts : List Triple) → SameChain (all_edges ts) (segments_of p q cs place x) → (v : ℕ) → 0 < out (segments_of p q cs place x) v → is_used ts v ≡ true
 vertices_stay p q cs place p_known q_known p_none q_none named x below ts same v some =
     let es = segments_of p q cs place x in
@@ -84,11 +88,13 @@ parts_same : (parts : ℕ → List Triple) (segments : ℕ → List (ℕ × ℕ)
 parts_same parts segments k zero same = λ f odd. refl
 parts_same parts segments k (suc n) same =
     let rest = parts_same parts segments (suc k) n (λ x l. same x (omega (arith, l))) in
-    let joined = same_chain-append (all_edges (parts k)) (segments k) (all_edges (flat_map parts (up_from (suc k) n))) (flat_map segments (up_from (suc k) n)) (same k (omega arith)) rest in
+    let joined = same_chain-append (all_edges (parts k)) (segments k) (all_edges (flat_map parts (up_from (suc k) n))) (flat_map segments (up_from (suc k) n))
+    (same k (omega arith)) rest in
     rw (all_edges-append (parts k) (flat_map parts (up_from (suc k) n))) joined
 
 -- all together they are closed
-pub parts_closed : (p q : Side) (cs : List Copy) (place : ℕ → List ℤ) → IsSide p → IsSide q → (parts : ℕ → List Triple) → ((x : ℕ) → x < source_count p q → SameChain (all_edges (parts x)) (segments_of p q cs place x)) →
+pub parts_closed : (p q : Side) (cs : List Copy) (place : ℕ → List ℤ) → IsSide p → IsSide q → (parts : ℕ → List Triple) →
+    ((x : ℕ) → x < source_count p q → SameChain (all_edges (parts x)) (segments_of p q cs place x)) →
     IsClosed (all_edges (flat_map parts (upto (source_count p q))))
 parts_closed p q cs place p_known q_known parts same =
     closed_same (all_edges (flat_map parts (upto (source_count p q)))) (all_segments p q cs place)

@@ -47,7 +47,8 @@ turned_sum f t n inverse turns =
 abbrev face_sum : (ℕ → ListName) → (ℕ → ℕ → ListName) → (ListName → ℤ) → ℕ → ℕ → ℤ
 face_sum half pair w n x = total (λ i. w (half (3 * x + i))) (upto 3) +ℤ total (λ g. w (pair x g)) (upto n)
 
-one_face : (half : ℕ → ListName) (pair : ℕ → ℕ → ListName) (w : ListName → ℤ) (n x : ℕ) → total w (map (λ i. half (3 * x + i)) (upto 3) ++ map (pair x) (upto n)) ≡ face_sum half pair w n x
+one_face : (half : ℕ → ListName) (pair : ℕ → ℕ → ListName) (w : ListName → ℤ) (n x : ℕ) →
+    total w (map (λ i. half (3 * x + i)) (upto 3) ++ map (pair x) (upto n)) ≡ face_sum half pair w n x
 one_face half pair w n x =
     total-append w (map (λ i. half (3 * x + i)) (upto 3)) (map (pair x) (upto n))
     ∙ ap (λ z. z +ℤ total w (map (pair x) (upto n))) (total-map w (λ i. half (3 * x + i)) (upto 3))
@@ -121,13 +122,15 @@ cancel p q cs place p_known q_known f odd =
     let w : ListName → ℤ = λ name. total (along f) (segments_in p q cs place name) in
     let P = all_edges p.triples in
     let Q = all_edges q.triples in
-    let lists = total-same (λ x. total (along f) (segments_of p q cs place x)) (λ x. total w (lists_of p q x)) (λ x. total-flat_map (along f) (segments_in p q cs place) (lists_of p q x)) (upto (source_count p q)) in
+    let lists = total-same (λ x. total (along f) (segments_of p q cs place x)) (λ x. total w (lists_of p q x))
+    (λ x. total-flat_map (along f) (segments_in p q cs place) (lists_of p q x)) (upto (source_count p q)) in
     let of_p = turned_sum (λ h. w (HalfP h)) (twin P) (length P) (twins_inverse P p_known.accepted.closed)
     (λ h below. ap (total (along f)) (twin_reverses_p p q p_known cs place h below) ∙ total-backward f odd (segments_in p q cs place (HalfP h))) in
     let of_q = turned_sum (λ h. w (HalfQ h)) (twin Q) (length Q) (twins_inverse Q q_known.accepted.closed)
     (λ h below. ap (total (along f)) (twin_reverses_q p q q_known cs place h below) ∙ total-backward f odd (segments_in p q cs place (HalfQ h))) in
     total-flat_map (along f) (segments_of p q cs place) (upto (source_count p q)) ∙ lists
-    ∙ all_lists p q w (sym (ap (λ k. total (λ h. w (HalfP h)) (upto k)) (length-all_edges p.triples)) ∙ of_p) (sym (ap (λ k. total (λ h. w (HalfQ h)) (upto k)) (length-all_edges q.triples)) ∙ of_q)
+    ∙ all_lists p q w (sym (ap (λ k. total (λ h. w (HalfP h)) (upto k)) (length-all_edges p.triples)) ∙ of_p)
+    (sym (ap (λ k. total (λ h. w (HalfQ h)) (upto k)) (length-all_edges q.triples)) ∙ of_q)
     (λ g h. ap (total (along f)) (pair_reverses p q cs place g h) ∙ total-backward f odd (segments_in p q cs place (PairP g h)))
 
 -- so they are closed

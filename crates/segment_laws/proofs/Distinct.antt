@@ -69,7 +69,8 @@ no_edge es known g h e g_below h_below same apart a b = elim (half_is es g e a) 
 ]
 
 -- a vertex at which two half-edges that follow one another stand is the one between them
-vertex_between : (ts : List Triple) → All HasThree ts → (g h a : ℕ) → g < length (all_edges ts) → h ≡ next_half g → (at_end (all_edges ts) g a ≡ pos 0 → ⊥) → (at_end (all_edges ts) h a ≡ pos 0 → ⊥) → a ≡ finish (all_edges ts) g
+vertex_between : (ts : List Triple) → All HasThree ts → (g h a : ℕ) → g < length (all_edges ts) → h ≡ next_half g → (at_end (all_edges ts) g a ≡ pos 0 → ⊥) →
+    (at_end (all_edges ts) h a ≡ pos 0 → ⊥) → a ≡ finish (all_edges ts) g
 vertex_between ts three g h a below next first second =
     let es = all_edges ts in
     let s = start es g in
@@ -126,7 +127,8 @@ at_edge p q known h f g below (PVertex a) lower both = absurd (both.second refl)
 at_edge p q known h f g below (QVertex a) lower both = absurd (both.first refl)
 at_edge p q known h f g below (PEdge edge face) lower both =
     let P = all_edges p.triples in
-    ap (λ e. PEdge e face) (lower_of P known h edge below lower (not_turned (way P h edge) both.first)) ∙ ap (PEdge (lower_half P h)) (same_where face g (way_round P f edge) both.second)
+    ap (λ e. PEdge e face) (lower_of P known h edge below lower (not_turned (way P h edge) both.first))
+    ∙ ap (PEdge (lower_half P h)) (same_where face g (way_round P f edge) both.second)
 at_edge p q known h f g below (QEdge edge face) lower both = absurd (both.first refl)
 
 -- what stands in the lists of two pairs is an edge of both other faces
@@ -144,7 +146,8 @@ none_either false = refl
 not_chosen : (t : Bool) (z : ℤ) → (cond t (neg_ℤ z) (pos 0) ≡ pos 0 → ⊥) → z ≡ pos 0 → ⊥
 not_chosen t z some e = some (ap (λ w. cond t (neg_ℤ w) (pos 0)) e ∙ none_either t)
 
-crosses_both : (p q : Side) (k l g h : ℕ) → (g ≡ h → ⊥) → (x : Origin) → NamesLower p q x → InBoth (all_edges p.triples) (all_edges q.triples) (PairP k g) (PairP l h) x → CrossesBoth p q k g h x
+crosses_both : (p q : Side) (k l g h : ℕ) → (g ≡ h → ⊥) → (x : Origin) → NamesLower p q x →
+    InBoth (all_edges p.triples) (all_edges q.triples) (PairP k g) (PairP l h) x → CrossesBoth p q k g h x
 crosses_both p q k l g h apart (PVertex a) lower both = absurd (both.first refl)
 crosses_both p q k l g h apart (QVertex a) lower both = absurd (both.first refl)
 crosses_both p q k l g h apart (PEdge edge face) lower both =
@@ -167,7 +170,8 @@ record SharedEdge (es : List (ℕ × ℕ)) (g h e : ℕ) : Type 0 where
   there : twin es half / 3 ≡ h
   named : e ≡ lower_half es half
 
-shared_edge : (es : List (ℕ × ℕ)) → HasTwins es → (g h e : ℕ) → 3 * g + 2 < length es → 3 * h + 2 < length es → (g ≡ h → ⊥) → e < twin es e → (way_round es g e ≡ pos 0 → ⊥) → (way_round es h e ≡ pos 0 → ⊥) → SharedEdge es g h e
+shared_edge : (es : List (ℕ × ℕ)) → HasTwins es → (g h e : ℕ) → 3 * g + 2 < length es → 3 * h + 2 < length es → (g ≡ h → ⊥) → e < twin es e →
+    (way_round es g e ≡ pos 0 → ⊥) → (way_round es h e ≡ pos 0 → ⊥) → SharedEdge es g h e
 shared_edge es known g h e g_below h_below apart lower a b = elim (face_is es g e a) as (λ _. SharedEdge es g h e) [
   | inl p ↦ elim (face_is es h e b) as (λ _. SharedEdge es g h e) [
     | inl q ↦ absurd (apart (p ∙ sym q))
@@ -187,7 +191,8 @@ abbrev pub IsRound : ℕ → ℕ → ℕ → Triple → Type 0
 IsRound a b c t = ((a ≡ t.0) × (b ≡ t.1) × (c ≡ t.2)) ⊎ (((a ≡ t.1) × (b ≡ t.2) × (c ≡ t.0)) ⊎ ((a ≡ t.2) × (b ≡ t.0) × (c ≡ t.1)))
 
 -- a half-edge and the next one go round their triple
-round_at : (ts : List Triple) (h : ℕ) → h < length (all_edges ts) → IsRound (start (all_edges ts) h) (finish (all_edges ts) h) (finish (all_edges ts) (next_half h)) (get_or ts (h / 3) (0, 0, 0))
+round_at : (ts : List Triple) (h : ℕ) → h < length (all_edges ts) →
+    IsRound (start (all_edges ts) h) (finish (all_edges ts) h) (finish (all_edges ts) (next_half h)) (get_or ts (h / 3) (0, 0, 0))
 round_at [] h below = absurd (omega (arith, below))
 round_at (t ∷ ts) zero below = inl (refl, refl, refl)
 round_at (t ∷ ts) (suc zero) below = inr (inl (refl, refl, refl))
@@ -250,7 +255,9 @@ faces_opposite ts three known a b a_below b_below next same =
       | inl e ↦
           let one : IsRound (start es a) (finish es a) (finish es b) (get_or ts (a / 3) (0, 0, 0)) = rw next (round_at ts a a_below) in
           let last : finish es (next_half t) ≡ start es a = ap (finish es) (sym e) ∙ back_a.to in
-          let two : IsRound (finish es b) (finish es a) (start es a) (get_or ts (t / 3) (0, 0, 0)) = rounded (start es t) (finish es t) (finish es (next_half t)) (finish es b) (finish es a) (start es a) (get_or ts (t / 3) (0, 0, 0)) back_b.from (back_b.to ∙ joined) last (round_at ts t back_b.within) in
+          let two : IsRound (finish es b) (finish es a) (start es a) (get_or ts (t / 3) (0, 0, 0)) =
+          rounded (start es t) (finish es t) (finish es (next_half t)) (finish es b) (finish es a) (start es a) (get_or ts (t / 3) (0, 0, 0)) back_b.from
+          (back_b.to ∙ joined) last (round_at ts t back_b.within) in
           rounds_opposite (start es a) (finish es a) (finish es b) (get_or ts (a / 3) (0, 0, 0)) (get_or ts (t / 3) (0, 0, 0)) one two
       | inr e ↦
           let meets : finish es b ≡ start es a = sym back_b.from ∙ ap (start es) e ∙ next_starts ts s back_a.within ∙ back_a.to in
@@ -261,7 +268,8 @@ faces_opposite ts three known a b a_below b_below next same =
     rounded x y z a b c t p q r h = rw (p, q, r) at h
 
 -- so where no two triples are opposite, two faces share one edge at most
-one_shared : (ts : List Triple) → All HasThree ts → HasTwins (all_edges ts) → NoOpposite ts → (g h d e : ℕ) → g < length ts → h < length ts → SharedEdge (all_edges ts) g h d → SharedEdge (all_edges ts) g h e → d ≡ e
+one_shared : (ts : List Triple) → All HasThree ts → HasTwins (all_edges ts) → NoOpposite ts → (g h d e : ℕ) → g < length ts → h < length ts →
+    SharedEdge (all_edges ts) g h d → SharedEdge (all_edges ts) g h e → d ≡ e
 one_shared ts three known none g h d e g_below h_below s t =
     let es = all_edges ts in
     elim (cases_eq s.half t.half) as (λ _. d ≡ e) [
@@ -277,7 +285,8 @@ one_shared ts three known none g h d e g_below h_below s t =
         let yes = faces_opposite ts three known a b a_below b_below next (there ∙ sym there') in
         let t = get_or ts (a / 3) (0, 0, 0) in
         let u = get_or ts (twin (all_edges ts) b / 3) (0, 0, 0) in
-        both_ways (opposite t u) (none t u (Contains-get_or ts (a / 3) (0, 0, 0) (omega (arith, here, g_below))) (Contains-get_or ts (twin (all_edges ts) b / 3) (0, 0, 0) (omega (arith, there', h_below)))) yes
+        both_ways (opposite t u) (none t u (Contains-get_or ts (a / 3) (0, 0, 0) (omega (arith, here, g_below)))
+        (Contains-get_or ts (twin (all_edges ts) b / 3) (0, 0, 0) (omega (arith, there', h_below)))) yes
 
 -- a list of a face of P
 abbrev pub IsOfFaceP : (n f : ℕ) → ListName → Type 0
@@ -287,8 +296,10 @@ IsOfFaceP n f (PairP k g) = (k ≡ f) × (g < n)
 IsOfFaceP n f (PairQ g k) = ⊥
 
 -- what stands in two lists of a face of P is known by them
-pub same_origin : (p q : Side) → IsSide p → IsSide q → NoOpposite q.triples → (f : ℕ) → f < length p.triples → (one two : ListName) → IsOfFaceP (length q.triples) f one → IsOfFaceP (length q.triples) f two →
-    (one ≡ two → ⊥) → (x y : Origin) → NamesLower p q x → NamesLower p q y → InBoth (all_edges p.triples) (all_edges q.triples) one two x → InBoth (all_edges p.triples) (all_edges q.triples) one two y → x ≡ y
+pub same_origin : (p q : Side) → IsSide p → IsSide q → NoOpposite q.triples → (f : ℕ) → f < length p.triples → (one two : ListName) →
+    IsOfFaceP (length q.triples) f one → IsOfFaceP (length q.triples) f two →
+    (one ≡ two → ⊥) → (x y : Origin) → NamesLower p q x → NamesLower p q y → InBoth (all_edges p.triples) (all_edges q.triples) one two x →
+    InBoth (all_edges p.triples) (all_edges q.triples) one two y → x ≡ y
 same_origin p q p_known q_known none f below (HalfP g) (HalfP h) of_one of_two apart x y x_lower y_lower x_in y_in =
     let P = all_edges p.triples in
     let Q = all_edges q.triples in
@@ -299,7 +310,8 @@ same_origin p q p_known q_known none f below (HalfP g) (HalfP h) of_one of_two a
     let h_below : h < length P = omega (arith, below, of_two, long) in
     let different : g ≡ h → ⊥ = λ e. apart (ap HalfP e) in
     elim (consecutive g h (of_one ∙ sym of_two) different) as (λ _. x ≡ y) [
-      | inl e ↦ at_vertex P Q p.triples refl three known g h g_below h_below e different x x_in ∙ sym (at_vertex P Q p.triples refl three known g h g_below h_below e different y y_in)
+      | inl e ↦ at_vertex P Q p.triples refl three known g h g_below h_below e different x x_in
+          ∙ sym (at_vertex P Q p.triples refl three known g h g_below h_below e different y y_in)
       | inr e ↦
           let turned : h ≡ g → ⊥ = λ d. different (sym d) in
           at_vertex P Q p.triples refl three known h g h_below g_below e turned x (record { first = x_in.second; second = x_in.first })
@@ -312,7 +324,8 @@ same_origin p q p_known q_known none f below (HalfP h) (PairP k g) of_one of_two
 same_origin p q p_known q_known none f below (PairP k g) (HalfP h) of_one of_two apart x y x_lower y_lower x_in y_in =
     let known = side_twins p p_known in
     let h_below : h < length (all_edges p.triples) = omega (arith, below, of_two, length-all_edges p.triples) in
-    at_edge p q known h k g h_below x x_lower (record { first = x_in.second; second = x_in.first }) ∙ sym (at_edge p q known h k g h_below y y_lower (record { first = y_in.second; second = y_in.first }))
+    at_edge p q known h k g h_below x x_lower (record { first = x_in.second; second = x_in.first })
+    ∙ sym (at_edge p q known h k g h_below y y_lower (record { first = y_in.second; second = y_in.first }))
 same_origin p q p_known q_known none f below (PairP k g) (PairP l h) of_one of_two apart x y x_lower y_lower x_in y_in =
     let Q = all_edges q.triples in
     let known = side_twins q q_known in

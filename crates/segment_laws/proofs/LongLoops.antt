@@ -13,14 +13,16 @@ use Rattle.segment_laws.proofs.OneToOne.{are_even, stand_once}
 use Rattle.segment_laws.proofs.Returning.{none_exchanged}
 use Rattle.segment_laws.proofs.Standing.{face_same, key_of, stand_of}
 
-pub loops_are_long : (p q : Side) (cs : List Copy) (place : ℕ → List ℤ) → IsSide p → IsSide q → NoOpposite p.triples → NoOpposite q.triples → StandInLists p q cs → IsBalanced p q cs → AreNamed p q cs →
+pub loops_are_long : (p q : Side) (cs : List Copy) (place : ℕ → List ℤ) → IsSide p → IsSide q → NoOpposite p.triples → NoOpposite q.triples →
+    StandInLists p q cs → IsBalanced p q cs → AreNamed p q cs →
     (x : ℕ) → x < source_count p q → All (λ loop. 3 ≤ length loop) (cycles (segments_of p q cs place x))
 loops_are_long p q cs place p_known q_known p_none q_none stand balance named x below =
     subst (λ es. All (λ loop. 3 ≤ length loop) (cycles es)) (sym (face_same p q cs place x))
     (lists.loops_are_long (stand_of p q cs) (key_of p q cs place) (length cs) (lists_of p q x) (are_even p q cs balance x below) (stand_once p q cs stand x below)
     (none_exchanged p q cs p_known q_known p_none q_none named x below))
 
-pub loops_have_copies : (p q : Side) (cs : List Copy) (place : ℕ → List ℤ) → StandInLists p q cs → IsBalanced p q cs → (x : ℕ) → x < source_count p q → All (λ v. v < length cs) (concat (cycles (segments_of p q cs place x)))
+pub loops_have_copies : (p q : Side) (cs : List Copy) (place : ℕ → List ℤ) → StandInLists p q cs → IsBalanced p q cs → (x : ℕ) → x < source_count p q →
+    All (λ v. v < length cs) (concat (cycles (segments_of p q cs place x)))
 loops_have_copies p q cs place stand balance x below =
     subst (λ es. All (λ v. v < length cs) (concat (cycles es))) (sym (face_same p q cs place x))
     (lists.loops_below (stand_of p q cs) (key_of p q cs place) (length cs) (lists_of p q x) (are_even p q cs balance x below) (stand_once p q cs stand x below))

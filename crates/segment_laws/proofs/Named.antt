@@ -38,7 +38,8 @@ counts_itself h = ap (λ t. cond t h.number (pos 0)) (and_from (h.edge == h.edge
 
 no_number : (e f : ℕ) (hs : List Hit) → All (IsOther e f) hs → hit_number hs e f ≡ pos 0
 no_number e f hs others =
-    total-same_all (λ h. cond ((h.edge == e) && (h.face == f)) h.number (pos 0)) (λ h. pos 0) hs (λ k d below. counts_nothing e f (get_or hs k d) (others k d below)) ∙ total-zero hs
+    total-same_all (λ h. cond ((h.edge == e) && (h.face == f)) h.number (pos 0)) (λ h. pos 0) hs
+    (λ k d below. counts_nothing e f (get_or hs k d) (others k d below)) ∙ total-zero hs
 
 -- a hit and a later one are of two pairs
 differs : (h k : Hit) → IsBefore h k → h.edge ≡ k.edge → h.face ≡ k.face → ⊥
@@ -61,7 +62,8 @@ listed_number (h ∷ hs) up (suc k) d below =
 all_copies : (P : Copy → Type 0) (is : List Included) → All (λ i. P (copy_of i)) is → All P (flat_map copies_of is)
 all_copies P [] h = All-nil P
 all_copies P (i ∷ is) h =
-    All-append P (copies_of i) (flat_map copies_of is) (All-replicate P (nat_abs i.number) (copy_of i) (All-head (λ k. P (copy_of k)) i is h)) (all_copies P is (All-tail (λ k. P (copy_of k)) i is h))
+    All-append P (copies_of i) (flat_map copies_of is) (All-replicate P (nat_abs i.number) (copy_of i) (All-head (λ k. P (copy_of k)) i is h))
+    (all_copies P is (All-tail (λ k. P (copy_of k)) i is h))
 
 -- whether what a copy comes from is included a negative number of times
 abbrev sign_of : Op → Numbers → Origin → Bool
@@ -75,7 +77,8 @@ record IsNamed (op : Op) (p q : Side) (n : Numbers) (c : Copy) : Type 0 where
   lower : NamesLower p q c.origin
   signed : c.negative ≡ sign_of op n c.origin
 
-all_named : (op : Op) (p q : Side) (n : Numbers) → AreHits (all_edges p.triples) (length q.triples) n.x12 → AreHits (all_edges q.triples) (length p.triples) n.x21 → All (IsNamed op p q n) (prescribed op p q n)
+all_named : (op : Op) (p q : Side) (n : Numbers) → AreHits (all_edges p.triples) (length q.triples) n.x12 →
+    AreHits (all_edges q.triples) (length p.triples) n.x21 → All (IsNamed op p q n) (prescribed op p q n)
 all_named op p q n x12 x21 =
     let Good : Copy → Type 0 = IsNamed op p q n in
     let I : Included → Type 0 = λ i. Good (copy_of i) in
@@ -99,7 +102,8 @@ all_named op p q n x12 x21 =
     }) in
     all_copies Good (pv ++ (qv ++ (ph ++ qh))) (All-append I pv (qv ++ (ph ++ qh)) all_pv (All-append I qv (ph ++ qh) all_qv (All-append I ph qh all_ph all_qh)))
 
-pub are_named : (op : Op) (p q : Side) (n : Numbers) → AreHits (all_edges p.triples) (length q.triples) n.x12 → AreHits (all_edges q.triples) (length p.triples) n.x21 → AreNamed p q (prescribed op p q n)
+pub are_named : (op : Op) (p q : Side) (n : Numbers) → AreHits (all_edges p.triples) (length q.triples) n.x12 →
+    AreHits (all_edges q.triples) (length p.triples) n.x21 → AreNamed p q (prescribed op p q n)
 are_named op p q n x12 x21 =
     let cs = prescribed op p q n in
     let named = all_named op p q n x12 x21 in

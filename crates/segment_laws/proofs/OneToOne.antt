@@ -53,7 +53,8 @@ stand_once p q cs stand x below = record {
 }
 
 -- so the segments of a face are one to one
-pub one_to_one : (p q : Side) (cs : List Copy) (place : ℕ → List ℤ) → StandInLists p q cs → IsBalanced p q cs → (x : ℕ) → x < source_count p q → IsOneToOne (segments_of p q cs place x)
+pub one_to_one : (p q : Side) (cs : List Copy) (place : ℕ → List ℤ) → StandInLists p q cs → IsBalanced p q cs → (x : ℕ) → x < source_count p q →
+    IsOneToOne (segments_of p q cs place x)
 one_to_one p q cs place stand balance x below =
     subst IsOneToOne (sym (face_same p q cs place x))
     (lists.one_to_one (stand_of p q cs) (key_of p q cs place) (length cs) (lists_of p q x) (are_even p q cs balance x below) (stand_once p q cs stand x below))

@@ -81,8 +81,10 @@ abbrev pub IsOfFaceQ : (m g : ℕ) → ListName → Type 0
 IsOfFaceQ m g name = IsOfFaceP m g (other_name name)
 
 -- what stands in two lists of a face of Q is known by them
-pub same_origin_q : (p q : Side) → IsSide p → IsSide q → NoOpposite p.triples → (g : ℕ) → g < length q.triples → (one two : ListName) → IsOfFaceQ (length p.triples) g one → IsOfFaceQ (length p.triples) g two →
-    (one ≡ two → ⊥) → (x y : Origin) → NamesLower p q x → NamesLower p q y → InBoth (all_edges p.triples) (all_edges q.triples) one two x → InBoth (all_edges p.triples) (all_edges q.triples) one two y → x ≡ y
+pub same_origin_q : (p q : Side) → IsSide p → IsSide q → NoOpposite p.triples → (g : ℕ) → g < length q.triples → (one two : ListName) →
+    IsOfFaceQ (length p.triples) g one → IsOfFaceQ (length p.triples) g two →
+    (one ≡ two → ⊥) → (x y : Origin) → NamesLower p q x → NamesLower p q y → InBoth (all_edges p.triples) (all_edges q.triples) one two x →
+    InBoth (all_edges p.triples) (all_edges q.triples) one two y → x ≡ y
 same_origin_q p q p_known q_known none g below one two of_one of_two apart x y x_lower y_lower x_in y_in =
     let P = all_edges p.triples in
     let Q = all_edges q.triples in

@@ -41,8 +41,11 @@ distinguish p q p_known q_known p_none q_none x below =
     let m = length p.triples in
     let n = length q.triples in
     face_case p q (Distinguish p q) x
-    (λ l one two a b. same_origin p q p_known q_known q_none x l one two (All-contains (IsOfFaceP n x) (lists_of_p n x) one (of_face_p n x) a) (All-contains (IsOfFaceP n x) (lists_of_p n x) two (of_face_p n x) b))
-    (λ l one two a b. same_origin_q p q p_known q_known p_none (x - m) (omega (arith, below, l)) one two (All-contains (IsOfFaceQ m (x - m)) (lists_of_q m (x - m)) one (of_face_q m (x - m)) a) (All-contains (IsOfFaceQ m (x - m)) (lists_of_q m (x - m)) two (of_face_q m (x - m)) b))
+    (λ l one two a b. same_origin p q p_known q_known q_none x l one two (All-contains (IsOfFaceP n x) (lists_of_p n x) one (of_face_p n x) a)
+    (All-contains (IsOfFaceP n x) (lists_of_p n x) two (of_face_p n x) b))
+    (λ l one two a b. same_origin_q p q p_known q_known p_none (x - m) (omega (arith, below, l)) one two
+    (All-contains (IsOfFaceQ m (x - m)) (lists_of_q m (x - m)) one (of_face_q m (x - m)) a)
+    (All-contains (IsOfFaceQ m (x - m)) (lists_of_q m (x - m)) two (of_face_q m (x - m)) b))
 
 -- a number is not both above and below 0
 one_sign : (z : ℤ) → int_lt (pos 0) z ≡ true → int_lt z (pos 0) ≡ true → ⊥

@@ -71,7 +71,8 @@ has_twins ts three closed = let both = twins_pair_up ts three closed in record {
       | inl l ↦
           let e : finish es h ≡ start es h = ap (λ (d : ℕ × ℕ). d.1) (past_end es h (0, 0) off) ∙ sym (ap (λ (d : ℕ × ℕ). d.0) (past_end es h (0, 0) off)) in
           let found = passing (runs_against es h) es l in
-          absurd (no_stand ts three (start es h) (record { member = found.member; inside = found.inside; passes = ap (λ a. is_edge found.member a (start es h)) (sym e) ∙ found.passes }))
+          absurd (no_stand ts three (start es h)
+          (record { member = found.member; inside = found.inside; passes = ap (λ a. is_edge found.member a (start es h)) (sym e) ∙ found.passes }))
       | inr m ↦ omega (arith, m)
     ]
 
@@ -171,7 +172,8 @@ on_edge_exchanged side known h below place from to =
     ∙ along_exchanged (vertex_point side (start es low)) (vertex_point side (finish es low)) place from to
 
 -- where one list is the reverse of another, and is paired as the other with starts and ends exchanged, its segments run the other way
-list_reverses : (P Q : List (ℕ × ℕ)) (cs : List Copy) (one other : ListName) → AreReversed P Q one other → (pair turned : List ℕ → List ℕ → List (ℕ × ℕ)) → ((from to : List ℕ) → turned to from ≡ backward (pair from to)) →
+list_reverses : (P Q : List (ℕ × ℕ)) (cs : List Copy) (one other : ListName) → AreReversed P Q one other → (pair turned : List ℕ → List ℕ → List (ℕ × ℕ)) →
+    ((from to : List ℕ) → turned to from ≡ backward (pair from to)) →
     turned (starts P Q cs other) (ends P Q cs other) ≡ backward (pair (starts P Q cs one) (ends P Q cs one))
 list_reverses P Q cs one other reversed pair turned exchanged =
     ap (λ from. turned from (ends P Q cs other)) (starts_exchanged P Q cs one other reversed)
@@ -185,7 +187,8 @@ twin_reverses_p p q p_known cs place h below =
     let P = all_edges p.triples in
     let twins = side_twins p p_known in
     let reversed : AreReversed P (all_edges q.triples) (HalfP h) (HalfP (twin P h)) = record { turned = twin_incidence_p P (all_edges q.triples) twins h below } in
-    list_reverses P (all_edges q.triples) cs (HalfP h) (HalfP (twin P h)) reversed (paired_on_edge p h place) (paired_on_edge p (twin P h) place) (on_edge_exchanged p twins h below place)
+    list_reverses P (all_edges q.triples) cs (HalfP h) (HalfP (twin P h)) reversed (paired_on_edge p h place) (paired_on_edge p (twin P h) place)
+    (on_edge_exchanged p twins h below place)
 
 pub twin_reverses_q : (p q : Side) → IsSide q → (cs : List Copy) (place : ℕ → List ℤ) (h : ℕ) → h < length (all_edges q.triples) →
     segments_in p q cs place (HalfQ (twin (all_edges q.triples) h)) ≡ backward (segments_in p q cs place (HalfQ h))
@@ -193,7 +196,8 @@ twin_reverses_q p q q_known cs place h below =
     let Q = all_edges q.triples in
     let twins = side_twins q q_known in
     let reversed : AreReversed (all_edges p.triples) Q (HalfQ h) (HalfQ (twin Q h)) = record { turned = twin_incidence_q (all_edges p.triples) Q twins h below } in
-    list_reverses (all_edges p.triples) Q cs (HalfQ h) (HalfQ (twin Q h)) reversed (paired_on_edge q h place) (paired_on_edge q (twin Q h) place) (on_edge_exchanged q twins h below place)
+    list_reverses (all_edges p.triples) Q cs (HalfQ h) (HalfQ (twin Q h)) reversed (paired_on_edge q h place) (paired_on_edge q (twin Q h) place)
+    (on_edge_exchanged q twins h below place)
 
 -- and in the list of a pair seen from the face of Q
 pub pair_reverses : (p q : Side) (cs : List Copy) (place : ℕ → List ℤ) (f g : ℕ) → segments_in p q cs place (PairQ g f) ≡ backward (segments_in p q cs place (PairP f g))

@@ -20,7 +20,8 @@ use Rattle.segment_terms.specs.Segments.{all_segments, segments_of, source_count
 -- where each copy stands in none or two of the lists of each face, and each list has as many starts as ends, each vertex that
 -- occurs in the segments of a face starts one and ends one
 abbrev pub SegmentsAreOneToOne : Type 0
-SegmentsAreOneToOne = (p q : Side) (cs : List Copy) (place : ℕ → List ℤ) → StandInLists p q cs → IsBalanced p q cs → (x : ℕ) → x < source_count p q → IsOneToOne (segments_of p q cs place x)
+SegmentsAreOneToOne =
+    (p q : Side) (cs : List Copy) (place : ℕ → List ℤ) → StandInLists p q cs → IsBalanced p q cs → (x : ℕ) → x < source_count p q → IsOneToOne (segments_of p q cs place x)
 
 -- a segment runs from a copy to a copy
 abbrev pub SegmentsJoinCopies : Type 0
@@ -28,7 +29,9 @@ SegmentsJoinCopies = (p q : Side) (cs : List Copy) (place : ℕ → List ℤ) (x
 
 -- so the vertices of a face's loops are copies
 abbrev pub LoopsHaveCopies : Type 0
-LoopsHaveCopies = (p q : Side) (cs : List Copy) (place : ℕ → List ℤ) → StandInLists p q cs → IsBalanced p q cs → (x : ℕ) → x < source_count p q → All (λ v. v < length cs) (concat (cycles (segments_of p q cs place x)))
+LoopsHaveCopies =
+    (p q : Side) (cs : List Copy) (place : ℕ → List ℤ) → StandInLists p q cs → IsBalanced p q cs → (x : ℕ) → x < source_count p q →
+    All (λ v. v < length cs) (concat (cycles (segments_of p q cs place x)))
 
 -- every odd function adds up to nothing over the segments of all faces, so these are closed
 abbrev pub FacesCancel : Type 0
@@ -37,16 +40,21 @@ FacesCancel = (p q : Side) (cs : List Copy) (place : ℕ → List ℤ) → IsSid
 -- triples that have the boundary of the segments, face by face, are closed all together
 abbrev pub TriplesAreClosed : Type 0
 TriplesAreClosed = (p q : Side) (cs : List Copy) (place : ℕ → List ℤ) → IsSide p → IsSide q →
-    (parts : ℕ → List Triple) → ((x : ℕ) → x < source_count p q → SameChain (all_edges (parts x)) (segments_of p q cs place x)) → IsClosed (all_edges (flat_map parts (upto (source_count p q))))
+    (parts : ℕ → List Triple) → ((x : ℕ) → x < source_count p q →
+    SameChain (all_edges (parts x)) (segments_of p q cs place x)) → IsClosed (all_edges (flat_map parts (upto (source_count p q))))
 
 -- where no two triples of a side are opposite, each loop of a face has at least three vertices
 abbrev pub LoopsAreLong : Type 0
-LoopsAreLong = (p q : Side) (cs : List Copy) (place : ℕ → List ℤ) → IsSide p → IsSide q → NoOpposite p.triples → NoOpposite q.triples → StandInLists p q cs → IsBalanced p q cs → AreNamed p q cs →
+LoopsAreLong =
+    (p q : Side) (cs : List Copy) (place : ℕ → List ℤ) → IsSide p → IsSide q → NoOpposite p.triples → NoOpposite q.triples → StandInLists p q cs →
+    IsBalanced p q cs → AreNamed p q cs →
     (x : ℕ) → x < source_count p q → All (λ loop. 3 ≤ length loop) (cycles (segments_of p q cs place x))
 
 -- prescribed copies name edges by their lower half-edges, and those of one origin have one sign
 abbrev pub PrescribedAreNamed : Type 0
-PrescribedAreNamed = (op : Op) (p q : Side) (n : Numbers) → AreHits (all_edges p.triples) (length q.triples) n.x12 → AreHits (all_edges q.triples) (length p.triples) n.x21 → AreNamed p q (prescribed op p q n)
+PrescribedAreNamed =
+    (op : Op) (p q : Side) (n : Numbers) → AreHits (all_edges p.triples) (length q.triples) n.x12 → AreHits (all_edges q.triples) (length p.triples) n.x21 →
+    AreNamed p q (prescribed op p q n)
 
 -- each copy starts a segment of some face
 abbrev pub CopiesOccur : Type 0
@@ -55,5 +63,7 @@ CopiesOccur = (p q : Side) (cs : List Copy) (place : ℕ → List ℤ) → Stand
 
 -- and triples with the boundary of a face's segments have each vertex that starts one
 abbrev pub VerticesStay : Type 0
-VerticesStay = (p q : Side) (cs : List Copy) (place : ℕ → List ℤ) → IsSide p → IsSide q → NoOpposite p.triples → NoOpposite q.triples → AreNamed p q cs → (x : ℕ) → x < source_count p q →
+VerticesStay =
+    (p q : Side) (cs : List Copy) (place : ℕ → List ℤ) → IsSide p → IsSide q → NoOpposite p.triples → NoOpposite q.triples → AreNamed p q cs → (x : ℕ) →
+    x < source_count p q →
     (ts : List Triple) → SameChain (all_edges ts) (segments_of p q cs place x) → (v : ℕ) → 0 < out (segments_of p q cs place x) v → is_used ts v ≡ true

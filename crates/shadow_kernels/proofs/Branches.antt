@@ -53,7 +53,8 @@ pub shadow_at : {n r : ℤ} {above : Bool} {o : Option Meet} (s : Bool × Spot) 
 shadow_at {n} s h same made = made ∙ ap (λ (u : Bool). if u then n else pos 0) same ∙ sym (ap shadow_of h)
 
 -- an answer of equal count at an equal spot with an equal mark
-pub at_spot : (n k : ℤ) (s z : Spot) (t u : Bool) → k ≡ n → z ≡ s → u ≡ t → ◌≡◌ {A = Option Meet} (Some (record { count = k; above = u; spot = z })) (Some (record { count = n; above = t; spot = s }))
+pub at_spot : (n k : ℤ) (s z : Spot) (t u : Bool) → k ≡ n → z ≡ s → u ≡ t →
+    ◌≡◌ {A = Option Meet} (Some (record { count = k; above = u; spot = z })) (Some (record { count = n; above = t; spot = s }))
 at_spot n k s z t u e f g =
     ap (λ (i : ℤ). Some (record { count = i; above = u; spot = z })) e
     ∙ ap (λ (x : Spot). Some (record { count = n; above = u; spot = x })) f

@@ -50,7 +50,8 @@ same_beats {r} {p} {q} {p'} {q'} {up} {up'} h e f k =
     h ∙ ap (λ (z : ℤ). beats z q up) e ∙ ap (λ (z : ℤ). beats p' z up) f ∙ ap (λ (t : Bool). beats p' q' t) k
 
 -- the answer of simplices of which one is beyond the other
-pub when_beyond : {m n : ℕ} {test : ShadowTest} (laws : ShadowLaws m n test) → 4 ≡ m + n → (p q : List Corner) → length p ≡ m → length q ≡ n → AllFine p → AllFine q → (b : Bool) → IsBeyond 2 p q b →
+pub when_beyond : {m n : ℕ} {test : ShadowTest} (laws : ShadowLaws m n test) → 4 ≡ m + n → (p q : List Corner) → length p ≡ m → length q ≡ n → AllFine p →
+    AllFine q → (b : Bool) → IsBeyond 2 p q b →
     IfSome (test p q) (λ a. a.above ≡ b)
 when_beyond {m} {n} {test} laws level p q mp nq fp fq b h = by b (test p q) h (laws.side p q 2 mp nq fp fq level) where
   by : (b : Bool) (o : Option Meet) → IsBeyond 2 p q b → IfSome o (λ a. (IsBelow 2 p q → a.above ≡ false) × (IsBelow 2 q p → a.above ≡ true)) → IfSome o (λ a. a.above ≡ b)
@@ -59,7 +60,8 @@ when_beyond {m} {n} {test} laws level p q mp nq fp fq b h = by b (test p q) h (l
   by false (Some a) h k = k.0 h
 
 -- an answer from boundary pairs has the mark of the spot between the two of its tally
-pub mark_of_tally : (w : Between) (ms : List (Option Meet)) (s : Tally) (r : Bool) → IsTallyOf ms s → r ≡ above_z (spot_between w s.below s.above) → IfSome (lifted w above_z ms) (λ m. m.above ≡ r)
+pub mark_of_tally : (w : Between) (ms : List (Option Meet)) (s : Tally) (r : Bool) → IsTallyOf ms s → r ≡ above_z (spot_between w s.below s.above) →
+    IfSome (lifted w above_z ms) (λ m. m.above ≡ r)
 unfolding lifted joined
 mark_of_tally w ms s r h e =
     let at = spot_between w (first_spot false ms) (first_spot true ms) in

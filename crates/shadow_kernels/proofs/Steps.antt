@@ -22,7 +22,8 @@ no_tally s e = record {
 }
 
 -- the tally with one more pair before the others
-pub put_tally : (m : Option Meet) (ms : List (Option Meet)) (s t : Tally) → IsTallyOf ms s → t.count ≡ shadow_of m +ℤ s.count → t.below ≡ chosen false m s.below → t.above ≡ chosen true m s.above → IsTallyOf (m ∷ ms) t
+pub put_tally : (m : Option Meet) (ms : List (Option Meet)) (s t : Tally) → IsTallyOf ms s → t.count ≡ shadow_of m +ℤ s.count →
+    t.below ≡ chosen false m s.below → t.above ≡ chosen true m s.above → IsTallyOf (m ∷ ms) t
 put_tally m ms s t h a b c = record {
   count = a ∙ ap (λ (x : ℤ). shadow_of m +ℤ x) h.count;
   below = b ∙ ap (λ (x : Spot). chosen false m x) h.below;
@@ -30,7 +31,8 @@ put_tally m ms s t h a b c = record {
 }
 
 -- the answer from the tally of a list
-pub from_tally : (w : Between) (over : Spot → Bool) (ms : List (Option Meet)) (r : Option Meet) (s : Tally) → IsTallyOf ms s → r ≡ joined w over s.count s.below s.above → r ≡ lifted w over ms
+pub from_tally : (w : Between) (over : Spot → Bool) (ms : List (Option Meet)) (r : Option Meet) (s : Tally) → IsTallyOf ms s →
+    r ≡ joined w over s.count s.below s.above → r ≡ lifted w over ms
 unfolding lifted
 from_tally w over ms r s h e =
     e
@@ -43,16 +45,20 @@ joined_none : (w : Between) (over : Spot → Bool) (n : ℤ) (d u : Spot) → n 
 unfolding joined
 joined_none w over n d u e = sym (met_none n (over (spot_between w d u)) (spot_between w d u) e)
 
-joined_some : (w : Between) (over : Spot → Bool) (n k : ℤ) (t : Bool) (z d u : Spot) → n ≢ pos 0 → k ≡ n → z ≡ spot_between w d u → t ≡ over z → Some (record { count = k; above = t; spot = z }) ≡ joined w over n d u
+joined_some : (w : Between) (over : Spot → Bool) (n k : ℤ) (t : Bool) (z d u : Spot) → n ≢ pos 0 → k ≡ n → z ≡ spot_between w d u → t ≡ over z →
+    Some (record { count = k; above = t; spot = z }) ≡ joined w over n d u
 unfolding joined
-joined_some w over n k t z d u some ek ez g = at_spot n k (spot_between w d u) z (over (spot_between w d u)) t ek ez (g ∙ ap over ez) ∙ sym (met_some n (over (spot_between w d u)) (spot_between w d u) some)
+joined_some w over n k t z d u some ek ez g =
+    at_spot n k (spot_between w d u) z (over (spot_between w d u)) t ek ez (g ∙ ap over ez) ∙ sym (met_some n (over (spot_between w d u)) (spot_between w d u) some)
 
 pub none_of_tally : (w : Between) (over : Spot → Bool) (ms : List (Option Meet)) (s : Tally) → IsTallyOf ms s → s.count ≡ pos 0 → None ≡ lifted w over ms
 none_of_tally w over ms s h zero = from_tally w over ms None s h (joined_none w over s.count s.below s.above zero)
 
-pub some_of_tally : (w : Between) (over : Spot → Bool) (ms : List (Option Meet)) (s : Tally) (k : ℤ) (t : Bool) (z : Spot) → IsTallyOf ms s → s.count ≢ pos 0 → k ≡ s.count → z ≡ spot_between w s.below s.above → t ≡ over z →
+pub some_of_tally : (w : Between) (over : Spot → Bool) (ms : List (Option Meet)) (s : Tally) (k : ℤ) (t : Bool) (z : Spot) → IsTallyOf ms s → s.count ≢ pos 0 →
+    k ≡ s.count → z ≡ spot_between w s.below s.above → t ≡ over z →
     Some (record { count = k; above = t; spot = z }) ≡ lifted w over ms
-some_of_tally w over ms s k t z h some e f g = from_tally w over ms (Some (record { count = k; above = t; spot = z })) s h (joined_some w over s.count k t z s.below s.above some e f g)
+some_of_tally w over ms s k t z h some e f g =
+    from_tally w over ms (Some (record { count = k; above = t; spot = z })) s h (joined_some w over s.count k t z s.below s.above some e f g)
 
 -- the spot of nothing is fine
 pub no_spot_fine : IsFineSpot no_spot

@@ -31,13 +31,15 @@ pub same_marks : {r : List Bool} {a b a' b' : ℤ} (us vs : List Bool) → r ≡
 same_marks {r} {a} {b} {a'} us vs h e f = h ∙ ap (λ (z : ℤ). marks z b us vs) e ∙ ap (λ (z : ℤ). marks a' z us vs) f
 
 -- a value between fine values by weights, all kept at their width
-pub kept_between : {r u v a b g h : ℤ} (f : Between) → r ≡ f (seen w64 u) (seen w64 v) (seen w64 a) (seen w64 b) → IsFine u → IsFine v → IsWeight a → IsWeight b → a ≡ g → b ≡ h → FitsSigned w64 r →
+pub kept_between : {r u v a b g h : ℤ} (f : Between) → r ≡ f (seen w64 u) (seen w64 v) (seen w64 a) (seen w64 b) → IsFine u → IsFine v → IsWeight a →
+    IsWeight b → a ≡ g → b ≡ h → FitsSigned w64 r →
     seen w64 r ≡ f u v g h
 kept_between {r} {u} {v} {a} {b} {g} {h} f e fu fv wa wb x y fits =
     let kept : seen w64 r ≡ r = omega (arith, ints) in
     let a_kept : seen w64 a ≡ a = omega (arith, ints, wa.low, wa.high) in
     let b_kept : seen w64 b ≡ b = omega (arith, ints, wb.low, wb.high) in
-    kept ∙ same_between f r (seen w64 u) (seen w64 v) (seen w64 a) (seen w64 b) u v g h e (omega (arith, ints, fu.low, fu.high)) (omega (arith, ints, fv.low, fv.high)) (a_kept ∙ x) (b_kept ∙ y)
+    kept ∙ same_between f r (seen w64 u) (seen w64 v) (seen w64 a) (seen w64 b) u v g h e (omega (arith, ints, fu.low, fu.high))
+    (omega (arith, ints, fv.low, fv.high)) (a_kept ∙ x) (b_kept ∙ y)
 
 -- a weight stays as it is at its width
 pub kept_weight : {a g : ℤ} → IsWeight a → a ≡ g → seen w64 a ≡ g
@@ -52,7 +54,8 @@ kept_gap {r} {p} {q} e fp fq =
     kept_weight (subst IsWeight (sym same) (gap_weight p q fp fq)) same
 
 -- a value between those of two spots, by the spots' gaps in y
-pub spot_value : {r u v a b : ℤ} {d s : Spot} (f : Between) → r ≡ f (seen w64 u) (seen w64 v) (seen w64 a) (seen w64 b) → IsFine u → IsFine v → IsGapOf d a → IsGapOf s b → FitsSigned w64 r →
+pub spot_value : {r u v a b : ℤ} {d s : Spot} (f : Between) → r ≡ f (seen w64 u) (seen w64 v) (seen w64 a) (seen w64 b) → IsFine u → IsFine v → IsGapOf d a →
+    IsGapOf s b → FitsSigned w64 r →
     seen w64 r ≡ f u v (gap d.py d.qy) (gap s.py s.qy)
 spot_value f e fu fv ga gb fits = kept_between f e fu fv ga.weight gb.weight ga.value gb.value fits
 

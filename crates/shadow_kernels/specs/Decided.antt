@@ -34,7 +34,8 @@ turned_decided k ps qs m h = record {
 
 -- the answer of two ends is decided in y, where either spot lies in the boxes, boxes strictly apart in x decide both tests, and such in y either mark
 pub ends_decided : (ps qs : List Corner) (s t : Bool) (x y : Bool × Spot) → (s ≡ true → t ≡ false → IsInHull ps qs x.1) → (s ≡ false → t ≡ true → IsInHull ps qs y.1) →
-    ((b : Bool) → IsBeyond 0 ps qs b → s ≡ t) → ((b : Bool) → IsBeyond 1 ps qs b → s ≡ true → t ≡ false → x.0 ≡ b) → ((b : Bool) → IsBeyond 1 ps qs b → s ≡ false → t ≡ true → y.0 ≡ b) →
+    ((b : Bool) → IsBeyond 0 ps qs b → s ≡ t) → ((b : Bool) → IsBeyond 1 ps qs b → s ≡ true → t ≡ false → x.0 ≡ b) →
+    ((b : Bool) → IsBeyond 1 ps qs b → s ≡ false → t ≡ true → y.0 ≡ b) →
     IsDecided 1 ps qs (by_ends s t x y)
 ends_decided ps qs s t x y f g same first second = record {
   sized = ends_sized s t x y;

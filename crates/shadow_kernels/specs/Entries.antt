@@ -131,7 +131,8 @@ first_holds P want [] h e = h
 first_holds P want (m ∷ ms) h e = chosen_holds P want m (first_spot want ms) e.0 (λ none. first_holds P want ms h e.1)
 
 -- where the shadows don't add up to nothing though the counts do, what holds of each spot holds of the first
-pub first_own : (P : Spot → Type 0) (want : Bool) (ms : List (Option Meet)) → Each (λ m. IfSome m (λ n. P n.spot)) ms → total count_of ms ≡ pos 0 → total shadow_of ms ≢ pos 0 → P (first_spot want ms)
+pub first_own : (P : Spot → Type 0) (want : Bool) (ms : List (Option Meet)) → Each (λ m. IfSome m (λ n. P n.spot)) ms → total count_of ms ≡ pos 0 →
+    total shadow_of ms ≢ pos 0 → P (first_spot want ms)
 first_own P want ms e none some = own want ms e (number_sides (map entry ms) (sym (whole_is ms) ∙ none) (λ z. some (number_is ms ∙ z)) want) where
   own : (want : Bool) (ms : List (Option Meet)) → Each (λ m. IfSome m (λ n. P n.spot)) ms → 0 < weight_at want (map entry ms) → P (first_spot want ms)
   own want [] e h = absurd (omega (arith, h))
@@ -142,13 +143,15 @@ pub first_is : (want : Bool) (ms : List (Option Meet)) → Each IsSized ms → f
 first_is want [] h = refl
 first_is true (None ∷ ms) h = first_is true ms h.1
 first_is false (None ∷ ms) h = first_is false ms h.1
-first_is true (Some m ∷ ms) h = ap (λ (x : Spot). if m.above then m.spot else x) (first_is true ms h.1) ∙ by m.above m.count h.0 (first_of (λ m. counts_at true (entry m)) spot_of no_spot ms) where
-  by : (b : Bool) (n : ℤ) → IsUnit n → (x : Spot) → (if b then m.spot else x) ≡ cond (nat_lt 0 (cond b (nat_abs n) 0)) m.spot x
-  by true n (inl e) x = rw e refl
-  by true n (inr e) x = rw e refl
-  by false n e x = refl
-first_is false (Some m ∷ ms) h = ap (λ (x : Spot). if m.above then x else m.spot) (first_is false ms h.1) ∙ by m.above m.count h.0 (first_of (λ m. counts_at false (entry m)) spot_of no_spot ms) where
-  by : (b : Bool) (n : ℤ) → IsUnit n → (x : Spot) → (if b then x else m.spot) ≡ cond (nat_lt 0 (cond b 0 (nat_abs n))) m.spot x
-  by true n e x = refl
-  by false n (inl e) x = rw e refl
-  by false n (inr e) x = rw e refl
+first_is true (Some m ∷ ms) h =
+    ap (λ (x : Spot). if m.above then m.spot else x) (first_is true ms h.1) ∙ by m.above m.count h.0 (first_of (λ m. counts_at true (entry m)) spot_of no_spot ms) where
+      by : (b : Bool) (n : ℤ) → IsUnit n → (x : Spot) → (if b then m.spot else x) ≡ cond (nat_lt 0 (cond b (nat_abs n) 0)) m.spot x
+      by true n (inl e) x = rw e refl
+      by true n (inr e) x = rw e refl
+      by false n e x = refl
+first_is false (Some m ∷ ms) h =
+    ap (λ (x : Spot). if m.above then x else m.spot) (first_is false ms h.1) ∙ by m.above m.count h.0 (first_of (λ m. counts_at false (entry m)) spot_of no_spot ms) where
+      by : (b : Bool) (n : ℤ) → IsUnit n → (x : Spot) → (if b then x else m.spot) ≡ cond (nat_lt 0 (cond b 0 (nat_abs n))) m.spot x
+      by true n e x = refl
+      by false n (inl e) x = rw e refl
+      by false n (inr e) x = rw e refl

@@ -43,8 +43,12 @@ pub edge_fine : (e : Edge) {k : Rule} {w : Between} → IsRule k w → (v c d : 
 edge_fine OfP {k} {w} rule v c d hv hc hd =
     let fe = fine_two c d hc hd in
     let fv = fine_one v hv in
-    fine_pair (c ∷ d ∷ []) (v ∷ []) fe fv (edge_meet OfP k w v c d) (edge_decided rule OfP (c ∷ d ∷ []) (v ∷ []) v c d (placed (v ∷ []) 0 fv (omega arith)) (placed (c ∷ d ∷ []) 0 fe (omega arith)) (placed (c ∷ d ∷ []) 1 fe (omega arith)))
+    fine_pair (c ∷ d ∷ []) (v ∷ []) fe fv (edge_meet OfP k w v c d)
+    (edge_decided rule OfP (c ∷ d ∷ []) (v ∷ []) v c d (placed (v ∷ []) 0 fv (omega arith)) (placed (c ∷ d ∷ []) 0 fe (omega arith))
+    (placed (c ∷ d ∷ []) 1 fe (omega arith)))
 edge_fine OfQ {k} {w} rule v c d hv hc hd =
     let fe = fine_two c d hc hd in
     let fv = fine_one v hv in
-    fine_pair (v ∷ []) (c ∷ d ∷ []) fv fe (edge_meet OfQ k w v c d) (edge_decided rule OfQ (v ∷ []) (c ∷ d ∷ []) v c d (placed (v ∷ []) 0 fv (omega arith)) (placed (c ∷ d ∷ []) 0 fe (omega arith)) (placed (c ∷ d ∷ []) 1 fe (omega arith)))
+    fine_pair (v ∷ []) (c ∷ d ∷ []) fv fe (edge_meet OfQ k w v c d)
+    (edge_decided rule OfQ (v ∷ []) (c ∷ d ∷ []) v c d (placed (v ∷ []) 0 fv (omega arith)) (placed (c ∷ d ∷ []) 0 fe (omega arith))
+    (placed (c ∷ d ∷ []) 1 fe (omega arith)))

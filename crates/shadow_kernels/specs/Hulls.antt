@@ -58,7 +58,8 @@ module _ (w : Between) (stays : StaysBetween w) (l r : Corner) (x : ℤ) (h : Is
       (distance_weight (axis 0 l) x h.left_fine.x h.fine h.after) (distance_weight x (axis 0 r) h.fine h.right_fine.x h.before)
 
 -- a vertex past an end of an edge and not past the other is at a place of the edge
-pub past_along : {k : Rule} → IsOrdered k → (e : Edge) (v l r : Corner) → IsFineCorner v → IsFineCorner l → IsFineCorner r → past e k v l ≡ true → past e k v r ≡ false → IsAlong l r (axis 0 v)
+pub past_along : {k : Rule} → IsOrdered k → (e : Edge) (v l r : Corner) → IsFineCorner v → IsFineCorner l → IsFineCorner r → past e k v l ≡ true →
+    past e k v r ≡ false → IsAlong l r (axis 0 v)
 past_along o e v l r hv hl hr h g = record { left_fine = hl; right_fine = hr; fine = hv.x; after = past_le o e v l h; before = not_past_le o e v r g }
 
 -- there the edge's values lie in its box
@@ -71,7 +72,8 @@ in_edge w stays cs l r x hl hr at = (
 )
 
 -- so the spot lies in the boxes of both
-pub edge_hull : {k : Rule} → IsOrdered k → (w : Between) → StaysBetween w → (e : Edge) (ps qs : List Corner) (v l r : Corner) → IsPlaced (other e ps qs) v → IsPlaced (own e ps qs) l → IsPlaced (own e ps qs) r →
+pub edge_hull : {k : Rule} → IsOrdered k → (w : Between) → StaysBetween w → (e : Edge) (ps qs : List Corner) (v l r : Corner) → IsPlaced (other e ps qs) v →
+    IsPlaced (own e ps qs) l → IsPlaced (own e ps qs) r →
     past e k v l ≡ true → past e k v r ≡ false → IsInHull ps qs (edge_spot e w v l r)
 unfolding spot01 spot10
 edge_hull o w stays OfP ps qs v l r hv hl hr h g =
@@ -92,7 +94,8 @@ beats_boxes true i ps qs p q up h k l = beats_greater p q up (box_below i qs ps 
 beats_boxes false i ps qs p q up h k l = beats_smaller p q up (box_below i ps qs p q h k l)
 
 -- vertices in boxes strictly apart in x are beyond as the boxes are
-pub beyond_boxes : {k : Rule} → IsOrdered k → (b : Bool) (ps qs : List Corner) (p q : Corner) → IsBeyond 0 ps qs b → IsInBox 0 ps (axis 0 p) → IsInBox 0 qs (axis 0 q) → k.beyond_in_x p q ≡ b
+pub beyond_boxes : {k : Rule} → IsOrdered k → (b : Bool) (ps qs : List Corner) (p q : Corner) → IsBeyond 0 ps qs b → IsInBox 0 ps (axis 0 p) →
+    IsInBox 0 qs (axis 0 q) → k.beyond_in_x p q ≡ b
 beyond_boxes o true ps qs p q h l m = beyond_greater o p q (box_below 0 qs ps (axis 0 q) (axis 0 p) h m l)
 beyond_boxes o false ps qs p q h l m = beyond_smaller o p q (box_below 0 ps qs (axis 0 p) (axis 0 q) h l m)
 

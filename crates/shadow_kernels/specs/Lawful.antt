@@ -18,15 +18,18 @@ use Rattle.shadow_kernels.specs.Hulls.{StaysBetween, IsPlaced, IsBeyond, hull_y,
 pub record IsRule (k : Rule) (w : Between) : Type 0 where
   pub stays : StaysBetween w
   pub ordered : IsOrdered k
-  pub beside : (e : Edge) (v l r : Corner) (ps qs : List Corner) → IsPlaced (other e ps qs) v → IsPlaced (own e ps qs) l → IsPlaced (own e ps qs) r → past e k v l ≡ true → past e k v r ≡ false →
+  pub beside : (e : Edge) (v l r : Corner) (ps qs : List Corner) → IsPlaced (other e ps qs) v → IsPlaced (own e ps qs) l → IsPlaced (own e ps qs) r →
+      past e k v l ≡ true → past e k v r ≡ false →
       (t : Bool) → IsBeyond 1 ps qs t → (s : Spot) → IsInHull ps qs s → k.over_edge e v l r s ≡ t
   pub turned_p : (a b c d : Corner) (s : Spot) → k.over_edges b a c d s ≡ k.over_edges a b c d s
   pub turned_q : (a b c d : Corner) (s : Spot) → k.over_edges a b d c s ≡ k.over_edges a b c d s
   pub exchanged : (e : Edge) (v a b c : Corner) (s : Spot) → k.over_face e v b a c s ≡ k.over_face e v a b c s
   pub changed : (e : Edge) (v a b c : Corner) (s : Spot) → k.over_face e v a c b s ≡ k.over_face e v a b c s
-  pub edges_apart : (a b c d : Corner) (ps qs : List Corner) → IsPlaced ps a → IsPlaced ps b → IsPlaced qs c → IsPlaced qs d → (t : Bool) → IsBeyond 2 ps qs t → total shadow_of (boundary11 k w a b c d) ≢ pos 0 →
+  pub edges_apart : (a b c d : Corner) (ps qs : List Corner) → IsPlaced ps a → IsPlaced ps b → IsPlaced qs c → IsPlaced qs d → (t : Bool) → IsBeyond 2 ps qs t →
+      total shadow_of (boundary11 k w a b c d) ≢ pos 0 →
       (s : Spot) → IsInHull ps qs s → k.over_edges a b c d s ≡ t
-  pub face_apart : (e : Edge) (v a b c : Corner) (ps qs : List Corner) → IsPlaced (other e ps qs) v → IsPlaced (own e ps qs) a → IsPlaced (own e ps qs) b → IsPlaced (own e ps qs) c →
+  pub face_apart : (e : Edge) (v a b c : Corner) (ps qs : List Corner) → IsPlaced (other e ps qs) v → IsPlaced (own e ps qs) a → IsPlaced (own e ps qs) b →
+      IsPlaced (own e ps qs) c →
       (t : Bool) → IsBeyond 2 ps qs t → total shadow_of (rim e k w v a b c) ≢ pos 0 → (s : Spot) → IsInHull ps qs s → k.over_face e v a b c s ≡ t
 
 -- on the grid it is, under any rounding that stays between

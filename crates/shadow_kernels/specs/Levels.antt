@@ -41,16 +41,19 @@ pub count10 : (k : Rule) (w : Between) (a b q : Corner) → count_of (meet10 k w
 count10 k w a b q = edge_count OfP k w q a b ∙ sym (less_not (k.beyond_in_x b q) (k.beyond_in_x a q))
 
 -- boxes strictly apart in x decide the tests at both ends alike
-alike : {k : Rule} {w : Between} → IsRule k w → (e : Edge) (ps qs : List Corner) (v c d : Corner) → IsPlaced (other e ps qs) v → IsPlaced (own e ps qs) c → IsPlaced (own e ps qs) d → (t : Bool) → IsBeyond 0 ps qs t → past e k v c ≡ past e k v d
+alike : {k : Rule} {w : Between} → IsRule k w → (e : Edge) (ps qs : List Corner) (v c d : Corner) → IsPlaced (other e ps qs) v → IsPlaced (own e ps qs) c →
+    IsPlaced (own e ps qs) d → (t : Bool) → IsBeyond 0 ps qs t → past e k v c ≡ past e k v d
 alike {k} {w} rule OfP ps qs v c d hv hc hd t h =
     let over : (a : Corner) → IsPlaced ps a → k.beyond_in_x a v ≡ t = λ a ha. beyond_boxes rule.ordered t ps qs a v h ha.x hv.x in ap not (over c hc ∙ sym (over d hd))
 alike {k} {w} rule OfQ ps qs v c d hv hc hd t h =
     let over : (a : Corner) → IsPlaced qs a → k.beyond_in_x v a ≡ t = λ a ha. beyond_boxes rule.ordered t ps qs v a h hv.x ha.x in over c hc ∙ sym (over d hd)
 
 -- their answer is decided in y
-pub edge_decided : {k : Rule} {w : Between} → IsRule k w → (e : Edge) (ps qs : List Corner) (v c d : Corner) → IsPlaced (other e ps qs) v → IsPlaced (own e ps qs) c → IsPlaced (own e ps qs) d → IsDecided 1 ps qs (edge_meet e k w v c d)
+pub edge_decided : {k : Rule} {w : Between} → IsRule k w → (e : Edge) (ps qs : List Corner) (v c d : Corner) → IsPlaced (other e ps qs) v →
+    IsPlaced (own e ps qs) c → IsPlaced (own e ps qs) d → IsDecided 1 ps qs (edge_meet e k w v c d)
 edge_decided {k} {w} rule e ps qs v c d hv hc hd =
-    let at : (l r : Corner) → IsPlaced (own e ps qs) l → IsPlaced (own e ps qs) r → past e k v l ≡ true → past e k v r ≡ false → IsInHull ps qs (sight k w e v l r).1 = λ l r hl hr f g. edge_hull rule.ordered w rule.stays e ps qs v l r hv hl hr f g in
+    let at : (l r : Corner) → IsPlaced (own e ps qs) l → IsPlaced (own e ps qs) r → past e k v l ≡ true → past e k v r ≡ false →
+    IsInHull ps qs (sight k w e v l r).1 = λ l r hl hr f g. edge_hull rule.ordered w rule.stays e ps qs v l r hv hl hr f g in
     subst (IsDecided 1 ps qs) (sym (edge_ends e k w v c d)) (ends_decided ps qs (past e k v c) (past e k v d) (sight k w e v c d) (sight k w e v d c)
     (λ f g. at c d hc hd f g) (λ f g. at d c hd hc g f) (alike rule e ps qs v c d hv hc hd)
     (λ t h f g. rule.beside e v c d ps qs hv hc hd f g t h (sight k w e v c d).1 (at c d hc hd f g))
@@ -73,7 +76,8 @@ module _ (e : Edge) (k : Rule) (w : Between) (x : Corner) where
   rim_balanced u v t =
       let few = triangle_weight (past e k x u) (past e k x v) (past e k x t) in
       balanced_by (rim e k w x u v t) (triangle (past e k x u) (past e k x v) (past e k x t)) (edge_sized e k w x u v, (edge_sized e k w x v t, (edge_sized e k w x t u, tt)))
-      (three (less (past e k x u) (past e k x v)) (less (past e k x v) (past e k x t)) (less (past e k x t) (past e k x u)) (count_of (edge_meet e k w x u v)) (count_of (edge_meet e k w x v t)) (count_of (edge_meet e k w x t u))
+      (three (less (past e k x u) (past e k x v)) (less (past e k x v) (past e k x t)) (less (past e k x t) (past e k x u)) (count_of (edge_meet e k w x u v))
+      (count_of (edge_meet e k w x v t)) (count_of (edge_meet e k w x t u))
       (sym (edge_count e k w x u v)) (sym (edge_count e k w x v t)) (sym (edge_count e k w x t u)))
       (triangle_whole (past e k x u) (past e k x v) (past e k x t)) (omega (arith, few))
 
@@ -97,11 +101,13 @@ module _ (e : Edge) (k : Rule) (w : Between) (x : Corner) where
       (λ b' h some s hull. rule.face_apart e x u v t ps qs at a b c b' h some s hull)
 
   -- the rim of the corners in another order is that of the edges turned, in another order
-  rim_turned : (over : Spot → Bool) (u v t a b c d g h : Corner) → ((s : Spot) → over s ≡ k.over_face e x u v t s) → IsPermutation (rim e k w x u v t) (edge_meet e k w x a b ∷ edge_meet e k w x c d ∷ edge_meet e k w x g h ∷ []) →
+  rim_turned : (over : Spot → Bool) (u v t a b c d g h : Corner) → ((s : Spot) → over s ≡ k.over_face e x u v t s) →
+      IsPermutation (rim e k w x u v t) (edge_meet e k w x a b ∷ edge_meet e k w x c d ∷ edge_meet e k w x g h ∷ []) →
       lifted w over (edge_meet e k w x b a ∷ edge_meet e k w x d c ∷ edge_meet e k w x h g ∷ []) ≡ turned (face_meet u v t)
   rim_turned over u v t a b c d g h like moved =
       let f = edge_meet e k w x in
-      lifted_reverse w (k.over_face e x u v t) over (rim e k w x u v t) (f a b ∷ f c d ∷ f g h ∷ []) (f b a ∷ f d c ∷ f h g ∷ []) like (rim_balanced u v t) (edge_sized e k w x a b, (edge_sized e k w x c d, (edge_sized e k w x g h, tt))) moved
+      lifted_reverse w (k.over_face e x u v t) over (rim e k w x u v t) (f a b ∷ f c d ∷ f g h ∷ []) (f b a ∷ f d c ∷ f h g ∷ []) like (rim_balanced u v t)
+      (edge_sized e k w x a b, (edge_sized e k w x c d, (edge_sized e k w x g h, tt))) moved
       (three (f b a) (f d c) (f h g) (turned (f a b)) (turned (f c d)) (turned (f g h)) (edge_reverse e k w x a b) (edge_reverse e k w x c d) (edge_reverse e k w x g h))
 
   -- exchanging two corners turns the answer
@@ -109,10 +115,12 @@ module _ (e : Edge) (k : Rule) (w : Between) (x : Corner) where
       face_meet (corner_at (swap cs i j) 0) (corner_at (swap cs i j) 1) (corner_at (swap cs i j) 2) ≡ turned (face_meet (corner_at cs 0) (corner_at cs 1) (corner_at cs 2))
   face_turned rule (u ∷ v ∷ t ∷ []) zero (suc zero) l m n =
       let f = edge_meet e k w x in
-      rim_turned (k.over_face e x v u t) u v t u v t u v t (rule.exchanged e x u v t) (IsPermutation-cons (f u v) (f v t ∷ f t u ∷ []) (f t u ∷ f v t ∷ []) (flip (f v t) (f t u) []))
+      rim_turned (k.over_face e x v u t) u v t u v t u v t (rule.exchanged e x u v t)
+      (IsPermutation-cons (f u v) (f v t ∷ f t u ∷ []) (f t u ∷ f v t ∷ []) (flip (f v t) (f t u) []))
   face_turned rule (u ∷ v ∷ t ∷ []) zero (suc (suc zero)) l m n =
       let f = edge_meet e k w x in
-      rim_turned (k.over_face e x t v u) u v t v t u v t u (λ s. rule.exchanged e x v t u s ∙ rule.changed e x v u t s ∙ rule.exchanged e x u v t s) (flip (f u v) (f v t) (f t u ∷ []))
+      rim_turned (k.over_face e x t v u) u v t v t u v t u (λ s. rule.exchanged e x v t u s ∙ rule.changed e x v u t s ∙ rule.exchanged e x u v t s)
+      (flip (f u v) (f v t) (f t u ∷ []))
   face_turned rule (u ∷ v ∷ t ∷ []) (suc zero) (suc (suc zero)) l m n =
       let a = edge_meet e k w x u v in
       let b = edge_meet e k w x v t in
@@ -164,10 +172,14 @@ module _ {k : Rule} {w : Between} (rule : IsRule k w) (a b c d : Corner) where
   -- so the counts of the boundary pairs add up to nothing, and at most three are not 0
   square_balanced : IsBalanced (boundary11 k w a b c d)
   square_balanced =
-      balanced_by (boundary11 k w a b c d) (square (k.beyond_in_x a c) (k.beyond_in_x a d) (k.beyond_in_x b c) (k.beyond_in_x b d)) (edge_sized OfQ k w b c d, (turned_sized at_a (edge_sized OfQ k w a c d), (edge_sized OfP k w d a b, (turned_sized at_c (edge_sized OfP k w c a b), tt))))
-      (four (less (k.beyond_in_x b c) (k.beyond_in_x b d)) (neg_ℤ (less (k.beyond_in_x a c) (k.beyond_in_x a d))) (less (k.beyond_in_x b d) (k.beyond_in_x a d)) (neg_ℤ (less (k.beyond_in_x b c) (k.beyond_in_x a c))) (count_of at_b) (count_of (turned at_a)) (count_of at_d) (count_of (turned at_c))
-      (sym (edge_count OfQ k w b c d)) (sym (turned_count at_a ∙ ap neg_ℤ (edge_count OfQ k w a c d))) (sym (count10 k w a b d)) (sym (turned_count at_c ∙ ap neg_ℤ (count10 k w a b c))))
-      (square_whole (k.beyond_in_x a c) (k.beyond_in_x a d) (k.beyond_in_x b c) (k.beyond_in_x b d)) (square_weight (k.beyond_in_x a c) (k.beyond_in_x a d) (k.beyond_in_x b c) (k.beyond_in_x b d) alternate)
+      balanced_by (boundary11 k w a b c d) (square (k.beyond_in_x a c) (k.beyond_in_x a d) (k.beyond_in_x b c) (k.beyond_in_x b d))
+      (edge_sized OfQ k w b c d, (turned_sized at_a (edge_sized OfQ k w a c d), (edge_sized OfP k w d a b, (turned_sized at_c (edge_sized OfP k w c a b), tt))))
+      (four (less (k.beyond_in_x b c) (k.beyond_in_x b d)) (neg_ℤ (less (k.beyond_in_x a c) (k.beyond_in_x a d))) (less (k.beyond_in_x b d) (k.beyond_in_x a d))
+      (neg_ℤ (less (k.beyond_in_x b c) (k.beyond_in_x a c))) (count_of at_b) (count_of (turned at_a)) (count_of at_d) (count_of (turned at_c))
+      (sym (edge_count OfQ k w b c d)) (sym (turned_count at_a ∙ ap neg_ℤ (edge_count OfQ k w a c d))) (sym (count10 k w a b d))
+      (sym (turned_count at_c ∙ ap neg_ℤ (count10 k w a b c))))
+      (square_whole (k.beyond_in_x a c) (k.beyond_in_x a d) (k.beyond_in_x b c) (k.beyond_in_x b d))
+      (square_weight (k.beyond_in_x a c) (k.beyond_in_x a d) (k.beyond_in_x b c) (k.beyond_in_x b d) alternate)
 
   -- their answer is decided in z
   pub edges_decided : (ps qs : List Corner) → AllFine ps → AllFine qs → IsPlaced ps a → IsPlaced ps b → IsPlaced qs c → IsPlaced qs d → IsDecided 2 ps qs (meet11 k w a b c d)
@@ -186,14 +198,19 @@ module _ {k : Rule} {w : Between} (rule : IsRule k w) (a b c d : Corner) where
   unfolding meet11
   edges_turned_p =
       let s = square_balanced in
-      lifted_reverse w (k.over_edges a b c d) (k.over_edges b a c d) (boundary11 k w a b c d) (turned at_a ∷ at_b ∷ at_d ∷ turned at_c ∷ []) (boundary11 k w b a c d) (rule.turned_p a b c d) s (s.sized.1.0, (s.sized.0, s.sized.1.1)) (flip at_b (turned at_a) (at_d ∷ turned at_c ∷ []))
-      (four at_a (turned at_b) (meet10 k w b a d) (turned (meet10 k w b a c)) (turned (turned at_a)) (turned at_b) (turned at_d) (turned (turned at_c)) (sym (turned_twice at_a)) refl (edge_reverse OfP k w d a b) (ap turned (edge_reverse OfP k w c a b)))
+      lifted_reverse w (k.over_edges a b c d) (k.over_edges b a c d) (boundary11 k w a b c d) (turned at_a ∷ at_b ∷ at_d ∷ turned at_c ∷ [])
+      (boundary11 k w b a c d) (rule.turned_p a b c d) s (s.sized.1.0, (s.sized.0, s.sized.1.1)) (flip at_b (turned at_a) (at_d ∷ turned at_c ∷ []))
+      (four at_a (turned at_b) (meet10 k w b a d) (turned (meet10 k w b a c)) (turned (turned at_a)) (turned at_b) (turned at_d) (turned (turned at_c))
+      (sym (turned_twice at_a)) refl (edge_reverse OfP k w d a b) (ap turned (edge_reverse OfP k w c a b)))
 
   -- exchanging those of Q's edge does so too
   pub edges_turned_q : meet11 k w a b d c ≡ turned (meet11 k w a b c d)
   unfolding meet11
   edges_turned_q =
       let s = square_balanced in
-      lifted_reverse w (k.over_edges a b c d) (k.over_edges a b d c) (boundary11 k w a b c d) (at_b ∷ turned at_a ∷ turned at_c ∷ at_d ∷ []) (boundary11 k w a b d c) (rule.turned_q a b c d) s (s.sized.0, (s.sized.1.0, (s.sized.1.1.1.0, (s.sized.1.1.0, tt))))
-      (IsPermutation-cons at_b (turned at_a ∷ at_d ∷ turned at_c ∷ []) (turned at_a ∷ turned at_c ∷ at_d ∷ []) (IsPermutation-cons (turned at_a) (at_d ∷ turned at_c ∷ []) (turned at_c ∷ at_d ∷ []) (flip at_d (turned at_c) [])))
-      (four (meet01 k w b d c) (turned (meet01 k w a d c)) at_c (turned at_d) (turned at_b) (turned (turned at_a)) (turned (turned at_c)) (turned at_d) (edge_reverse OfQ k w b c d) (ap turned (edge_reverse OfQ k w a c d)) (sym (turned_twice at_c)) refl)
+      lifted_reverse w (k.over_edges a b c d) (k.over_edges a b d c) (boundary11 k w a b c d) (at_b ∷ turned at_a ∷ turned at_c ∷ at_d ∷ [])
+      (boundary11 k w a b d c) (rule.turned_q a b c d) s (s.sized.0, (s.sized.1.0, (s.sized.1.1.1.0, (s.sized.1.1.0, tt))))
+      (IsPermutation-cons at_b (turned at_a ∷ at_d ∷ turned at_c ∷ []) (turned at_a ∷ turned at_c ∷ at_d ∷ [])
+      (IsPermutation-cons (turned at_a) (at_d ∷ turned at_c ∷ []) (turned at_c ∷ at_d ∷ []) (flip at_d (turned at_c) [])))
+      (four (meet01 k w b d c) (turned (meet01 k w a d c)) at_c (turned at_d) (turned at_b) (turned (turned at_a)) (turned (turned at_c)) (turned at_d)
+      (edge_reverse OfQ k w b c d) (ap turned (edge_reverse OfQ k w a c d)) (sym (turned_twice at_c)) refl)

@@ -26,7 +26,8 @@ pub gap_weight : (p q : ℤ) → IsFine p → IsFine q → IsWeight (gap p q)
 gap_weight p q h k = record { low = omega (arith, ints); high = omega (arith, ints, h.low, h.high, k.low, k.high) }
 
 -- a spot between two spots in the boxes lies in the boxes
-between_hull : (w : Between) → StaysBetween w → (ps qs : List Corner) (d u : Spot) → AllFine ps → AllFine qs → IsInHull ps qs d → IsInHull ps qs u → IsInHull ps qs (spot_between w d u)
+between_hull : (w : Between) → StaysBetween w → (ps qs : List Corner) (d u : Spot) → AllFine ps → AllFine qs → IsInHull ps qs d → IsInHull ps qs u →
+    IsInHull ps qs (spot_between w d u)
 unfolding spot_between
 between_hull w stays ps qs d u fp fq hd hu =
     let fd = hull_fine ps qs d fp fq hd in
@@ -52,7 +53,8 @@ unfolding lifted joined
 lifted_is w over ms = let s = spot_between w (first_spot false ms) (first_spot true ms) in met_count (total shadow_of ms) (over s) s
 
 -- balanced boundary pairs that are decided in y make an answer that is decided in z, where the boxes decide its mark
-pub lifted_decided : (w : Between) → StaysBetween w → (over : Spot → Bool) (ps qs : List Corner) → AllFine ps → AllFine qs → (ms : List (Option Meet)) → IsBalanced ms → Each (IsDecided 1 ps qs) ms →
+pub lifted_decided : (w : Between) → StaysBetween w → (over : Spot → Bool) (ps qs : List Corner) → AllFine ps → AllFine qs → (ms : List (Option Meet)) →
+    IsBalanced ms → Each (IsDecided 1 ps qs) ms →
     ((b : Bool) → IsBeyond 2 ps qs b → total shadow_of ms ≢ pos 0 → (s : Spot) → IsInHull ps qs s → over s ≡ b) → IsDecided 2 ps qs (lifted w over ms)
 unfolding lifted joined
 lifted_decided w stays over ps qs fp fq ms h each side =
@@ -85,7 +87,8 @@ total_turned [] = refl
 total_turned (m ∷ ms) = omega (arith, ints, turned_shadow m, total_turned ms)
 
 -- an answer of equal sums, spots and marks
-same_joined : (w : Between) (over over' : Spot → Bool) (n n' : ℤ) (d d' u u' : Spot) → ((s : Spot) → over' s ≡ over s) → n ≡ n' → d ≡ d' → u ≡ u' → joined w over n d u ≡ joined w over' n' d' u'
+same_joined : (w : Between) (over over' : Spot → Bool) (n n' : ℤ) (d d' u u' : Spot) → ((s : Spot) → over' s ≡ over s) → n ≡ n' → d ≡ d' → u ≡ u' →
+    joined w over n d u ≡ joined w over' n' d' u'
 unfolding joined
 same_joined w over over' n n' d d' u u' h e f g =
     ap (λ (z : ℤ). joined w over z d u) e ∙ ap (λ (x : Spot). joined w over n' x u) f ∙ ap (λ (x : Spot). joined w over n' d' x) g
@@ -96,24 +99,29 @@ lifted_turned : (w : Between) (over : Spot → Bool) (ms : List (Option Meet)) �
 unfolding lifted joined
 lifted_turned w over ms =
     let s = spot_between w (first_spot false ms) (first_spot true ms) in
-    same_joined w over over (total shadow_of (map turned ms)) (neg_ℤ (total shadow_of ms)) (first_spot false (map turned ms)) (first_spot false ms) (first_spot true (map turned ms)) (first_spot true ms)
+    same_joined w over over (total shadow_of (map turned ms)) (neg_ℤ (total shadow_of ms)) (first_spot false (map turned ms)) (first_spot false ms)
+    (first_spot true (map turned ms)) (first_spot true ms)
     (λ x. refl) (total_turned ms) (spot_turned false ms) (spot_turned true ms)
     ∙ met_turned (total shadow_of ms) (over s) s
 
 -- balanced pairs give the same answer in every order, also by a test that says the same
-lifted_moved : (w : Between) (over over' : Spot → Bool) (ms ns : List (Option Meet)) → ((s : Spot) → over' s ≡ over s) → IsBalanced ms → Each IsSized ns → IsPermutation ms ns → lifted w over' ns ≡ lifted w over ms
+lifted_moved : (w : Between) (over over' : Spot → Bool) (ms ns : List (Option Meet)) → ((s : Spot) → over' s ≡ over s) → IsBalanced ms → Each IsSized ns →
+    IsPermutation ms ns → lifted w over' ns ≡ lifted w over ms
 unfolding lifted joined
 lifted_moved w over over' ms ns like h sized moved =
     let same = total-permutation shadow_of ms ns moved in
     let s = spot_between w (first_spot false ms) (first_spot true ms) in
     let t = spot_between w (first_spot false ns) (first_spot true ns) in
     let spot : total shadow_of ms ≢ pos 0 → (want : Bool) → first_spot want ns ≡ first_spot want ms = λ some want.
-    first_is want ns sized ∙ first_at-permutation entry spot_of no_spot ms ns (sym (whole_is ms) ∙ h.whole) h.few (λ z. some (number_is ms ∙ z)) moved want ∙ sym (first_is want ms h.sized) in
+    first_is want ns sized ∙ first_at-permutation entry spot_of no_spot ms ns (sym (whole_is ms) ∙ h.whole) h.few (λ z. some (number_is ms ∙ z)) moved want
+    ∙ sym (first_is want ms h.sized) in
     by_zero (total shadow_of ms)
     (λ z. met_none (total shadow_of ns) (over' t) t (same ∙ z) ∙ sym (met_none (total shadow_of ms) (over s) s z))
-    (λ some. same_joined w over' over (total shadow_of ns) (total shadow_of ms) (first_spot false ns) (first_spot false ms) (first_spot true ns) (first_spot true ms) (λ x. sym (like x)) same (spot some false) (spot some true))
+    (λ some. same_joined w over' over (total shadow_of ns) (total shadow_of ms) (first_spot false ns) (first_spot false ms) (first_spot true ns)
+    (first_spot true ms) (λ x. sym (like x)) same (spot some false) (spot some true))
 
 -- so those of the same pairs turned, in whatever order, make the answer turned
-pub lifted_reverse : (w : Between) (over over' : Spot → Bool) (ms ns turns : List (Option Meet)) → ((s : Spot) → over' s ≡ over s) → IsBalanced ms → Each IsSized ns → IsPermutation ms ns → turns ≡ map turned ns →
+pub lifted_reverse : (w : Between) (over over' : Spot → Bool) (ms ns turns : List (Option Meet)) → ((s : Spot) → over' s ≡ over s) → IsBalanced ms →
+    Each IsSized ns → IsPermutation ms ns → turns ≡ map turned ns →
     lifted w over' turns ≡ turned (lifted w over ms)
 lifted_reverse w over over' ms ns turns like h sized moved e = ap (lifted w over') e ∙ lifted_turned w over' ns ∙ ap turned (lifted_moved w over over' ms ns like h sized moved)

@@ -45,13 +45,15 @@ module _ {k : Rule} {w : Between} (rule : IsRule k w) where
   pub laws01 : ShadowLaws 1 2 (vertex_edge k w)
   laws01 = laws_of 1 2 1 (vertex_edge k w) refl (λ p q i j l m x y fp fq. no_two i j l m)
       (λ p q i j l m x y fp fq. edge_turned (edge_meet OfQ k w (corner_at p 0)) (edge_reverse OfQ k w (corner_at p 0)) q i j l m y)
-      (λ p q x y fp fq. edge_decided rule OfQ p q (corner_at p 0) (corner_at q 0) (corner_at q 1) (placed p 0 fp (omega (arith, x))) (placed q 0 fq (omega (arith, y))) (placed q 1 fq (omega (arith, y))))
+      (λ p q x y fp fq. edge_decided rule OfQ p q (corner_at p 0) (corner_at q 0) (corner_at q 1) (placed p 0 fp (omega (arith, x)))
+      (placed q 0 fq (omega (arith, y))) (placed q 1 fq (omega (arith, y))))
 
   -- an edge and a vertex
   pub laws10 : ShadowLaws 2 1 (edge_vertex k w)
   laws10 = laws_of 2 1 1 (edge_vertex k w) refl
       (λ p q i j l m x y fp fq. edge_turned (edge_meet OfP k w (corner_at q 0)) (edge_reverse OfP k w (corner_at q 0)) p i j l m x) (λ p q i j l m x y fp fq. no_two i j l m)
-      (λ p q x y fp fq. edge_decided rule OfP p q (corner_at q 0) (corner_at p 0) (corner_at p 1) (placed q 0 fq (omega (arith, y))) (placed p 0 fp (omega (arith, x))) (placed p 1 fp (omega (arith, x))))
+      (λ p q x y fp fq. edge_decided rule OfP p q (corner_at q 0) (corner_at p 0) (corner_at p 1) (placed q 0 fq (omega (arith, y)))
+      (placed p 0 fp (omega (arith, x))) (placed p 1 fp (omega (arith, x))))
 
   -- two edges: their boxes decide, so the test answers only where the count is not 0
   decided11 : IsDecidedBy 2 2 2 (edge_edge k w)
@@ -104,7 +106,8 @@ module _ (k : Rule) (w : Between) where
   lift10 a b q = count10 k w a b q ∙ differ (k.beyond_in_x b q) (k.beyond_in_x a q)
 
   -- two edges: the count is the signed sum of the shadows of the ends with the other edge
-  pub lift11 : (a b c d : Corner) → count_of (meet11 k w a b c d) ≡ shadow_of (meet01 k w b c d) -ℤ shadow_of (meet01 k w a c d) +ℤ shadow_of (meet10 k w a b d) -ℤ shadow_of (meet10 k w a b c)
+  pub lift11 : (a b c d : Corner) →
+      count_of (meet11 k w a b c d) ≡ shadow_of (meet01 k w b c d) -ℤ shadow_of (meet01 k w a c d) +ℤ shadow_of (meet10 k w a b d) -ℤ shadow_of (meet10 k w a b c)
   unfolding meet11
   lift11 a b c d = let e = lifted_is w (k.over_edges a b c d) (boundary11 k w a b c d) in omega (arith, ints, e, turned_shadow (meet01 k w a c d), turned_shadow (meet10 k w a b c))
 

@@ -70,5 +70,6 @@ pub trait Sights: Rules {
     fn is_over_face(&self, of: Edge, vertex: &Corner, face: &[Corner; 3]) -> bool
         requires vertex_fine { IsFineCorner vertex.now }
         requires face_fine { AllFine face.now }
-        ensures { IfSome (face_meet of (⟦<Self as Rules>⟧.rule_of self.now) (⟦<Self as Rounding>⟧.between_of self.now) vertex.now (corner_at face.now 0) (corner_at face.now 1) (corner_at face.now 2)) (λ m. m.above ≡ result) };
+        ensures { IfSome (face_meet of (⟦<Self as Rules>⟧.rule_of self.now) (⟦<Self as Rounding>⟧.between_of self.now) vertex.now
+            (corner_at face.now 0) (corner_at face.now 1) (corner_at face.now 2)) (λ m. m.above ≡ result) };
 }

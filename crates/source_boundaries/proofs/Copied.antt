@@ -14,7 +14,7 @@ use Rattle.source_faces.specs.Plain.{LieAtVertices}
 use Rattle.source_faces.proofs.Copies.{block}
 use Rattle.source_faces.proofs.Halves.{joined_as, run_of}
 use Rattle.source_faces.proofs.PlainFaces.{IsPlain, all_copies, face, plain_face, segments}
-use Rattle.source_faces.proofs.Rings.{loop_triples}
+use Rattle.triangulate.proofs.Rings.{loop_triples}
 
 -- the edges of n triangles between three blocks of vertices join these
 loop_edges : (a b c n x y : ℕ) → dir (all_edges (loop_triples a b c n)) x y ≡ dir (block a b n) x y + dir (block b c n) x y + dir (block c a n) x y

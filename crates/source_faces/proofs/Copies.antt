@@ -6,6 +6,7 @@ use Rattle.chain_terms.specs.Cycles.{end_from, without_from, put_first, cycles}
 use Rattle.chain_terms.specs.Sums.{up_from}
 use Rattle.face_loops.specs.Trails.{followed}
 use Rattle.face_loops.proofs.Following.{cycles-cons, followed-end, followed-on}
+use Rattle.triangulate.proofs.Rings.{loops_of}
 
 -- the edges from n vertices from a on to as many from b on, each to its own
 abbrev pub block : ℕ → ℕ → ℕ → List (ℕ × ℕ)
@@ -14,11 +15,6 @@ block a b n = zip (up_from a n) (up_from b n)
 -- those of three blocks of vertices, once round
 abbrev pub three_blocks : ℕ → ℕ → ℕ → ℕ → List (ℕ × ℕ)
 three_blocks a b c n = block a b n ++ (block b c n ++ (block c a n ++ []))
-
--- the loops of the first vertices, of the second ones, and so on
-abbrev pub loops_of : ℕ → ℕ → ℕ → ℕ → List (List ℕ)
-loops_of a b c zero = []
-loops_of a b c (suc n) = (a ∷ b ∷ c ∷ []) ∷ loops_of (suc a) (suc b) (suc c) n
 
 -- vertex v is none of the n from a on
 abbrev pub IsOutside : ℕ → ℕ → ℕ → Type 0

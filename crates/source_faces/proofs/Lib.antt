@@ -11,4 +11,3 @@ pub mod Halves
 pub mod Joined
 pub mod Outcomes
 pub mod PlainFaces
-pub mod Rings

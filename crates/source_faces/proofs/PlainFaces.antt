@@ -18,10 +18,10 @@ use Rattle.face_lists.specs.Agreement.{AreInOrder}
 use Rattle.face_lists.specs.Parts.{AreRuns, half_segments, segments_by}
 use Rattle.source_faces.specs.Adding.{are_equal_runs, copy_triple, face_copies, filled_by, is_flat, same_run, same_sign}
 use Rattle.source_faces.specs.Plain.{LieAtVertices, PlainFacesAreCopied}
-use Rattle.source_faces.proofs.Copies.{AreApart, apart-sym, cycles-blocks, cycles-exchanged_blocks, loops_of}
+use Rattle.source_faces.proofs.Copies.{AreApart, apart-sym, cycles-blocks, cycles-exchanged_blocks}
 use Rattle.source_faces.proofs.Flat.{turn_tells, turned_tells}
 use Rattle.source_faces.proofs.Halves.{IsRunAt, half_of_ends, joined_as, run_of}
-use Rattle.source_faces.proofs.Rings.{AreAtPoints, fill_of-loops, same_cut, loop_triples}
+use Rattle.triangulate.proofs.Rings.{AreAtPoints, fill_of-loops, loop_triples, loops_of, same_cut}
 
 -- the vertices of a face
 abbrev pub face : Side → ℕ → Triple

@@ -4,7 +4,15 @@ use Rattle.stl_laws.specs.Files.{FilesRead}
 
 pub files_read : FilesRead
 files_read = record {
-  lawful = record { few_triangles = omega arith; few_points = omega arith; triangles_enough = omega arith; points_enough = omega arith; bytes_enough = omega arith; bytes_bounded = omega arith };
+  lawful = record {
+    few_triangles = omega arith;
+    few_points = omega arith;
+    triangles_enough = omega arith;
+    points_enough = omega arith;
+    bytes_enough =
+        omega arith;
+    bytes_bounded = omega arith;
+  };
   tetrahedron = refl;
   apart = refl;
   welded = refl;

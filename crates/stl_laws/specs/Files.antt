@@ -50,28 +50,38 @@ with_last e =
 
 -- one triangle, in other forms
 abbrev pub spaced_text : List ℕ
-spaced_text = 239 ∷ 187 ∷ 191 ∷ codes "\r\n \tSOLID a b facet\r\n\n\tFacet  NORMAL nan\tinf -\r\nOuter\nloop vertex 0 0\r\n\r\n0 VERTEX 1 0 0 Vertex\n0 1\t\n0 endLoop EndFacet EndSolid endsolid solid\r\n\r\n"
+spaced_text =
+    239 ∷ 187 ∷ 191 ∷ codes
+    "\r\n \tSOLID a b facet\r\n\n\tFacet  NORMAL nan\tinf -\r\nOuter\nloop vertex 0 0\r\n\r\n0 VERTEX 1 0 0 Vertex\n0 1\t\n0 endLoop EndFacet EndSolid endsolid solid\r\n\r\n"
 
 pub record FilesRead : Type 0 where
   -- under lawful limits
   pub lawful : IsLawful wide_limits
   -- points in the order in which they come first
-  pub tetrahedron : stl 4 wide_limits (with_last (codes "0 0 1") ++ codes "endsolid t\n") ≡ read_as (o ∷ point 0 10000 0 ∷ point 10000 0 0 ∷ point 0 0 10000 ∷ []) ((0, 1, 2) ∷ (0, 2, 3) ∷ (2, 1, 3) ∷ (1, 0, 3) ∷ []) 0
+  pub tetrahedron : stl 4 wide_limits (with_last (codes "0 0 1") ++ codes "endsolid t\n")
+      ≡ read_as (o ∷ point 0 10000 0 ∷ point 10000 0 0 ∷ point 0 0 10000 ∷ []) ((0, 1, 2) ∷ (0, 2, 3) ∷ (2, 1, 3) ∷ (1, 0, 3) ∷ []) 0
   -- corners a step apart are two points
-  pub apart : stl 4 wide_limits (with_last (codes "0 0 1.0001") ++ codes "endsolid t\n") ≡ read_as (o ∷ point 0 10000 0 ∷ point 10000 0 0 ∷ point 0 0 10000 ∷ point 0 0 10001 ∷ []) ((0, 1, 2) ∷ (0, 2, 3) ∷ (2, 1, 3) ∷ (1, 0, 4) ∷ []) 0
+  pub apart : stl 4 wide_limits (with_last (codes "0 0 1.0001") ++ codes "endsolid t\n")
+      ≡ read_as (o ∷ point 0 10000 0 ∷ point 10000 0 0 ∷ point 0 0 10000 ∷ point 0 0 10001 ∷ []) ((0, 1, 2) ∷ (0, 2, 3) ∷ (2, 1, 3) ∷ (1, 0, 4) ∷ []) 0
   -- and after rounding to one step they are one
-  pub welded : stl 4 wide_limits (with_last (codes "0 0 1.00001") ++ codes "endsolid t\n") ≡ read_as (o ∷ point 0 10000 0 ∷ point 10000 0 0 ∷ point 0 0 10000 ∷ []) ((0, 1, 2) ∷ (0, 2, 3) ∷ (2, 1, 3) ∷ (1, 0, 3) ∷ []) 0
+  pub welded : stl 4 wide_limits (with_last (codes "0 0 1.00001") ++ codes "endsolid t\n")
+      ≡ read_as (o ∷ point 0 10000 0 ∷ point 10000 0 0 ∷ point 0 0 10000 ∷ []) ((0, 1, 2) ∷ (0, 2, 3) ∷ (2, 1, 3) ∷ (1, 0, 3) ∷ []) 0
   -- a triangle that has one point twice is dropped
-  pub dropped : stl 4 wide_limits (with_last (codes "0 0 1.00001") ++ facet (codes "0 0 0") (codes "0.00001 0 0") (codes "1 0 0") ++ codes "endsolid t\n") ≡ read_as (o ∷ point 0 10000 0 ∷ point 10000 0 0 ∷ point 0 0 10000 ∷ []) ((0, 1, 2) ∷ (0, 2, 3) ∷ (2, 1, 3) ∷ (1, 0, 3) ∷ []) 0
+  pub dropped : stl 4 wide_limits (with_last (codes "0 0 1.00001") ++ facet (codes "0 0 0") (codes "0.00001 0 0") (codes "1 0 0") ++ codes "endsolid t\n")
+      ≡ read_as (o ∷ point 0 10000 0 ∷ point 10000 0 0 ∷ point 0 0 10000 ∷ []) ((0, 1, 2) ∷ (0, 2, 3) ∷ (2, 1, 3) ∷ (1, 0, 3) ∷ []) 0
   -- with its points, where no other triangle has them
-  pub unused : stl 0 wide_limits (codes "solid\n" ++ facet (codes "9 9 9") (codes "0 0 0") (codes "9 9 9") ++ facet (codes "0 0 0") (codes "1 0 0") (codes "0 1 0") ++ codes "endsolid") ≡ read_as (o ∷ x ∷ y ∷ []) ((0, 1, 2) ∷ []) 1
+  pub unused : stl 0 wide_limits
+      (codes "solid\n" ++ facet (codes "9 9 9") (codes "0 0 0") (codes "9 9 9") ++ facet (codes "0 0 0") (codes "1 0 0") (codes "0 1 0") ++ codes "endsolid")
+      ≡ read_as (o ∷ x ∷ y ∷ []) ((0, 1, 2) ∷ []) 1
   -- whichever two of its corners are the same
   pub first_two : stl 0 wide_limits (codes "solid\n" ++ facet (codes "0 0 0") (codes "0 0 0") (codes "1 0 0") ++ codes "endsolid") ≡ read_as [] [] 2
   pub last_two : stl 0 wide_limits (codes "solid\n" ++ facet (codes "1 0 0") (codes "0 0 0") (codes "0 0 0") ++ codes "endsolid") ≡ read_as [] [] 2
   -- a mark at the start, CR LF, tabs, keywords in any case, blanks and line ends between any words, names that look like keywords
   pub spaced : stl 0 wide_limits spaced_text ≡ read_as (o ∷ x ∷ y ∷ []) ((0, 1, 2) ∷ []) 0
   -- several solids, which share their points
-  pub several : stl 0 wide_limits (codes "solid a\n" ++ facet (codes "0 0 0") (codes "1 0 0") (codes "0 1 0") ++ codes "endsolid a\n\nsolid b\nendsolid b\nsolid\n" ++ facet (codes "0 0 1") (codes "1 0 0") (codes "0 0 0") ++ codes "endsolid") ≡ read_as (o ∷ x ∷ y ∷ z ∷ []) ((0, 1, 2) ∷ (3, 1, 0) ∷ []) 0
+  pub several : stl 0 wide_limits
+      (codes "solid a\n" ++ facet (codes "0 0 0") (codes "1 0 0") (codes "0 1 0") ++ codes "endsolid a\n\nsolid b\nendsolid b\nsolid\n"
+      ++ facet (codes "0 0 1") (codes "1 0 0") (codes "0 0 0") ++ codes "endsolid") ≡ read_as (o ∷ x ∷ y ∷ z ∷ []) ((0, 1, 2) ∷ (3, 1, 0) ∷ []) 0
   -- a solid without facets
   pub empty : stl 0 wide_limits (codes "solid\nendsolid") ≡ read_as [] [] 0
   -- the first fault decides: another word than the grammar wants, on that word's line
@@ -94,11 +104,17 @@ pub record FilesRead : Type 0 where
   pub cut_facet : stl 0 wide_limits (codes "solid t\n" ++ facet (codes "0 0 0") (codes "0 1 0") (codes "1 0 0")) ≡ Err (Bad 9 10)
   pub cut_number : stl 0 wide_limits (opened ++ codes "vertex 0\n0") ≡ Err (Bad 3 10)
   -- the limit on points, at each new one, before the word after it
-  pub over_points : stl 0 (room_for 2 9) (opened ++ codes "vertex 0 0 0 vertex 1 0 0 vertex 1 0 0 endloop endfacet facet normal 0 0 1 outer loop\nvertex 0 1 0 x") ≡ Err (Over Points 3)
+  pub over_points : stl 0 (room_for 2 9)
+      (opened ++ codes "vertex 0 0 0 vertex 1 0 0 vertex 1 0 0 endloop endfacet facet normal 0 0 1 outer loop\nvertex 0 1 0 x") ≡ Err (Over Points 3)
   -- the limit on triangles, where one is kept
-  pub over_triangles : stl 0 (room_for 9 1) (codes "solid\n" ++ facet (codes "0 0 0") (codes "0 1 0") (codes "1 0 0") ++ facet (codes "0 0 0") (codes "0 0 0") (codes "1 0 0") ++ facet (codes "0 0 0") (codes "0 1 0") (codes "1 0 0") ++ codes "x") ≡ Err (Over Triangles 2)
-  pub within : stl 0 (room_for 3 1) (codes "solid\n" ++ facet (codes "0 0 0") (codes "0 1 0") (codes "1 0 0") ++ facet (codes "0 0 0") (codes "0 0 0") (codes "1 0 0") ++ codes "endsolid") ≡ read_as (o ∷ y ∷ x ∷ []) ((0, 1, 2) ∷ []) 0
+  pub over_triangles : stl 0 (room_for 9 1)
+      (codes "solid\n" ++ facet (codes "0 0 0") (codes "0 1 0") (codes "1 0 0") ++ facet (codes "0 0 0") (codes "0 0 0") (codes "1 0 0")
+      ++ facet (codes "0 0 0") (codes "0 1 0") (codes "1 0 0") ++ codes "x") ≡ Err (Over Triangles 2)
+  pub within : stl 0 (room_for 3 1)
+      (codes "solid\n" ++ facet (codes "0 0 0") (codes "0 1 0") (codes "1 0 0") ++ facet (codes "0 0 0") (codes "0 0 0") (codes "1 0 0") ++ codes "endsolid")
+      ≡ read_as (o ∷ y ∷ x ∷ []) ((0, 1, 2) ∷ []) 0
   -- the text of a mesh reads welded: points in the order in which the corners have them
-  pub renumbered : welded_mesh (o ∷ x ∷ y ∷ z ∷ []) ((0, 2, 1) ∷ (0, 1, 3) ∷ (1, 2, 3) ∷ (2, 0, 3) ∷ []) ≡ record { points = o ∷ y ∷ x ∷ z ∷ []; triples = (0, 1, 2) ∷ (0, 2, 3) ∷ (2, 1, 3) ∷ (1, 0, 3) ∷ [] }
+  pub renumbered : welded_mesh (o ∷ x ∷ y ∷ z ∷ []) ((0, 2, 1) ∷ (0, 1, 3) ∷ (1, 2, 3) ∷ (2, 0, 3) ∷ [])
+      ≡ record { points = o ∷ y ∷ x ∷ z ∷ []; triples = (0, 1, 2) ∷ (0, 2, 3) ∷ (2, 1, 3) ∷ (1, 0, 3) ∷ [] }
   -- those at one place as one, and without a triangle that then has a point twice
   pub joined : welded_mesh (o ∷ x ∷ y ∷ o ∷ z ∷ []) ((3, 1, 2) ∷ (0, 2, 1) ∷ (0, 3, 4) ∷ []) ≡ record { points = o ∷ x ∷ y ∷ z ∷ []; triples = (0, 1, 2) ∷ (0, 2, 1) ∷ [] }

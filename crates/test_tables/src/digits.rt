@@ -18,14 +18,15 @@ fn value_of(digit: u8) -> Option<u8>
     }
 }
 
-/// The numbers of a word, from -61 to 61, a digit each, with a sign before those below 0; a point stands for none.
+/// The numbers of a word, from -61 to 61, a digit each, with a sign before those below 0; a point stands for none. A sign without a
+/// digit is no number.
 pub fn numbers_of(alloc: Global, word: &str) -> Result<Vec<i8>, NoRow> {
     let mut numbers = Vec::new(alloc);
     let mut sign = 1;
     for byte in word.as_bytes() {
-        if *byte == b'-' {
+        if *byte == b'-' && sign > 0 {
             sign = -1;
-        } else if *byte != b'.' {
+        } else if *byte != b'.' || sign < 0 {
             let value = value_of(*byte).ok_or(NoRow::NoDigit)?;
             numbers.push(if sign < 0 {
                 -(value as i8)
@@ -34,6 +35,9 @@ pub fn numbers_of(alloc: Global, word: &str) -> Result<Vec<i8>, NoRow> {
             })?;
             sign = 1;
         }
+    }
+    if sign < 0 {
+        return Err(NoRow::NoDigit);
     }
     Ok(numbers)
 }

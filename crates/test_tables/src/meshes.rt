@@ -30,8 +30,12 @@ fn read_op(word: &str) -> Result<Op, NoRow> {
 // The points of a word, three numbers each.
 fn read_points(alloc: Global, word: &str) -> Result<Vec<Point>, NoRow> {
     let numbers = numbers_of(alloc, word)?;
+    let (places, rest) = numbers.as_chunks::<3>();
+    if !rest.is_empty() {
+        return Err(NoRow::NoPart);
+    }
     let mut points = Vec::new(alloc);
-    for [x, y, z] in numbers.as_chunks::<3>().0 {
+    for [x, y, z] in places {
         points.push(point_of(*x, *y, *z)?)?;
     }
     Ok(points)
@@ -45,15 +49,23 @@ pub fn point_of(x: i8, y: i8, z: i8) -> Result<Point, NoRow> {
 // The triangles of a word, three numbers each.
 fn read_triples(alloc: Global, word: &str) -> Result<Vec<[u32; 3]>, NoRow> {
     let numbers = numbers_of(alloc, word)?;
+    let (corners, rest) = numbers.as_chunks::<3>();
+    if !rest.is_empty() {
+        return Err(NoRow::NoPart);
+    }
     let mut triples = Vec::new(alloc);
-    for [a, b, c] in numbers.as_chunks::<3>().0 {
-        triples.push([vertex_of(*a), vertex_of(*b), vertex_of(*c)])?;
+    for [a, b, c] in corners {
+        triples.push([vertex_of(*a)?, vertex_of(*b)?, vertex_of(*c)?])?;
     }
     Ok(triples)
 }
 
-fn vertex_of(number: i8) -> u32 {
-    u32::from(number.unsigned_abs())
+// The vertex of a number, which is not below 0.
+fn vertex_of(number: i8) -> Result<u32, NoRow> {
+    if number < 0 {
+        return Err(NoRow::NoPart);
+    }
+    Ok(u32::from(number.unsigned_abs()))
 }
 
 // The mesh of the next two words: its points, and its triangles.

@@ -16,7 +16,8 @@ right a b p = grind arith
 -- digits after digits are digits
 pub all_digits-append : (xs ys : List ℕ) → all_digits xs ≡ true → all_digits ys ≡ true → all_digits (xs ++ ys) ≡ true
 all_digits-append [] ys p q = q
-all_digits-append (x ∷ xs) ys p q = both (is_digit x) (all_digits (xs ++ ys)) (left (is_digit x) (all_digits xs) p) (all_digits-append xs ys (right (is_digit x) (all_digits xs) p) q)
+all_digits-append (x ∷ xs) ys p q =
+    both (is_digit x) (all_digits (xs ++ ys)) (left (is_digit x) (all_digits xs) p) (all_digits-append xs ys (right (is_digit x) (all_digits xs) p) q)
 
 -- the value goes on where it stood
 pub value_from-append : (v : ℕ) (xs ys : List ℕ) → value_from v (xs ++ ys) ≡ value_from (value_from v xs) ys

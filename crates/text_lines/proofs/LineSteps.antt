@@ -12,7 +12,8 @@ raw_lines-byte : (c : ℕ) (cs : List ℕ) → (c == 10) ≡ false → raw_lines
 raw_lines-byte c cs e = rw e refl
 
 -- a text is cut at its first line feed
-pub raw_lines-cut : (n : ℕ) (cs : List ℕ) → n < length cs → ((k : ℕ) → k < n → (get_or cs k 0 == 10) ≡ false) → (get_or cs n 0 == 10) ≡ true → raw_lines cs ≡ take n cs ∷ raw_lines (drop (suc n) cs)
+pub raw_lines-cut : (n : ℕ) (cs : List ℕ) → n < length cs → ((k : ℕ) → k < n → (get_or cs k 0 == 10) ≡ false) → (get_or cs n 0 == 10) ≡ true →
+    raw_lines cs ≡ take n cs ∷ raw_lines (drop (suc n) cs)
 raw_lines-cut n [] l before here = absurd (omega arith)
 raw_lines-cut zero (c ∷ cs) l before here = raw_lines-feed c cs here
 raw_lines-cut (suc n) (c ∷ cs) l before here =

@@ -5,7 +5,8 @@ use Rattle.std.proofs.lemmas.List.Sums.{prefix_len-le-length}
 use Rattle.std.proofs.lemmas.Grind.{common_steps}
 
 -- a default of the length turns the first place, if any, into the place or the length
-pub unwrap_or-position : {X : Type 0} (p : X → Bool) (xs : List X) → unwrap_or (cond (ltb (position_or_len p xs) (length xs)) (Some (position_or_len p xs)) None) (length xs) ≡ position_or_len p xs
+pub unwrap_or-position : {X : Type 0} (p : X → Bool) (xs : List X) →
+    unwrap_or (cond (ltb (position_or_len p xs) (length xs)) (Some (position_or_len p xs)) None) (length xs) ≡ position_or_len p xs
 unwrap_or-position p xs = grind (arith, common_steps, prefix_len-le-length (λ x. not (p x)) xs)
 
 -- the place lies in the list or at its end

@@ -18,7 +18,8 @@ words_of-blank c cs e = rw e refl
 pub words_of-past_blanks : (cs : List ℕ) → words_of (drop (position_or_len is_mark cs) cs) ≡ words_of cs
 words_of-past_blanks [] = refl
 words_of-past_blanks (c ∷ cs) = by_blank (is_blank c) refl (words_of-past_blanks cs) where
-  by_blank : (b : Bool) → is_blank c ≡ b → words_of (drop (position_or_len is_mark cs) cs) ≡ words_of cs → words_of (drop (position_or_len is_mark (c ∷ cs)) (c ∷ cs)) ≡ words_of (c ∷ cs)
+  by_blank : (b : Bool) → is_blank c ≡ b → words_of (drop (position_or_len is_mark cs) cs) ≡ words_of cs →
+      words_of (drop (position_or_len is_mark (c ∷ cs)) (c ∷ cs)) ≡ words_of (c ∷ cs)
   by_blank true e h = rw (position_or_len-past is_mark c cs (ap not e)) (h ∙ sym (words_of-blank c cs e))
   by_blank false e h = rw (position_or_len-here is_mark c cs (ap not e)) refl
 
@@ -26,7 +27,8 @@ words_of-past_blanks (c ∷ cs) = by_blank (is_blank c) refl (words_of-past_blan
 pub begins_word-past_blanks : (cs : List ℕ) → 0 < length (drop (position_or_len is_mark cs) cs) → begins_word (drop (position_or_len is_mark cs) cs) ≡ true
 begins_word-past_blanks [] h = absurd (omega arith)
 begins_word-past_blanks (c ∷ cs) h = by_blank (is_blank c) refl (begins_word-past_blanks cs) h where
-  by_blank : (b : Bool) → is_blank c ≡ b → (0 < length (drop (position_or_len is_mark cs) cs) → begins_word (drop (position_or_len is_mark cs) cs) ≡ true) → 0 < length (drop (position_or_len is_mark (c ∷ cs)) (c ∷ cs)) → begins_word (drop (position_or_len is_mark (c ∷ cs)) (c ∷ cs)) ≡ true
+  by_blank : (b : Bool) → is_blank c ≡ b → (0 < length (drop (position_or_len is_mark cs) cs) → begins_word (drop (position_or_len is_mark cs) cs) ≡ true) →
+      0 < length (drop (position_or_len is_mark (c ∷ cs)) (c ∷ cs)) → begins_word (drop (position_or_len is_mark (c ∷ cs)) (c ∷ cs)) ≡ true
   by_blank true e i h = rw (position_or_len-past is_mark c cs (ap not e)) (i (rw (position_or_len-past is_mark c cs (ap not e)) at h))
   by_blank false e i h = rw (position_or_len-here is_mark c cs (ap not e)) (ap not e)
 
@@ -42,6 +44,8 @@ words_of-first (c ∷ cs) e = by_next (begins_word cs) refl (words_of-first cs) 
   no_blank : is_blank c ≡ false
   no_blank = not-true (is_blank c) e
 
-  by_next : (b : Bool) → begins_word cs ≡ b → (begins_word cs ≡ true → words_of cs ≡ take (position_or_len is_blank cs) cs ∷ words_of (drop (position_or_len is_blank cs) cs)) → words_of (c ∷ cs) ≡ take (position_or_len is_blank (c ∷ cs)) (c ∷ cs) ∷ words_of (drop (position_or_len is_blank (c ∷ cs)) (c ∷ cs))
+  by_next : (b : Bool) → begins_word cs ≡ b →
+      (begins_word cs ≡ true → words_of cs ≡ take (position_or_len is_blank cs) cs ∷ words_of (drop (position_or_len is_blank cs) cs)) →
+      words_of (c ∷ cs) ≡ take (position_or_len is_blank (c ∷ cs)) (c ∷ cs) ∷ words_of (drop (position_or_len is_blank (c ∷ cs)) (c ∷ cs))
   by_next true more i = rw (position_or_len-past is_blank c cs no_blank) (words_of-more c cs no_blank more ∙ ap (add_first c) (i more))
   by_next false last i = rw (position_or_len-past is_blank c cs no_blank, position_or_len-no_word cs last) (words_of-last c cs no_blank last)

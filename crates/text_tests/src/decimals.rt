@@ -4,7 +4,7 @@ mod table;
 use arrayvec::ArrayVec;
 use grid_number::{NumberFault, read_grid, write_grid};
 use std::process::Abort;
-use table::{READ_1, READ_2, READ_3, READ_4, WRITTEN};
+use table::{READ, WRITTEN};
 
 // What stands before the first blank, and what after it.
 fn cut(row: &[u8]) -> Option<(&[u8], &[u8])> {
@@ -25,20 +25,23 @@ fn parts(row: &[u8]) -> Option<(u8, &[u8], &[u8])> {
     Some((digit.wrapping_sub(b'0'), word, text))
 }
 
-// The whole number of a word, if it is one.
-fn number_of(word: &[u8]) -> Option<i32> {
+// The whole number of a word of one to ten digits, below 0 after a dash.
+fn number_of(word: &[u8]) -> Option<i64> {
     let (is_below, digits) = match word {
         [b'-', rest @ ..] => (true, rest),
         _ => (false, word),
     };
-    let mut number = 0i32;
+    if digits.is_empty() || digits.len() > 10 {
+        return None;
+    }
+    let mut number = 0i64;
     for digit in digits {
         if !digit.is_ascii_digit() {
             return None;
         }
         number = number
             .wrapping_mul(10)
-            .wrapping_add(digit.wrapping_sub(b'0') as i32);
+            .wrapping_add(digit.wrapping_sub(b'0') as i64);
     }
     Some(if is_below {
         number.wrapping_neg()
@@ -51,7 +54,7 @@ fn number_of(word: &[u8]) -> Option<i32> {
 fn is_word_of(found: Result<i32, NumberFault>, word: &[u8]) -> bool {
     match found {
         Ok(value) => match number_of(word) {
-            Some(number) => number == value,
+            Some(number) => number == value as i64,
             None => false,
         },
         Err(NumberFault::NotANumber) => word == b"none".as_slice(),
@@ -67,19 +70,23 @@ fn is_read(row: &str) -> bool {
     }
 }
 
-fn expect_read(rt: &impl Abort, rows: &str) {
+// Asks that of each row of a table, and that there are so many.
+fn expect_read(rt: &impl Abort, rows: &str, count: u32) {
+    let mut found = 0u32;
     for row in rows.lines() {
         assert!(rt; is_read(row), "at {row}");
+        found = found.saturating_add(1);
     }
+    assert!(rt; found == count, "{found} rows");
 }
 
 // Whether a value is written as this text.
-fn gives(value: i32, digits: u8, text: &[u8]) -> bool {
+fn gives(value: i64, digits: u8, text: &[u8]) -> bool {
     if value.unsigned_abs() > 1 << 30 || digits > 6 {
         return false;
     }
     let mut into = ArrayVec::new();
-    write_grid(value, digits, &mut into);
+    write_grid(value as i32, digits, &mut into);
     into.as_slice() == text
 }
 
@@ -94,31 +101,24 @@ fn is_written(row: &str) -> bool {
     }
 }
 
-#[test]
-fn reads_the_first_texts(rt: HostRuntime) {
-    expect_read(&rt, READ_1);
+// Asks that of each row of a table, and that there are so many.
+fn expect_written(rt: &impl Abort, rows: &str, count: u32) {
+    let mut found = 0u32;
+    for row in rows.lines() {
+        assert!(rt; is_written(row), "at {row}");
+        found = found.saturating_add(1);
+    }
+    assert!(rt; found == count, "{found} rows");
 }
 
 #[test]
-fn reads_the_second_texts(rt: HostRuntime) {
-    expect_read(&rt, READ_2);
-}
-
-#[test]
-fn reads_the_third_texts(rt: HostRuntime) {
-    expect_read(&rt, READ_3);
-}
-
-#[test]
-fn reads_the_last_texts(rt: HostRuntime) {
-    expect_read(&rt, READ_4);
-    // A text that holds the end of a line is no line.
+fn reads_the_texts(rt: HostRuntime) {
+    expect_read(&rt, READ, 299);
+    // A text with the end of a line in it can't stand in a row.
     assert!(rt; is_word_of(read_grid(b"1\n", 2), b"none"));
 }
 
 #[test]
 fn writes_the_values(rt: HostRuntime) {
-    for row in WRITTEN.lines() {
-        assert!(rt; is_written(row), "at {row}");
-    }
+    expect_written(&rt, WRITTEN, 82);
 }

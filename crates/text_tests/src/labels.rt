@@ -72,8 +72,8 @@ fn four(rt: &impl Abort, alloc: Global) -> Labels {
     labels_of(rt, alloc, &[0, 1, 1, 2])
 }
 
-// Whether labels are shared as the table says.
-fn share(rt: &impl Abort, labels: &Labels) {
+// Asks whether labels are shared as the table says.
+fn expect_shared(rt: &impl Abort, labels: &Labels) {
     for (t, other, shared) in &SHARED {
         assert!(rt; labels.shares(*t, *other) == *shared, "{t} and {other}");
     }
@@ -85,7 +85,7 @@ fn labels_are_added_at_the_end(rt: HostRuntime) {
     assert!(rt; are(&none, &[]) && none.shares(0, 1));
     let labels = four(&rt, rt.alloc());
     assert!(rt; are(&labels, &FOUR));
-    share(&rt, &labels);
+    expect_shared(&rt, &labels);
 }
 
 // Whether one more label of the source is added.

@@ -143,7 +143,8 @@ module _ (ts : List Triple) (h a b c d : ℕ) (can : CanCollapse ts h a b c d) w
   ]
 
   -- so a half-edge that starts and ends elsewhere
-  elsewhere : (w x y : ℕ) → Runs es w x y → ((x ≡ a) × (y ≡ b) → ⊥) → ((x ≡ b) × (y ≡ c) → ⊥) → ((x ≡ c) × (y ≡ a) → ⊥) → ((x ≡ b) × (y ≡ a) → ⊥) → ((x ≡ a) × (y ≡ d) → ⊥) → ((x ≡ d) × (y ≡ b) → ⊥) → Stays (stays a b) ts w
+  elsewhere : (w x y : ℕ) → Runs es w x y → ((x ≡ a) × (y ≡ b) → ⊥) → ((x ≡ b) × (y ≡ c) → ⊥) → ((x ≡ c) × (y ≡ a) → ⊥) → ((x ≡ b) × (y ≡ a) → ⊥) →
+      ((x ≡ a) × (y ≡ d) → ⊥) → ((x ≡ d) × (y ≡ b) → ⊥) → Stays (stays a b) ts w
   elsewhere w x y r nh nbc nca ng nad ndb = must_stay w r.low by where
     same : (z u v : ℕ) → w ≡ z → Runs es z u v → (x ≡ u) × (y ≡ v)
     same z u v e q = (sym r.from ∙ ap (start es) e ∙ q.from, sym r.to ∙ ap (finish es) e ∙ q.to)
@@ -160,13 +161,19 @@ module _ (ts : List Triple) (h a b c d : ℕ) (can : CanCollapse ts h a b c d) w
   ac_stays = elsewhere ac a c ac_runs (λ q. b_not_c (sym q.1)) (λ q. can.distinct q.0) (λ q. a_not_c q.0) (λ q. can.distinct q.0) (λ q. can.differ q.1) (λ q. a_not_d q.0)
 
   pub cb_stays : Stays (stays a b) ts cb
-  cb_stays = elsewhere cb c b cb_runs (λ q. a_not_c (sym q.0)) (λ q. b_not_c q.1) (λ q. can.distinct (sym q.1)) (λ q. b_not_c (sym q.0)) (λ q. a_not_c (sym q.0)) (λ q. can.differ q.0)
+  cb_stays =
+      elsewhere cb c b cb_runs (λ q. a_not_c (sym q.0)) (λ q. b_not_c q.1) (λ q. can.distinct (sym q.1)) (λ q. b_not_c (sym q.0)) (λ q. a_not_c (sym q.0))
+      (λ q. can.differ q.0)
 
   pub da_stays : Stays (stays a b) ts da
-  da_stays = elsewhere da d a da_runs (λ q. a_not_d (sym q.0)) (λ q. b_not_d (sym q.0)) (λ q. can.differ (sym q.0)) (λ q. b_not_d (sym q.0)) (λ q. a_not_d (sym q.0)) (λ q. can.distinct q.1)
+  da_stays =
+      elsewhere da d a da_runs (λ q. a_not_d (sym q.0)) (λ q. b_not_d (sym q.0)) (λ q. can.differ (sym q.0)) (λ q. b_not_d (sym q.0)) (λ q. a_not_d (sym q.0))
+      (λ q. can.distinct q.1)
 
   pub bd_stays : Stays (stays a b) ts bd
-  bd_stays = elsewhere bd b d bd_runs (λ q. can.distinct (sym q.0)) (λ q. can.differ (sym q.1)) (λ q. b_not_c q.0) (λ q. a_not_d (sym q.1)) (λ q. can.distinct (sym q.0)) (λ q. b_not_d q.0)
+  bd_stays =
+      elsewhere bd b d bd_runs (λ q. can.distinct (sym q.0)) (λ q. can.differ (sym q.1)) (λ q. b_not_c q.0) (λ q. a_not_d (sym q.1))
+      (λ q. can.distinct (sym q.0)) (λ q. b_not_d q.0)
 
   -- the first half-edge that stays, going around from one
   abbrev to : ℕ → ℕ
@@ -368,7 +375,8 @@ module _ (ts : List Triple) (h a b c d : ℕ) (can : CanCollapse ts h a b c d) w
       let zr : Runs es (twin es x) (start es (twin es x)) (finish es (twin es x)) = record { low = t.within; from = refl; to = refl } in
       record {
         stays = z_stays;
-        is = twins_down ts h a b c d can x (twin es x) (start es x) (finish es x) (start es (twin es x)) (finish es (twin es x)) s z_stays xr zr (ap (merged a b) t.from) (ap (merged a b) t.to) (sym t.same);
+        is = twins_down ts h a b c d can x (twin es x) (start es x) (finish es x) (start es (twin es x)) (finish es (twin es x)) s z_stays xr zr
+            (ap (merged a b) t.from) (ap (merged a b) t.to) (sym t.same);
       }
     where
       -- x would be the twin of one of the six
@@ -426,7 +434,8 @@ module _ (ts : List Triple) (h a b c d : ℕ) (can : CanCollapse ts h a b c d) w
       sym (start_down (stays a b) (merged a b) ts u.old u.stays) ∙ ap (start new) u.is ∙ same ∙ sym (ap (start new) v.is) ∙ start_down (stays a b) (merged a b) ts v.old v.stays in
       let first : Reached u.old u.old = record { inside = u.stays; leads = (0, refl) } in
       let last : Reached u.old (to v.old) =
-      glued (length es) (around es) around_after to (start es) a b ac in_a bd in_b (are_glued clean) (Reached u.old) (reach_on u.old) u.old v.old (omega (arith, u.stays.0, size)) (omega (arith, v.stays.0, size)) starts_same
+      glued (length es) (around es) around_after to (start es) a b ac in_a bd in_b (are_glued clean) (Reached u.old) (reach_on u.old) u.old v.old
+      (omega (arith, u.stays.0, size)) (omega (arith, v.stays.0, size)) starts_same
       (subst (Reached u.old) (sym (to_itself u.old u.stays.1)) first) in
       let there = subst (Reached u.old) (to_itself v.old v.stays.1) last in
       subst (λ i. SameFan new i y) u.is (subst (λ i. SameFan new (at u.old) i) v.is there.leads)

@@ -84,16 +84,18 @@ gone_flat a b n t h =
 -- the others have the sums of all
 pub same_sums : (a b : ℕ) → a ≢ b → (ts : List Triple) → SameChain (all_edges (collapsed a b ts)) (all_edges (map (renamed_triple (merged a b)) ts))
 same_sums a b n [] f odd = refl
-same_sums a b n (t ∷ ts) f odd = elim (cases_Bool (stays a b t)) as (λ _. total (along f) (all_edges (collapsed a b (t ∷ ts))) ≡ total (along f) (all_edges (map (renamed_triple (merged a b)) (t ∷ ts)))) [
-  | inl y ↦
-      let r = renamed_triple (merged a b) in
-      let opened : collapsed a b (t ∷ ts) ≡ r t ∷ collapsed a b ts = ap (λ c. map r (cond c (t ∷ filter (stays a b) ts) (filter (stays a b) ts))) y in
-      rw opened (omega (arith, ints, same_sums a b n ts f odd))
-  | inr m ↦
-      let r = renamed_triple (merged a b) in
-      let opened : collapsed a b (t ∷ ts) ≡ collapsed a b ts = ap (λ c. map r (cond c (t ∷ filter (stays a b) ts) (filter (stays a b) ts))) m in
-      rw opened (omega (arith, ints, same_sums a b n ts f odd, gone_flat a b n t m f odd, total-append (along f) (edges (r t)) (all_edges (map r ts))))
-]
+same_sums a b n (t ∷ ts) f odd =
+    elim (cases_Bool (stays a b t)) as (λ _. total (along f) (all_edges (collapsed a b (t ∷ ts)))
+    ≡ total (along f) (all_edges (map (renamed_triple (merged a b)) (t ∷ ts)))) [
+      | inl y ↦
+          let r = renamed_triple (merged a b) in
+          let opened : collapsed a b (t ∷ ts) ≡ r t ∷ collapsed a b ts = ap (λ c. map r (cond c (t ∷ filter (stays a b) ts) (filter (stays a b) ts))) y in
+          rw opened (omega (arith, ints, same_sums a b n ts f odd))
+      | inr m ↦
+          let r = renamed_triple (merged a b) in
+          let opened : collapsed a b (t ∷ ts) ≡ collapsed a b ts = ap (λ c. map r (cond c (t ∷ filter (stays a b) ts) (filter (stays a b) ts))) m in
+          rw opened (omega (arith, ints, same_sums a b n ts f odd, gone_flat a b n t m f odd, total-append (along f) (edges (r t)) (all_edges (map r ts))))
+    ]
 
 pub stays_closed : (a b : ℕ) → a ≢ b → (ts : List Triple) → IsClosed (all_edges ts) → IsClosed (all_edges (collapsed a b ts))
 stays_closed a b n ts closed =

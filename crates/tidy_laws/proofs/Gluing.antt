@@ -96,7 +96,8 @@ go_on n s t to start a b out_a in_a out_b in_b g P keeps x low not_a not_b p = e
 ]
 
 -- so it leads from where the cycle at a goes on to where it is left
-along_a : (n : ℕ) (s t to start : ℕ → ℕ) (a b out_a in_a out_b in_b : ℕ) → AreGlued n s t to start a b out_a in_a out_b in_b → (P : ℕ → Type 0) → ((x : ℕ) → P x → P (t x)) → P in_a → P out_a
+along_a : (n : ℕ) (s t to start : ℕ → ℕ) (a b out_a in_a out_b in_b : ℕ) → AreGlued n s t to start a b out_a in_a out_b in_b → (P : ℕ → Type 0) →
+    ((x : ℕ) → P x → P (t x)) → P in_a → P out_a
 along_a n s t to start a b out_a in_a out_b in_b g P keeps p =
     let way = g.one_fan in_a out_a g.in_a_below g.out_a_below (g.in_a_start ∙ sym g.out_a_start) in
     let Q : ℕ → Type 0 = HoldsAt n to start P a in
@@ -108,7 +109,8 @@ along_a n s t to start a b out_a in_a out_b in_b g P keeps p =
     subst P g.out_a_stays there.holds
 
 -- and over to the other cycle
-over_a : (n : ℕ) (s t to start : ℕ → ℕ) (a b out_a in_a out_b in_b : ℕ) → AreGlued n s t to start a b out_a in_a out_b in_b → (P : ℕ → Type 0) → ((x : ℕ) → P x → P (t x)) → P out_a → P in_b
+over_a : (n : ℕ) (s t to start : ℕ → ℕ) (a b out_a in_a out_b in_b : ℕ) → AreGlued n s t to start a b out_a in_a out_b in_b → (P : ℕ → Type 0) →
+    ((x : ℕ) → P x → P (t x)) → P out_a → P in_b
 over_a n s t to start a b out_a in_a out_b in_b g P keeps p = subst P g.out_a_new (keeps out_a p)
 
 -- so every step of s keeps it
@@ -120,13 +122,15 @@ each_step n s t to start a b out_a in_a out_b in_b g P keeps x low p =
       | inl y ↦
           let e = eqb-true x out_a y in
           let at_out : P out_a = subst P (ap to e ∙ g.out_a_stays) p in
-          let back = over_a n s t to start b a out_b in_b out_a in_a g' P keeps (along_a n s t to start b a out_b in_b out_a in_a g' P keeps (over_a n s t to start a b out_a in_a out_b in_b g P keeps at_out)) in
+          let back = over_a n s t to start b a out_b in_b out_a in_a g' P keeps
+          (along_a n s t to start b a out_b in_b out_a in_a g' P keeps (over_a n s t to start a b out_a in_a out_b in_b g P keeps at_out)) in
           subst P (sym (ap (λ z. to (s z)) e ∙ g.out_a_old)) back
       | inr m ↦ elim (cases_Bool (x == out_b)) as (λ _. P (to (s x))) [
         | inl y ↦
             let e = eqb-true x out_b y in
             let at_out : P out_b = subst P (ap to e ∙ g.out_b_stays) p in
-            let back = over_a n s t to start a b out_a in_a out_b in_b g P keeps (along_a n s t to start a b out_a in_a out_b in_b g P keeps (over_a n s t to start b a out_b in_b out_a in_a g' P keeps at_out)) in
+            let back = over_a n s t to start a b out_a in_a out_b in_b g P keeps
+            (along_a n s t to start a b out_a in_a out_b in_b g P keeps (over_a n s t to start b a out_b in_b out_a in_a g' P keeps at_out)) in
             subst P (sym (ap (λ z. to (s z)) e ∙ g.out_b_old)) back
         | inr k ↦ go_on n s t to start a b out_a in_a out_b in_b g P keeps x low (λ e. let z = eq-eqb x out_a e in absurd (cc)) (λ e. let z = eq-eqb x out_b e in absurd (cc)) p
       ]
@@ -142,7 +146,9 @@ same_vertex : (n : ℕ) (s t to start : ℕ → ℕ) (a b out_a in_a out_b in_b 
 same_vertex n s t to start a b out_a in_a out_b in_b g P keeps x y x_low y_low same p =
     let way = g.one_fan x y x_low y_low same in
     let Q : ℕ → Type 0 = Inside n to P in
-    let there : Q (times s way.0 x) = stays_on s Q (λ z q. record { low = g.below z q.low; holds = each_step n s t to start a b out_a in_a out_b in_b g P keeps z q.low q.holds }) way.0 x (record { low = x_low; holds = p }) in
+    let there : Q (times s way.0 x) =
+    stays_on s Q (λ z q. record { low = g.below z q.low; holds = each_step n s t to start a b out_a in_a out_b in_b g P keeps z q.low q.holds }) way.0 x
+    (record { low = x_low; holds = p }) in
     subst (λ z. P (to z)) way.1 there.holds
 
 -- from the cycle at a to that at b

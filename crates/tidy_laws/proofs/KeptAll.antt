@@ -48,7 +48,8 @@ labels_within points zero ts labels are = are
 labels_within points (suc n) ts labels are =
     let h = least_collapsible points ts in
     let left = labels_left_at ts h labels in
-    cond_both (nat_lt h (3 * length ts)) (one_more (tidied_within n points (collapsed_at ts h) left)) (record { triples = ts; labels = labels; collapses = 0 }) (λ (t : Tidied). AreLabels (length t.triples) t.labels)
+    cond_both (nat_lt h (3 * length ts)) (one_more (tidied_within n points (collapsed_at ts h) left)) (record { triples = ts; labels = labels; collapses = 0 })
+    (λ (t : Tidied). AreLabels (length t.triples) t.labels)
     (λ there. labels_within points n (collapsed_at ts h) left (labels_stay (start (all_edges ts) h) (finish (all_edges ts) h) ts labels are))
     (λ past. are)
 

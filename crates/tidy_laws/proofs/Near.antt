@@ -63,17 +63,21 @@ module _ (ts : List Triple) (h a b c d : ℕ) (can : CanCollapse ts h a b c d) w
     by_six (inl e) = inr (inl (as_one h a b e (six ts h a b c d can).h_runs))
     by_six (inr (inl e)) =
         let k = as_one (next_half h) b c e (six ts h a b c d can).bc_runs in
-        inl (there (ac ts h a b c d can) a c (merged a b u) (merged a b w) (ac_stays ts h a b c d can) (ac_runs ts h a b c d can) (merged_first a b a refl ∙ sym (merged_second a b u k.0)) (ap (merged a b) (sym k.1)))
+        inl (there (ac ts h a b c d can) a c (merged a b u) (merged a b w) (ac_stays ts h a b c d can) (ac_runs ts h a b c d can)
+        (merged_first a b a refl ∙ sym (merged_second a b u k.0)) (ap (merged a b) (sym k.1)))
     by_six (inr (inr (inl e))) =
         let k = as_one (next_half (next_half h)) c a e (six ts h a b c d can).ca_runs in
-        inl (there (cb ts h a b c d can) c b (merged a b u) (merged a b w) (cb_stays ts h a b c d can) (cb_runs ts h a b c d can) (ap (merged a b) (sym k.0)) (merged_second a b b refl ∙ sym (merged_first a b w k.1)))
+        inl (there (cb ts h a b c d can) c b (merged a b u) (merged a b w) (cb_stays ts h a b c d can) (cb_runs ts h a b c d can) (ap (merged a b) (sym k.0))
+        (merged_second a b b refl ∙ sym (merged_first a b w k.1)))
     by_six (inr (inr (inr (inl e)))) = inr (inr (as_one (twin es h) b a e (six ts h a b c d can).g_runs))
     by_six (inr (inr (inr (inr (inl e))))) =
         let k = as_one (next_half (twin es h)) a d e (six ts h a b c d can).ad_runs in
-        inl (there (bd ts h a b c d can) b d (merged a b u) (merged a b w) (bd_stays ts h a b c d can) (bd_runs ts h a b c d can) (merged_second a b b refl ∙ sym (merged_first a b u k.0)) (ap (merged a b) (sym k.1)))
+        inl (there (bd ts h a b c d can) b d (merged a b u) (merged a b w) (bd_stays ts h a b c d can) (bd_runs ts h a b c d can)
+        (merged_second a b b refl ∙ sym (merged_first a b u k.0)) (ap (merged a b) (sym k.1)))
     by_six (inr (inr (inr (inr (inr e))))) =
         let k = as_one (next_half (next_half (twin es h))) d b e (six ts h a b c d can).db_runs in
-        inl (there (da ts h a b c d can) d a (merged a b u) (merged a b w) (da_stays ts h a b c d can) (da_runs ts h a b c d can) (ap (merged a b) (sym k.0)) (merged_first a b a refl ∙ sym (merged_second a b w k.1)))
+        inl (there (da ts h a b c d can) d a (merged a b u) (merged a b w) (da_stays ts h a b c d can) (da_runs ts h a b c d can) (ap (merged a b) (sym k.0))
+        (merged_first a b a refl ∙ sym (merged_second a b w k.1)))
 
     by : (stays a b (get_or ts (z / 3) (0, 0, 0)) ≡ true) ⊎ (stays a b (get_or ts (z / 3) (0, 0, 0)) ≡ false) → (0 < dir after (merged a b u) (merged a b w)) ⊎ TheTwo u w
     by (inl y) = inl (there z u w (merged a b u) (merged a b w) (omega (arith, r.low, length-all_edges ts), y) r refl refl)
@@ -85,7 +89,8 @@ module _ (ts : List Triple) (h a b c d : ℕ) (can : CanCollapse ts h a b c d) w
 
   -- a half-edge that stays, is none of the four across the two triangles, and does not run between c and d: if it can be
   -- collapsed afterwards, it could before
-  module _ (x u v : ℕ) (s : Stays (stays a b) ts x) (r : Runs es x u v) (n_ac : x ≢ ac ts h a b c d can) (n_bd : x ≢ bd ts h a b c d can) (n_cb : x ≢ cb ts h a b c d can) (n_da : x ≢ da ts h a b c d can) (far : FarFrom u v) where
+  module _ (x u v : ℕ) (s : Stays (stays a b) ts x) (r : Runs es x u v) (n_ac : x ≢ ac ts h a b c d can) (n_bd : x ≢ bd ts h a b c d can)
+      (n_cb : x ≢ cb ts h a b c d can) (n_da : x ≢ da ts h a b c d can) (far : FarFrom u v) where
     some : (y p q : ℕ) → Runs es y p q → 0 < dir es p q
     some y p q k = omega (arith, some_edge es y k.low, ap (λ i. dir es i (finish es y)) k.from, ap (dir es p) k.to)
 
@@ -137,7 +142,8 @@ module _ (ts : List Triple) (h a b c d : ℕ) (can : CanCollapse ts h a b c d) w
       by (inl f) = n_cb (same_as (cb ts h a b c d can) c b (sym (can.closed b c) ∙ can.bc) (cb_runs ts h a b c d can) f e.0)
       by (inr f) = none.db x s (runs_so d b f e.0)
 
-    pub was_collapsible : (CanCollapse (collapsed a b ts) (at ts h a b c d can x) (merged a b u) (merged a b v) (merged a b (third_vertex ts x)) (merged a b (third_vertex ts (twin es x)))) →
+    pub was_collapsible : (CanCollapse (collapsed a b ts) (at ts h a b c d can x) (merged a b u) (merged a b v) (merged a b (third_vertex ts x))
+        (merged a b (third_vertex ts (twin es x)))) →
         CanCollapse ts x u v (third_vertex ts x) (third_vertex ts (twin es x))
     was_collapsible k = record {
       three = can.three;
@@ -150,10 +156,12 @@ module _ (ts : List Triple) (h a b c d : ℕ) (can : CanCollapse ts h a b c d) w
       distinct = λ e. not_round ts h a b c d can x u (record { low = r.low; from = r.from; to = r.to ∙ sym e });
       differ = λ e. k.differ (ap (merged a b) e);
       ab = sym (dir_stays ts h a b c d can x u v s r) ∙ k.ab;
-      ac = can.closed u (third_vertex ts x) ∙ sym (dir_stays ts h a b c d can (next_half (next_half x)) (third_vertex ts x) u s2 r2) ∙ k.closed (merged a b (third_vertex ts x)) (merged a b u) ∙ k.ac;
+      ac = can.closed u (third_vertex ts x) ∙ sym (dir_stays ts h a b c d can (next_half (next_half x)) (third_vertex ts x) u s2 r2)
+          ∙ k.closed (merged a b (third_vertex ts x)) (merged a b u) ∙ k.ac;
       ad = sym (dir_stays ts h a b c d can (next_half t) u (third_vertex ts t) t1s t1) ∙ k.ad;
       bc = sym (dir_stays ts h a b c d can (next_half x) v (third_vertex ts x) s1 r1) ∙ k.bc;
-      bd = can.closed v (third_vertex ts t) ∙ sym (dir_stays ts h a b c d can (next_half (next_half t)) (third_vertex ts t) v t2s t2) ∙ k.closed (merged a b (third_vertex ts t)) (merged a b v) ∙ k.bd;
+      bd = can.closed v (third_vertex ts t) ∙ sym (dir_stays ts h a b c d can (next_half (next_half t)) (third_vertex ts t) v t2s t2)
+          ∙ k.closed (merged a b (third_vertex ts t)) (merged a b v) ∙ k.bd;
       only = λ w p q. by w (still_joined u w p) (still_joined v w q) p q;
     }
       where
@@ -195,13 +203,18 @@ module _ (ts : List Triple) (h a b c d : ℕ) (can : CanCollapse ts h a b c d) w
         one_with w z p q i j e = of (merged_cases a b w z e) where
           of : (w ≡ z) ⊎ ((w ≡ a) × (z ≡ b) ⊎ (w ≡ b) × (z ≡ a)) → w ≡ z
           of (inl f) = f
-          of (inr (inl f)) = absurd (not_corner (turn u a (put u w u a refl f.0 p)) (turn u b (put u z u b refl f.1 i)) (turn v a (put v w v a refl f.0 q)) (turn v b (put v z v b refl f.1 j)))
-          of (inr (inr f)) = absurd (not_corner (turn u a (put u z u a refl f.1 i)) (turn u b (put u w u b refl f.0 p)) (turn v a (put v z v a refl f.1 j)) (turn v b (put v w v b refl f.0 q)))
+          of (inr (inl f)) = absurd (not_corner (turn u a (put u w u a refl f.0 p)) (turn u b (put u z u b refl f.1 i)) (turn v a (put v w v a refl f.0 q))
+              (turn v b (put v z v b refl f.1 j)))
+          of (inr (inr f)) = absurd (not_corner (turn u a (put u z u a refl f.1 i)) (turn u b (put u w u b refl f.0 p)) (turn v a (put v z v a refl f.1 j))
+              (turn v b (put v w v b refl f.0 q)))
 
-        by : (w : ℕ) → (0 < dir after (merged a b u) (merged a b w)) ⊎ TheTwo u w → (0 < dir after (merged a b v) (merged a b w)) ⊎ TheTwo v w → 0 < dir es u w → 0 < dir es v w → (w ≡ third_vertex ts x) ⊎ (w ≡ third_vertex ts t)
+        by : (w : ℕ) → (0 < dir after (merged a b u) (merged a b w)) ⊎ TheTwo u w → (0 < dir after (merged a b v) (merged a b w)) ⊎ TheTwo v w →
+            0 < dir es u w → 0 < dir es v w → (w ≡ third_vertex ts x) ⊎ (w ≡ third_vertex ts t)
         by w (inr e) either_way p q = absurd (not_start w e q)
         by w (inl i) (inr e) p q = absurd (not_end w e p)
         by w (inl i) (inl j) p q = elim (k.only (merged a b w) i j) as (λ _. (w ≡ third_vertex ts x) ⊎ (w ≡ third_vertex ts t)) [
-          | inl e ↦ inl (one_with w (third_vertex ts x) p q (turn (third_vertex ts x) u (some (next_half (next_half x)) (third_vertex ts x) u r2)) (some (next_half x) v (third_vertex ts x) r1) e)
-          | inr e ↦ inr (one_with w (third_vertex ts t) p q (some (next_half t) u (third_vertex ts t) t1) (turn (third_vertex ts t) v (some (next_half (next_half t)) (third_vertex ts t) v t2)) e)
+          | inl e ↦ inl (one_with w (third_vertex ts x) p q (turn (third_vertex ts x) u (some (next_half (next_half x)) (third_vertex ts x) u r2))
+              (some (next_half x) v (third_vertex ts x) r1) e)
+          | inr e ↦ inr (one_with w (third_vertex ts t) p q (some (next_half t) u (third_vertex ts t) t1)
+              (turn (third_vertex ts t) v (some (next_half (next_half t)) (third_vertex ts t) v t2)) e)
         ]

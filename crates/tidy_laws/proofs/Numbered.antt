@@ -89,9 +89,15 @@ module _ (points : List (List ℤ)) (ts : List Triple) (three : All HasThree ts)
   volume_of : (us : List Triple) → All (AreUsed ts) us → All (IsBelow (length points)) us → volume6_of kept (map (renamed_triple r) us) ≡ volume6_of points us
   volume_of [] used low = refl
   volume_of (u ∷ us) used low =
-      omega (arith, ints, det_new u (All-head (AreUsed ts) u us used) (All-head (IsBelow (length points)) u us low), volume_of us (All-tail (AreUsed ts) u us used) (All-tail (IsBelow (length points)) u us low))
+      omega (
+        arith,
+        ints,
+        det_new u (All-head (AreUsed ts) u us used) (All-head (IsBelow (length points)) u us low),
+        volume_of us (All-tail (AreUsed ts) u us used) (All-tail (IsBelow (length points)) u us low),
+      )
 
-  count_of : (ps : List ℤ × List ℤ × List ℤ) (us : List Triple) → All (AreUsed ts) us → All (IsBelow (length points)) us → count_at kept ps (map (renamed_triple r) us) ≡ count_at points ps us
+  count_of : (ps : List ℤ × List ℤ × List ℤ) (us : List Triple) → All (AreUsed ts) us → All (IsBelow (length points)) us →
+      count_at kept ps (map (renamed_triple r) us) ≡ count_at points ps us
   count_of ps [] used low = refl
   count_of ps (u ∷ us) used low =
       omega (

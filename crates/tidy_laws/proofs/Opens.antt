@@ -88,7 +88,8 @@ module _ (ts : List Triple) (h a b c d : ℕ) (can : CanCollapse ts h a b c d) w
       record { low = r.low; from = r.from ∙ c_name; to = r.to ∙ b_name }
 
   -- a half-edge from c to d that can be collapsed afterwards follows the one from a to c, or its twin comes before the one back
-  pub between_thirds : (x p q : ℕ) → Stays (stays a b) ts x → CanCollapse us (number x) c d p q → (x ≡ next_half from_a) ⊎ (twin after (number x) ≡ number (next_half (next_half to_b)))
+  pub between_thirds : (x p q : ℕ) → Stays (stays a b) ts x → CanCollapse us (number x) c d p q →
+      (x ≡ next_half from_a) ⊎ (twin after (number x) ≡ number (next_half (next_half to_b)))
   between_thirds x p q s k = by (k.only a (omega (arith, ca_one)) (omega (arith, da_one))) where
     k_runs : Runs after (number x) c d
     k_runs = record { low = k.below; from = k.starts; to = k.ends }
@@ -114,7 +115,8 @@ module _ (ts : List Triple) (h a b c d : ℕ) (can : CanCollapse ts h a b c d) w
 
   with_ends : (k u v p q u' v' p' q' : ℕ) → u ≡ u' → v ≡ v' → p ≡ p' → q ≡ q' → CanCollapse us k u v p q → CanCollapse us k u' v' p' q'
   with_ends k u v p q u' v' p' q' e f i j can_k =
-      subst (λ w. CanCollapse us k u' v' p' w) j (subst (λ w. CanCollapse us k u' v' w q) i (subst (λ w. CanCollapse us k u' w p q) f (subst (λ w. CanCollapse us k w v p q) e can_k)))
+      subst (λ w. CanCollapse us k u' v' p' w) j
+      (subst (λ w. CanCollapse us k u' v' w q) i (subst (λ w. CanCollapse us k u' w p q) f (subst (λ w. CanCollapse us k w v p q) e can_k)))
 
   -- a half-edge that stays
   module _ (x u v : ℕ) (s : Stays (stays a b) ts x) (r : Runs (all_edges ts) x u v) where
@@ -139,7 +141,8 @@ module _ (ts : List Triple) (h a b c d : ℕ) (can : CanCollapse ts h a b c d) w
     third_after y t =
         let n1 = next_stays (stays a b) ts y t in
         let n2 = next_stays (stays a b) ts (next_half y) n1 in
-        sym (ap (start after) (next_down (stays a b) ts (next_half y) ∙ ap next_half (next_down (stays a b) ts y))) ∙ start_down (stays a b) (merged a b) ts (next_half (next_half y)) n2
+        sym (ap (start after) (next_down (stays a b) ts (next_half y) ∙ ap next_half (next_down (stays a b) ts y)))
+        ∙ start_down (stays a b) (merged a b) ts (next_half (next_half y)) n2
 
     -- x is none of the four across
     module _ (k : CanAfter) (n_ac : x ≢ ac ts h a b c d can) (n_bd : x ≢ bd ts h a b c d can) (n_cb : x ≢ cb ts h a b c d can) (n_da : x ≢ da ts h a b c d can) where
@@ -155,7 +158,8 @@ module _ (ts : List Triple) (h a b c d : ℕ) (can : CanCollapse ts h a b c d) w
       -- from c to d
       forth : u ≡ c → v ≡ d → Opens
       forth e f = elim (between_thirds x (third_vertex us (number x)) (third_vertex us (twin after (number x))) s
-          (with_ends (number x) (start after (number x)) (finish after (number x)) (third_vertex us (number x)) (third_vertex us (twin after (number x))) c d (third_vertex us (number x)) (third_vertex us (twin after (number x)))
+          (with_ends (number x) (start after (number x)) (finish after (number x)) (third_vertex us (number x)) (third_vertex us (twin after (number x))) c d
+          (third_vertex us (number x)) (third_vertex us (twin after (number x)))
           (down_runs.from ∙ ap (merged a b) e ∙ c_name) (down_runs.to ∙ ap (merged a b) f ∙ d_name) refl refl k)) as (λ _. Opens) [
             | inl q ↦ inr (inl (inr (inr (inl (ap number q)))))
             | inr q ↦ inr (inr (inr (inr (inr q))))
@@ -169,7 +173,8 @@ module _ (ts : List Triple) (h a b c d : ℕ) (can : CanCollapse ts h a b c d) w
           subst (λ w. CanCollapse us w (finish after (number x)) (start after (number x)) (third_vertex us (twin after (number x))) (third_vertex us (number x))) y_is turned in
           let again : twin after (number y) ≡ number x = ap (twin after) (sym y_is) ∙ twin_twin after k.closed (number x) k.below in
           elim (between_thirds y (third_vertex us (twin after (number x))) (third_vertex us (number x)) y_stays
-          (with_ends (number y) (finish after (number x)) (start after (number x)) (third_vertex us (twin after (number x))) (third_vertex us (number x)) c d (third_vertex us (twin after (number x))) (third_vertex us (number x))
+          (with_ends (number y) (finish after (number x)) (start after (number x)) (third_vertex us (twin after (number x))) (third_vertex us (number x)) c d
+          (third_vertex us (twin after (number x))) (third_vertex us (number x))
           (down_runs.to ∙ ap (merged a b) f ∙ c_name) (down_runs.from ∙ ap (merged a b) e ∙ d_name) refl refl at_y)) as (λ _. Opens) [
             | inl q ↦ inr (inr (inr (inr (inl (y_is ∙ ap number q)))))
             | inr q ↦ inr (inl (inr (inr (inr (sym again ∙ q)))))
@@ -180,7 +185,8 @@ module _ (ts : List Triple) (h a b c d : ℕ) (can : CanCollapse ts h a b c d) w
       other cd dc =
           inl (record {
             could = was_collapsible ts h a b c d can x u v s r n_ac n_bd n_cb n_da (cd, dc)
-                (with_ends (number x) (start after (number x)) (finish after (number x)) (third_vertex us (number x)) (third_vertex us (twin after (number x))) (merged a b u) (merged a b v) (merged a b (third_vertex ts x)) (merged a b (third_vertex ts y))
+                (with_ends (number x) (start after (number x)) (finish after (number x)) (third_vertex us (number x)) (third_vertex us (twin after (number x)))
+                (merged a b u) (merged a b v) (merged a b (third_vertex ts x)) (merged a b (third_vertex ts y))
                 down_runs.from down_runs.to (third_after x s) (ap (third_vertex us) y_is ∙ third_after y y_stays) k);
             twin_stays = y_stays;
             twin_is = y_is;
@@ -196,21 +202,26 @@ module _ (ts : List Triple) (h a b c d : ℕ) (can : CanCollapse ts h a b c d) w
         turned (inl i) (inr m) cd = other cd (λ q. off v c m q.1)
         turned (inr n) j cd = other cd (λ q. off u d n q.0)
 
-        by : ((u == c) ≡ true) ⊎ ((u == c) ≡ false) → ((v == d) ≡ true) ⊎ ((v == d) ≡ false) → ((u == d) ≡ true) ⊎ ((u == d) ≡ false) → ((v == c) ≡ true) ⊎ ((v == c) ≡ false) → Opens
+        by : ((u == c) ≡ true) ⊎ ((u == c) ≡ false) → ((v == d) ≡ true) ⊎ ((v == d) ≡ false) → ((u == d) ≡ true) ⊎ ((u == d) ≡ false) →
+            ((v == c) ≡ true) ⊎ ((v == c) ≡ false) → Opens
         by (inl i) (inl j) k l = forth (eqb-true u c i) (eqb-true v d j)
         by (inl i) (inr m) k l = turned k l (λ q. off v d m q.1)
         by (inr n) j k l = turned k l (λ q. off u c n q.0)
 
     -- a half-edge that can be collapsed afterwards could be before, or it or its twin is one of the four
     pub opens_near : CanAfter → Opens
-    opens_near k = by (cases_Bool (x == ac ts h a b c d can)) (cases_Bool (x == bd ts h a b c d can)) (cases_Bool (x == cb ts h a b c d can)) (cases_Bool (x == da ts h a b c d can)) where
-      off : (p : ℕ) → (x == p) ≡ false → x ≢ p
-      off p n e = both_ways (x == p) n (eq-eqb x p e)
+    opens_near k =
+        by (cases_Bool (x == ac ts h a b c d can)) (cases_Bool (x == bd ts h a b c d can)) (cases_Bool (x == cb ts h a b c d can))
+        (cases_Bool (x == da ts h a b c d can)) where
+          off : (p : ℕ) → (x == p) ≡ false → x ≢ p
+          off p n e = both_ways (x == p) n (eq-eqb x p e)
 
-      by : ((x == ac ts h a b c d can) ≡ true) ⊎ ((x == ac ts h a b c d can) ≡ false) → ((x == bd ts h a b c d can) ≡ true) ⊎ ((x == bd ts h a b c d can) ≡ false) → ((x == cb ts h a b c d can) ≡ true) ⊎ ((x == cb ts h a b c d can) ≡ false) →
-          ((x == da ts h a b c d can) ≡ true) ⊎ ((x == da ts h a b c d can) ≡ false) → Opens
-      by (inl e) i j l = inr (inl (inl (ap number (eqb-true x (ac ts h a b c d can) e))))
-      by (inr m) (inl e) j l = inr (inr (inr (inl (ap (λ w. twin after (number w)) (eqb-true x (bd ts h a b c d can) e) ∙ twin_bd ts h a b c d can))))
-      by (inr m) (inr n) (inl e) l = inr (inr (inl (ap (λ w. twin after (number w)) (eqb-true x (cb ts h a b c d can) e) ∙ twin_cb ts h a b c d can)))
-      by (inr m) (inr n) (inr o) (inl e) = inr (inl (inr (inl (ap number (eqb-true x (da ts h a b c d can) e)))))
-      by (inr m) (inr n) (inr o) (inr q) = decided k (off (ac ts h a b c d can) m) (off (bd ts h a b c d can) n) (off (cb ts h a b c d can) o) (off (da ts h a b c d can) q)
+          by : ((x == ac ts h a b c d can) ≡ true) ⊎ ((x == ac ts h a b c d can) ≡ false) →
+              ((x == bd ts h a b c d can) ≡ true) ⊎ ((x == bd ts h a b c d can) ≡ false) →
+              ((x == cb ts h a b c d can) ≡ true) ⊎ ((x == cb ts h a b c d can) ≡ false) →
+              ((x == da ts h a b c d can) ≡ true) ⊎ ((x == da ts h a b c d can) ≡ false) → Opens
+          by (inl e) i j l = inr (inl (inl (ap number (eqb-true x (ac ts h a b c d can) e))))
+          by (inr m) (inl e) j l = inr (inr (inr (inl (ap (λ w. twin after (number w)) (eqb-true x (bd ts h a b c d can) e) ∙ twin_bd ts h a b c d can))))
+          by (inr m) (inr n) (inl e) l = inr (inr (inl (ap (λ w. twin after (number w)) (eqb-true x (cb ts h a b c d can) e) ∙ twin_cb ts h a b c d can)))
+          by (inr m) (inr n) (inr o) (inl e) = inr (inl (inr (inl (ap number (eqb-true x (da ts h a b c d can) e)))))
+          by (inr m) (inr n) (inr o) (inr q) = decided k (off (ac ts h a b c d can) m) (off (bd ts h a b c d can) n) (off (cb ts h a b c d can) o) (off (da ts h a b c d can) q)

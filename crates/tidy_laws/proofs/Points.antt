@@ -21,7 +21,8 @@ use Rattle.tidy_laws.proofs.Closed.{IsVertexOf, goes_both, merged_other, merged_
 use Rattle.tidy_laws.proofs.Same.{merged_cases}
 
 -- a triangle that stays, and one that goes, in front
-front : (a b : ℕ) (t : Triple) (ts : List Triple) (k : Bool) → stays a b t ≡ k → collapsed a b (t ∷ ts) ≡ map (renamed_triple (merged a b)) (cond k (t ∷ filter (stays a b) ts) (filter (stays a b) ts))
+front : (a b : ℕ) (t : Triple) (ts : List Triple) (k : Bool) → stays a b t ≡ k →
+    collapsed a b (t ∷ ts) ≡ map (renamed_triple (merged a b)) (cond k (t ∷ filter (stays a b) ts) (filter (stays a b) ts))
 front a b t ts k e = ap (λ c. map (renamed_triple (merged a b)) (cond c (t ∷ filter (stays a b) ts) (filter (stays a b) ts))) e
 
 -- the three vertices of one that stays still differ
@@ -53,9 +54,12 @@ three_stay a b (t ∷ ts) three = elim (cases_Bool (stays a b t)) as (λ _. All 
       let r = renamed_triple (merged a b) t in
       let rest = three_stay a b ts (All-tail HasThree t ts three) in
       rw (front a b t ts true y) (All-cons HasThree r (collapsed a b ts) (record {
-        ab = λ e. elim (merged_cases a b t.0 t.1 e) as (λ _. ⊥) [ inl q ↦ here.ab q | inr (inl q) ↦ not_both a b t y (inl q.0) (inr (inl q.1)) | inr (inr q) ↦ not_both a b t y (inr (inl q.1)) (inl q.0) ];
-        bc = λ e. elim (merged_cases a b t.1 t.2 e) as (λ _. ⊥) [ inl q ↦ here.bc q | inr (inl q) ↦ not_both a b t y (inr (inl q.0)) (inr (inr q.1)) | inr (inr q) ↦ not_both a b t y (inr (inr q.1)) (inr (inl q.0)) ];
-        ca = λ e. elim (merged_cases a b t.2 t.0 e) as (λ _. ⊥) [ inl q ↦ here.ca q | inr (inl q) ↦ not_both a b t y (inr (inr q.0)) (inl q.1) | inr (inr q) ↦ not_both a b t y (inl q.1) (inr (inr q.0)) ];
+        ab = λ e. elim (merged_cases a b t.0 t.1 e) as (λ _. ⊥)
+            [ inl q ↦ here.ab q | inr (inl q) ↦ not_both a b t y (inl q.0) (inr (inl q.1)) | inr (inr q) ↦ not_both a b t y (inr (inl q.1)) (inl q.0) ];
+        bc = λ e. elim (merged_cases a b t.1 t.2 e) as (λ _. ⊥)
+            [ inl q ↦ here.bc q | inr (inl q) ↦ not_both a b t y (inr (inl q.0)) (inr (inr q.1)) | inr (inr q) ↦ not_both a b t y (inr (inr q.1)) (inr (inl q.0)) ];
+        ca = λ e. elim (merged_cases a b t.2 t.0 e) as (λ _. ⊥)
+            [ inl q ↦ here.ca q | inr (inl q) ↦ not_both a b t y (inr (inr q.0)) (inl q.1) | inr (inr q) ↦ not_both a b t y (inl q.1) (inr (inr q.0)) ];
       }) rest)
   | inr m ↦ rw (front a b t ts false m) (three_stay a b ts (All-tail HasThree t ts three))
 ]
@@ -70,8 +74,11 @@ meet_there p q x f g =
     and_from (int_eq (coordinate_of p 0) (coordinate_of q 0) && int_eq (coordinate_of p 1) (coordinate_of q 1)) (int_eq (coordinate_of p 2) (coordinate_of q 2))
     (and_from (int_eq (coordinate_of p 0) (coordinate_of q 0)) (int_eq (coordinate_of p 1) (coordinate_of q 1)) (on 0 f0.0 g0.0) (on 1 f0.1 g0.1)) (on 2 f1.1 g1.1)
   where
-    on : (i : ℕ) → int_eq (coordinate_of p i) (coordinate_of x i) ≡ true → int_eq (coordinate_of q i) (coordinate_of x i) ≡ true → int_eq (coordinate_of p i) (coordinate_of q i) ≡ true
-    on i e k = (Decides-int_eq (coordinate_of p i) (coordinate_of q i)).1 ((Decides-int_eq (coordinate_of p i) (coordinate_of x i)).0 e ∙ sym ((Decides-int_eq (coordinate_of q i) (coordinate_of x i)).0 k))
+    on : (i : ℕ) → int_eq (coordinate_of p i) (coordinate_of x i) ≡ true → int_eq (coordinate_of q i) (coordinate_of x i) ≡ true →
+        int_eq (coordinate_of p i) (coordinate_of q i) ≡ true
+    on i e k =
+        (Decides-int_eq (coordinate_of p i) (coordinate_of q i)).1
+        ((Decides-int_eq (coordinate_of p i) (coordinate_of x i)).0 e ∙ sym ((Decides-int_eq (coordinate_of q i) (coordinate_of x i)).0 k))
 
 -- three factors in another order
 ends_changed : (a b c : ℤ) → a *ℤ (b *ℤ c) ≡ c *ℤ (b *ℤ a)
@@ -97,7 +104,16 @@ det_last : (p q : List ℤ) → determinant q p p ≡ pos 0
 det_last p q =
     let x = coordinate_of p 0 in let y = coordinate_of p 1 in let z = coordinate_of p 2 in
     let u = coordinate_of q 0 in let v = coordinate_of q 1 in let w = coordinate_of q 2 in
-    omega (arith, ints, mul-sub u (y *ℤ z) (z *ℤ y), mul-sub v (z *ℤ x) (x *ℤ z), mul-sub w (x *ℤ y) (y *ℤ x), ap (λ k. u *ℤ k) (turned y z), ap (λ k. v *ℤ k) (turned z x), ap (λ k. w *ℤ k) (turned x y))
+    omega (
+      arith,
+      ints,
+      mul-sub u (y *ℤ z) (z *ℤ y),
+      mul-sub v (z *ℤ x) (x *ℤ z),
+      mul-sub w (x *ℤ y) (y *ℤ x),
+      ap (λ k. u *ℤ k) (turned y z),
+      ap (λ k. v *ℤ k) (turned z x),
+      ap (λ k. w *ℤ k) (turned x y),
+    )
   where
     turned : (i j : ℤ) → i *ℤ j ≡ j *ℤ i
     turned i j = omega (arith, ints)
@@ -176,7 +192,8 @@ module _ (points : List (List ℤ)) (a b : ℕ) (apart : a ≢ b) (same : get_or
 
   det_stays : (t : Triple) → triangle_determinant points (renamed_triple (merged a b) t) ≡ triangle_determinant points t
   det_stays t =
-      ap (λ p. determinant p (get_or points (merged a b t.1) []) (get_or points (merged a b t.2) [])) (point_stays t.0) ∙ ap (λ p. determinant (get_or points t.0 []) p (get_or points (merged a b t.2) [])) (point_stays t.1)
+      ap (λ p. determinant p (get_or points (merged a b t.1) []) (get_or points (merged a b t.2) [])) (point_stays t.0)
+      ∙ ap (λ p. determinant (get_or points t.0 []) p (get_or points (merged a b t.2) [])) (point_stays t.1)
       ∙ ap (λ p. determinant (get_or points t.0 []) (get_or points t.1 []) p) (point_stays t.2)
 
   pub volume_stays : (ts : List Triple) → volume6_of points (collapsed a b ts) ≡ volume6_of points ts
@@ -191,7 +208,8 @@ module _ (points : List (List ℤ)) (a b : ℕ) (apart : a ≢ b) (same : get_or
     at_stays : (t : Triple) → is_at points (p, q, r) (renamed_triple (merged a b) t) ≡ is_at points (p, q, r) t
     at_stays t =
         ap (λ x. lies_round (p, q, r) x (get_or points (merged a b t.1) []) (get_or points (merged a b t.2) [])) (point_stays t.0)
-        ∙ ap (λ y. lies_round (p, q, r) (get_or points t.0 []) y (get_or points (merged a b t.2) [])) (point_stays t.1) ∙ ap (λ z. lies_round (p, q, r) (get_or points t.0 []) (get_or points t.1 []) z) (point_stays t.2)
+        ∙ ap (λ y. lies_round (p, q, r) (get_or points t.0 []) y (get_or points (merged a b t.2) [])) (point_stays t.1)
+        ∙ ap (λ z. lies_round (p, q, r) (get_or points t.0 []) (get_or points t.1 []) z) (point_stays t.2)
 
     pub count_stays : (ts : List Triple) → count_at points (p, q, r) (collapsed a b ts) ≡ count_at points (p, q, r) ts
     count_stays [] = refl

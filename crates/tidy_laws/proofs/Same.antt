@@ -73,7 +73,8 @@ module _ (ts : List Triple) (h a b c d : ℕ) (can : CanCollapse ts h a b c d) w
   not_round w x r = let e : start es w ≡ finish es w = r.from ∙ sym r.to in not_back ts can.three w w r.low refl (e, sym e)
 
   -- what runs the same way afterwards ran so before
-  pub same_way : (w z x y u v : ℕ) → Stays (stays a b) ts w → Stays (stays a b) ts z → Runs es w x y → Runs es z u v → merged a b x ≡ merged a b u → merged a b y ≡ merged a b v → (x ≡ u) × (y ≡ v)
+  pub same_way : (w z x y u v : ℕ) → Stays (stays a b) ts w → Stays (stays a b) ts z → Runs es w x y → Runs es z u v → merged a b x ≡ merged a b u →
+      merged a b y ≡ merged a b v → (x ≡ u) × (y ≡ v)
   same_way w z x y u v s t r q e f = by (merged_cases a b x u e) (merged_cases a b y v f) where
     by : (x ≡ u) ⊎ ((x ≡ a) × (u ≡ b) ⊎ (x ≡ b) × (u ≡ a)) → (y ≡ v) ⊎ ((y ≡ a) × (v ≡ b) ⊎ (y ≡ b) × (v ≡ a)) → (x ≡ u) × (y ≡ v)
     by (inl i) (inl j) = (i, j)
@@ -119,14 +120,16 @@ module _ (ts : List Triple) (h a b c d : ℕ) (can : CanCollapse ts h a b c d) w
     tested w u v t r = elim (cases_Bool (is_edge (u, v) x y)) as (λ _. is_edge (merged a b u, merged a b v) (merged a b x) (merged a b y) ≡ is_edge (u, v) x y) [
       | inl on ↦
           let e = edge_is (u, v) x y on in
-          ap (λ i. is_edge (merged a b i, merged a b v) (merged a b x) (merged a b y)) e.0 ∙ ap (λ j. is_edge (merged a b x, merged a b j) (merged a b x) (merged a b y)) e.1 ∙ is_self (merged a b x) (merged a b y) ∙ sym on
-      | inr off ↦ elim (cases_Bool (is_edge (merged a b u, merged a b v) (merged a b x) (merged a b y))) as (λ _. is_edge (merged a b u, merged a b v) (merged a b x) (merged a b y) ≡ is_edge (u, v) x y) [
-        | inl on ↦
-            let m = edge_is (merged a b u, merged a b v) (merged a b x) (merged a b y) on in
-            let e = same_way w z u v x y t s r q m.0 m.1 in
-            absurd (both_ways (is_edge (u, v) x y) off (ap (λ i. is_edge (i, v) x y) e.0 ∙ ap (λ j. is_edge (x, j) x y) e.1 ∙ is_self x y))
-        | inr also ↦ also ∙ sym off
-      ]
+          ap (λ i. is_edge (merged a b i, merged a b v) (merged a b x) (merged a b y)) e.0
+          ∙ ap (λ j. is_edge (merged a b x, merged a b j) (merged a b x) (merged a b y)) e.1 ∙ is_self (merged a b x) (merged a b y) ∙ sym on
+      | inr off ↦ elim (cases_Bool (is_edge (merged a b u, merged a b v) (merged a b x) (merged a b y)))
+          as (λ _. is_edge (merged a b u, merged a b v) (merged a b x) (merged a b y) ≡ is_edge (u, v) x y) [
+            | inl on ↦
+                let m = edge_is (merged a b u, merged a b v) (merged a b x) (merged a b y) on in
+                let e = same_way w z u v x y t s r q m.0 m.1 in
+                absurd (both_ways (is_edge (u, v) x y) off (ap (λ i. is_edge (i, v) x y) e.0 ∙ ap (λ j. is_edge (x, j) x y) e.1 ∙ is_self x y))
+            | inr also ↦ also ∙ sym off
+          ]
     ]
 
     never : (w u v : ℕ) → stays a b (get_or ts (w / 3) (0, 0, 0)) ≡ false → Runs es w u v → is_edge (u, v) x y ≡ false

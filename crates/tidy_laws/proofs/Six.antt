@@ -89,7 +89,8 @@ same_third h w e = elim (cases_Bool (w == h)) as (λ _. (w ≡ h) ⊎ ((w ≡ ne
 ]
 
 -- a triple has the starts of its half-edges
-pub triple_starts : (ts : List Triple) (i : ℕ) (d : Triple) → i < length ts → get_or ts i d ≡ (start (all_edges ts) (3 * i), start (all_edges ts) (3 * i + 1), start (all_edges ts) (3 * i + 2))
+pub triple_starts : (ts : List Triple) (i : ℕ) (d : Triple) → i < length ts →
+    get_or ts i d ≡ (start (all_edges ts) (3 * i), start (all_edges ts) (3 * i + 1), start (all_edges ts) (3 * i + 2))
 triple_starts [] i d low = absurd (omega (arith, low))
 triple_starts (t ∷ ts) zero d low = refl
 triple_starts (t ∷ ts) (suc i) d low =
@@ -137,7 +138,8 @@ is_g ts h a b c d k w can r at =
     sym at ∙ ap (λ v. v / 3) (only_one es b a w (twin es h) (sym (can.closed a b) ∙ can.ab) r.low g.low r.from r.to g.from g.to)
 
 -- so a triple that goes is one of the two
-pub between : (ts : List Triple) (h a b c d k : ℕ) → CanCollapse ts h a b c d → k < length ts → stays a b (get_or ts k (0, 0, 0)) ≡ false → (k ≡ h / 3) ⊎ (k ≡ twin (all_edges ts) h / 3)
+pub between : (ts : List Triple) (h a b c d k : ℕ) → CanCollapse ts h a b c d → k < length ts → stays a b (get_or ts k (0, 0, 0)) ≡ false →
+    (k ≡ h / 3) ⊎ (k ≡ twin (all_edges ts) h / 3)
 between ts h a b c d k can low gone = by (vertex_of t a both.first) (vertex_of t b both.second)
   where
     t : Triple
@@ -191,7 +193,9 @@ goes_with ts a b w x y r e =
     same = omega arith
 
     has_y : has t y ≡ true
-    has_y = ap (has t) (sym r.to ∙ sym (next_starts ts w r.low)) ∙ ap (λ i. has (get_or ts i (0, 0, 0)) (start (all_edges ts) (next_half w))) (sym same) ∙ has_start ts (next_half w) (next_below ts w r.low)
+    has_y =
+        ap (has t) (sym r.to ∙ sym (next_starts ts w r.low)) ∙ ap (λ i. has (get_or ts i (0, 0, 0)) (start (all_edges ts) (next_half w))) (sym same)
+        ∙ has_start ts (next_half w) (next_below ts w r.low)
 
     has_both : has t a ≡ true → has t b ≡ true → stays a b t ≡ false
     has_both p q = ap (λ z. not (z && has t b)) p ∙ ap (λ z. not (true && z)) q
@@ -201,7 +205,8 @@ goes_with ts a b w x y r e =
     by (inr q) = has_both (ap (has t) (sym q.1) ∙ has_y) (ap (has t) (sym q.0) ∙ has_x)
 
 -- so the six go
-pub goes_near : (ts : List Triple) (h a b c d w : ℕ) → CanCollapse ts h a b c d → (w / 3 ≡ h / 3) ⊎ (w / 3 ≡ twin (all_edges ts) h / 3) → stays a b (get_or ts (w / 3) (0, 0, 0)) ≡ false
+pub goes_near : (ts : List Triple) (h a b c d w : ℕ) → CanCollapse ts h a b c d → (w / 3 ≡ h / 3) ⊎ (w / 3 ≡ twin (all_edges ts) h / 3) →
+    stays a b (get_or ts (w / 3) (0, 0, 0)) ≡ false
 goes_near ts h a b c d w can (inl e) =
     ap (λ i. stays a b (get_or ts i (0, 0, 0))) e ∙ goes_with ts a b h a b (the_six ts h a b c d can).h_runs (inl (refl, refl))
 goes_near ts h a b c d w can (inr e) =

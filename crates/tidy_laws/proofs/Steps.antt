@@ -48,7 +48,8 @@ module _ (points : List (List ℤ)) (each : All (λ p. length p ≡ 3) points) w
       }
 
   -- as many steps as there are triangles are enough: more give the same
-  enough : (n m : ℕ) (ts : List Triple) (labels : List (List ℕ)) → AreGood (length points) ts → length ts ≤ n → length ts ≤ m → tidied_within n points ts labels ≡ tidied_within m points ts labels
+  enough : (n m : ℕ) (ts : List Triple) (labels : List (List ℕ)) → AreGood (length points) ts → length ts ≤ n → length ts ≤ m →
+      tidied_within n points ts labels ≡ tidied_within m points ts labels
   enough zero m ts labels good n_low m_low = sym (rest_within m ts labels (none_below (cases_Bool (nat_lt (least_collapsible points ts) (3 * length ts))))) where
     none_below : (nat_lt (least_collapsible points ts) (3 * length ts) ≡ true) ⊎ (nat_lt (least_collapsible points ts) (3 * length ts) ≡ false) → Rests ts
     none_below (inl y) = absurd (omega (arith, n_low, (Decides-ltb (least_collapsible points ts) (3 * length ts)).0 y))
@@ -57,21 +58,22 @@ module _ (points : List (List ℤ)) (each : All (λ p. length p ≡ 3) points) w
     none_below : (nat_lt (least_collapsible points ts) (3 * length ts) ≡ true) ⊎ (nat_lt (least_collapsible points ts) (3 * length ts) ≡ false) → Rests ts
     none_below (inl y) = absurd (omega (arith, m_low, (Decides-ltb (least_collapsible points ts) (3 * length ts)).0 y))
     none_below (inr k) = k
-  enough (suc n) (suc m) ts labels good n_low m_low = by (cases_Bool (nat_lt (least_collapsible points ts) (3 * length ts))) (λ us ls us_good n_us m_us. enough n m us ls us_good n_us m_us) where
-    rest : List Triple
-    rest = collapsed_at ts (least_collapsible points ts)
+  enough (suc n) (suc m) ts labels good n_low m_low =
+      by (cases_Bool (nat_lt (least_collapsible points ts) (3 * length ts))) (λ us ls us_good n_us m_us. enough n m us ls us_good n_us m_us) where
+        rest : List Triple
+        rest = collapsed_at ts (least_collapsible points ts)
 
-    left : List (List ℕ)
-    left = labels_left_at ts (least_collapsible points ts) labels
+        left : List (List ℕ)
+        left = labels_left_at ts (least_collapsible points ts) labels
 
-    by : (nat_lt (least_collapsible points ts) (3 * length ts) ≡ true) ⊎ (nat_lt (least_collapsible points ts) (3 * length ts) ≡ false) →
-        ((us : List Triple) (ls : List (List ℕ)) → AreGood (length points) us → length us ≤ n → length us ≤ m → tidied_within n points us ls ≡ tidied_within m points us ls) →
-        tidied_within (suc n) points ts labels ≡ tidied_within (suc m) points ts labels
-    by (inl y) same =
-        let l = leaves ts good y in
-        ap (λ t. if nat_lt (least_collapsible points ts) (3 * length ts) then one_more t else record { triples = ts; labels = labels; collapses = 0 })
-        (same rest left l.good (omega (arith, n_low, l.fewer)) (omega (arith, m_low, l.fewer)))
-    by (inr k) same = rest_within (suc n) ts labels k ∙ sym (rest_within (suc m) ts labels k)
+        by : (nat_lt (least_collapsible points ts) (3 * length ts) ≡ true) ⊎ (nat_lt (least_collapsible points ts) (3 * length ts) ≡ false) →
+            ((us : List Triple) (ls : List (List ℕ)) → AreGood (length points) us → length us ≤ n → length us ≤ m → tidied_within n points us ls ≡ tidied_within m points us ls) →
+            tidied_within (suc n) points ts labels ≡ tidied_within (suc m) points ts labels
+        by (inl y) same =
+            let l = leaves ts good y in
+            ap (λ t. if nat_lt (least_collapsible points ts) (3 * length ts) then one_more t else record { triples = ts; labels = labels; collapses = 0 })
+            (same rest left l.good (omega (arith, n_low, l.fewer)) (omega (arith, m_low, l.fewer)))
+        by (inr k) same = rest_within (suc n) ts labels k ∙ sym (rest_within (suc m) ts labels k)
 
   -- so tidying is one collapse, and then tidying what is left
   pub tidied_steps : (ts : List Triple) (labels : List (List ℕ)) → AreGood (length points) ts → nat_lt (least_collapsible points ts) (3 * length ts) ≡ true →

@@ -117,7 +117,8 @@ can_of points ts good h low yes_can =
           let r = (found es a v p).runs in
           let v_low : v < length points = omega (arith, finish_below (length points) ts good.below (found es a v p).place r.low, r.to) in
           let test : ℕ → Bool = λ u. if are_joined es a u && are_joined es b u then (u == c) || (u == d) else not ((u == c) || (u == d)) in
-          let here : test v ≡ true = ap test (sym (at_upto (length points) v 0 v_low)) ∙ all_at test (upto (length points)) v 0 m.only (omega (arith, v_low, length-up_from 0 (length points))) in
+          let here : test v ≡ true = ap test (sym (at_upto (length points) v 0 v_low))
+          ∙ all_at test (upto (length points)) v 0 m.only (omega (arith, v_low, length-up_from 0 (length points))) in
           let both : (are_joined es a v && are_joined es b v) ≡ true = and_from (are_joined es a v) (are_joined es b v) (joined es a v p) (joined es b v q) in
           told v c d (sym (ap (λ k. if k then (v == c) || (v == d) else not ((v == c) || (v == d))) both) ∙ here);
     }
@@ -139,7 +140,8 @@ can_of points ts good h low yes_can =
 -- a filter that refuses one leaves fewer
 filter_most : {X : Type 0} (p : X → Bool) (xs : List X) → length (filter p xs) ≤ length xs
 filter_most p [] = omega arith
-filter_most p (x ∷ xs) = cond_both (p x) (x ∷ filter p xs) (filter p xs) (λ l. length l ≤ suc (length xs)) (λ y. omega (arith, filter_most p xs)) (λ n. omega (arith, filter_most p xs))
+filter_most p (x ∷ xs) =
+    cond_both (p x) (x ∷ filter p xs) (filter p xs) (λ l. length l ≤ suc (length xs)) (λ y. omega (arith, filter_most p xs)) (λ n. omega (arith, filter_most p xs))
 
 filter_fewer : {X : Type 0} (p : X → Bool) (xs : List X) (i : ℕ) (d : X) → i < length xs → p (get_or xs i d) ≡ false → length (filter p xs) < length xs
 filter_fewer p [] i d low off = absurd (omega (arith, low))
@@ -169,7 +171,8 @@ below_stay n a b low (t ∷ ts) below =
     let rest = below_stay n a b low ts (All-tail (IsBelow n) t ts below) in
     let here = All-head (IsBelow n) t ts below in
     cond_both (stays a b t) (t ∷ filter (stays a b) ts) (filter (stays a b) ts) (λ l. All (IsBelow n) (map r l))
-    (λ y. All-cons (IsBelow n) (r t) (collapsed a b ts) (record { a = merged_below n a b t.0 low here.a; b = merged_below n a b t.1 low here.b; c = merged_below n a b t.2 low here.c }) rest)
+    (λ y. All-cons (IsBelow n) (r t) (collapsed a b ts)
+    (record { a = merged_below n a b t.0 low here.a; b = merged_below n a b t.1 low here.b; c = merged_below n a b t.2 low here.c }) rest)
     (λ m. rest)
 
 pub good_stay : (n : ℕ) (ts : List Triple) (h a b c d : ℕ) → CanCollapse ts h a b c d → a < n → AreGood n ts → AreGood n (collapsed a b ts)
@@ -220,15 +223,21 @@ module _ (points : List (List ℤ)) (each : All (λ p. length p ≡ 3) points) w
     where
       least_low : is_collapsible points ts h ≡ true → least_collapsible points ts < 3 * length ts
       least_low y = elim (cases_lt h (least_collapsible points ts)) as (λ _. least_collapsible points ts < 3 * length ts) [
-        | inl l ↦ absurd (both_ways (is_collapsible points ts h) (ap (is_collapsible points ts) (sym (at_upto (3 * length ts) h 0 low)) ∙ fails_before_first (is_collapsible points ts) (upto (3 * length ts)) h 0 l) y)
+        | inl l ↦ absurd
+            (both_ways (is_collapsible points ts h)
+            (ap (is_collapsible points ts) (sym (at_upto (3 * length ts) h 0 low)) ∙ fails_before_first (is_collapsible points ts) (upto (3 * length ts)) h 0 l) y)
         | inr l ↦ omega (arith, l, low)
       ]
 
-  pub least_can : (ts : List Triple) → nat_lt (least_collapsible points ts) (3 * length ts) ≡ true → (least_collapsible points ts < 3 * length ts) × (is_collapsible points ts (least_collapsible points ts) ≡ true)
+  pub least_can : (ts : List Triple) → nat_lt (least_collapsible points ts) (3 * length ts) ≡ true →
+      (least_collapsible points ts < 3 * length ts) × (is_collapsible points ts (least_collapsible points ts) ≡ true)
   least_can ts there =
       let h = least_collapsible points ts in
-      let low : h < 3 * length ts = (Decides-ltb h (3 * length ts)).0 there in
-      (low, ap (is_collapsible points ts) (sym (at_upto (3 * length ts) h 0 low)) ∙ passes_at_first (is_collapsible points ts) (upto (3 * length ts)) 0 (omega (arith, low, length-up_from 0 (3 * length ts))))
+      let low : h < 3 * length ts = (Decides-ltb h (3 * length ts)).0 there in (
+        low,
+        ap (is_collapsible points ts) (sym (at_upto (3 * length ts) h 0 low)) ∙ passes_at_first (is_collapsible points ts) (upto (3 * length ts)) 0
+            (omega (arith, low, length-up_from 0 (3 * length ts))),
+      )
 
   -- one collapse, and then the rest
   then_rest : (ts us : List Triple) (h a b c d : ℕ) → CanCollapse ts h a b c d → get_or points a [] ≡ get_or points b [] → IsTidied (collapsed a b ts) us → IsTidied ts us
@@ -250,7 +259,8 @@ module _ (points : List (List ℤ)) (each : All (λ p. length p ≡ 3) points) w
       let a = start es h in
       let b = finish es h in
       let left = labels_left_at ts h labels in
-      cond_both (nat_lt h (3 * length ts)) (one_more (tidied_within n points (collapsed_at ts h) left)) (record { triples = ts; labels = labels; collapses = 0 }) (λ (t : Tidied). IsTidied ts t.triples)
+      cond_both (nat_lt h (3 * length ts)) (one_more (tidied_within n points (collapsed_at ts h) left))
+      (record { triples = ts; labels = labels; collapses = 0 }) (λ (t : Tidied). IsTidied ts t.triples)
       (λ there.
       let l = least_can ts there in
       let inside : h < length es = omega (arith, l.0, length-all_edges ts) in

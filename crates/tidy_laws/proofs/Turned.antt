@@ -70,11 +70,13 @@ collapsible_turned points ts good h low can =
     let other = can_turned_back points ts g b a d c turned (same_turned (get_or points a []) (get_or points b []) met.at_one) in
     other
   where
-    can_turned_back : (points : List (List ℤ)) (ts : List Triple) (g b a d c : ℕ) → CanCollapse ts g b a d c → same_point (get_or points b []) (get_or points a []) ≡ true → is_collapsible points ts g ≡ true
+    can_turned_back : (points : List (List ℤ)) (ts : List Triple) (g b a d c : ℕ) → CanCollapse ts g b a d c →
+        same_point (get_or points b []) (get_or points a []) ≡ true → is_collapsible points ts g ≡ true
     can_turned_back points ts g b a d c turned same =
         let es = all_edges ts in
         let s : start es g ≡ b = turned.starts in
         let f : finish es g ≡ a = turned.ends in
         let own : CanCollapse ts g (start es g) (finish es g) (third_vertex ts g) (third_vertex ts (twin es g)) =
         rw turned.starts (rw turned.ends (rw turned.third (rw turned.across turned))) in
-        can_back points ts g (start es g) (finish es g) (third_vertex ts g) (third_vertex ts (twin es g)) own ((λ i. same_point (get_or points (s i) []) (get_or points (f i) [])) ∙ same)
+        can_back points ts g (start es g) (finish es g) (third_vertex ts g) (third_vertex ts (twin es g)) own
+        ((λ i. same_point (get_or points (s i) []) (get_or points (f i) [])) ∙ same)

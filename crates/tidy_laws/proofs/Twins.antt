@@ -33,7 +33,8 @@ module _ (ts : List Triple) (h a b c d : ℕ) (can : CanCollapse ts h a b c d) w
       record {
         low = low;
         from = start_down (stays a b) (merged a b) ts w s ∙ ap (merged a b) r.from;
-        to = sym (next_starts (left (stays a b) (merged a b) ts) (at w) low) ∙ ap (start new) (sym (next_down (stays a b) ts w)) ∙ start_down (stays a b) (merged a b) ts (next_half w) n
+        to = sym (next_starts (left (stays a b) (merged a b) ts) (at w) low) ∙ ap (start new) (sym (next_down (stays a b) ts w))
+            ∙ start_down (stays a b) (merged a b) ts (next_half w) n
             ∙ ap (merged a b) (next_starts ts w r.low ∙ r.to);
       }
 

@@ -53,10 +53,18 @@ two_go ts h a b c d can =
 
     each : (k : ℕ) → k < length ts → pos (one_if (stays a b (get_or ts k (0, 0, 0)))) ≡ pos 1 -ℤ (where_same k (h / 3) (pos 1) +ℤ where_same k (g / 3) (pos 1))
     each k low = by (cases_Bool (stays a b (get_or ts k (0, 0, 0)))) where
-      by : (stays a b (get_or ts k (0, 0, 0)) ≡ true) ⊎ (stays a b (get_or ts k (0, 0, 0)) ≡ false) → pos (one_if (stays a b (get_or ts k (0, 0, 0)))) ≡ pos 1 -ℤ (where_same k (h / 3) (pos 1) +ℤ where_same k (g / 3) (pos 1))
+      by : (stays a b (get_or ts k (0, 0, 0)) ≡ true) ⊎ (stays a b (get_or ts k (0, 0, 0)) ≡ false) →
+          pos (one_if (stays a b (get_or ts k (0, 0, 0)))) ≡ pos 1 -ℤ (where_same k (h / 3) (pos 1) +ℤ where_same k (g / 3) (pos 1))
       by (inl y) =
-          omega (arith, ints, ap one_if y, where_same-apart k (h / 3) (pos 1) (λ e. both_ways (stays a b (get_or ts k (0, 0, 0))) (goes k (inl e)) y), where_same-apart k (g / 3) (pos 1) (λ e. both_ways (stays a b (get_or ts k (0, 0, 0))) (goes k (inr e)) y))
-      by (inr n) = elim (between ts h a b c d k can low n) as (λ _. pos (one_if (stays a b (get_or ts k (0, 0, 0)))) ≡ pos 1 -ℤ (where_same k (h / 3) (pos 1) +ℤ where_same k (g / 3) (pos 1))) [
-        | inl e ↦ omega (arith, ints, ap one_if n, where_same-at k (h / 3) (pos 1) e, where_same-apart k (g / 3) (pos 1) (λ f. apart (sym e ∙ f)))
-        | inr e ↦ omega (arith, ints, ap one_if n, where_same-at k (g / 3) (pos 1) e, where_same-apart k (h / 3) (pos 1) (λ f. apart (sym f ∙ e)))
-      ]
+          omega (
+            arith,
+            ints,
+            ap one_if y,
+            where_same-apart k (h / 3) (pos 1) (λ e. both_ways (stays a b (get_or ts k (0, 0, 0))) (goes k (inl e)) y),
+            where_same-apart k (g / 3) (pos 1) (λ e. both_ways (stays a b (get_or ts k (0, 0, 0))) (goes k (inr e)) y),
+          )
+      by (inr n) = elim (between ts h a b c d k can low n) as (λ _. pos (one_if (stays a b (get_or ts k (0, 0, 0))))
+          ≡ pos 1 -ℤ (where_same k (h / 3) (pos 1) +ℤ where_same k (g / 3) (pos 1))) [
+            | inl e ↦ omega (arith, ints, ap one_if n, where_same-at k (h / 3) (pos 1) e, where_same-apart k (g / 3) (pos 1) (λ f. apart (sym e ∙ f)))
+            | inr e ↦ omega (arith, ints, ap one_if n, where_same-at k (g / 3) (pos 1) e, where_same-apart k (h / 3) (pos 1) (λ f. apart (sym f ∙ e)))
+          ]

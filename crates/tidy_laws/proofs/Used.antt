@@ -19,7 +19,8 @@ use Rattle.tidy_laws.proofs.Six.{Runs}
 pub used_start : (ts : List Triple) (w : ℕ) → w < length (all_edges ts) → is_used ts (start (all_edges ts) w) ≡ true
 used_start [] w low = absurd (omega (arith, low))
 used_start (t ∷ ts) zero low = or_left (has t t.0) (is_used ts t.0) (or_left ((t.0 == t.0) || (t.1 == t.0)) (t.2 == t.0) (or_left (t.0 == t.0) (t.1 == t.0) (eq-eqb t.0 t.0 refl)))
-used_start (t ∷ ts) (suc zero) low = or_left (has t t.1) (is_used ts t.1) (or_left ((t.0 == t.1) || (t.1 == t.1)) (t.2 == t.1) (or_right (t.0 == t.1) (t.1 == t.1) (eq-eqb t.1 t.1 refl)))
+used_start (t ∷ ts) (suc zero) low =
+    or_left (has t t.1) (is_used ts t.1) (or_left ((t.0 == t.1) || (t.1 == t.1)) (t.2 == t.1) (or_right (t.0 == t.1) (t.1 == t.1) (eq-eqb t.1 t.1 refl)))
 used_start (t ∷ ts) (suc (suc zero)) low = or_left (has t t.2) (is_used ts t.2) (or_right ((t.0 == t.2) || (t.1 == t.2)) (t.2 == t.2) (eq-eqb t.2 t.2 refl))
 used_start (t ∷ ts) (suc (suc (suc w))) low = or_right (has t (start (all_edges ts) w)) (is_used ts (start (all_edges ts) w)) (used_start ts w (omega (arith, low)))
 
@@ -54,7 +55,9 @@ gone_unused a b apart [] = refl
 gone_unused a b apart (t ∷ ts) =
     let rest = gone_unused a b apart ts in
     cond_both (stays a b t) (t ∷ filter (stays a b) ts) (filter (stays a b) ts) (λ l. is_used (map (renamed_triple (merged a b)) l) b ≡ false)
-    (λ y. or_from (has (renamed_triple (merged a b) t) b) (is_used (collapsed a b ts) b) (or_from ((merged a b t.0 == b) || (merged a b t.1 == b)) (merged a b t.2 == b) (or_from (merged a b t.0 == b) (merged a b t.1 == b) (merged_never a b t.0 apart) (merged_never a b t.1 apart)) (merged_never a b t.2 apart)) rest)
+    (λ y. or_from (has (renamed_triple (merged a b) t) b) (is_used (collapsed a b ts) b)
+    (or_from ((merged a b t.0 == b) || (merged a b t.1 == b)) (merged a b t.2 == b)
+    (or_from (merged a b t.0 == b) (merged a b t.1 == b) (merged_never a b t.0 apart) (merged_never a b t.1 apart)) (merged_never a b t.2 apart)) rest)
     (λ m. rest)
 
 module _ (ts : List Triple) (h a b c d : ℕ) (can : CanCollapse ts h a b c d) where

@@ -23,7 +23,8 @@ StaysThree = (a b : ℕ) → a ≢ b → (ts : List Triple) → All HasThree ts 
 
 -- where both lie at one point, the volume stays
 abbrev pub KeepsVolume : Type 0
-KeepsVolume = (points : List (List ℤ)) (a b : ℕ) → a ≢ b → get_or points a [] ≡ get_or points b [] → (ts : List Triple) → volume6_of points (collapsed a b ts) ≡ volume6_of points ts
+KeepsVolume =
+    (points : List (List ℤ)) (a b : ℕ) → a ≢ b → get_or points a [] ≡ get_or points b [] → (ts : List Triple) → volume6_of points (collapsed a b ts) ≡ volume6_of points ts
 
 -- where the edge can be collapsed, one fan at each vertex stays one fan
 abbrev pub StaysClean : Type 0
@@ -31,7 +32,9 @@ StaysClean = (ts : List Triple) (h a b c d : ℕ) → CanCollapse ts h a b c d �
 
 -- and as many triangles lie at three different points, in this order up to the corner that one begins with
 abbrev pub KeepsPoints : Type 0
-KeepsPoints = (points : List (List ℤ)) (a b : ℕ) → a ≢ b → get_or points a [] ≡ get_or points b [] → (p q r : List ℤ) → same_point p q ≡ false → same_point q r ≡ false → same_point r p ≡ false → (ts : List Triple) → count_at points (p, q, r) (collapsed a b ts) ≡ count_at points (p, q, r) ts
+KeepsPoints =
+    (points : List (List ℤ)) (a b : ℕ) → a ≢ b → get_or points a [] ≡ get_or points b [] → (p q r : List ℤ) → same_point p q ≡ false → same_point q r ≡ false →
+    same_point r p ≡ false → (ts : List Triple) → count_at points (p, q, r) (collapsed a b ts) ≡ count_at points (p, q, r) ts
 
 -- the half-edges across the other four of the two triangles: from a to c and to d, and back
 abbrev pub IsAcross : List Triple → ℕ → ℕ → Type 0
@@ -42,7 +45,8 @@ IsAcross ts h x =
 -- any other half-edge that stays and does not run between c and d: if it can be collapsed afterwards, it could before
 abbrev pub NothingElseOpens : Type 0
 NothingElseOpens = (ts : List Triple) (h a b c d : ℕ) → CanCollapse ts h a b c d →
-    (x u v : ℕ) → x < 3 * length ts → stays a b (get_or ts (x / 3) (0, 0, 0)) ≡ true → start (all_edges ts) x ≡ u → finish (all_edges ts) x ≡ v → (IsAcross ts h x → ⊥) → ((u ≡ c) × (v ≡ d) → ⊥) → ((u ≡ d) × (v ≡ c) → ⊥) →
+    (x u v : ℕ) → x < 3 * length ts → stays a b (get_or ts (x / 3) (0, 0, 0)) ≡ true → start (all_edges ts) x ≡ u → finish (all_edges ts) x ≡ v →
+    (IsAcross ts h x → ⊥) → ((u ≡ c) × (v ≡ d) → ⊥) → ((u ≡ d) × (v ≡ c) → ⊥) →
     CanCollapse (collapsed a b ts) (number_after a b ts x) (merged a b u) (merged a b v) (merged a b (third_vertex ts x)) (merged a b (third_vertex ts (twin (all_edges ts) x))) →
     CanCollapse ts x u v (third_vertex ts x) (third_vertex ts (twin (all_edges ts) x))
 
@@ -58,11 +62,15 @@ pub record IsTidy (points : List (List ℤ)) (ts us : List Triple) : Type 0 wher
   pub at_points : (p q r : List ℤ) → same_point p q ≡ false → same_point q r ≡ false → same_point r p ≡ false → count_at points (p, q, r) us ≡ count_at points (p, q, r) ts
 
 abbrev pub TidyingTidies : Type 0
-TidyingTidies = (points : List (List ℤ)) (ts : List Triple) (labels : List (List ℕ)) → All (λ p. length p ≡ 3) points → All HasThree ts → IsClosed (all_edges ts) → All (IsBelow (length points)) ts → IsTidy points ts (tidied points ts labels).triples
+TidyingTidies =
+    (points : List (List ℤ)) (ts : List Triple) (labels : List (List ℕ)) → All (λ p. length p ≡ 3) points → All HasThree ts → IsClosed (all_edges ts) →
+    All (IsBelow (length points)) ts → IsTidy points ts (tidied points ts labels).triples
 
 -- triangles of two meshes lie at the same points: as many at each three different ones, in this order up to the corner that one begins with
 abbrev pub LieAtSame : Mesh → Mesh → Type 0
-LieAtSame m t = (p q r : List ℤ) → same_point p q ≡ false → same_point q r ≡ false → same_point r p ≡ false → count_at t.points (p, q, r) t.triples ≡ count_at m.points (p, q, r) m.triples
+LieAtSame m t =
+    (p q r : List ℤ) → same_point p q ≡ false → same_point q r ≡ false → same_point r p ≡ false → count_at t.points (p, q, r) t.triples
+    ≡ count_at m.points (p, q, r) m.triples
 
 -- no half-edge can be collapsed
 abbrev pub NoneCollapsible : Mesh → Type 0

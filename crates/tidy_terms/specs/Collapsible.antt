@@ -20,7 +20,8 @@ join_only es n a b c d = list_all (λ v. if are_joined es a v && are_joined es b
 -- c and d differ and are what is joined to both ends, by one edge each
 abbrev pub can_collapse : List (List ℤ) → List (ℕ × ℕ) → ℕ → ℕ → ℕ → ℕ → Bool
 can_collapse points es a b c d =
-    same_point (get_or points a []) (get_or points b []) && (dir es a b == 1) && not (c == d) && join_only es (length points) a b c d && (dir es a c == 1) && (dir es a d == 1) && (dir es b c == 1) && (dir es b d == 1)
+    same_point (get_or points a []) (get_or points b []) && (dir es a b == 1) && not (c == d) && join_only es (length points) a b c d && (dir es a c == 1)
+    && (dir es a d == 1) && (dir es b c == 1) && (dir es b d == 1)
 
 -- the half-edge can be collapsed
 abbrev pub is_collapsible : List (List ℤ) → List Triple → ℕ → Bool

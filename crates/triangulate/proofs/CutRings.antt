@@ -63,7 +63,8 @@ all_short (r ∷ rs) m h =
     All-cons (λ (s : List ℕ). length s ≤ m) r rs (omega (arith, h, length-append r (concat rs))) (all_short rs m (omega (arith, h, length-append r (concat rs))))
 
 -- the plane of a face is that which its loops settle
-pub settled : (drop_axis : ℕ) (points : List (List ℤ)) (loops : List (List ℕ)) → face_plane drop_axis (is_turned (plane_of drop_axis (point_at points)) loops) points ≡ settled_plane (plane_of drop_axis (point_at points)) loops
+pub settled : (drop_axis : ℕ) (points : List (List ℤ)) (loops : List (List ℕ)) →
+    face_plane drop_axis (is_turned (plane_of drop_axis (point_at points)) loops) points ≡ settled_plane (plane_of drop_axis (point_at points)) loops
 settled drop_axis points loops = by (is_turned (plane_of drop_axis (point_at points)) loops)
   where
     by : (b : Bool) → ◌≡◌ {A = Plane} (face_plane drop_axis b points) (cond b (exchanged (plane_of drop_axis (point_at points))) (plane_of drop_axis (point_at points)))

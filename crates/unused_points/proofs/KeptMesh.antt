@@ -21,7 +21,8 @@ length-kept ts points = length-used_from ts 0 points
 pub few_kept : {X : Type 0} (ts : List Triple) (v : ℕ) (points : List X) → length (used_from ts v points) ≤ length points
 few_kept ts v [] = omega arith
 few_kept ts v (p ∷ ps) =
-    cond_both (is_used ts v) (p ∷ []) [] (λ l. length (l ++ used_from ts (suc v) ps) ≤ suc (length ps)) (λ _. omega (arith, few_kept ts (suc v) ps)) (λ _. omega (arith, few_kept ts (suc v) ps))
+    cond_both (is_used ts v) (p ∷ []) [] (λ l. length (l ++ used_from ts (suc v) ps) ≤ suc (length ps)) (λ _. omega (arith, few_kept ts (suc v) ps))
+    (λ _. omega (arith, few_kept ts (suc v) ps))
 
 -- three different points have three different numbers
 numbered_three : (ts : List Triple) (t : Triple) → AreUsed ts t → HasThree t → HasThree (numbered ts t)
@@ -54,7 +55,8 @@ number_used ts (t ∷ us) v used = by (has t v) refl used (number_used ts us v)
     or_second : (x y : Bool) → y ≡ true → (x || y) ≡ true
     or_second x y h = grind (arith, h)
 
-    by : (b : Bool) → has t v ≡ b → (b || is_used us v) ≡ true → (is_used us v ≡ true → is_used (map (numbered ts) us) (new_number ts v) ≡ true) → (has (numbered ts t) (new_number ts v) || is_used (map (numbered ts) us) (new_number ts v)) ≡ true
+    by : (b : Bool) → has t v ≡ b → (b || is_used us v) ≡ true → (is_used us v ≡ true → is_used (map (numbered ts) us) (new_number ts v) ≡ true) →
+        (has (numbered ts t) (new_number ts v) || is_used (map (numbered ts) us) (new_number ts v)) ≡ true
     by true here used later = or_first (has (numbered ts t) (new_number ts v)) (is_used (map (numbered ts) us) (new_number ts v)) (has_number (new_number ts) t v here)
     by false other used later = or_second (has (numbered ts t) (new_number ts v)) (is_used (map (numbered ts) us) (new_number ts v)) (later used)
 
@@ -69,7 +71,8 @@ pub kept_mesh : {X : Type 0} (ts : List Triple) (points : List X) → IsSound (l
 kept_mesh ts points sound = record {
   three = All-map HasThree (numbered ts) ts (λ k d low. numbered_three ts _ (all_used ts k d low) (sound.three k d low));
   below = All-map (IsBelow (length (used_from ts 0 points))) (numbered ts) ts
-      (λ k d low. subst (λ n. IsBelow n (numbered ts (get_or ts k d))) (sym (length-kept ts points)) (numbered_below ts (length points) (get_or ts k d) (all_used ts k d low) (sound.below k d low)));
+      (λ k d low. subst (λ n. IsBelow n (numbered ts (get_or ts k d))) (sym (length-kept ts points))
+      (numbered_below ts (length points) (get_or ts k d) (all_used ts k d low) (sound.below k d low)));
   used = all_numbers_used ts points;
   few_points = omega (arith, few_kept ts 0 points, sound.few_points);
   few_triples = omega (arith, length-map ts (numbered ts), sound.few_triples);

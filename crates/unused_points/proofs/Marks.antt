@@ -22,7 +22,8 @@ or_shuffled : (a b c u : Bool) → (c || (b || (a || u))) ≡ (u || (((a || b) |
 or_shuffled a b c u = grind arith
 
 -- three marks set, one after the other
-set_marks : (marks : List Bool) (t : Triple) (n v : ℕ) → length marks ≡ n → IsBelow n t → get_or (set (set (set marks t.0 true) t.1 true) t.2 true) v false ≡ ((t.2 == v) || ((t.1 == v) || ((t.0 == v) || get_or marks v false)))
+set_marks : (marks : List Bool) (t : Triple) (n v : ℕ) → length marks ≡ n → IsBelow n t →
+    get_or (set (set (set marks t.0 true) t.1 true) t.2 true) v false ≡ ((t.2 == v) || ((t.1 == v) || ((t.0 == v) || get_or marks v false)))
 set_marks marks t n v each below =
     let one : length (set marks t.0 true) ≡ n = length-set marks t.0 true ∙ each in
     let two : length (set (set marks t.0 true) t.1 true) ≡ n = length-set (set marks t.0 true) t.1 true ∙ one in
@@ -31,7 +32,8 @@ set_marks marks t n v each below =
     ∙ ap (λ (b : Bool). (t.2 == v) || ((t.1 == v) || b)) (set_mark marks t.0 v (omega (arith, below.a)))
 
 -- the marks of one more triangle
-pub MarksUsed-more : (n : ℕ) (ts : List Triple) (t : Triple) (marks : List Bool) → MarksUsed n ts marks → IsBelow n t → MarksUsed n (ts ++ t ∷ []) (set (set (set marks t.0 true) t.1 true) t.2 true)
+pub MarksUsed-more : (n : ℕ) (ts : List Triple) (t : Triple) (marks : List Bool) → MarksUsed n ts marks → IsBelow n t →
+    MarksUsed n (ts ++ t ∷ []) (set (set (set marks t.0 true) t.1 true) t.2 true)
 MarksUsed-more n ts t marks m below = record {
   each = length-set (set (set marks t.0 true) t.1 true) t.2 true ∙ length-set (set marks t.0 true) t.1 true ∙ length-set marks t.0 true ∙ m.each;
   used = λ v h.

@@ -43,7 +43,8 @@ length-used_from ts v (p ∷ ps) = omega (arith, by (is_used ts v), passing_firs
     by false = omega arith
 
 -- one point more at the end
-pub used_from-push : {X : Type 0} (ts : List Triple) (v : ℕ) (ps : List X) (q : X) → used_from ts v (ps ++ q ∷ []) ≡ used_from ts v ps ++ cond (is_used ts (v + length ps)) (q ∷ []) []
+pub used_from-push : {X : Type 0} (ts : List Triple) (v : ℕ) (ps : List X) (q : X) →
+    used_from ts v (ps ++ q ∷ []) ≡ used_from ts v ps ++ cond (is_used ts (v + length ps)) (q ∷ []) []
 used_from-push {X} ts v [] q =
     let at : v ≡ v + 0 = omega arith in
     append-nil (cond (is_used ts v) (q ∷ []) []) ∙ ap (λ m. cond (is_used ts m) (q ∷ []) []) at

@@ -31,7 +31,8 @@ same_from i xs old low same =
     }
 
 -- the values that a triple of numbers is
-pub three_numbers : (n : ℕ) (numbers : List ℕ) (ts : List Triple) (t : Triple) → NumbersUsed n ts numbers → IsBelow n t → triple_of (get_or numbers t.0 0 ∷ get_or numbers t.1 0 ∷ get_or numbers t.2 0 ∷ []) ≡ numbered ts t
+pub three_numbers : (n : ℕ) (numbers : List ℕ) (ts : List Triple) (t : Triple) → NumbersUsed n ts numbers → IsBelow n t →
+    triple_of (get_or numbers t.0 0 ∷ get_or numbers t.1 0 ∷ get_or numbers t.2 0 ∷ []) ≡ numbered ts t
 three_numbers n numbers ts t known below =
     let a = known.number t.0 below.a in
     let b = known.number t.1 below.b in
@@ -39,7 +40,8 @@ three_numbers n numbers ts t known below =
     λ i. (a i, b i, c i)
 
 -- one triangle more
-pub renamed_more : (ts : List Triple) (xs old : List (List ℕ)) (i : ℕ) (v : List ℕ) → i < length xs → i < length old → triples_of (take i xs) ≡ renamed ts (triples_of (take i old)) → triple_of v ≡ numbered ts (triple_of (get_or old i []))
+pub renamed_more : (ts : List Triple) (xs old : List (List ℕ)) (i : ℕ) (v : List ℕ) → i < length xs → i < length old →
+    triples_of (take i xs) ≡ renamed ts (triples_of (take i old)) → triple_of v ≡ numbered ts (triple_of (get_or old i []))
     → triples_of (take (i + 1) (set xs i v)) ≡ renamed ts (triples_of (take (i + 1) old))
 renamed_more ts xs old i v low within done is =
     ap triples_of (take_more_set xs i v low) ∙ map-append triple_of (take i xs) (v ∷ [])

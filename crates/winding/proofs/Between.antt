@@ -13,7 +13,8 @@ use Rattle.crossings.proofs.Nearby.{Separates}
 use Rattle.winding.specs.Lines.{HasShadowsIn}
 
 -- a segment has no number with a face whose box does not touch its own
-pub crosses_near : (test : CrossTest) → Separates test → (segment : List Corner) → length segment ≡ 2 → AllFine segment → HasShadowsIn (box_of segment) (λ face. number_of (test segment face))
+pub crosses_near : (test : CrossTest) → Separates test → (segment : List Corner) → length segment ≡ 2 → AllFine segment →
+    HasShadowsIn (box_of segment) (λ face. number_of (test segment face))
 crosses_near test apart segment two fine = record {
   elsewhere = λ face three face_fine far.
       let a = boxes_apart face segment (omega (arith, three)) (omega (arith, two)) far in

@@ -40,7 +40,8 @@ crossings_sum edges_side faces test ends sides known lifts odd a b =
     ∙ ap neg_ℤ (total-same (crossing (λ v t. ends t v) (λ a b c d. sides a b (c, d)) a b) (λ t. edge_number test edges_side faces t a b) (λ t. sym (lifts t a b)) gs)
 
 -- along each half-edge, on the numbers that hits give
-pub edges_conserve : (edges_side faces : Side) (test : CrossTest) (ends : Triple → ℕ → ℤ) (sides : ℕ → ℕ → (ℕ × ℕ) → ℤ) (hits : List Hit) (w : ℕ → ℤ) → IsSide edges_side → IsSide faces →
+pub edges_conserve : (edges_side faces : Side) (test : CrossTest) (ends : Triple → ℕ → ℤ) (sides : ℕ → ℕ → (ℕ × ℕ) → ℤ) (hits : List Hit) (w : ℕ → ℤ) →
+    IsSide edges_side → IsSide faces →
     Turns test edges_side faces → Lifts test edges_side faces ends sides → ((a b : ℕ) → IsOdd (λ c d. sides a b (c, d))) → hits ≡ hits_of test edges_side faces →
     ((v : ℕ) → v < length edges_side.corners → w v ≡ neg_ℤ (total (λ t. ends t v) faces.triples)) →
     EdgeIdentity (all_edges edges_side.triples) (length faces.triples) w (half_number (all_edges edges_side.triples) hits)
@@ -55,7 +56,8 @@ edges_conserve edges_side faces test ends sides hits w known faces_known turns l
       let b_below : b < n = finish_below n edges_side.triples h known.accepted.mesh.below below in
       let number : Triple → ℤ = λ t. edge_number test edges_side faces t a b in
       let by_face = total-places number (0, 0, 0) gs in
-      let listed = total-upto_same (half_number es hits h) (λ f. number (get_or gs f (0, 0, 0))) (length gs) (λ f f_below. ap (λ l. half_number es l h f) found ∙ half_number_is test edges_side faces known turns h f below f_below) in
+      let listed = total-upto_same (half_number es hits h) (λ f. number (get_or gs f (0, 0, 0))) (length gs)
+      (λ f f_below. ap (λ l. half_number es l h f) found ∙ half_number_is test edges_side faces known turns h f below f_below) in
       omega (arith, ints, winding a a_below, winding b b_below, crossings_sum edges_side faces test ends sides faces_known lifts odd a b, by_face, listed);
 }
 

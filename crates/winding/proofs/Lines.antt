@@ -36,7 +36,8 @@ line_whole : (c : Corner) (low high : ℤ) → low ≤ℤ high → IsBox (line_a
 line_whole c low high h = record { x = omega (arith, ints); y = omega (arith, ints); z = h }
 
 -- faces that touch the line nowhere below a corner of P have no shadow with it
-pub shadows_below : (test : ShadowTest) (p : Corner) → ShadowLaws 1 3 test → IsFineCorner p → HasShadowsIn (line_at p (neg_ℤ fine_edge) (axis 2 p)) (λ face. shadow_of (test (p ∷ []) face))
+pub shadows_below : (test : ShadowTest) (p : Corner) → ShadowLaws 1 3 test → IsFineCorner p →
+    HasShadowsIn (line_at p (neg_ℤ fine_edge) (axis 2 p)) (λ face. shadow_of (test (p ∷ []) face))
 shadows_below test p laws fine = record { elsewhere = elsewhere }
   where
     ps : List Corner

@@ -26,7 +26,8 @@ module _ (faces : Side) (area : Box3) (near : List ℕ) (moved : IsPermutation (
   near_few = omega (arith, length_permutation (touching_numbers (face_boxes faces) area) near moved, touching_few faces area)
 
   -- where no other face has a shadow, they have all of the sum
-  pub near_total : (shadow : List Corner → ℤ) → IsSide faces → HasShadowsIn area shadow → total (λ f. shadow (face_at faces f)) near ≡ total (λ t. shadow (face_of faces.corners t)) faces.triples
+  pub near_total : (shadow : List Corner → ℤ) → IsSide faces → HasShadowsIn area shadow →
+      total (λ f. shadow (face_at faces f)) near ≡ total (λ t. shadow (face_of faces.corners t)) faces.triples
   near_total shadow known none =
       let n = length faces.triples in
       let value : ℕ → ℤ = λ f. shadow (face_at faces f) in
@@ -34,7 +35,8 @@ module _ (faces : Side) (area : Box3) (near : List ℕ) (moved : IsPermutation (
       let each : (f : ℕ) → f < n → cond (p f) (value f) (pos 0) ≡ value f =
       λ f below.
       cond_both (p f) (value f) (pos 0) (λ z. z ≡ value f) (λ y. refl)
-      (λ far. sym (none.elsewhere (face_at faces f) refl (face_fine faces.corners known.fine (get_or faces.triples f (0, 0, 0))) (subst (λ b. touches b area ≡ false) (face_box faces f below) far))) in
+      (λ far. sym (none.elsewhere (face_at faces f) refl (face_fine faces.corners known.fine (get_or faces.triples f (0, 0, 0)))
+      (subst (λ b. touches b area ≡ false) (face_box faces f below) far))) in
       total-permutation value (touching_numbers (face_boxes faces) area) near moved
       ∙ ap (λ m. total value (filter p (upto m))) (many_boxes faces)
       ∙ total-filter value p (upto n)

@@ -3,7 +3,7 @@
 // rule of three decides.
 //
 // A line has 1 where u and v are exchanged, else 0; u and v of the points; the ring; the triangles, three vertices each;
-// and how many of them were forced.
+// and how many of them were forced. Parts have colons between them, numbers blanks.
 pub const ROWS: &str = "\
 0 : 3 3 3 3 3 3 3 3 3 3 : 0 1 2 3 4 : 4 0 1 4 1 2 2 3 4 : 3
 0 : 3 3 3 3 3 3 : 0 1 2 : 0 1 2 : 1

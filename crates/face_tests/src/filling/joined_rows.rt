@@ -1,5 +1,6 @@
 //! Loops with their rings after joining. A line has the axis that is dropped; the points; the loops; 1 where u and v are
-//! exchanged, else 0; and the rings. A point is its x, y and z in grid steps.
+//! exchanged, else 0; and the rings. A point is its x, y and z in grid steps. Parts have colons between them, loops and
+//! rings strokes, coordinates commas, and points and vertices blanks.
 //!
 //! The rings are those of an independent reference program, which was written from the definitions alone.
 

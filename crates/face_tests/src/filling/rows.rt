@@ -1,6 +1,6 @@
 // Fillings by a program written apart from this one, which follows the rule word for word. A line is the axis that is
 // dropped, the points, the loops, three letters for each triangle, and how many were forced. A vertex is a letter, a the
-// first.
+// first. Parts have colons between them, loops strokes, points semicolons, and coordinates commas.
 
 // Loops that are hard to fill: two of equal points; two bridges at one place; holes that start on a ring's vertex or edge; a
 // ring within a hole; equal distances, in one ring and between two; a vertex in three places; a bow tie; there and back on a

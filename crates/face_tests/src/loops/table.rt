@@ -1,6 +1,7 @@
 // The ends of segments, two by two, and of each of their loops the length and the vertices, as a separate program in
 // Python found them that was written from the definitions alone. The first rows were worked out by hand. The others
 // are random: up to 33 segments in one loop or more, in any order, with vertices of any size and loops of a single one.
+// The two parts of a line have a colon between them, numbers blanks.
 pub const ROWS: &str = "\
  : 
 0 1 3 4 1 2 4 3 2 0 : 3 0 1 2 2 3 4

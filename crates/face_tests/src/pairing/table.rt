@@ -1,6 +1,6 @@
 // Entries and their segments, as a separate program in Python paired them that was written from the definitions alone.
 // A line holds the two ends of the edge, the entries with 1 for a start and 0 for an end, the points, and the ends of
-// the segments. The first row along an edge and the first two across were worked out by hand. The others are random:
+// the segments; these parts have colons between them, numbers blanks. The first row along an edge and the first two across were worked out by hand. The others are random:
 // up to five starts, points on a few places so that keys tie and points are equal, and points at the grid's ends.
 pub const EDGES: &str = "\
 0 0 0 10 0 0 : 0 1 3 1 1 0 2 0 : 0 0 0 10 0 0 4 0 0 6 0 0 : 0 2 3 1

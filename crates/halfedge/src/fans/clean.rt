@@ -1,13 +1,13 @@
 // Whether each vertex has one fan.
-ghost use Rattle.std.specs.Prelude.{◌≡◌, ◌<◌, ◌≤◌, ◌*◌, ◌↔◌, IfOk, IsTrue, length};
+ghost use Rattle.std.specs.Prelude.{◌≡◌, ◌<◌, ◌≤◌, ◌↔◌, IfOk, IsTrue, length};
 ghost use Rattle.std.specs.List.{All};
 ghost use Rattle.chain_terms.specs.Chains.{all_edges};
-ghost use Rattle.chain_terms.specs.Ranks.{start};
 ghost use Rattle.mesh_terms.specs.Limits.{most_points};
-ghost use Rattle.mesh_terms.specs.Meshes.{IsBelow, triples_of};
+ghost use Rattle.mesh_terms.specs.Meshes.{IsBelow};
 ghost use Rattle.halfedge.specs.Clean.{IsClean};
 
 use crate::fans::NO_FAN;
+use crate::halves::start;
 use crate::twins::Twins;
 use mb_base::NoMemory;
 use std::alloc::Global;
@@ -36,12 +36,4 @@ impl Twins {
         }
         Ok(true)
     }
-}
-
-// The vertex where half-edge h starts.
-fn start(triples: &[[u32; 3]], h: u32) -> u32
-    requires { h < 3 * length triples.now }
-    ensures { result ≡ start (all_edges (triples_of triples.now)) h }
-{
-    triples[h as usize / 3][h as usize % 3]
 }

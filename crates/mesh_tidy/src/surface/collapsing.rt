@@ -8,8 +8,8 @@ ghost use Rattle.mesh_tidy.specs.Pairs.{paired};
 ghost use Rattle.mesh_tidy.specs.Surface.{Has, HasCollapsed, IsRenamed, left_of, number_of};
 ghost use Rattle.tidy_laws.specs.Conditions.{CanCollapse};
 
-use crate::halves::{next, previous, start};
 use crate::surface::Surface;
+use halfedge::halves::{next, previous, start};
 use mb_base::NoMemory;
 use std::alloc::Global;
 

@@ -4,10 +4,11 @@
 //! no closed mesh, and then how the outcome is changed, by a word and numbers from 0. The first words change the prescribed
 //! vertices: `kept`, `crossings`, `halfedges` one count by one; `origins`, `places` exchange two of them; `less`, `more` leave
 //! out the last one or repeat it; `place` moves one. `from` and `source` put a number into a list, `froms` and `sources`
-//! exchange two, `_less` and `_more` take one off or add one. `turn`, `flip`, `drop`, `double` change a triangle, `exchange`
-//! and `triples` the order of two, with their source faces or without; `step` moves a point, `rename` and `vertices` exchange
-//! the names of two, with their points or without, `join` makes one of two; `first` puts the first mesh in place of the result,
-//! `twice` repeats it, `whole_back` turns its order round. `forced` adds one to the forced triangles, and `same` changes nothing.
+//! exchange two, `_less` and `_more` take one off or add one. `turn`, `flip`, `drop`, `double` change a triangle, `diagonal` puts
+//! the other diagonal into two with a common edge, `exchange` and `triples` change the order of two, with their source faces or
+//! without; `step` moves a point, `rename` and `vertices` exchange the names of two, with their points or without, `join` makes
+//! one of two; `first` puts the first mesh in place of the result, `twice` repeats it, `whole_back` turns its order round.
+//! `forced` adds one to the forced triangles, and `same` changes nothing.
 //! The answers are those of an independent program of the same definitions, which compares all sums pair by pair.
 pub const CHANGES: &str = "\
 yes same

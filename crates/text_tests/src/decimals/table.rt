@@ -1,11 +1,13 @@
 // Texts with their values, and values with their texts. They come from an independent reference program that
 // divides whole numbers without bound: texts made at random (whole numbers, points, exponents of up to 25
-// digits, exact halves, the ends of the grid, texts that are no numbers) under a fixed seed. Each row of
-// READ is the digits of the grid, what a text reads as, and the text: a number of steps, `none` where the text is
-// no number, or `beyond` where it is beyond the grid. Each row of WRITTEN is the digits of the grid, a value, and
-// what is written of it.
+// digits, exact halves, the ends of the grid, texts that are no numbers) under a fixed seed.
+//
+// Each row of READ has the digits of the grid; what the text reads as: a number of steps, `none` where it is no
+// number, `beyond` where it is beyond the grid; and the text. `\x20` is a blank that begins or ends the text, or
+// the one before an empty text; `\t` is a tab. Each row of WRITTEN has the digits of the grid, a value, and what
+// is written of it.
 
-pub const READ_1: &str = "\
+pub const READ: &str = "\
 4 10001 1.00005
 4 -10001 -1.00005
 4 0 1e-5
@@ -81,9 +83,6 @@ pub const READ_1: &str = "\
 4 0 670.0079885836e-12
 2 beyond -93871.1919826E11
 1 beyond 4592.5543351e+7
-";
-
-pub const READ_2: &str = "\
 5 beyond -3985943.5479124143E11
 0 726100 +7261.0E+2
 6 0 +50.40467002082e-10
@@ -159,9 +158,6 @@ pub const READ_2: &str = "\
 0 -1155872 -11558716200000000000000000000000000000000e-34
 4 -1716120 -0.0000000000000000000000000000000000000000001716119900e45
 0 -171611990 -171611990000000000000e-12
-";
-
-pub const READ_3: &str = "\
 5 beyond -0.00000000000000000000000001747916128e35
 6 beyond -17479161280000000000e-8
 6 beyond 0.00000000000000000000000000000000001742293511e42
@@ -237,9 +233,6 @@ pub const READ_3: &str = "\
 5 142798399 1427.9839850000000000000000000001
 5 -226819505 -2268.1950450000000000000000000001
 0 1073741824 1073741824
-";
-
-pub const READ_4: &str = "\
 0 1073741824 1073741824.4999999999
 0 beyond -1073741824.5
 0 1073741824 1073741823.5

@@ -7,7 +7,8 @@ use Rattle.unused_points.proofs.kept_points.Goals as goal
 use Rattle.unused_points.proofs.kept_points.Goals.{then-marks-place+in_ok-push-2, else-marks-place}
 
 -- as many points are kept as stand used before the place
-number_here : (c : goal.Joined-marks-place) (ts : List Triple) → MarksUsed (length c.args.points.now) ts c.args.marks.now → NumbersUsed (c.loop-place.place + 1) ts c.push.new.self.items
+number_here : (c : goal.Joined-marks-place) (ts : List Triple) → MarksUsed (length c.args.points.now) ts c.args.marks.now →
+    NumbersUsed (c.loop-place.place + 1) ts c.push.new.self.items
 number_here c ts marks =
     let i = c.loop-place.place in
     let number : c.len.result ≡ new_number ts i =
@@ -18,11 +19,13 @@ pub loop-place-preserved : goal.loop-place-preserved
 loop-place-preserved c =
     elim c.if-marks-place.branch [
       | then-marks-place+in_ok-push-2 w ↦
-          let new : c.if-marks-place.kept.items ≡ c.loop-place.kept.items ++ c.index-points-place.result ∷ [] = ap (λ (v : Vec (List ℤ) Global). v.items) w.kept-is ∙ w.in_ok-push-2.ensures.items in
+          let new : c.if-marks-place.kept.items ≡ c.loop-place.kept.items ++ c.index-points-place.result ∷ [] =
+          ap (λ (v : Vec (List ℤ) Global). v.items) w.kept-is ∙ w.in_ok-push-2.ensures.items in
           record {
             few = omega (arith, ap length new, length-append c.loop-place.kept.items (c.index-points-place.result ∷ []), c.loop-place.invariant.few);
             kept = λ ts marks.
-                kept_used ts c.args.points.now c.loop-place.place c.index-points-place.result c.loop-place.kept.items c.if-marks-place.kept.items c.loop-place-test.true c.index-points-place.is
+                kept_used ts c.args.points.now c.loop-place.place c.index-points-place.result c.loop-place.kept.items c.if-marks-place.kept.items
+                c.loop-place-test.true c.index-points-place.is
                 (sym (marks.used c.loop-place.place c.loop-place-test.true) ∙ w.if-marks-place.true) (c.loop-place.invariant.kept ts marks) new;
             numbers = number_here c;
           }

@@ -28,4 +28,5 @@ pub loop-a-preserved : goal.loop-a-preserved
 loop-a-preserved c =
     let triples = c.args.triples.now in
     let here = at_place c.args.count triples c.loop-a.a-index c.requires c.loop-a-test.true in
-    rw (one_more triples c.loop-a.a-index c.loop-a-test.true) (MarksUsed-more c.args.count (triples_of (take c.loop-a.a-index triples)) (triple_of (get_or triples c.loop-a.a-index [])) c.loop-a.marks.items c.loop-a.invariant here)
+    rw (one_more triples c.loop-a.a-index c.loop-a-test.true)
+    (MarksUsed-more c.args.count (triples_of (take c.loop-a.a-index triples)) (triple_of (get_or triples c.loop-a.a-index [])) c.loop-a.marks.items c.loop-a.invariant here)

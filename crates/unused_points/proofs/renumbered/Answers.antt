@@ -6,15 +6,18 @@ use Rattle.unused_points.proofs.renumbered.Goals as goal
 
 pub bounds-numbers-a : goal.bounds-numbers-a
 bounds-numbers-a c =
-    (still_below (length c.args.numbers.now) c.loop-triple.triple-index c.loop-triple.triple-items c.args.triples.items c.requires (omega (arith, c.loop-triple-test.true, c.loop-triple.auto.triple-items)) c.loop-triple.invariant.rest).a
+    (still_below (length c.args.numbers.now) c.loop-triple.triple-index c.loop-triple.triple-items c.args.triples.items c.requires
+    (omega (arith, c.loop-triple-test.true, c.loop-triple.auto.triple-items)) c.loop-triple.invariant.rest).a
 
 pub bounds-numbers-b : goal.bounds-numbers-b
 bounds-numbers-b c =
-    (still_below (length c.args.numbers.now) c.loop-triple.triple-index c.loop-triple.triple-items c.args.triples.items c.requires (omega (arith, c.loop-triple-test.true, c.loop-triple.auto.triple-items)) c.loop-triple.invariant.rest).b
+    (still_below (length c.args.numbers.now) c.loop-triple.triple-index c.loop-triple.triple-items c.args.triples.items c.requires
+    (omega (arith, c.loop-triple-test.true, c.loop-triple.auto.triple-items)) c.loop-triple.invariant.rest).b
 
 pub bounds-numbers-c : goal.bounds-numbers-c
 bounds-numbers-c c =
-    (still_below (length c.args.numbers.now) c.loop-triple.triple-index c.loop-triple.triple-items c.args.triples.items c.requires (omega (arith, c.loop-triple-test.true, c.loop-triple.auto.triple-items)) c.loop-triple.invariant.rest).c
+    (still_below (length c.args.numbers.now) c.loop-triple.triple-index c.loop-triple.triple-items c.args.triples.items c.requires
+    (omega (arith, c.loop-triple-test.true, c.loop-triple.auto.triple-items)) c.loop-triple.invariant.rest).c
 
 pub loop-triple-preserved : goal.loop-triple-preserved
 loop-triple-preserved c =

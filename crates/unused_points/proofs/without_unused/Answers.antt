@@ -13,7 +13,8 @@ marked_used : (n : ℕ) (ts : List Triple) (marks : List Bool) → MarksUsed n t
 marked_used n ts marks known set v low = sym (known.used v low) ∙ set v false (omega (arith, low, known.each))
 
 -- a soup by its parts
-soup_is : (points : List (List ℤ)) (ts : List Triple) (s : Soup) → s.points ≡ used_from ts 0 points → s.triples ≡ renumbered ts → s.labels ≡ no_labels s.triples → s.unused ≡ length points - length (used_from ts 0 points)
+soup_is : (points : List (List ℤ)) (ts : List Triple) (s : Soup) → s.points ≡ used_from ts 0 points → s.triples ≡ renumbered ts →
+    s.labels ≡ no_labels s.triples → s.unused ≡ length points - length (used_from ts 0 points)
     → s ≡ soup_of points ts (no_labels ts)
 soup_is points ts s first second third fourth =
     let count : length (renumbered ts) ≡ length ts = length-map {B = Triple} ts (λ t. (new_number ts t.0, new_number ts t.1, new_number ts t.2)) in
@@ -54,7 +55,8 @@ renumbered-requires c =
     let ts = triples_of c.args.triples.items in
     let marks = marks_as c.len.result (length c.deref-3.result.now) (triples_of c.deref.result.now) ts c.in_ok-marks.marks.items c.deref-4.result.now
     (c.len.ensures ∙ c.args.points.ok.0 ∙ sym (ap length c.deref-3.ensures.value)) (ap triples_of c.deref.ensures.value) c.deref-4.ensures.value c.in_ok-marks.ensures in
-    let count : length c.deref-5.result.now ≡ length points = ap length c.deref-5.ensures.value ∙ (c.in_ok-kept.ensures.numbers ts marks).each ∙ ap length c.deref-3.ensures.value in
+    let count : length c.deref-5.result.now ≡ length points = ap length c.deref-5.ensures.value ∙ (c.in_ok-kept.ensures.numbers ts marks).each
+    ∙ ap length c.deref-3.ensures.value in
     subst (λ n. All (IsBelow n) ts) (sym count) c.requires.below
 
 pub of-requires-2 : goal.of-requires-2
@@ -68,7 +70,8 @@ of-requires-2 c =
     let after : triples_of c.renumbered.result.items ≡ renumbered ts =
     c.renumbered.ensures ts (numbers_as (length c.deref-3.result.now) (length c.deref-5.result.now) ts c.in_ok-kept.numbers.items c.deref-5.result.now
     (sym (ap length c.deref-5.ensures.value ∙ numbers.each)) c.deref-5.ensures.value numbers) in
-    subst (λ l. IsMesh (length l) (triples_of c.renumbered.result.items)) (sym kept) (subst (λ l. IsMesh (length (used_from ts 0 points)) l) (sym after) (kept_mesh ts points c.requires))
+    subst (λ l. IsMesh (length l) (triples_of c.renumbered.result.items)) (sym kept)
+    (subst (λ l. IsMesh (length (used_from ts 0 points)) l) (sym after) (kept_mesh ts points c.requires))
 
 pub returns : goal.returns
 returns c =

@@ -14,5 +14,7 @@ loop-number-preserved g c =
     let at : c.loop-number.number ≡ c.key_of.result.first = omega (arith, c.key_of.ensures) in
     record {
       within = omega arith;
-      all = subst Q c.key_of.ensures (single_more n c.loop-number.singles.items _ c.key_of.result before c.args.first c.in_ok-push.ensures.items (omega (arith, c.key_of.ensures, c.requires.there)) (omega (arith, c.key_of.ensures)) (subst P at c.loop-number.invariant.all));
+      all = subst Q c.key_of.ensures
+          (single_more n c.loop-number.singles.items _ c.key_of.result before c.args.first c.in_ok-push.ensures.items
+          (omega (arith, c.key_of.ensures, c.requires.there)) (omega (arith, c.key_of.ensures)) (subst P at c.loop-number.invariant.all));
     }

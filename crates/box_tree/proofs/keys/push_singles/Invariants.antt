@@ -6,5 +6,6 @@ use Rattle.box_tree.proofs.keys.push_singles.Given as goal
 abbrev pub invariant-loop-number : goal.invariant-loop-number
 invariant-loop-number g l = record {
   within : l.number ≤ l.end;
-  all : numbers_of_runs (length (g.B.Boxes.boxes l.boxes)) 1 l.singles.items ≡ numbers_of_runs (length (g.B.Boxes.boxes l.boxes)) 1 l.fn.singles.items ++ up_from l.first (l.number - l.first);
+  all : numbers_of_runs (length (g.B.Boxes.boxes l.boxes)) 1 l.singles.items ≡ numbers_of_runs (length (g.B.Boxes.boxes l.boxes)) 1 l.fn.singles.items
+      ++ up_from l.first (l.number - l.first);
 }

@@ -7,7 +7,8 @@ use Rattle.box_tree.proofs.nodes.+write_nodes.Goals as goal
 pub returns-then-count-eq1-clause-nodes : goal.returns-then-count-eq1-clause-nodes
 returns-then-count-eq1-clause-nodes t c =
     let node : Node = record { bounds = c.bounds_of_block.result; first = c.args.first; count = 1 } in
-    let P : ℕ → Type 0 = λ n. (q : ℕ) → c.args.place ≤ q → q + 1 < c.args.place + 2 * n → IsNode (c.args.place + 2 * n - 1) (set c.args.nodes.now c.args.place node) c.args.entries.now q in
+    let P : ℕ → Type 0 = λ n. (q : ℕ) → c.args.place ≤ q → q + 1 < c.args.place + 2 * n →
+    IsNode (c.args.place + 2 * n - 1) (set c.args.nodes.now c.args.place node) c.args.entries.now q in
     subst P (sym c.if-count-eq1.true)
     (leaf_written c.args.nodes.now c.args.entries.now c.args.place c.args.first c.bounds_of_block.result (omega arith) (omega arith) c.bounds_of_block.ensures)
 

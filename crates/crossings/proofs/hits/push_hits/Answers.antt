@@ -48,4 +48,4 @@ returns g c =
     let all = take_all c.loop-face.face-index c.deref-face-items.result.now c.loop-face-test.false ∙ c.loop-face.invariant.near in
     let fine = subst AllFine c.edge-edge.ensures.value c.edge-edge.ensures.fine in
     c.loop-face.invariant.hits ∙ ap (λ fs. before ++ hits_with test edges faces h fs) all
-    ∙ ap (λ r. before ++ r) (hits_near test edges faces (g.met.C.EdgeFace.apart c.args.pairs.now) c.in_ok-find_near.ensures.side h fine)
+    ∙ ap (λ r. before ++ r) (hits_near test edges faces (g.met.C.EdgeFace.apart c.args.pairs.now) c.tree.ensures.side h fine)

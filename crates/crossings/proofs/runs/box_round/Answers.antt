@@ -14,7 +14,8 @@ with_face-area-requires c =
     let side = c.args.side.now in
     let xs = c.triples-triples.result.now in
     subst (λ (cs : List Corner). IsBelow (length cs) (triple_of (get_or xs c.loop-face.face []))) (sym c.corners-corners.ensures.value)
-    (face_below (length side.corners) side.triples xs c.loop-face.face c.triples-triples.ensures.value c.triples-triples.ensures.side.accepted.mesh.below (omega (arith, c.loop-face-test.true, c.requires)))
+    (face_below (length side.corners) side.triples xs c.loop-face.face c.triples-triples.ensures.value c.triples-triples.ensures.side.accepted.mesh.below
+    (omega (arith, c.loop-face-test.true, c.requires)))
 
 pub loop-face-preserved : goal.loop-face-preserved
 loop-face-preserved c f low high =

@@ -15,5 +15,6 @@ returns g c =
     record {
       count = known_kept c.requires.known;
       mark = subst (λ (o : Option Meet). IfSome o (λ n. n.above ≡ c.is_over_face-above.result))
-          (faced c.args.of c.other.result _ _ (corner_at c.args.vertex.now 0) (corner_at c.args.face.now 0) (corner_at c.args.face.now 1) (corner_at c.args.face.now 2) c.other.ensures) c.is_over_face-above.ensures;
+          (faced c.args.of c.other.result _ _ (corner_at c.args.vertex.now 0) (corner_at c.args.face.now 0) (corner_at c.args.face.now 1)
+          (corner_at c.args.face.now 2) c.other.ensures) c.is_over_face-above.ensures;
     }

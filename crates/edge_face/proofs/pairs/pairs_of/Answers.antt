@@ -10,12 +10,15 @@ use Rattle.edge_face.proofs.pairs.pairs_of.Goals.{After-counts-counts}
 use Rattle.edge_face.proofs.pairs.pairs_of.Goals as goal
 
 -- the counts from which the pairs are made
-known : (g : Over) (c : After-counts-counts g) → AreKnown c.counts-counts.result (pairs_on c.args.of (g.K.Rules.rule_of c.args.kernel.now) (g.K.Rounding.between_of c.args.kernel.now) c.args.edge.now c.args.face.now)
+known : (g : Over) (c : After-counts-counts g) →
+    AreKnown c.counts-counts.result (pairs_on c.args.of (g.K.Rules.rule_of c.args.kernel.now) (g.K.Rounding.between_of c.args.kernel.now) c.args.edge.now c.args.face.now)
 known g c =
     let s = c.args.edge.now in
     let f = c.args.face.now in
-    counts_known (met_on c.args.of (g.met.K.Rules.lawful c.args.kernel.now)) (corner_at s 0) (corner_at s 1) (corner_at f 0) (corner_at f 1) (corner_at f 2) (fine_edge s c.told-edge c.requires.edge_fine) (fine_face f c.told-face c.requires.face_fine)
-    c.vertex_edges-start.result c.vertex_edges-end.result c.edge_vertices-at.result c.counts-counts.result c.counts-counts.ensures c.vertex_edges-start.ensures.value c.vertex_edges-end.ensures.value c.edge_vertices-at.ensures.value
+    counts_known (met_on c.args.of (g.met.K.Rules.lawful c.args.kernel.now)) (corner_at s 0) (corner_at s 1) (corner_at f 0) (corner_at f 1) (corner_at f 2)
+    (fine_edge s c.told-edge c.requires.edge_fine) (fine_face f c.told-face c.requires.face_fine)
+    c.vertex_edges-start.result c.vertex_edges-end.result c.edge_vertices-at.result c.counts-counts.result c.counts-counts.ensures
+    c.vertex_edges-start.ensures.value c.vertex_edges-end.ensures.value c.edge_vertices-at.ensures.value
 
 pub face_pair-requires-clause-known : goal.face_pair-requires-clause-known
 face_pair-requires-clause-known g c = (known g (goal.at.face_pair-requires-clause-known g c).After-counts-counts).start

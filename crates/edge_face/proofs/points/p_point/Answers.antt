@@ -16,5 +16,6 @@ returns g c =
     let x = kept_settled w settle c.settled.ensures.value d.x u.x a.weight b.weight a.value b.value (search rules) in
     let y = kept_settled w settle c.settled-2.ensures.value d.py u.py a.weight b.weight a.value b.value (search rules) in
     let z = kept_settled w settle c.settled-3.ensures.value d.pz u.pz a.weight b.weight a.value b.value (search rules) in
-    let on = c.of.ensures.on_grid.1 (kept_on c.settled.result c.settled.ensures.on_grid, kept_on c.settled-2.result c.settled-2.ensures.on_grid, kept_on c.settled-3.result c.settled-3.ensures.on_grid) in
+    let on = c.of.ensures.on_grid.1
+    (kept_on c.settled.result c.settled.ensures.on_grid, kept_on c.settled-2.result c.settled-2.ensures.on_grid, kept_on c.settled-3.result c.settled-3.ensures.on_grid) in
     made_point c.of.result on c.of.ensures.value x y z

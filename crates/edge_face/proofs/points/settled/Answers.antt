@@ -24,7 +24,8 @@ settle-requires g c = fine g (goal.at.settle-requires g c).After-between
 
 pub returns-clause-on_grid : goal.returns-clause-on_grid
 returns-clause-on_grid g c =
-    let grid = settled_grid (g.R.Rounding.settle_of c.args.rounding.now) (record { monotone = g.met.R.Rounding.monotone c.args.rounding.now; units = g.met.R.Rounding.units c.args.rounding.now })
+    let grid = settled_grid (g.R.Rounding.settle_of c.args.rounding.now)
+    (record { monotone = g.met.R.Rounding.monotone c.args.rounding.now; units = g.met.R.Rounding.units c.args.rounding.now })
     (seen w64 c.between.result) (fine g (goal.at.returns-clause-on_grid g c).After-between) in
     let on : IsOnGrid c.settle.result = subst IsOnGrid (sym c.settle.ensures) grid in
     let kept : seen w32 c.settle.result ≡ c.settle.result = omega (arith, ints, on) in

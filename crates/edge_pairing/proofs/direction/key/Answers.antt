@@ -16,7 +16,8 @@ returns c =
     let p = c.args.point in
     let grid = c.at.ensures.on_grid in
     let same = c.at.ensures.value in
-    sum_kept c.product.result c.product-2.result c.product-3.result (coordinate_of d 0 *ℤ coordinate_of p 0) (coordinate_of d 1 *ℤ coordinate_of p 1) (coordinate_of d 2 *ℤ coordinate_of p 2)
+    sum_kept c.product.result c.product-2.result c.product-3.result (coordinate_of d 0 *ℤ coordinate_of p 0) (coordinate_of d 1 *ℤ coordinate_of p 1)
+    (coordinate_of d 2 *ℤ coordinate_of p 2)
     (product_read c.product.result (coordinate_of d 0) c.at.result p 0 same c.requires.x grid.x c.product.ensures.value)
     (product_read c.product-2.result (coordinate_of d 1) c.at.result p 1 same c.requires.y grid.y c.product-2.ensures.value)
     (product_read c.product-3.result (coordinate_of d 2) c.at.result p 2 same c.requires.z grid.z c.product-3.ensures.value)

@@ -17,7 +17,8 @@ returns-then-entries-eq2-clause-value c =
 
 pub returns-then-entries-eq2-clause-starts : goal.returns-then-entries-eq2-clause-starts
 returns-then-entries-eq2-clause-starts c =
-    starts_moved (key_along c.args.along.now (place_in c.args.points.now)) (starts_of c.args.entries.now) (ends_of c.args.entries.now) c.only_segment.result.items c.requires.balanced
+    starts_moved (key_along c.args.along.now (place_in c.args.points.now)) (starts_of c.args.entries.now)
+    (ends_of c.args.entries.now) c.only_segment.result.items c.requires.balanced
     (returns-then-entries-eq2-clause-value c)
 
 pub returns-then-entries-eq2-clause-ends : goal.returns-then-entries-eq2-clause-ends
@@ -40,7 +41,8 @@ returns-clause-value c =
     let second = ap vertices c.deref-2.ensures.value ∙ c.in_ok-ends.ensures in
     IfOk-weaker c.joined.result (λ s. map edge_of s.items ≡ zip (vertices c.deref.result.now) (vertices c.deref-2.result.now))
     (λ s. map edge_of s.items ≡ pair_up (key_along c.args.along.now (place_in c.args.points.now)) (starts_of c.args.entries.now) (ends_of c.args.entries.now))
-    (λ s is. is ∙ ap (λ l. zip l (vertices c.deref-2.result.now)) first ∙ ap (zip (sorted_along c.args.along.now (place_in c.args.points.now) (starts_of c.args.entries.now))) second) c.joined.ensures
+    (λ s is. is ∙ ap (λ l. zip l (vertices c.deref-2.result.now)) first
+    ∙ ap (zip (sorted_along c.args.along.now (place_in c.args.points.now) (starts_of c.args.entries.now))) second) c.joined.ensures
 
 -- so each start is where a segment starts, and each end where one ends
 pub returns-clause-starts : goal.returns-clause-starts

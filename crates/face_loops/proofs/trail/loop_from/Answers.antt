@@ -14,7 +14,8 @@ loop-next-init c =
     let es = edges_of c.args.segments.now in
     let marked = set c.args.used.now c.args.first true in
     let one : c.push.new.self.items ≡ start es c.args.first ∷ [] =
-    c.in_ok-push.ensures.items ∙ ap (λ l. l ++ (get_or c.args.segments.now c.args.first no_segment).from ∷ []) c.new-vertices.ensures.items ∙ ap (λ v. v ∷ []) (sym (start_at c.args.segments.now c.args.first c.requires.within)) in
+    c.in_ok-push.ensures.items ∙ ap (λ l. l ++ (get_or c.args.segments.now c.args.first no_segment).from ∷ []) c.new-vertices.ensures.items
+    ∙ ap (λ v. v ∷ []) (sym (start_at c.args.segments.now c.args.first c.requires.within)) in
     subst (λ v. IsOnTrail es c.args.first c.args.used.now marked v c.push.new.self.items) (finish_at c.args.segments.now c.args.first c.requires.within)
     (subst (λ l. IsOnTrail es c.args.first c.args.used.now marked (finish es c.args.first) l) (sym one)
     (trail_begins es c.args.first c.args.used.now (omega (arith, c.requires.within, c.requires.full))))

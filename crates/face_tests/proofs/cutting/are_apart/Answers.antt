@@ -13,7 +13,8 @@ path_apart x [] h = All-nil (λ (e : ℕ × ℕ). e.0 ≢ e.1)
 path_apart x (y ∷ s) h =
     let P : (ℕ × ℕ) → Type 0 = λ e. e.0 ≢ e.1 in
     let next : (k : ℕ) → suc k + 1 ≡ suc (k + 1) = λ k. omega arith in
-    All-cons P (x, y) (path y s) (h 0 (omega arith)) (path_apart y s (λ k low. subst (λ (j : ℕ). get_or (x ∷ y ∷ s) (suc k) 0 ≢ get_or (x ∷ y ∷ s) j 0) (next k) (h (suc k) (omega (arith, low)))))
+    All-cons P (x, y) (path y s) (h 0 (omega arith))
+    (path_apart y s (λ k low. subst (λ (j : ℕ). get_or (x ∷ y ∷ s) (suc k) 0 ≢ get_or (x ∷ y ∷ s) j 0) (next k) (h (suc k) (omega (arith, low)))))
 
 -- a round whose neighbours differ
 round_apart : (r : List ℕ) → 0 < length r → ((k : ℕ) → k + 1 < length r → get_or r k 0 ≢ get_or r (k + 1) 0) → get_or r (length r - 1) 0 ≢ get_or r 0 0 → Apart (round_edges r)
@@ -28,7 +29,8 @@ pub loop-i-init : goal.loop-i-init
 loop-i-init c = λ k low. absurd (omega (arith, low))
 
 -- one more pair
-pairs_more : (r : List ℕ) (i : ℕ) → 1 ≤ i → ((k : ℕ) → k + 1 < i → get_or r k 0 ≢ get_or r (k + 1) 0) → get_or r (i - 1) 0 ≢ get_or r i 0 → (k : ℕ) → k + 1 < i + 1 → get_or r k 0 ≢ get_or r (k + 1) 0
+pairs_more : (r : List ℕ) (i : ℕ) → 1 ≤ i → ((k : ℕ) → k + 1 < i → get_or r k 0 ≢ get_or r (k + 1) 0) → get_or r (i - 1) 0 ≢ get_or r i 0 → (k : ℕ) →
+    k + 1 < i + 1 → get_or r k 0 ≢ get_or r (k + 1) 0
 pairs_more r i some before here k low = elim (cases_lt (k + 1) i) as (λ _. get_or r k 0 ≢ get_or r (k + 1) 0) [
   | inl l ↦ before k l
   | inr l ↦

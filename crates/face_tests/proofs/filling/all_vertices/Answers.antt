@@ -9,4 +9,5 @@ loop-one-preserved c =
     let loops = c.args.loops.now in
     let i = c.loop-one.one-index in
     let read = c.vertices.ensures ∙ c.one-item.is ∙ get_or_default loops i c.one-item.result [] c.loop-one-test.true in
-    c.in_ok-extend_from_slice.ensures.items ∙ ap (λ l. l ++ c.vertices.result.now) c.loop-one.invariant ∙ ap (λ l. concat (take i loops) ++ l) read ∙ sym (concat_more loops i c.loop-one-test.true)
+    c.in_ok-extend_from_slice.ensures.items ∙ ap (λ l. l ++ c.vertices.result.now) c.loop-one.invariant ∙ ap (λ l. concat (take i loops) ++ l) read
+    ∙ sym (concat_more loops i c.loop-one-test.true)

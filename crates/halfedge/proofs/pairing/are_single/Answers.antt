@@ -10,4 +10,7 @@ returns-then-eq c =
     (λ t. absurd (search rules), λ single. absurd (not_single c.args.edges.now i (omega (arith, here, c.loop-i-test.true)) same single))
 
 pub returns : goal.returns
-returns c = (λ t. single_from_steps c.args.edges.now c.requires (λ j below. c.loop-i.invariant j (omega (arith, below, c.loop-i-test.false, c.loop-i.auto.i-end))), λ single. search rules)
+returns c = (
+  λ t. single_from_steps c.args.edges.now c.requires (λ j below. c.loop-i.invariant j (omega (arith, below, c.loop-i-test.false, c.loop-i.auto.i-end))),
+  λ single. search rules,
+)

@@ -27,7 +27,13 @@ of-requires-clause-below c =
 pub of-requires-clause-few : goal.of-requires-clause-few
 of-requires-clause-few c =
     let n : ℕ = length c.args.triples.now + 1 in
-    omega (arith, ap length (c.deref.ensures.value ∙ c.in_ok-numbers.ensures), length-map (all_edges (triples_of c.args.triples.now)) (bucket_of n), edge_count c.args.triples.now, c.requires.few)
+    omega (
+      arith,
+      ap length (c.deref.ensures.value ∙ c.in_ok-numbers.ensures),
+      length-map (all_edges (triples_of c.args.triples.now)) (bucket_of n),
+      edge_count c.args.triples.now,
+      c.requires.few,
+    )
 
 pub pair_buckets-requires-clause-gathered : goal.pair_buckets-requires-clause-gathered
 pair_buckets-requires-clause-gathered c =
@@ -39,8 +45,10 @@ pair_buckets-requires-clause-full c =
     ap length (c.deref_mut.ensures.value ∙ c.in_ok-numbers.ensures) ∙ length-map (all_edges (triples_of c.args.triples.now)) (bucket_of (length c.args.triples.now + 1))
 
 -- what is known once all buckets are paired
-all_paired : (ts : List (List ℕ)) (twins : List ℕ) (single : Bool) → All HasThree (triples_of ts) → ArePaired (all_edges (triples_of ts)) (λ a. a % (length ts + 1)) (length ts + 1) twins single
-    → IsClosed (all_edges (triples_of ts)) × (twins ≡ map (twin (all_edges (triples_of ts))) (upto (length (all_edges (triples_of ts))))) × (IsTrue single ↔ AreSingle (all_edges (triples_of ts)))
+all_paired : (ts : List (List ℕ)) (twins : List ℕ) (single : Bool) → All HasThree (triples_of ts) →
+    ArePaired (all_edges (triples_of ts)) (λ a. a % (length ts + 1)) (length ts + 1) twins single
+    → IsClosed (all_edges (triples_of ts)) × (twins ≡ map (twin (all_edges (triples_of ts))) (upto (length (all_edges (triples_of ts))))) × (IsTrue single
+    ↔ AreSingle (all_edges (triples_of ts)))
 all_paired ts twins single three paired =
     let n : ℕ = length ts + 1 in
     paired_all (all_edges (triples_of ts)) (λ a. a % n) n twins single paired (λ a. mod_below a n (omega arith)) (edges_differ (triples_of ts) three)

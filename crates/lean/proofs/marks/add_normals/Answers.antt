@@ -19,7 +19,8 @@ loop-triple-init c = record {
 pub face_normal-normal-requires : goal.face_normal-normal-requires
 face_normal-normal-requires c =
     let n = length c.points-points.result.now in
-    triple_at (IsBelow n) c.args.mesh.now.triples c.triples-triple-items.result.now c.loop-triple.triple-index c.triples-triple-items.ensures.value (rw (← c.points-points.ensures.value) at c.triples-triple-items.ensures.accepted.mesh.below) c.loop-triple-test.true
+    triple_at (IsBelow n) c.args.mesh.now.triples c.triples-triple-items.result.now c.loop-triple.triple-index c.triples-triple-items.ensures.value
+    (rw (← c.points-points.ensures.value) at c.triples-triple-items.ensures.accepted.mesh.below) c.loop-triple-test.true
 
 pub add_at_corners-requires-clause-below : goal.add_at_corners-requires-clause-below
 add_at_corners-requires-clause-below c =
@@ -27,13 +28,15 @@ add_at_corners-requires-clause-below c =
     let xs = c.triples-triple-items.result.now in
     let i = c.loop-triple.triple-index in
     let long : length c.loop-triple.normals ≡ length points = ap length c.loop-triple.invariant.value ∙ length-normals points (triples_of (take i xs)) in
-    rw long (triple_at (IsBelow (length points)) c.args.mesh.now.triples xs i c.triples-triple-items.ensures.value c.triples-triple-items.ensures.accepted.mesh.below c.loop-triple-test.true)
+    rw long (triple_at (IsBelow (length points)) c.args.mesh.now.triples xs i c.triples-triple-items.ensures.value
+    c.triples-triple-items.ensures.accepted.mesh.below c.loop-triple-test.true)
 
 pub add_at_corners-requires-clause-sums_small : goal.add_at_corners-requires-clause-sums_small
 add_at_corners-requires-clause-sums_small c v =
     let xs = c.triples-triple-items.result.now in
     let i = c.loop-triple.triple-index in
-    let few : length xs ≤ most_triangles = omega (arith, length-map xs triple_of, ap length c.triples-triple-items.ensures.value, c.triples-triple-items.ensures.accepted.mesh.few_triples) in
+    let few : length xs ≤ most_triangles =
+    omega (arith, length-map xs triple_of, ap length c.triples-triple-items.ensures.value, c.triples-triple-items.ensures.accepted.mesh.few_triples) in
     small_below (i * (3 * 2 ^ 63)) (2 ^ 119) (get_or c.loop-triple.normals v []) (omega (arith, few)) (c.loop-triple.invariant.small v)
 
 pub loop-triple-preserved : goal.loop-triple-preserved
@@ -48,8 +51,12 @@ loop-triple-preserved c =
     let more = normals_more points (triples_of (take i xs)) t three in
     let sum : i * (3 * 2 ^ 63) + 2 ^ 63 + 2 ^ 63 + 2 ^ 63 ≡ (i + 1) * (3 * 2 ^ 63) = omega arith in
     record {
-      value = c.add_at_corners.ensures ∙ ap (λ ns. added_at_corners ns t n) c.loop-triple.invariant.value ∙ ap (λ m. added_at_corners (normals_of points (triples_of (take i xs))) t m) normal ∙ more ∙ ap (normals_of points) (sym (triples_more xs i c.loop-triple-test.true));
-      small = subst (λ ns. AllSmall ((i + 1) * (3 * 2 ^ 63)) ns) (sym c.add_at_corners.ensures) (subst (λ (m : ℕ). AllSmall m (added_at_corners c.loop-triple.normals t n)) sum (small_three (i * (3 * 2 ^ 63)) (2 ^ 63) c.loop-triple.normals t n c.loop-triple.invariant.small c.face_normal-normal.ensures.small));
+      value = c.add_at_corners.ensures ∙ ap (λ ns. added_at_corners ns t n) c.loop-triple.invariant.value
+          ∙ ap (λ m. added_at_corners (normals_of points (triples_of (take i xs))) t m) normal ∙ more
+          ∙ ap (normals_of points) (sym (triples_more xs i c.loop-triple-test.true));
+      small = subst (λ ns. AllSmall ((i + 1) * (3 * 2 ^ 63)) ns) (sym c.add_at_corners.ensures)
+          (subst (λ (m : ℕ). AllSmall m (added_at_corners c.loop-triple.normals t n)) sum
+          (small_three (i * (3 * 2 ^ 63)) (2 ^ 63) c.loop-triple.normals t n c.loop-triple.invariant.small c.face_normal-normal.ensures.small));
       points = c.loop-triple.invariant.points;
       triples = c.loop-triple.invariant.triples;
     }

@@ -10,7 +10,8 @@ returns-clause-length c =
     let sums = c.deref-normal-items.result.now in
     let i = c.loop-normal.normal-index in
     let all : take i sums ≡ sums = take_all i sums (omega arith) in
-    ap length c.loop-normal.invariant.marks ∙ length-map (take i sums) (map (is_up c.args.op)) ∙ ap length all ∙ ap length c.loop-normal.invariant.sums ∙ length-normals mesh.points mesh.triples
+    ap length c.loop-normal.invariant.marks ∙ length-map (take i sums) (map (is_up c.args.op)) ∙ ap length all ∙ ap length c.loop-normal.invariant.sums
+    ∙ length-normals mesh.points mesh.triples
 
 pub returns-in-Some-clause-length : goal.returns-in-Some-clause-length
 returns-in-Some-clause-length c =

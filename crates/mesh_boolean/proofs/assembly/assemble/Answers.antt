@@ -1,14 +1,10 @@
-use Rattle.std.proofs.Common.{rules, ◌≡◌, sym, subst, ◌∙◌}
-use Rattle.side_terms.specs.Sides.{Side}
+use Rattle.std.proofs.Common.{rules, ◌∙◌}
 use Rattle.retained_verts.specs.Handed.{copies}
 use Rattle.filling_terms.specs.Filled.{all_filled, all_triples, forced_of, sources_of}
 use Rattle.source_faces.specs.Given.{AreGiven}
 use Rattle.mesh_boolean.proofs.Assembling.{is_assembled}
+use Rattle.mesh_boolean.proofs.SameSides.{same_sides}
 use Rattle.mesh_boolean.proofs.assembly.assemble.Goals as goal
-
--- what is so of two sides is so of the same two
-same_sides : (P : Side → Side → Type 0) (p q s t : Side) → s ≡ p → t ≡ q → P p q → P s t
-same_sides P p q s t first second there = subst (λ x. P x t) (sym first) (subst (P p) (sym second) there)
 
 pub triangles_of-requires : goal.triangles_of-requires
 triangles_of-requires c =

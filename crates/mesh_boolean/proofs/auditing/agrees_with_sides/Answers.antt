@@ -13,6 +13,7 @@ use Rattle.source_boundaries.specs.Given.{AreGiven}
 use Rattle.mesh_boolean.specs.Audited.{AgreesWithSides}
 use Rattle.mesh_boolean.proofs.Audited.{no}
 use Rattle.mesh_boolean.proofs.AuditedSides.{given}
+use Rattle.mesh_boolean.proofs.SameSides.{same_sides}
 use Rattle.mesh_boolean.proofs.auditing.agrees_with_sides.Goals as goal
 
 -- as many source faces as there are triangles
@@ -34,10 +35,6 @@ returns-then-not-are_below c =
     no (λ s. false≢true (sym c.if-not-are_below.true ∙ c.are_below.ensures.1
     (all_below (source_count p q) (length c.triples.result.now + length c.triples-2.result.now)
     c.args.outcome.now.source.items c.deref.result.now (sym count) (sym c.deref.ensures.value) s.faces)))
-
--- what is so of two sides is so of the same two
-same_sides : (P : Side → Side → Type 0) (p q s t : Side) → s ≡ p → t ≡ q → P p q → P s t
-same_sides P p q s t first second there = subst (λ x. P x t) (sym first) (subst (P p) (sym second) there)
 
 pub are_bounded-requires-clause-given : goal.are_bounded-requires-clause-given
 are_bounded-requires-clause-given c =

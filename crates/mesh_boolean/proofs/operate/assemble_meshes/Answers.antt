@@ -19,14 +19,17 @@ returns-clause-conserved g c =
 
 pub returns-clause-assembled : goal.returns-clause-assembled
 returns-clause-assembled g c =
-    all_of_meshes (tests g c.args.kernels.now) c.args.op c.args.p.now c.args.q.now c.in_ok-p.p c.in_ok-q.q (numbers c.in_ok-windings.windings c.in_ok-windings.hits) c.assemble.result
+    all_of_meshes (tests g c.args.kernels.now) c.args.op c.args.p.now c.args.q.now c.in_ok-p.p c.in_ok-q.q
+    (numbers c.in_ok-windings.windings c.in_ok-windings.hits) c.assemble.result
     (record { first = c.in_ok-p.ensures.value; second = c.in_ok-q.ensures.value; numbers = c.in_ok-windings.ensures.value }) c.assemble.ensures.assembled
 
 pub returns-clause-too_large : goal.returns-clause-too_large
 returns-clause-too_large g c =
-    too_large (tests g c.args.kernels.now) c.args.op c.args.p.now c.args.q.now c.in_ok-p.p c.in_ok-q.q (numbers c.in_ok-windings.windings c.in_ok-windings.hits) c.args.limits.now.halfedges c.assemble.result
+    too_large (tests g c.args.kernels.now) c.args.op c.args.p.now c.args.q.now c.in_ok-p.p c.in_ok-q.q (numbers c.in_ok-windings.windings c.in_ok-windings.hits)
+    c.args.limits.now.halfedges c.assemble.result
     (record { first = c.in_ok-p.ensures.value; second = c.in_ok-q.ensures.value; numbers = c.in_ok-windings.ensures.value }) c.assemble.ensures.too_large
 
 pub returns-clause-cost : goal.returns-clause-cost
 returns-clause-cost g c =
-    few_steps c.args.steps.now c.all_numbers.new.steps c.in_ok-p.p c.in_ok-q.q (first_side c.args.op c.args.p.now) (second_side c.args.q.now) c.in_ok-p.ensures.value c.in_ok-q.ensures.value c.in_ok-windings.ensures.cost
+    few_steps c.args.steps.now c.all_numbers.new.steps c.in_ok-p.p c.in_ok-q.q (first_side c.args.op c.args.p.now)
+    (second_side c.args.q.now) c.in_ok-p.ensures.value c.in_ok-q.ensures.value c.in_ok-windings.ensures.cost

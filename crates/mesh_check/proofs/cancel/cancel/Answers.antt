@@ -33,60 +33,77 @@ compared answer x y s t known is at = sym (known ∙ (λ k. vertices_cmp (is k) 
 
 -- the two lists, read up to two places
 abbrev AreRead : (ones others : List Oriented) (i j : ℕ) (old left : List Bool) → Type 0
-AreRead ones others i j old left = (es : List (ℕ × ℕ)) (key : ℕ → ℕ) (k : ℕ) → AreWays es key k (halves_of ones) (halves_of others) → AreMarked es key k old → IsRead es key k (halves_of ones) (halves_of others) i j old left
+AreRead ones others i j old left =
+    (es : List (ℕ × ℕ)) (key : ℕ → ℕ) (k : ℕ) → AreWays es key k (halves_of ones) (halves_of others) → AreMarked es key k old →
+    IsRead es key k (halves_of ones) (halves_of others) i j old left
 
 -- the lesser edge is passed over, in the first list or in the second
-one_passed : (ones others : List Oriented) (i j : ℕ) (old left : List Bool) → i < length ones → j < length others → is_lesser (edge_of (vertices_of (get_or ones i none))) (edge_of (vertices_of (get_or others j none))) ≡ true
+one_passed : (ones others : List Oriented) (i j : ℕ) (old left : List Bool) → i < length ones → j < length others →
+    is_lesser (edge_of (vertices_of (get_or ones i none))) (edge_of (vertices_of (get_or others j none))) ≡ true
     → AreRead ones others i j old left → AreRead ones others (i + 1) j old left
 one_passed ones others i j old left low below less read es key k ways marked =
-    first_read es key k (halves_of ones) (halves_of others) i j old left (ways_known es key k (halves_of ones) (halves_of others) ways) (below_halves ones i low) (below_halves others j below)
+    first_read es key k (halves_of ones) (halves_of others) i j old left (ways_known es key k (halves_of ones) (halves_of others) ways)
+    (below_halves ones i low) (below_halves others j below)
     ((λ n. is_lesser (ends_here ones i low n) (ends_here others j below n)) ∙ less) (read es key k ways marked)
 
-other_passed : (ones others : List Oriented) (i j : ℕ) (old left : List Bool) → i < length ones → j < length others → is_lesser (edge_of (vertices_of (get_or others j none))) (edge_of (vertices_of (get_or ones i none))) ≡ true
+other_passed : (ones others : List Oriented) (i j : ℕ) (old left : List Bool) → i < length ones → j < length others →
+    is_lesser (edge_of (vertices_of (get_or others j none))) (edge_of (vertices_of (get_or ones i none))) ≡ true
     → AreRead ones others i j old left → AreRead ones others i (j + 1) old left
 other_passed ones others i j old left low below less read es key k ways marked =
-    second_read es key k (halves_of ones) (halves_of others) i j old left (ways_known es key k (halves_of ones) (halves_of others) ways) (below_halves ones i low) (below_halves others j below)
+    second_read es key k (halves_of ones) (halves_of others) i j old left (ways_known es key k (halves_of ones) (halves_of others) ways)
+    (below_halves ones i low) (below_halves others j below)
     ((λ n. is_lesser (ends_here others j below n) (ends_here ones i low n)) ∙ less) (read es key k ways marked)
 
 -- an edge of both lists takes both marks
-both_gone : (ones others : List Oriented) (i j : ℕ) (old left : List Bool) → i < length ones → j < length others → edge_of (vertices_of (get_or others j none)) ≡ edge_of (vertices_of (get_or ones i none)) → length left ≡ length old
+both_gone : (ones others : List Oriented) (i j : ℕ) (old left : List Bool) → i < length ones → j < length others →
+    edge_of (vertices_of (get_or others j none)) ≡ edge_of (vertices_of (get_or ones i none)) → length left ≡ length old
     → AreRead ones others i j old left → AreRead ones others (i + 1) (j + 1) old (set (set left (get_or ones i none).place false) (get_or others j none).place false)
 both_gone ones others i j old left low below same full read es key k ways marked =
     subst (λ m. IsRead es key k (halves_of ones) (halves_of others) (i + 1) (j + 1) old (set (set left m false) (get_or others j none).place false)) (place_here ones i low)
     (subst (λ m. IsRead es key k (halves_of ones) (halves_of others) (i + 1) (j + 1) old (set (set left (half_at (halves_of ones) i) false) m false)) (place_here others j below)
-    (both_read es key k (halves_of ones) (halves_of others) i j old left (ways_known es key k (halves_of ones) (halves_of others) ways) (below_halves ones i low) (below_halves others j below)
+    (both_read es key k (halves_of ones) (halves_of others) i j old left (ways_known es key k (halves_of ones) (halves_of others) ways)
+    (below_halves ones i low) (below_halves others j below)
     (ends_here others j below ∙ same ∙ sym (ends_here ones i low)) (full ∙ marked.full) (read es key k ways marked)))
 
 pub loop-i-init : goal.loop-i-init
 loop-i-init c = record {
   full = refl;
-  read = λ es key k ways marked. none_read es key k (halves_of c.args.ones.now) (halves_of c.args.others.now) c.args.left.items (ways_known es key k (halves_of c.args.ones.now) (halves_of c.args.others.now) ways) marked;
+  read = λ es key k ways marked. none_read es key k (halves_of c.args.ones.now) (halves_of c.args.others.now) c.args.left.items
+      (ways_known es key k (halves_of c.args.ones.now) (halves_of c.args.others.now) ways) marked;
 }
 
 pub loop-i-preserved-in-Less : goal.loop-i-preserved-in-Less
 loop-i-preserved-in-Less c = record {
   full = c.loop-i.invariant.full;
-  read = other_passed c.args.ones.now c.args.others.now c.loop-i.i c.loop-i.j c.args.left.items c.loop-i.left.items c.loop-i-test.true c.if-j-others.true less c.loop-i.invariant.read;
+  read = other_passed c.args.ones.now c.args.others.now c.loop-i.i c.loop-i.j c.args.left.items c.loop-i.left.items c.loop-i-test.true c.if-j-others.true less
+      c.loop-i.invariant.read;
 }
   where
     less : is_lesser (edge_of (vertices_of (get_or c.args.others.now c.loop-i.j none))) (edge_of (vertices_of (get_or c.args.ones.now c.loop-i.i none))) ≡ true
-    less = edge_less (vertices_of (get_or c.args.others.now c.loop-i.j none)) (vertices_of (get_or c.args.ones.now c.loop-i.i none)) c.vertices.ensures.narrow c.vertices-in-loop-i.ensures.narrow
+    less =
+        edge_less (vertices_of (get_or c.args.others.now c.loop-i.j none)) (vertices_of (get_or c.args.ones.now c.loop-i.i none)) c.vertices.ensures.narrow
+        c.vertices-in-loop-i.ensures.narrow
         (compared c.cmp.result c.vertices.result c.vertices-in-loop-i.result _ _ c.cmp.ensures c.vertices.ensures.value c.vertices-in-loop-i.ensures.value ∙ c.in-Less.is)
 
 pub loop-i-preserved : goal.loop-i-preserved
 loop-i-preserved c = record {
   full = c.loop-i.invariant.full;
-  read = one_passed c.args.ones.now c.args.others.now c.loop-i.i c.loop-i.j c.args.left.items c.loop-i.left.items c.loop-i-test.true c.if-j-others.true more c.loop-i.invariant.read;
+  read = one_passed c.args.ones.now c.args.others.now c.loop-i.i c.loop-i.j c.args.left.items c.loop-i.left.items c.loop-i-test.true c.if-j-others.true more
+      c.loop-i.invariant.read;
 }
   where
     more : is_lesser (edge_of (vertices_of (get_or c.args.ones.now c.loop-i.i none))) (edge_of (vertices_of (get_or c.args.others.now c.loop-i.j none))) ≡ true
-    more = edge_more (vertices_of (get_or c.args.others.now c.loop-i.j none)) (vertices_of (get_or c.args.ones.now c.loop-i.i none)) c.vertices.ensures.narrow c.vertices-in-loop-i.ensures.narrow
+    more =
+        edge_more (vertices_of (get_or c.args.others.now c.loop-i.j none)) (vertices_of (get_or c.args.ones.now c.loop-i.i none)) c.vertices.ensures.narrow
+        c.vertices-in-loop-i.ensures.narrow
         (compared c.cmp.result c.vertices.result c.vertices-in-loop-i.result _ _ c.cmp.ensures c.vertices.ensures.value c.vertices-in-loop-i.ensures.value ∙ c.in-Greater.is)
 
 pub loop-i-preserved-in-Equal : goal.loop-i-preserved-in-Equal
 loop-i-preserved-in-Equal c = record {
-  full = length-set (set c.loop-i.left.items (get_or c.args.ones.now c.loop-i.i none).place false) (get_or c.args.others.now c.loop-i.j none).place false ∙ length-set c.loop-i.left.items (get_or c.args.ones.now c.loop-i.i none).place false ∙ c.loop-i.invariant.full;
-  read = both_gone c.args.ones.now c.args.others.now c.loop-i.i c.loop-i.j c.args.left.items c.loop-i.left.items c.loop-i-test.true c.if-j-others.true same c.loop-i.invariant.full c.loop-i.invariant.read;
+  full = length-set (set c.loop-i.left.items (get_or c.args.ones.now c.loop-i.i none).place false) (get_or c.args.others.now c.loop-i.j none).place false
+      ∙ length-set c.loop-i.left.items (get_or c.args.ones.now c.loop-i.i none).place false ∙ c.loop-i.invariant.full;
+  read = both_gone c.args.ones.now c.args.others.now c.loop-i.i c.loop-i.j c.args.left.items c.loop-i.left.items c.loop-i-test.true c.if-j-others.true same
+      c.loop-i.invariant.full c.loop-i.invariant.read;
 }
   where
     same : edge_of (vertices_of (get_or c.args.others.now c.loop-i.j none)) ≡ edge_of (vertices_of (get_or c.args.ones.now c.loop-i.i none))
@@ -95,10 +112,14 @@ loop-i-preserved-in-Equal c = record {
 
 pub returns-else-j-others : goal.returns-else-j-others
 returns-else-j-others c es key k ways differ marked =
-    let ended : (length (halves_of c.args.ones.now) ≤ c.loop-i.i) ⊎ (length (halves_of c.args.others.now) ≤ c.loop-i.j) = inr (omega (arith, c.if-j-others.false, length-map c.args.others.now as_half)) in
-    marked_more es key k (halves_of c.args.ones.now) (halves_of c.args.others.now) c.loop-i.i c.loop-i.j c.args.left.items c.loop-i.left.items ways differ ended c.loop-i.invariant.full marked (c.loop-i.invariant.read es key k ways marked)
+    let ended : (length (halves_of c.args.ones.now) ≤ c.loop-i.i) ⊎ (length (halves_of c.args.others.now) ≤ c.loop-i.j) =
+    inr (omega (arith, c.if-j-others.false, length-map c.args.others.now as_half)) in
+    marked_more es key k (halves_of c.args.ones.now) (halves_of c.args.others.now) c.loop-i.i c.loop-i.j c.args.left.items c.loop-i.left.items ways differ ended
+    c.loop-i.invariant.full marked (c.loop-i.invariant.read es key k ways marked)
 
 pub returns-after-loop-i : goal.returns-after-loop-i
 returns-after-loop-i c es key k ways differ marked =
-    let ended : (length (halves_of c.args.ones.now) ≤ c.loop-i.i) ⊎ (length (halves_of c.args.others.now) ≤ c.loop-i.j) = inl (omega (arith, c.loop-i-test.false, length-map c.args.ones.now as_half)) in
-    marked_more es key k (halves_of c.args.ones.now) (halves_of c.args.others.now) c.loop-i.i c.loop-i.j c.args.left.items c.loop-i.left.items ways differ ended c.loop-i.invariant.full marked (c.loop-i.invariant.read es key k ways marked)
+    let ended : (length (halves_of c.args.ones.now) ≤ c.loop-i.i) ⊎ (length (halves_of c.args.others.now) ≤ c.loop-i.j) =
+    inl (omega (arith, c.loop-i-test.false, length-map c.args.ones.now as_half)) in
+    marked_more es key k (halves_of c.args.ones.now) (halves_of c.args.others.now) c.loop-i.i c.loop-i.j c.args.left.items c.loop-i.left.items ways differ ended
+    c.loop-i.invariant.full marked (c.loop-i.invariant.read es key k ways marked)

@@ -33,7 +33,8 @@ oriented_ways-requires c k d low =
     omega (arith, length-map c.args.triples.now triple_of, length-map ts (bucket_of_triple n), bucket_members _ n c.loop-k.k c.bucket.result.now c.loop-k-test.true bucket k d low)
 
 -- the ways of the bucket that is read
-these_ways : (c : goal.After-deref-in-loop-k-2) → AreWays (orientation_edges (triples_of c.args.triples.now)) (bucket_of_end (length c.args.triples.now + 1)) c.loop-k.k (halves_of c.deref-in-loop-k.result.now) (halves_of c.deref-in-loop-k-2.result.now)
+these_ways : (c : goal.After-deref-in-loop-k-2) → AreWays (orientation_edges (triples_of c.args.triples.now)) (bucket_of_end (length c.args.triples.now + 1))
+    c.loop-k.k (halves_of c.deref-in-loop-k.result.now) (halves_of c.deref-in-loop-k-2.result.now)
 these_ways c =
     ways_read (triples_of c.args.triples.now) (length c.args.triples.now + 1) c.loop-k.k _ _ _ _ _ c.requires.triangles c.loop-k-test.true
     (read_bucket _ _ _ _ _ _ (c.deref.ensures.value ∙ c.in_ok-numbers.ensures) c.in_ok-buckets.ensures c.bucket.ensures) c.in_ok-ones.ensures.ones c.in_ok-ones.ensures.others
@@ -41,16 +42,31 @@ these_ways c =
 
 pub cancel-left-requires-clause-ones : goal.cancel-left-requires-clause-ones
 cancel-left-requires-clause-ones c k d low =
-    omega (arith, c.loop-k.invariant.full, edge_count c.args.triples.now, length-map c.args.triples.now triple_of, ones_placed (triples_of c.args.triples.now) (bucket_of_end (length c.args.triples.now + 1)) c.loop-k.k _ _ (these_ways c) k d low)
+    omega (
+      arith,
+      c.loop-k.invariant.full,
+      edge_count c.args.triples.now,
+      length-map c.args.triples.now triple_of,
+      ones_placed (triples_of c.args.triples.now)
+          (bucket_of_end (length c.args.triples.now + 1)) c.loop-k.k _ _ (these_ways c) k d low,
+    )
 
 pub cancel-left-requires-clause-others : goal.cancel-left-requires-clause-others
 cancel-left-requires-clause-others c k d low =
-    omega (arith, c.loop-k.invariant.full, edge_count c.args.triples.now, length-map c.args.triples.now triple_of, others_placed (triples_of c.args.triples.now) (bucket_of_end (length c.args.triples.now + 1)) c.loop-k.k _ _ (these_ways c) k d low)
+    omega (
+      arith,
+      c.loop-k.invariant.full,
+      edge_count c.args.triples.now,
+      length-map c.args.triples.now triple_of,
+      others_placed (triples_of c.args.triples.now)
+          (bucket_of_end (length c.args.triples.now + 1)) c.loop-k.k _ _ (these_ways c) k d low,
+    )
 
 pub loop-k-init : goal.loop-k-init
 loop-k-init c =
     let es = orientation_edges (triples_of c.args.triples.now) in
-    let all : c.in_ok-left.left.items ≡ replicate (length es) true = c.in_ok-left.ensures.items_if_clones_equal (λ y same. same) ∙ ap (λ n. replicate n true) (sym (edge_count c.args.triples.now)) in
+    let all : c.in_ok-left.left.items ≡ replicate (length es) true = c.in_ok-left.ensures.items_if_clones_equal (λ y same. same)
+    ∙ ap (λ n. replicate n true) (sym (edge_count c.args.triples.now)) in
     subst (AreMarked es (bucket_of_end (length c.args.triples.now + 1)) 0) (sym all) (marks_none es (bucket_of_end (length c.args.triples.now + 1)))
 
 pub loop-k-preserved : goal.loop-k-preserved
@@ -67,4 +83,5 @@ returns c =
     let es = orientation_edges ts in
     let n : ℕ = length c.args.triples.now + 1 in
     let all : c.loop-k.k ≡ n = omega (arith, c.loop-k-test.false, c.loop-k.auto.k-end) in
-    marks_all es (bucket_of_end n) n c.loop-k.left.items (subst (λ m. AreMarked es (bucket_of_end n) m c.loop-k.left.items) all c.loop-k.invariant) (λ a. mod_below (a / 4294967296) n (omega arith)) ∙ kept_marks_left ts c.requires.triangles
+    marks_all es (bucket_of_end n) n c.loop-k.left.items (subst (λ m. AreMarked es (bucket_of_end n) m c.loop-k.left.items) all c.loop-k.invariant)
+    (λ a. mod_below (a / 4294967296) n (omega arith)) ∙ kept_marks_left ts c.requires.triangles

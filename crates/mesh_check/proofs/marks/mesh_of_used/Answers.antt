@@ -19,7 +19,8 @@ without_unused-requires c =
 pub returns-in-Ok-clause-points : goal.returns-in-Ok-clause-points
 returns-in-Ok-clause-points c =
     let same : c.in_ok-points.points.items ≡ c.args.points.now = search rules in
-    c.in-Ok.ensures.points ∙ ap (λ (s : Soup). s.points) (soup_is c.args.points.now c.in_ok-points.points.items (triples_of c.args.triples.items) c.in_ok-soup.soup c.in_ok-soup.ensures same)
+    c.in-Ok.ensures.points ∙ ap (λ (s : Soup). s.points)
+    (soup_is c.args.points.now c.in_ok-points.points.items (triples_of c.args.triples.items) c.in_ok-soup.soup c.in_ok-soup.ensures same)
 
 pub returns-in-Ok-clause-triples : goal.returns-in-Ok-clause-triples
 returns-in-Ok-clause-triples c = c.in-Ok.ensures.triples ∙ ap (λ (s : Soup). s.triples) c.in_ok-soup.ensures

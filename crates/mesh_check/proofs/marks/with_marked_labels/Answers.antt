@@ -9,7 +9,12 @@ marked_labels-requires-clause-few c = omega (arith, c.in-Some.ensures.few, c.req
 
 pub with_labels-requires : goal.with_labels-requires
 with_labels-requires c =
-    omega (arith, ap length c.in_ok-marked_labels-in-Some.ensures, marked_few c.args.marks.now c.args.whole.now.triples c.args.kept.triples c.in-Some.labels.now c.requires.marks c.requires.count c.in-Some.ensures.few)
+    omega (
+      arith,
+      ap length c.in_ok-marked_labels-in-Some.ensures,
+      marked_few c.args.marks.now c.args.whole.now.triples c.args.kept.triples c.in-Some.labels.now
+          c.requires.marks c.requires.count c.in-Some.ensures.few,
+    )
 
 pub returns-in_ok-marked_labels-in-Some-clause-labels : goal.returns-in_ok-marked_labels-in-Some-clause-labels
 returns-in_ok-marked_labels-in-Some-clause-labels c =

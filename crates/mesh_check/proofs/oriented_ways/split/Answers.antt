@@ -38,7 +38,8 @@ loop-place-preserved c =
           }
       | else-one+then-one-2+in_ok-push-2 w ↦
           let same : c.if-one.ones.items ≡ ones = λ k. (w.ones-is k).items in
-          let more : c.if-one.others.items ≡ others ++ other ∷ [] = (λ k. (w.others-is k).items) ∙ w.in_ok-push-2.ensures.items ∙ ap (λ o. others ++ o ∷ []) w.turned_over.ensures in
+          let more : c.if-one.others.items ≡ others ++ other ∷ [] = (λ k. (w.others-is k).items) ∙ w.in_ok-push-2.ensures.items
+          ∙ ap (λ o. others ++ o ∷ []) w.turned_over.ensures in
           record {
             ones = left_out f bucket i 0 ones c.if-one.ones.items one low inv.ones same here (not_up one (λ less. omega (arith, less, w.if-one-2.true)));
             others = taken back bucket i 0 others c.if-one.others.items other low inv.others more there (up_from_second other w.if-one-2.true);
@@ -59,4 +60,5 @@ loop-place-preserved c =
 pub returns-clause-others : goal.returns-clause-others
 returns-clause-others c =
     let f : ℕ → Half = half_of (orientation_edges (triples_of c.args.triples.now)) in
-    c.loop-place.invariant.others ∙ ap (λ l. filter runs_up (map (λ h. turned (f h)) l)) (take_all c.loop-place.place-index c.args.bucket.now (omega (arith, c.loop-place-test.false))) ∙ ap (filter runs_up) (sym (map-map turned f c.args.bucket.now))
+    c.loop-place.invariant.others ∙ ap (λ l. filter runs_up (map (λ h. turned (f h)) l))
+    (take_all c.loop-place.place-index c.args.bucket.now (omega (arith, c.loop-place-test.false))) ∙ ap (filter runs_up) (sym (map-map turned f c.args.bucket.now))

@@ -15,7 +15,8 @@ none_goes m us same none mesh labels = reduced_itself m.points m.triples m.label
 found_here : (c : goal.After-has_no_opposites) → IsTrue c.has_no_opposites.result
     → reduced c.args.mesh.now.points c.args.mesh.now.triples c.args.mesh.now.labels
     ≡ record { points = c.args.mesh.now.points; triples = c.args.mesh.now.triples; labels = c.args.mesh.now.labels; unused = 0 }
-found_here c found = none_goes c.args.mesh.now c.twins.result.now.triples c.twins.ensures.triples (c.has_no_opposites.ensures found) c.twins.ensures.accepted.mesh c.labels.ensures.labels
+found_here c found =
+    none_goes c.args.mesh.now c.twins.result.now.triples c.twins.ensures.triples (c.has_no_opposites.ensures found) c.twins.ensures.accepted.mesh c.labels.ensures.labels
 
 pub returns-clause-points : goal.returns-clause-points
 returns-clause-points c = λ found. sym (ap (λ (s : Soup). s.points) (found_here c found))

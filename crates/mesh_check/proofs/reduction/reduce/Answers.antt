@@ -11,7 +11,8 @@ use Rattle.mesh_check.proofs.reduction.reduce.Goals as goal
 use Rattle.mesh_check.proofs.reduction.reduce.Goals.{After-drop-marks-then-len-triples}
 
 -- a mesh of which as many triples are kept as there are is its reduced mesh
-all_stay : (m : Mesh) (kept : List Triple) → kept ≡ kept_triples m.triples → length kept ≡ length m.triples → IsMesh (length m.points) m.triples → AreLabels (length m.triples) m.labels
+all_stay : (m : Mesh) (kept : List Triple) → kept ≡ kept_triples m.triples → length kept ≡ length m.triples → IsMesh (length m.points) m.triples →
+    AreLabels (length m.triples) m.labels
     → reduced m.points m.triples m.labels ≡ record { points = m.points; triples = m.triples; labels = m.labels; unused = 0 }
 all_stay m kept is count mesh labels =
     let ts = m.triples in
@@ -31,7 +32,8 @@ pub returns-then-is_plainly_reduced-clause-labels : goal.returns-then-is_plainly
 returns-then-is_plainly_reduced-clause-labels c = ap (λ (m : Mesh). m.labels) c.in_ok-clone.ensures.cases ∙ c.is_plainly_reduced.ensures.labels (search rules)
 
 pub returns-then-is_plainly_reduced-clause-apart : goal.returns-then-is_plainly_reduced-clause-apart
-returns-then-is_plainly_reduced-clause-apart c = subst NoOpposite (sym (ap (λ (m : Mesh). m.triples) c.in_ok-clone.ensures.cases)) (c.is_plainly_reduced.ensures.apart (search rules))
+returns-then-is_plainly_reduced-clause-apart c =
+    subst NoOpposite (sym (ap (λ (m : Mesh). m.triples) c.in_ok-clone.ensures.cases)) (c.is_plainly_reduced.ensures.apart (search rules))
 
 -- as many are kept as there are
 count_here : (c : After-drop-marks-then-len-triples)
@@ -40,7 +42,15 @@ count_here : (c : After-drop-marks-then-len-triples)
 count_here c =
     let kept = c.in_ok-triples.triples.items in
     let count : length (triples_of kept) ≡ length c.args.mesh.now.triples =
-    omega (arith, c.if-len-triples.true, c.len.ensures, c.in_ok-triples.triples.ok.0, length-map kept triple_of, length-map c.triples-2.result.now triple_of, ap length c.triples-2.ensures.value) in
+    omega (
+      arith,
+      c.if-len-triples.true,
+      c.len.ensures,
+      c.in_ok-triples.triples.ok.0,
+      length-map kept triple_of,
+      length-map c.triples-2.result.now triple_of,
+      ap length c.triples-2.ensures.value,
+    ) in
     all_stay c.args.mesh.now (triples_of kept) c.in_ok-triples.ensures count c.triples.ensures.accepted.mesh c.labels.ensures.labels
 
 pub returns-then-len-triples-clause-points : goal.returns-then-len-triples-clause-points
@@ -57,7 +67,8 @@ returns-then-len-triples-clause-apart c = apart_by c.args.mesh.now c.in_ok-clone
 
 pub returns-clause-apart : goal.returns-clause-apart
 returns-clause-apart c =
-    IfOk-weaker c.with_kept_labels.result _ _ (λ m is. apart_by c.args.mesh.now m.triples c.triples.ensures.accepted.mesh (is ∙ c.in_ok-kept.ensures.triples)) c.with_kept_labels.ensures.triples
+    IfOk-weaker c.with_kept_labels.result _ _ (λ m is. apart_by c.args.mesh.now m.triples c.triples.ensures.accepted.mesh (is ∙ c.in_ok-kept.ensures.triples))
+    c.with_kept_labels.ensures.triples
 
 pub with_kept_labels-requires-clause-known : goal.with_kept_labels-requires-clause-known
 with_kept_labels-requires-clause-known c =

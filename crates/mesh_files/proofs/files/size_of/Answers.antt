@@ -12,7 +12,9 @@ returns-in_default-clause-meets g c =
 pub returns-clause-meets : goal.returns-clause-meets
 returns-clause-meets g c =
     let e = c.in-Ok.ensures in
-    IfErr-weaker c.size_within.result _ _ (λ stop. size_refused c.args.limits.now c.args.name.now _ _ c.file_bytes-most.result c.in-Ok.size stop c.file_bytes-most.ensures.value e.told e.files (e.reads.ok refl) e.short e.writes e.length)
+    IfErr-weaker c.size_within.result _ _
+    (λ stop. size_refused c.args.limits.now c.args.name.now _ _ c.file_bytes-most.result c.in-Ok.size stop c.file_bytes-most.ensures.value e.told e.files
+    (e.reads.ok refl) e.short e.writes e.length)
     c.size_within.ensures.stop
 
 pub returns-clause-stop : goal.returns-clause-stop

@@ -7,4 +7,5 @@ use Rattle.mesh_make.proofs.lattice.boxes_triples.Goals as goal
 
 pub loop-b-preserved : goal.loop-b-preserved
 loop-b-preserved c =
-    pushed_more (λ b. map (further (8 * b)) box_triples) c.loop-b.b [] (triples_of c.loop-b.triples.items) (triples_of c.push_box.new.triples.items) c.loop-b.invariant c.in_ok-push_box.ensures
+    pushed_more (λ b. map (further (8 * b)) box_triples) c.loop-b.b [] (triples_of c.loop-b.triples.items) (triples_of c.push_box.new.triples.items)
+    c.loop-b.invariant c.in_ok-push_box.ensures

@@ -6,7 +6,8 @@ use Rattle.mesh_make.proofs.lattice.push_box.Goals as goal
 -- the triangles of a box as they are written
 abbrev rows : List (List ℕ)
 rows =
-    (0 ∷ 3 ∷ 1 ∷ []) ∷ (0 ∷ 2 ∷ 3 ∷ []) ∷ (4 ∷ 5 ∷ 7 ∷ []) ∷ (4 ∷ 7 ∷ 6 ∷ []) ∷ (0 ∷ 1 ∷ 4 ∷ []) ∷ (1 ∷ 5 ∷ 4 ∷ []) ∷ (1 ∷ 3 ∷ 7 ∷ []) ∷ (1 ∷ 7 ∷ 5 ∷ []) ∷ (3 ∷ 2 ∷ 6 ∷ []) ∷ (3 ∷ 6 ∷ 7 ∷ []) ∷ (0 ∷ 4 ∷ 6 ∷ []) ∷ (0 ∷ 6 ∷ 2 ∷ []) ∷ []
+    (0 ∷ 3 ∷ 1 ∷ []) ∷ (0 ∷ 2 ∷ 3 ∷ []) ∷ (4 ∷ 5 ∷ 7 ∷ []) ∷ (4 ∷ 7 ∷ 6 ∷ []) ∷ (0 ∷ 1 ∷ 4 ∷ []) ∷ (1 ∷ 5 ∷ 4 ∷ []) ∷ (1 ∷ 3 ∷ 7 ∷ []) ∷ (1 ∷ 7 ∷ 5 ∷ []) ∷
+    (3 ∷ 2 ∷ 6 ∷ []) ∷ (3 ∷ 6 ∷ 7 ∷ []) ∷ (0 ∷ 4 ∷ 6 ∷ []) ∷ (0 ∷ 6 ∷ 2 ∷ []) ∷ []
 
 pub returns : goal.returns
 returns c =

@@ -15,4 +15,5 @@ returns-clause-refused c =
     c.is_flat_box.ensures ∙ ap (λ l. is_flat_box l c.row_of-high.result) c.row_of-low.ensures.value ∙ ap (is_flat_box c.args.low) c.row_of-high.ensures.value in
     let rows : c.box_rows.result ≡ box_points c.args.low c.args.high =
     c.box_rows.ensures ∙ ap (λ l. box_points l c.row_of-high.result) c.row_of-low.ensures.value ∙ ap (box_points c.args.low) c.row_of-high.ensures.value in
-    same_refused c.args.limits.now c.is_flat_box.result (is_flat_box c.args.low c.args.high) c.box_rows.result (box_points c.args.low c.args.high) 12 c.solid.result flat rows c.solid.ensures.refused
+    same_refused c.args.limits.now c.is_flat_box.result (is_flat_box c.args.low c.args.high) c.box_rows.result (box_points c.args.low c.args.high) 12
+    c.solid.result flat rows c.solid.ensures.refused

@@ -20,10 +20,13 @@ returns-clause-refused c =
     let h : to_z w32 (of_z w32 height) ≡ height = omega (arith, ints, c.ranges.height.sfits) in
     let t : to_z w64 (of_z w64 c.from.result) ≡ size = omega (arith, ints, c.from.ensures, c.ranges.size.sfits) in
     let u : to_z w64 (of_z w64 c.from-2.result) ≡ height = omega (arith, ints, c.from-2.ensures, c.ranges.height.sfits) in
-    let flat : c.are_flat.result ≡ (int_le size (pos 0) || int_le height (pos 0)) = c.are_flat.ensures ∙ ap (λ z. int_le z (pos 0) || int_le (to_z w32 (of_z w32 height)) (pos 0)) s ∙ ap (λ z. int_le size (pos 0) || int_le z (pos 0)) h in
+    let flat : c.are_flat.result ≡ (int_le size (pos 0) || int_le height (pos 0)) = c.are_flat.ensures
+    ∙ ap (λ z. int_le z (pos 0) || int_le (to_z w32 (of_z w32 height)) (pos 0)) s ∙ ap (λ z. int_le size (pos 0) || int_le z (pos 0)) h in
     let rows : c.prism_rows-rows.result ≡ prism_points at size height =
-    c.prism_rows-rows.ensures ∙ ap (λ z. prism_points c.row_of.result z (to_z w64 (of_z w64 c.from-2.result))) t ∙ ap (prism_points c.row_of.result size) u ∙ ap (λ l. prism_points l size height) c.row_of.ensures.value in
-    same_refused c.args.limits.now c.are_flat.result (int_le size (pos 0) || int_le height (pos 0)) c.prism_rows-rows.result (prism_points at size height) 8 c.solid.result flat rows c.solid.ensures.refused
+    c.prism_rows-rows.ensures ∙ ap (λ z. prism_points c.row_of.result z (to_z w64 (of_z w64 c.from-2.result))) t ∙ ap (prism_points c.row_of.result size) u
+    ∙ ap (λ l. prism_points l size height) c.row_of.ensures.value in
+    same_refused c.args.limits.now c.are_flat.result (int_le size (pos 0) || int_le height (pos 0)) c.prism_rows-rows.result (prism_points at size height) 8
+    c.solid.result flat rows c.solid.ensures.refused
 
 pub returns-clause-points : goal.returns-clause-points
 returns-clause-points c =
@@ -33,5 +36,6 @@ returns-clause-points c =
     let t : to_z w64 (of_z w64 c.from.result) ≡ size = omega (arith, ints, c.from.ensures, c.ranges.size.sfits) in
     let u : to_z w64 (of_z w64 c.from-2.result) ≡ height = omega (arith, ints, c.from-2.ensures, c.ranges.height.sfits) in
     let rows : c.prism_rows-rows.result ≡ prism_points at size height =
-    c.prism_rows-rows.ensures ∙ ap (λ z. prism_points c.row_of.result z (to_z w64 (of_z w64 c.from-2.result))) t ∙ ap (prism_points c.row_of.result size) u ∙ ap (λ l. prism_points l size height) c.row_of.ensures.value in
+    c.prism_rows-rows.ensures ∙ ap (λ z. prism_points c.row_of.result z (to_z w64 (of_z w64 c.from-2.result))) t ∙ ap (prism_points c.row_of.result size) u
+    ∙ ap (λ l. prism_points l size height) c.row_of.ensures.value in
     subst (λ rs. IfOk c.solid.result (λ m. m.points ≡ rs)) rows c.solid.ensures.points

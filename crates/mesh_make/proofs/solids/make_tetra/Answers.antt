@@ -18,7 +18,8 @@ returns-clause-refused c =
     let s : to_z w32 (of_z w32 size) ≡ size = omega (arith, ints, c.ranges.size.sfits) in
     let t : to_z w64 (of_z w64 c.from.result) ≡ size = omega (arith, ints, c.from.ensures, c.ranges.size.sfits) in
     let flat : c.is_flat.result ≡ int_le size (pos 0) = c.is_flat.ensures ∙ ap (λ z. int_le z (pos 0)) s in
-    let rows : c.tetra_rows-rows.result ≡ tetra_points at size = c.tetra_rows-rows.ensures ∙ ap (tetra_points c.row_of.result) t ∙ ap (λ l. tetra_points l size) c.row_of.ensures.value in
+    let rows : c.tetra_rows-rows.result ≡ tetra_points at size = c.tetra_rows-rows.ensures ∙ ap (tetra_points c.row_of.result) t
+    ∙ ap (λ l. tetra_points l size) c.row_of.ensures.value in
     same_refused c.args.limits.now c.is_flat.result (int_le size (pos 0)) c.tetra_rows-rows.result (tetra_points at size) 4 c.solid.result flat rows c.solid.ensures.refused
 
 pub returns-clause-points : goal.returns-clause-points
@@ -26,5 +27,6 @@ returns-clause-points c =
     let at = c.args.at in
     let size = c.args.size in
     let t : to_z w64 (of_z w64 c.from.result) ≡ size = omega (arith, ints, c.from.ensures, c.ranges.size.sfits) in
-    let rows : c.tetra_rows-rows.result ≡ tetra_points at size = c.tetra_rows-rows.ensures ∙ ap (tetra_points c.row_of.result) t ∙ ap (λ l. tetra_points l size) c.row_of.ensures.value in
+    let rows : c.tetra_rows-rows.result ≡ tetra_points at size = c.tetra_rows-rows.ensures ∙ ap (tetra_points c.row_of.result) t
+    ∙ ap (λ l. tetra_points l size) c.row_of.ensures.value in
     subst (λ rs. IfOk c.solid.result (λ m. m.points ≡ rs)) rows c.solid.ensures.points

@@ -37,7 +37,8 @@ triangle_volume-volume-requires c = record { below = below_at (length c.args.poi
 
 pub overflow_add-volume : goal.overflow_add-volume
 overflow_add-volume c =
-    fits_more (to_z w128 c.loop-triple.volume-bits) c.triangle_volume-volume.result c.loop-triple.triple-index (length c.args.triples.now) c.loop-triple.invariant.small c.triangle_volume-volume.ensures.small c.loop-triple-test.true c.requires.few
+    fits_more (to_z w128 c.loop-triple.volume-bits) c.triangle_volume-volume.result c.loop-triple.triple-index
+    (length c.args.triples.now) c.loop-triple.invariant.small c.triangle_volume-volume.ensures.small c.loop-triple-test.true c.requires.few
 
 pub loop-triple-preserved : goal.loop-triple-preserved
 loop-triple-preserved c =
@@ -49,6 +50,8 @@ loop-triple-preserved c =
     let kept = kept_more v d i (length triples) c.loop-triple.invariant.small c.triangle_volume-volume.ensures.small c.loop-triple-test.true c.requires.few in
     record {
       value =
-          kept ∙ ap (λ z. z +ℤ d) c.loop-triple.invariant.value ∙ ap (λ z. volume6_of points (triples_of (take i triples)) +ℤ z) c.triangle_volume-volume.ensures.value ∙ sym (volume_more points triples i c.loop-triple-test.true);
+          kept ∙ ap (λ z. z +ℤ d) c.loop-triple.invariant.value
+          ∙ ap (λ z. volume6_of points (triples_of (take i triples)) +ℤ z) c.triangle_volume-volume.ensures.value
+          ∙ sym (volume_more points triples i c.loop-triple-test.true);
       small = subst (λ z. IsWithin z (6 * 2 ^ 90 * (i + 1))) (sym kept) (within_more v d i c.loop-triple.invariant.small c.triangle_volume-volume.ensures.small);
     }

@@ -18,5 +18,6 @@ returns-in_ok-insert-clause-count c = omega (arith, ap length c.in_ok-insert.ens
 
 pub returns-in_ok-insert-clause-lesser : goal.returns-in_ok-insert-clause-lesser
 returns-in_ok-insert-clause-lesser c = λ one.
-    let there : Contains c.insert.new.self.keys c.min.result = subst (λ ks. Contains ks c.min.result) (sym c.in_ok-insert.ensures.keys) (added_there c.args.doubts.now.keys c.min.result) in
+    let there : Contains c.insert.new.self.keys c.min.result = subst (λ ks. Contains ks c.min.result) (sym c.in_ok-insert.ensures.keys)
+    (added_there c.args.doubts.now.keys c.min.result) in
     record { other = c.twin.result; pair = c.twin.ensures; among = subst (Contains c.insert.new.self.keys) c.min.ensures there }

@@ -39,7 +39,14 @@ loop-half-preserved c =
     let halves = c.loop-half.invariant.halves in
     let listed = c.loop-half.invariant.listed in
     let low : half < 3 * length ts =
-    omega (arith, c.loop-half-test.true, ap length c.twins-twins.ensures.value, length-twins c.twins.result.now.triples c.twins.result.now.twins c.twins-twins.ensures.twinned, ap length c.twins.ensures.triples) in
+    omega (
+      arith,
+      c.loop-half-test.true,
+      ap length c.twins-twins.ensures.value,
+      length-twins c.twins.result.now.triples c.twins.result.now.twins
+          c.twins-twins.ensures.twinned,
+      ap length c.twins.ensures.triples,
+    ) in
     let twin_is : get_or c.twins-twins.result.now half 0 ≡ twin (all_edges ts) half =
     ap (λ l. get_or l half 0) c.twins-twins.ensures.value ∙ twin_listed ts c.twins.result.now.twins c.twins.ensures.twins half 0 low in
     elim c.if-half-twins.branch [
@@ -61,7 +68,8 @@ loop-half-preserved c =
                 }
             | else-half-twins-via-else-half-twins v ↦ record {
               halves = subst (AreHalves ts) (sym is) halves;
-              listed = subst (AreListedTo points ts (half + 1)) (sym is) (listed_passed points ts half old listed (λ less one. absurd (omega (arith, less, twin_is, v.if-half-twins.false))));
+              listed = subst (AreListedTo points ts (half + 1)) (sym is)
+                  (listed_passed points ts half old listed (λ less one. absurd (omega (arith, less, twin_is, v.if-half-twins.false))));
             }
           ]
     ]
@@ -91,5 +99,13 @@ returns-clause-lesser c =
     let m = c.args.mesh.now in
     let accepted = c.twins.ensures.accepted in
     let end : c.loop-half.half ≡ 3 * length m.triples =
-    omega (arith, c.loop-half-test.false, c.loop-half.auto.half-end, ap length c.twins-twins.ensures.value, length-twins c.twins.result.now.triples c.twins.result.now.twins c.twins-twins.ensures.twinned, ap length c.twins.ensures.triples) in
-    listed_all m.points m.triples c.loop-half.doubts.keys accepted.mesh.three accepted.closed (subst (λ n. AreListedTo m.points m.triples n c.loop-half.doubts.keys) end c.loop-half.invariant.listed)
+    omega (
+      arith,
+      c.loop-half-test.false,
+      c.loop-half.auto.half-end,
+      ap length c.twins-twins.ensures.value,
+      length-twins c.twins.result.now.triples c.twins.result.now.twins c.twins-twins.ensures.twinned,
+      ap length c.twins.ensures.triples,
+    ) in
+    listed_all m.points m.triples c.loop-half.doubts.keys accepted.mesh.three accepted.closed
+    (subst (λ n. AreListedTo m.points m.triples n c.loop-half.doubts.keys) end c.loop-half.invariant.listed)

@@ -29,5 +29,6 @@ returns c =
     let points = c.args.points.now in
     let first = start_low (length points) c.args.triples.now c.args.half c.start.result c.requires.half c.requires.below c.start.ensures in
     let last = end_low (length points) c.args.triples.now c.args.half c.end.result c.requires.half c.requires.below c.end.ensures in
-    compared points c.start.result c.end.result c.index-points-start.result c.index-points-end.result first last c.index-points-start.is c.index-points-end.is c.eq.result c.eq.ensures
+    compared points c.start.result c.end.result c.index-points-start.result c.index-points-end.result first last c.index-points-start.is c.index-points-end.is
+    c.eq.result c.eq.ensures
     ∙ (λ i. same_point (get_or points (c.start.ensures i) []) (get_or points (c.end.ensures i) []))

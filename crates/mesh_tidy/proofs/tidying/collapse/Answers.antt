@@ -42,8 +42,14 @@ collapse-requires-clause-can c =
     let ts = left_of s in
     let es = all_edges ts in
     let k = number_of s c.args.half in
-    let points = c.args.points.now in
-    (start es k, finish es k, third_vertex ts k, third_vertex ts (twin es k), can_at points s c.args.half (surface_good s (length points) (sym c.requires.points) c.requires.surface) c.requires.has c.requires.can)
+    let points = c.args.points.now in (
+      start es k,
+      finish es k,
+      third_vertex ts k,
+      third_vertex ts (twin es k),
+      can_at points s c.args.half
+          (surface_good s (length points) (sym c.requires.points) c.requires.surface) c.requires.has c.requires.can,
+    )
 
 pub doubt-requires-clause-has : goal.doubt-requires-clause-has
 doubt-requires-clause-has c =
@@ -52,7 +58,8 @@ doubt-requires-clause-has c =
     let k = number_of s c.args.half in
     let points = c.args.points.now in
     let can = can_at points s c.args.half (surface_good s (length points) (sym c.requires.points) c.requires.surface) c.requires.has c.requires.can in
-    let left = to_third s c.collapse.new.self c.args.half c.in_ok-collapse.ensures.collapsed (third_vertex ts k) (third_vertex ts (twin (all_edges ts) k)) can c.twin-to_third.result
+    let left = to_third s c.collapse.new.self c.args.half c.in_ok-collapse.ensures.collapsed (third_vertex ts k) (third_vertex ts (twin (all_edges ts) k)) can
+    c.twin-to_third.result
     (subst (λ x. IsTwin s x c.twin-to_third.result) c.previous.ensures c.twin-to_third.ensures) in
     left.there
 
@@ -63,7 +70,8 @@ doubt-requires-2-clause-has c =
     let k = number_of s c.args.half in
     let points = c.args.points.now in
     let can = can_at points s c.args.half (surface_good s (length points) (sym c.requires.points) c.requires.surface) c.requires.has c.requires.can in
-    let left = to_other s c.collapse.new.self c.args.half c.in_ok-collapse.ensures.collapsed (third_vertex ts k) (third_vertex ts (twin (all_edges ts) k)) can c.twin-twin.result c.twin-to_other.result c.twin-twin.ensures
+    let left = to_other s c.collapse.new.self c.args.half c.in_ok-collapse.ensures.collapsed (third_vertex ts k) (third_vertex ts (twin (all_edges ts) k)) can
+    c.twin-twin.result c.twin-to_other.result c.twin-twin.ensures
     (subst (λ x. IsTwin s x c.twin-to_other.result) c.next-2.ensures c.twin-to_other.ensures) in
     left.there
 
@@ -74,7 +82,8 @@ doubt-requires-3-clause-has c =
     let k = number_of s c.args.half in
     let points = c.args.points.now in
     let can = can_at points s c.args.half (surface_good s (length points) (sym c.requires.points) c.requires.surface) c.requires.has c.requires.can in
-    let left = after_third s c.collapse.new.self c.args.half c.in_ok-collapse.ensures.collapsed (third_vertex ts k) (third_vertex ts (twin (all_edges ts) k)) can c.twin-to_third.result
+    let left = after_third s c.collapse.new.self c.args.half c.in_ok-collapse.ensures.collapsed (third_vertex ts k) (third_vertex ts (twin (all_edges ts) k))
+    can c.twin-to_third.result
     (subst (λ x. IsTwin s x c.twin-to_third.result) c.previous.ensures c.twin-to_third.ensures) in
     subst (Has c.collapse.new.self) (sym c.next-3.ensures) left.there
 
@@ -85,7 +94,8 @@ doubt-requires-4-clause-has c =
     let k = number_of s c.args.half in
     let points = c.args.points.now in
     let can = can_at points s c.args.half (surface_good s (length points) (sym c.requires.points) c.requires.surface) c.requires.has c.requires.can in
-    let left = before_third s c.collapse.new.self c.args.half c.in_ok-collapse.ensures.collapsed (third_vertex ts k) (third_vertex ts (twin (all_edges ts) k)) can c.twin-from_third.result
+    let left = before_third s c.collapse.new.self c.args.half c.in_ok-collapse.ensures.collapsed (third_vertex ts k) (third_vertex ts (twin (all_edges ts) k))
+    can c.twin-from_third.result
     (subst (λ x. IsTwin s x c.twin-from_third.result) c.next.ensures c.twin-from_third.ensures) in
     subst (Has c.collapse.new.self) (sym c.previous-2.ensures) left.there
 
@@ -122,12 +132,19 @@ returns-clause-doubts c =
     let f = before_third s new h done p q can c.twin-from_third.result from_pair in
     after_doubted points c.requires.each s new h whole.marks good good_new c.requires.has c.requires.can done d0 d4 c.requires.doubts all
     (record { half = c.twin-to_third.result; there = a.there; is = a.is; doubted = λ one. still_lesser new d1 d4 c.twin-to_third.result second (c.in_ok-doubt.ensures.lesser one) })
-    (record { half = c.twin-to_other.result; there = b.there; is = b.is; doubted = λ one. still_lesser new d2 d4 c.twin-to_other.result third (c.in_ok-doubt-2.ensures.lesser one) })
+    (record {
+      half = c.twin-to_other.result;
+      there = b.there;
+      is = b.is;
+      doubted = λ one. still_lesser new d2 d4 c.twin-to_other.result third
+          (c.in_ok-doubt-2.ensures.lesser one);
+    })
     (record {
       half = next_half c.twin-to_third.result;
       there = e.there;
       is = e.is;
-      doubted = subst (λ x. lies_at_one points new.triples x ≡ true → HasLesser new d4 x) c.next-3.ensures (λ one. still_lesser new d3 d4 c.next-3.result last (c.in_ok-doubt-3.ensures.lesser one));
+      doubted = subst (λ x. lies_at_one points new.triples x ≡ true → HasLesser new d4 x) c.next-3.ensures
+          (λ one. still_lesser new d3 d4 c.next-3.result last (c.in_ok-doubt-3.ensures.lesser one));
     })
     (record {
       half = prev_half c.twin-from_third.result;

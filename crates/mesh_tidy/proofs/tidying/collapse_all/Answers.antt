@@ -40,11 +40,14 @@ loop-half-preserved c =
     let good = surface_good s (length points) (inv.vertices ∙ sym c.requires.points) inv.surface in
     let doubted : AreDoubted points s (half ∷ rest) = subst (AreDoubted points s) c.in-Some.ensures.removal inv.doubts in
     let halves : AreHalves s.triples (half ∷ rest) = subst (AreHalves s.triples) c.in-Some.ensures.removal inv.halves in
-    let Stays : Type 0 = (c.else-has.surface ≡ s) × (c.else-has.met.items ≡ c.loop-half.met.items) × (Has s half → is_collapsible points (left_of s) (number_of s half) ≡ true → ⊥) in
+    let Stays : Type 0 = (c.else-has.surface ≡ s) × (c.else-has.met.items ≡ c.loop-half.met.items) × (Has s half →
+    is_collapsible points (left_of s) (number_of s half) ≡ true → ⊥) in
     let stays : Stays = elim c.else-has.branch as (λ _. Stays) [
       | else-has-via-then-has+else-is_collapsible w ↦ (
         w.surface-is ∙ w.is_collapsible.ensures.surface,
-        ap (λ (v : Vec Bool Global). v.items) w.met-is ∙ with_items_is c.loop-half.met w.is_collapsible.new.met (omega (arith, ap length w.is_collapsible.ensures.marks, ap length w.deref_mut.ensures.value, c.loop-half.met.ok.0)) ∙ w.is_collapsible.ensures.marks ∙ w.deref_mut.ensures.value,
+        ap (λ (v : Vec Bool Global). v.items) w.met-is ∙ with_items_is c.loop-half.met w.is_collapsible.new.met
+            (omega (arith, ap length w.is_collapsible.ensures.marks, ap length w.deref_mut.ensures.value, c.loop-half.met.ok.0)) ∙ w.is_collapsible.ensures.marks
+            ∙ w.deref_mut.ensures.value,
         λ has can. both_ways w.is_collapsible.result w.if-is_collapsible.false (w.is_collapsible.ensures.value ∙ can),
       )
       | else-has-via-else-has w ↦ (w.surface-is, ap (λ (v : Vec Bool Global). v.items) w.met-is, λ has can. both_ways c.has.result w.if-has.false (c.has.ensures ∙ has.1))
@@ -104,11 +107,13 @@ pub collapse-requires-clause-has : goal.collapse-requires-clause-has
 collapse-requires-clause-has c =
     let s = c.loop-half.surface in
     let halves : AreHalves s.triples (c.in-Some.half ∷ c.pop_first.new.self.keys) = subst (AreHalves s.triples) c.in-Some.ensures.removal c.loop-half.invariant.halves in
-    subst (λ v. Has v c.in-Some.half) (sym c.is_collapsible.ensures.surface) (All-head (λ h. h < 3 * length s.triples) c.in-Some.half c.pop_first.new.self.keys halves, sym c.has.ensures ∙ c.if-has.true)
+    subst (λ v. Has v c.in-Some.half) (sym c.is_collapsible.ensures.surface)
+    (All-head (λ h. h < 3 * length s.triples) c.in-Some.half c.pop_first.new.self.keys halves, sym c.has.ensures ∙ c.if-has.true)
 
 pub collapse-requires-clause-can : goal.collapse-requires-clause-can
 collapse-requires-clause-can c =
-    subst (λ v. is_collapsible c.args.points.now (left_of v) (number_of v c.in-Some.half) ≡ true) (sym c.is_collapsible.ensures.surface) (sym c.is_collapsible.ensures.value ∙ c.if-is_collapsible.true)
+    subst (λ v. is_collapsible c.args.points.now (left_of v) (number_of v c.in-Some.half) ≡ true) (sym c.is_collapsible.ensures.surface)
+    (sym c.is_collapsible.ensures.value ∙ c.if-is_collapsible.true)
 
 pub collapse-requires-clause-doubts : goal.collapse-requires-clause-doubts
 collapse-requires-clause-doubts c =
@@ -148,7 +153,8 @@ loop-half-smaller-then-is_collapsible c =
     let least = least_is points c.requires.each s inv.surface.marks good half rest doubted has can (least_first half rest c.in-Some.ensures.all_above) in
     let done = subst (λ v. HasCollapsed v new half) c.is_collapsible.ensures.surface c.in_ok-collapse.ensures.collapsed in
     let fewer = two_fewer points c.requires.each c.args.surface s new c.loop-half.collapsed half inv.count good has can least done in
-    let less : 2 * length (left_of new) + length c.collapse.new.doubts.keys < 2 * length (left_of s) + length c.loop-half.doubts.keys = omega (arith, fewer, c.in_ok-collapse.ensures.count, ap length c.in-Some.ensures.removal) in
+    let less : 2 * length (left_of new) + length c.collapse.new.doubts.keys < 2 * length (left_of s) + length c.loop-half.doubts.keys =
+    omega (arith, fewer, c.in_ok-collapse.ensures.count, ap length c.in-Some.ensures.removal) in
     less
 
 pub loop-half-preserved-then-is_collapsible : goal.loop-half-preserved-then-is_collapsible
@@ -168,7 +174,9 @@ loop-half-preserved-then-is_collapsible c =
     let done = subst (λ v. HasCollapsed v new half) c.is_collapsible.ensures.surface c.in_ok-collapse.ensures.collapsed in
     let fewer = two_fewer points c.requires.each c.args.surface s new c.loop-half.collapsed half inv.count good has can least done in
     let met : (with_items c.loop-half.met c.is_collapsible.new.met).items ≡ c.loop-half.met.items =
-    with_items_is c.loop-half.met c.is_collapsible.new.met (omega (arith, ap length c.is_collapsible.ensures.marks, ap length c.deref_mut.ensures.value, c.loop-half.met.ok.0)) ∙ c.is_collapsible.ensures.marks ∙ c.deref_mut.ensures.value in
+    with_items_is c.loop-half.met c.is_collapsible.new.met
+    (omega (arith, ap length c.is_collapsible.ensures.marks, ap length c.deref_mut.ensures.value, c.loop-half.met.ok.0)) ∙ c.is_collapsible.ensures.marks
+    ∙ c.deref_mut.ensures.value in
     record {
       vertices = done.vertices ∙ inv.vertices;
       count = done.count ∙ inv.count;

@@ -65,13 +65,15 @@ collapse_all-requires-clause-doubts c =
     let whole = of.whole ∙ sym of.triples in
     let surface = c.vertices.ensures.surface in
     let closed : IsClosed (all_edges s.triples) = subst (λ ts. IsClosed (all_edges ts)) (sym of.triples) c.points.ensures.accepted.closed in
-    subst (λ ps. AreDoubted ps s c.in_ok-doubts.doubts.keys) (sym c.points-2.ensures.value) (first_doubted m.points s c.in_ok-doubts.doubts.keys surface.marks of.left whole closed listed)
+    subst (λ ps. AreDoubted ps s c.in_ok-doubts.doubts.keys) (sym c.points-2.ensures.value)
+    (first_doubted m.points s c.in_ok-doubts.doubts.keys surface.marks of.left whole closed listed)
 
 pub collapse_all-requires-clause-halves : goal.collapse_all-requires-clause-halves
 collapse_all-requires-clause-halves c = subst (λ ts. AreHalves ts c.in_ok-doubts.doubts.keys) (sym c.in_ok-surface.ensures.triples) c.in_ok-doubts.ensures.halves
 
 -- each triangle of the surface has its label
-labels_before : (m : Mesh) (s : Surface) → IsSurface s → s.triples ≡ m.triples → AreLabels (length m.triples) m.labels → All (λ mark. mark ≡ true) s.left → labels_of s m.labels ≡ m.labels
+labels_before : (m : Mesh) (s : Surface) → IsSurface s → s.triples ≡ m.triples → AreLabels (length m.triples) m.labels → All (λ mark. mark ≡ true) s.left →
+    labels_of s m.labels ≡ m.labels
 labels_before m s surface same labels all = picked_true s.left m.labels (omega (arith, surface.marks, ap length same, labels.one_each)) all
 
 pub into_mesh-requires-clause-sound : goal.into_mesh-requires-clause-sound
@@ -81,7 +83,8 @@ into_mesh-requires-clause-sound c =
     let first = c.in_ok-surface.surface in
     let last = c.in_ok-surface-2.surface in
     let n = c.in_ok-surface-2.collapsed in
-    sound_left m (subst (All (λ p. length p ≡ 3)) c.points.ensures.value c.read_points.ensures) c.points.ensures.accepted first last n of.whole (labels_before m first c.vertices.ensures.surface of.triples c.labels.ensures.labels of.left)
+    sound_left m (subst (All (λ p. length p ≡ 3)) c.points.ensures.value c.read_points.ensures) c.points.ensures.accepted first last n of.whole
+    (labels_before m first c.vertices.ensures.surface of.triples c.labels.ensures.labels of.left)
     (c.labels.ensures.labels.one_each ∙ sym (ap length of.triples)) (subst (λ ps. HasTidied ps first last n) c.points-2.ensures.value c.in_ok-surface-2.ensures.tidied)
 
 pub into_mesh-requires-clause-count : goal.into_mesh-requires-clause-count

@@ -11,4 +11,5 @@ returns c =
     let whole = take_all (128 - start) (drop start line) (omega (arith, length-drop start line, full)) in
     c.put_text.ensures.text
     ∙ ap (λ (text : List ℕ). c.args.page.now.items ++ text)
-    (whole ∙ c.word_before-start.ensures.text ∙ ap (λ (text : List ℕ). c.args.word.now ++ text) c.numbers_before-end.ensures.text ∙ sym (append_assoc c.args.word.now numbers (10 ∷ [])))
+    (whole ∙ c.word_before-start.ensures.text ∙ ap (λ (text : List ℕ). c.args.word.now ++ text) c.numbers_before-end.ensures.text
+    ∙ sym (append_assoc c.args.word.now numbers (10 ∷ [])))

@@ -25,7 +25,8 @@ loop-triple-preserved g c =
     record {
       free = e.free;
       idle = λ none. absurd (omega (arith, none, c.loop-triple-test.true));
-      passed = line_passed (λ t. face_line (triple_of t)) c.args.triples.now c.loop-triple.triple-index [] (get_or c.args.triples.now c.loop-triple.triple-index []) refl c.loop-triple-test.true _ _ _ _ _ _ _ _ _ _ inv.passed c.put_face.ensures e.passed;
+      passed = line_passed (λ t. face_line (triple_of t)) c.args.triples.now c.loop-triple.triple-index []
+          (get_or c.args.triples.now c.loop-triple.triple-index []) refl c.loop-triple-test.true _ _ _ _ _ _ _ _ _ _ inv.passed c.put_face.ensures e.passed;
       count = e.count.ok (search rules) ∙ inv.count;
       other = e.other ∙ inv.other;
       second = e.second ∙ inv.second;
@@ -37,4 +38,6 @@ loop-triple-preserved g c =
 pub returns-in_err-send_full-clause-stopped : goal.returns-in_err-send_full-clause-stopped
 returns-in_err-send_full-clause-stopped g c =
     let p = err_from_is_err_and c.from_residual.result c.from_residual.ensures.1 in
-    rw p.1 (line_stopped (λ t. face_line (triple_of t)) c.args.triples.now c.loop-triple.triple-index [] (get_or c.args.triples.now c.loop-triple.triple-index []) refl c.loop-triple-test.true _ _ _ _ _ _ _ _ _ c.loop-triple.invariant.passed c.put_face.ensures c.in_err-send_full.ensures.stopped)
+    rw p.1 (line_stopped (λ t. face_line (triple_of t)) c.args.triples.now c.loop-triple.triple-index []
+    (get_or c.args.triples.now c.loop-triple.triple-index []) refl c.loop-triple-test.true _ _ _ _ _ _ _ _ _ c.loop-triple.invariant.passed c.put_face.ensures
+    c.in_err-send_full.ensures.stopped)

@@ -10,7 +10,8 @@ abbrev pub invariant-loop-triple : goal.invariant-loop-triple
 invariant-loop-triple g l = record {
   free : array_vec_len l.page ≤ 3968;
   idle : length l.triples ≡ 0 → (l.sink ≡ l.initial.sink) × (l.page.items ≡ l.initial.page.items);
-  passed : Passed (flat_map (λ t. face_line (triple_of t)) (take l.triple-index l.triples)) l.initial.page.items l.page.items (g.K.Sink.told l.initial.sink) (g.K.Sink.told l.sink) (g.K.Sink.room l.initial.sink) (g.K.Sink.room l.sink);
+  passed : Passed (flat_map (λ t. face_line (triple_of t)) (take l.triple-index l.triples)) l.initial.page.items l.page.items (g.K.Sink.told l.initial.sink)
+      (g.K.Sink.told l.sink) (g.K.Sink.room l.initial.sink) (g.K.Sink.room l.sink);
   count : g.K.Sink.faults l.sink ≡ g.K.Sink.faults l.initial.sink;
   other : g.K.Sink.other l.sink ≡ g.K.Sink.other l.initial.sink;
   second : g.K.Sink.second l.sink ≡ g.K.Sink.second l.initial.sink;

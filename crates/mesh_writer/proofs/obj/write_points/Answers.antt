@@ -24,7 +24,8 @@ loop-point-preserved g c =
     record {
       free = e.free;
       idle = λ none. absurd (omega (arith, none, c.loop-point-test.true));
-      passed = line_passed (point_line c.args.digits) c.args.points.now c.loop-point.point-index c.point-item.result c.point-item.result c.point-item.is c.loop-point-test.true _ _ _ _ _ _ _ _ _ _ inv.passed c.put_point.ensures e.passed;
+      passed = line_passed (point_line c.args.digits) c.args.points.now c.loop-point.point-index c.point-item.result c.point-item.result c.point-item.is
+          c.loop-point-test.true _ _ _ _ _ _ _ _ _ _ inv.passed c.put_point.ensures e.passed;
       count = e.count.ok (search rules) ∙ inv.count;
       other = e.other ∙ inv.other;
       second = e.second ∙ inv.second;
@@ -36,4 +37,5 @@ loop-point-preserved g c =
 pub returns-in_err-send_full-clause-stopped : goal.returns-in_err-send_full-clause-stopped
 returns-in_err-send_full-clause-stopped g c =
     let p = err_from_is_err_and c.from_residual.result c.from_residual.ensures.1 in
-    rw p.1 (line_stopped (point_line c.args.digits) c.args.points.now c.loop-point.point-index c.point-item.result c.point-item.result c.point-item.is c.loop-point-test.true _ _ _ _ _ _ _ _ _ c.loop-point.invariant.passed c.put_point.ensures c.in_err-send_full.ensures.stopped)
+    rw p.1 (line_stopped (point_line c.args.digits) c.args.points.now c.loop-point.point-index c.point-item.result c.point-item.result c.point-item.is
+    c.loop-point-test.true _ _ _ _ _ _ _ _ _ c.loop-point.invariant.passed c.put_point.ensures c.in_err-send_full.ensures.stopped)

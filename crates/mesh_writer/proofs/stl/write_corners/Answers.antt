@@ -24,7 +24,8 @@ returns-in_err-write_corner-2-clause-broke g c =
     let h = c.args.page.now.items in
     let s = c.args.sink.now in
     let u = c.write_corner-2.new.sink in
-    rw p.1 (broke-longer g.K.Sink _ (corner t.2) h s u (broke-then g.K.Sink (corner t.0) (corner t.1) h _ s _ u c.in_ok-write_corner.ensures.wrote c.in_err-write_corner-2.ensures.broke))
+    rw p.1 (broke-longer g.K.Sink _ (corner t.2) h s u
+    (broke-then g.K.Sink (corner t.0) (corner t.1) h _ s _ u c.in_ok-write_corner.ensures.wrote c.in_err-write_corner-2.ensures.broke))
 
 -- the lines of the first two corners were written
 two : (g : _) (c : goal.After-write_corner-3 g) →

@@ -54,7 +54,8 @@ returns-clause-wrote g c =
     let h = c.args.page.now.items in
     let s = c.args.sink.now in
     let P : List ℕ → Type 0 = λ text. Wrote g.K.Sink text (h, c.write_two-2.new.page.items) (s, c.write_two-2.new.sink) in
-    let corners = wrote-then g.K.Sink head (corner_lines c.args.digits c.args.points.now t) h _ c.write_corners.new.page.items s _ c.write_corners.new.sink c.in_ok-write_two.ensures.wrote c.in_ok-write_corners.ensures.wrote in
+    let corners = wrote-then g.K.Sink head (corner_lines c.args.digits c.args.points.now t) h _ c.write_corners.new.page.items s _ c.write_corners.new.sink
+    c.in_ok-write_two.ensures.wrote c.in_ok-write_corners.ensures.wrote in
     on_ok_weaker c.write_two-2.result
     (λ w. subst P (parts c.args.digits c.args.points.now t) (wrote-then g.K.Sink _ (endloop ++ endfacet) h _ c.write_two-2.new.page.items s _ c.write_two-2.new.sink corners w))
     c.write_two-2.ensures.wrote
@@ -65,7 +66,8 @@ returns-clause-broke g c =
     let h = c.args.page.now.items in
     let s = c.args.sink.now in
     let P : List ℕ → Type 0 = λ text. Broke g.K.Sink text h (s, c.write_two-2.new.sink) in
-    let corners = wrote-then g.K.Sink head (corner_lines c.args.digits c.args.points.now t) h _ c.write_corners.new.page.items s _ c.write_corners.new.sink c.in_ok-write_two.ensures.wrote c.in_ok-write_corners.ensures.wrote in
+    let corners = wrote-then g.K.Sink head (corner_lines c.args.digits c.args.points.now t) h _ c.write_corners.new.page.items s _ c.write_corners.new.sink
+    c.in_ok-write_two.ensures.wrote c.in_ok-write_corners.ensures.wrote in
     on_err_weaker c.write_two-2.result
     (λ b. subst P (parts c.args.digits c.args.points.now t) (broke-then g.K.Sink _ (endloop ++ endfacet) h _ s _ c.write_two-2.new.sink corners b))
     c.write_two-2.ensures.broke

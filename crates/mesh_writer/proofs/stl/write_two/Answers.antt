@@ -10,7 +10,8 @@ returns-in_err-write_line-clause-broke g c =
 pub returns-clause-wrote : goal.returns-clause-wrote
 returns-clause-wrote g c =
     on_ok_weaker c.write_line-2.result
-    (λ w. wrote-then g.K.Sink c.args.first.now c.args.second.now c.args.page.now.items _ c.write_line-2.new.page.items c.args.sink.now _ c.write_line-2.new.sink c.in_ok-write_line.ensures.wrote w)
+    (λ w. wrote-then g.K.Sink c.args.first.now c.args.second.now c.args.page.now.items _ c.write_line-2.new.page.items c.args.sink.now _ c.write_line-2.new.sink
+    c.in_ok-write_line.ensures.wrote w)
     c.write_line-2.ensures.wrote
 
 pub returns-clause-broke : goal.returns-clause-broke

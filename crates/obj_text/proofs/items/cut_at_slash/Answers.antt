@@ -15,4 +15,5 @@ returns-in-Some-clause-before c =
 
 pub returns-in-Some-clause-after : goal.returns-in-Some-clause-after
 returns-in-Some-clause-after c =
-    ap (λ (t : List ℕ). Some t) (rw add-one at c.split_at-in-Some.ensures.back) ∙ ap (λ (r : List ℕ × Option (List ℕ)). r.1) (sym (cut_at-position is_slash c.args.text.now c.in-Some.place (sym c.in-Some.ensures)))
+    ap (λ (t : List ℕ). Some t) (rw add-one at c.split_at-in-Some.ensures.back)
+    ∙ ap (λ (r : List ℕ × Option (List ℕ)). r.1) (sym (cut_at-position is_slash c.args.text.now c.in-Some.place (sym c.in-Some.ensures)))

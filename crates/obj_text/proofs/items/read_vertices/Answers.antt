@@ -18,7 +18,8 @@ returns-in_err-read_three-clause-fault c =
     let all = face_vertices-three c.args.count c.args.number words (three_given f words x y z c.three.new.self given) in
     let p = err_from_is_err_and c.from_residual.result c.from_residual.ensures.1 in
     rw (p.1, p.2)
-    (IsFaultOf-all c.args.number (each_read f (x ∷ y ∷ z ∷ [])) (each_read f words) (face_vertices c.args.count c.args.number words) c.in_err-read_three.field-0.0 all (fault_of_three f words x y z c.three.new.self given) c.in_err-read_three.ensures.fault)
+    (IsFaultOf-all c.args.number (each_read f (x ∷ y ∷ z ∷ [])) (each_read f words) (face_vertices c.args.count c.args.number words)
+    c.in_err-read_three.field-0.0 all (fault_of_three f words x y z c.three.new.self given) c.in_err-read_three.ensures.fault)
 
 pub loop-item-init : goal.loop-item-init
 loop-item-init c =
@@ -28,7 +29,8 @@ loop-item-init c =
     let given = c.in-Some.ensures.three in
     let three = c.in_ok-read_three.ensures in
     record {
-      read = rw c.into_iter-item-iterator.ensures.into_iter_gives (left_after_three f words c.in-Some.first.now c.in-Some.second.now c.in-Some.third.now rest given c.read_three.new.vertices.items three.read);
+      read = rw c.into_iter-item-iterator.ensures.into_iter_gives
+          (left_after_three f words c.in-Some.first.now c.in-Some.second.now c.in-Some.third.now rest given c.read_three.new.vertices.items three.read);
       words = three_given f words c.in-Some.first.now c.in-Some.second.now c.in-Some.third.now rest given;
       vertices = omega (arith, three.three);
       below = three.below;
@@ -52,4 +54,6 @@ returns-in_err-push_vertex-clause-fault c =
     let f = item_vertex c.args.count in
     let old = c.loop-item.vertices.items in
     let p = err_from_is_err_and c.from_residual-in_err-push_vertex.result c.from_residual-in_err-push_vertex.ensures.1 in
-    rw (p.1, p.2) (fault_at c.args.count c.args.number c.args.words c.in-Some-item.item.now c.next.new.self old c.in_err-push_vertex.field-0.0 c.loop-item.invariant.words (c.loop-item.invariant.read ∙ ap (λ (ws : List (List ℕ)). read_after old (each_read f ws)) c.in-Some-item.ensures.steps) c.in_err-push_vertex.ensures.fault)
+    rw (p.1, p.2) (fault_at c.args.count c.args.number c.args.words c.in-Some-item.item.now c.next.new.self old c.in_err-push_vertex.field-0.0
+    c.loop-item.invariant.words (c.loop-item.invariant.read ∙ ap (λ (ws : List (List ℕ)). read_after old (each_read f ws)) c.in-Some-item.ensures.steps)
+    c.in_err-push_vertex.ensures.fault)

@@ -9,7 +9,8 @@ use Rattle.obj_text.proofs.Fronts.{all-front}
 use Rattle.obj_text.proofs.plain.word_coordinate.Goals as goal
 
 -- the plain bytes at the front are a word that reads
-begins_so : (k n : ℕ) (text word rest : List ℕ) (v w : ℤ) → w ≡ v → n ≡ position_or_len (λ c. not (is_plain c)) text → word ≡ take n text → rest ≡ drop n text → 0 < length word → coordinate k word ≡ Ok v → BeginsWord k text w rest
+begins_so : (k n : ℕ) (text word rest : List ℕ) (v w : ℤ) → w ≡ v → n ≡ position_or_len (λ c. not (is_plain c)) text → word ≡ take n text → rest ≡ drop n text →
+    0 < length word → coordinate k word ≡ Ok v → BeginsWord k text w rest
 begins_so k n text word rest v w same place front back some reads = rw same (record {
   word = word;
   split = sym (take-append-drop n text) ∙ ap (λ (t : List ℕ). t ++ drop n text) (sym front) ∙ ap (λ (t : List ℕ). word ++ t) (sym back);
@@ -24,4 +25,5 @@ pub returns-in-Ok : goal.returns-in-Ok
 returns-in-Ok c =
     let same : to_z w32 (of_z w32 c.in-Ok.value) ≡ c.in-Ok.value = search rules in
     let some : 0 < length c.split_at.result.0.now = search rules in
-    begins_so c.args.digits c.plain_len.result c.args.text.now c.split_at.result.0.now c.split_at.result.1.now c.in-Ok.value (to_z w32 (of_z w32 c.in-Ok.value)) same c.plain_len.ensures c.split_at.ensures.front c.split_at.ensures.back some c.in-Ok.ensures.value
+    begins_so c.args.digits c.plain_len.result c.args.text.now c.split_at.result.0.now c.split_at.result.1.now c.in-Ok.value (to_z w32 (of_z w32 c.in-Ok.value))
+    same c.plain_len.ensures c.split_at.ensures.front c.split_at.ensures.back some c.in-Ok.ensures.value

@@ -16,7 +16,8 @@ ends_otherwise line front last e f =
     other ∙ sym (is_continued-end line front last e ∙ ap (λ (b : Bool). b && not (begins_comment (words_of line))) other)
 
 pub returns-then-last-eq92 : goal.returns-then-last-eq92
-returns-then-last-eq92 c = ends_so c.args.line.now c.in-Some.field-0-1.now c.in-Some.last.now c.begins_comment.result c.in-Some.ensures.cases.0 c.if-last-eq92.true c.begins_comment.ensures
+returns-then-last-eq92 c =
+    ends_so c.args.line.now c.in-Some.field-0-1.now c.in-Some.last.now c.begins_comment.result c.in-Some.ensures.cases.0 c.if-last-eq92.true c.begins_comment.ensures
 
 pub returns-else-last-eq92 : goal.returns-else-last-eq92
 returns-else-last-eq92 c = ends_otherwise c.args.line.now c.in-Some.field-0-1.now c.in-Some.last.now c.in-Some.ensures.cases.0 c.if-last-eq92.false

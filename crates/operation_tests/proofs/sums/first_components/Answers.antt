@@ -10,4 +10,5 @@ use Rattle.operation_tests.proofs.sums.first_components.Goals as goal
 pub returns : goal.returns
 returns c =
     let m = reduced_mesh c.args.p.now in
-    IfOk-weaker c.reduced_components.result (λ n. n ≡ component_count (length m.points) (all_edges m.triples)) (λ n. n ≡ components_of (first_side c.args.op c.args.p.now)) (λ n is. is ∙ sym (first_counted c.args.op c.args.p.now)) c.reduced_components.ensures
+    IfOk-weaker c.reduced_components.result (λ n. n ≡ component_count (length m.points) (all_edges m.triples))
+    (λ n. n ≡ components_of (first_side c.args.op c.args.p.now)) (λ n is. is ∙ sym (first_counted c.args.op c.args.p.now)) c.reduced_components.ensures

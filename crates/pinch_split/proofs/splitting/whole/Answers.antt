@@ -19,4 +19,5 @@ returns-clause-there c =
     come_from c.of_twins.result.points c.args.points.now c.in_ok-from.from.items same c.in_ok-from.ensures
 
 pub returns-clause-back : goal.returns-clause-back
-returns-clause-back c = back (length c.args.points.now) c.of_twins.result.triples c.args.twins.triples c.in_ok-from.from.items c.requires c.of_twins.ensures.triples c.in_ok-from.ensures
+returns-clause-back c =
+    back (length c.args.points.now) c.of_twins.result.triples c.args.twins.triples c.in_ok-from.from.items c.requires c.of_twins.ensures.triples c.in_ok-from.ensures

@@ -10,4 +10,5 @@ returns-clause-back c files =
     writes_back c.args.limits.now (command c.args.words.now) c.file_bytes.ensures.lawful (few_digits c.args.words.now) c.operations_are_readable.ensures.readable files
 
 pub returns-clause-held : goal.returns-clause-held
-returns-clause-held c = keeps_meshes c.args.limits.now (command c.args.words.now) c.file_bytes.ensures.lawful (few_digits c.args.words.now) c.operations_are_readable.ensures.readable
+returns-clause-held c =
+    keeps_meshes c.args.limits.now (command c.args.words.now) c.file_bytes.ensures.lawful (few_digits c.args.words.now) c.operations_are_readable.ensures.readable

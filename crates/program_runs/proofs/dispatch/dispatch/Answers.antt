@@ -12,7 +12,8 @@ returns-in-Ok-None g c =
 
 pub returns-in-Err : goal.returns-in-Err
 returns-in-Err g c =
-    unread_words_run g.S.Shelf g.O.Sink g.E.Sink c.args.limits.now (command c.args.words.now) c.args.steps.now c.args.shelf.now c.args.out.now c.args.err.now c.tell_stop-in-Err.new.sink c.tell_stop-in-Err.ensures
+    unread_words_run g.S.Shelf g.O.Sink g.E.Sink c.args.limits.now (command c.args.words.now) c.args.steps.now c.args.shelf.now c.args.out.now c.args.err.now
+    c.tell_stop-in-Err.new.sink c.tell_stop-in-Err.ensures
 
 pub returns-in-CopyFile : goal.returns-in-CopyFile
 returns-in-CopyFile g c =

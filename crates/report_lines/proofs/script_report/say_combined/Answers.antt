@@ -15,7 +15,8 @@ use Rattle.report_lines.proofs.script_report.say_combined.Goals as goal
 -- the numbers as the line has them
 abbrev numbers_text : OperationCounts → Bytes
 numbers_text c =
-    codes ": kept " ++ decimal (slice_index c.kept 0) ++ codes " " ++ decimal (slice_index c.kept 1) ++ codes ", crossings " ++ decimal c.crossings ++ codes ", forced " ++ decimal c.forced
+    codes ": kept " ++ decimal (slice_index c.kept 0) ++ codes " " ++ decimal (slice_index c.kept 1) ++ codes ", crossings " ++ decimal c.crossings
+    ++ codes ", forced " ++ decimal c.forced
 
 pub returns : goal.returns
 returns g c =

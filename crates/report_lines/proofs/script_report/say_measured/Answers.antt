@@ -24,7 +24,8 @@ returns g c =
     let told : tail ≡ line_of (measures_text m) =
     c.as_slice-2.ensures.value
     ∙ (simp (to_z-of_z w64 measure.euler (search rules), to_z-of_z w128 measure.volume6 (search rules)) at c.measured_tail-tail.ensures)
-    ∙ (λ i. line_of (codes ", components " ++ decimal (is.components i) ++ codes ", euler " ++ signed_decimal (is.euler i) ++ codes ", volume6 " ++ signed_decimal (is.volume6 i))) in
+    ∙ (λ i. line_of (codes ", components " ++ decimal (is.components i) ++ codes ", euler " ++ signed_decimal (is.euler i) ++ codes ", volume6 "
+    ++ signed_decimal (is.volume6 i))) in
     let parts : Bytes → Bytes → Bytes = λ n s. n ++ (s ++ (tail ++ [])) in
     (λ i. parts (c.as_bytes.ensures.value i) (sized i)) ∙ two_before name (size_text m) (measures_text m) tail told in
     let takes : (m : Mesh) → IsMeasureOf m measure → Takes g.K.Sink (measure_line name m) _ _ c.say.result = λ m is.

@@ -12,10 +12,22 @@ pub kept-q_kept-requires-clause-few : goal.kept-q_kept-requires-clause-few
 kept-q_kept-requires-clause-few c = omega (arith, ap length c.deref-2.ensures.value, c.requires.w30, c.triples-q_triples.ensures.side.accepted.mesh.few_points)
 
 pub hit_count-requires-clause-few : goal.hit_count-requires-clause-few
-hit_count-requires-clause-few c = omega (arith, ap length c.deref-3.ensures.value, few_between c.args.p.now c.args.q.now c.args.hits.now.x12.items c.triples-p_triples.ensures.side c.triples-q_triples.ensures.side c.requires.x12)
+hit_count-requires-clause-few c =
+    omega (
+      arith,
+      ap length c.deref-3.ensures.value,
+      few_between c.args.p.now c.args.q.now c.args.hits.now.x12.items c.triples-p_triples.ensures.side
+          c.triples-q_triples.ensures.side c.requires.x12,
+    )
 
 pub hit_count-requires-2-clause-few : goal.hit_count-requires-2-clause-few
-hit_count-requires-2-clause-few c = omega (arith, ap length c.deref-4.ensures.value, few_between c.args.q.now c.args.p.now c.args.hits.now.x21.items c.triples-q_triples.ensures.side c.triples-p_triples.ensures.side c.requires.x21)
+hit_count-requires-2-clause-few c =
+    omega (
+      arith,
+      ap length c.deref-4.ensures.value,
+      few_between c.args.q.now c.args.p.now c.args.hits.now.x21.items c.triples-q_triples.ensures.side
+          c.triples-p_triples.ensures.side c.requires.x21,
+    )
 
 pub returns-clause-halfedges : goal.returns-clause-halfedges
 returns-clause-halfedges c =
@@ -23,8 +35,10 @@ returns-clause-halfedges c =
     let n = numbers c.args.windings.now c.args.hits.now in
     let p = vertex_halfedges (p_number op) in
     let q = vertex_halfedges (q_number op) in
-    let of_p : c.halfedges-p_halfedges.result ≡ p n.w03 c.args.p.now.triples = c.halfedges-p_halfedges.ensures.value ∙ ap (λ ws. p ws (triples_of c.triples-p_triples.result.now)) c.deref-5.ensures.value ∙ ap (p n.w03) c.triples-p_triples.ensures.value in
-    let of_q : c.halfedges-q_halfedges.result ≡ q n.w30 c.args.q.now.triples = c.halfedges-q_halfedges.ensures.value ∙ ap (λ ws. q ws (triples_of c.triples-q_triples.result.now)) c.deref-6.ensures.value ∙ ap (q n.w30) c.triples-q_triples.ensures.value in
+    let of_p : c.halfedges-p_halfedges.result ≡ p n.w03 c.args.p.now.triples = c.halfedges-p_halfedges.ensures.value
+    ∙ ap (λ ws. p ws (triples_of c.triples-p_triples.result.now)) c.deref-5.ensures.value ∙ ap (p n.w03) c.triples-p_triples.ensures.value in
+    let of_q : c.halfedges-q_halfedges.result ≡ q n.w30 c.args.q.now.triples = c.halfedges-q_halfedges.ensures.value
+    ∙ ap (λ ws. q ws (triples_of c.triples-q_triples.result.now)) c.deref-6.ensures.value ∙ ap (q n.w30) c.triples-q_triples.ensures.value in
     let of_hits : c.hit_count.result ≡ hit_count op n.x12 = c.hit_count.ensures.value ∙ ap (hit_count op) c.deref-3.ensures.value in
     let of_others : c.hit_count-2.result ≡ hit_count op n.x21 = c.hit_count-2.ensures.value ∙ ap (hit_count op) c.deref-4.ensures.value in
     omega (arith, of_p, of_q, of_hits, of_others)

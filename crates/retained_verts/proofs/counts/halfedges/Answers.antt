@@ -15,13 +15,16 @@ loop-a-init c = record {
 }
 
 pub kept_at-requires-clause-below : goal.kept_at-requires-clause-below
-kept_at-requires-clause-below c = (triple_at (IsBelow (length c.args.windings.now)) (triples_of c.args.triples.now) c.args.triples.now c.loop-a.a-index refl c.requires.below c.loop-a-test.true).a
+kept_at-requires-clause-below c =
+    (triple_at (IsBelow (length c.args.windings.now)) (triples_of c.args.triples.now) c.args.triples.now c.loop-a.a-index refl c.requires.below c.loop-a-test.true).a
 
 pub kept_at-requires-in-loop-a-clause-below : goal.kept_at-requires-in-loop-a-clause-below
-kept_at-requires-in-loop-a-clause-below c = (triple_at (IsBelow (length c.args.windings.now)) (triples_of c.args.triples.now) c.args.triples.now c.loop-a.a-index refl c.requires.below c.loop-a-test.true).b
+kept_at-requires-in-loop-a-clause-below c =
+    (triple_at (IsBelow (length c.args.windings.now)) (triples_of c.args.triples.now) c.args.triples.now c.loop-a.a-index refl c.requires.below c.loop-a-test.true).b
 
 pub kept_at-requires-in-loop-a-2-clause-below : goal.kept_at-requires-in-loop-a-2-clause-below
-kept_at-requires-in-loop-a-2-clause-below c = (triple_at (IsBelow (length c.args.windings.now)) (triples_of c.args.triples.now) c.args.triples.now c.loop-a.a-index refl c.requires.below c.loop-a-test.true).c
+kept_at-requires-in-loop-a-2-clause-below c =
+    (triple_at (IsBelow (length c.args.windings.now)) (triples_of c.args.triples.now) c.args.triples.now c.loop-a.a-index refl c.requires.below c.loop-a-test.true).c
 
 pub loop-a-preserved : goal.loop-a-preserved
 loop-a-preserved c =

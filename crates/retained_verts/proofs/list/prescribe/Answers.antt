@@ -19,10 +19,14 @@ listed-requires-clause-counts c =
     }
 
 pub returns-clause-two_lists : goal.returns-clause-two_lists
-returns-clause-two_lists c = stand_in_lists c.args.op c.args.p.now c.args.q.now (numbers c.args.windings.now c.args.hits.now) c.corners.ensures.side c.corners-2.ensures.side c.requires.x12 c.requires.x21
+returns-clause-two_lists c =
+    stand_in_lists c.args.op c.args.p.now c.args.q.now (numbers c.args.windings.now c.args.hits.now) c.corners.ensures.side c.corners-2.ensures.side
+    c.requires.x12 c.requires.x21
 
 pub returns-clause-balance : goal.returns-clause-balance
-returns-clause-balance c kept = balanced c.args.op c.args.p.now c.args.q.now (numbers c.args.windings.now c.args.hits.now) c.corners.ensures.side c.corners-2.ensures.side c.requires.x12 c.requires.x21 kept
+returns-clause-balance c kept =
+    balanced c.args.op c.args.p.now c.args.q.now (numbers c.args.windings.now c.args.hits.now) c.corners.ensures.side c.corners-2.ensures.side c.requires.x12
+    c.requires.x21 kept
 
 pub returns-clause-all : goal.returns-clause-all
 returns-clause-all c =
@@ -55,4 +59,5 @@ returns-clause-few c =
 pub returns-clause-all_starts : goal.returns-clause-all_starts
 returns-clause-all_starts c =
     c.in_ok-listed.ensures.halfedges
-    ∙ all_starts c.args.op c.args.p.now c.args.q.now (numbers c.args.windings.now c.args.hits.now) c.corners.ensures.side c.corners-2.ensures.side c.requires.w03 c.requires.w30 c.requires.x12 c.requires.x21
+    ∙ all_starts c.args.op c.args.p.now c.args.q.now (numbers c.args.windings.now c.args.hits.now) c.corners.ensures.side c.corners-2.ensures.side
+    c.requires.w03 c.requires.w30 c.requires.x12 c.requires.x21

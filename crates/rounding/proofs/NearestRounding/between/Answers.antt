@@ -21,7 +21,8 @@ same_round : (n d n' d' : ℤ) → n ≡ n' → d ≡ d' → rounded n d ≡ rou
 same_round n d n' d' e f = cc
 
 -- what the call of `round` is given
-rounds : (c : After-product-share) → rounded (seen w128 c.product-share.result) (seen w64 (seen w64 c.args.a +ℤ seen w64 c.args.b)) ≡ rounded ((c.args.v -ℤ c.args.u) *ℤ c.args.a) (c.args.a +ℤ c.args.b)
+rounds : (c : After-product-share) →
+    rounded (seen w128 c.product-share.result) (seen w64 (seen w64 c.args.a +ℤ seen w64 c.args.b)) ≡ rounded ((c.args.v -ℤ c.args.u) *ℤ c.args.a) (c.args.a +ℤ c.args.b)
 rounds c =
     let u = c.args.u in
     let v = c.args.v in

@@ -39,7 +39,8 @@ returns-in_err-say_combined-clause-meets g c =
     let same = told o c.in_ok-outcome.outcome c.in_ok-outcome.ensures.outcome in
     let out = on_output g.O.Sink c.args.out.now in
     let after = on_output g.O.Sink c.say_combined.new.sink in
-    rw (e.1, e.2) (combine_unsaid (meanings c.args.kernels) c.args.limits.now c.args.op c.args.name.now c.args.left.now c.args.right.now p q named is_p is_q out after o _ c.in_ok-outcome.ensures.meets (c.in_err-say_combined.ensures.meets o same))
+    rw (e.1, e.2) (combine_unsaid (meanings c.args.kernels) c.args.limits.now c.args.op c.args.name.now c.args.left.now c.args.right.now p q named is_p is_q out
+    after o _ c.in_ok-outcome.ensures.meets (c.in_err-say_combined.ensures.meets o same))
 
 pub returns-in_err-define-clause-meets : goal.returns-in_err-define-clause-meets
 returns-in_err-define-clause-meets g c =
@@ -53,7 +54,8 @@ returns-in_err-define-clause-meets g c =
     let same = told o c.in_ok-outcome.outcome c.in_ok-outcome.ensures.outcome in
     let out = on_output g.O.Sink c.args.out.now in
     let after = on_output g.O.Sink c.say_combined.new.sink in
-    rw (e.1, e.2) (combine_unnamed (meanings c.args.kernels) c.args.limits.now c.args.op c.args.name.now c.args.left.now c.args.right.now p q named is_p is_q out after o c.in_ok-outcome.ensures.meets (c.in_ok-say_combined.ensures.meets o same))
+    rw (e.1, e.2) (combine_unnamed (meanings c.args.kernels) c.args.limits.now c.args.op c.args.name.now c.args.left.now c.args.right.now p q named is_p is_q
+    out after o c.in_ok-outcome.ensures.meets (c.in_ok-say_combined.ensures.meets o same))
 
 pub returns-clause-meets : goal.returns-clause-meets
 returns-clause-meets g c =
@@ -67,7 +69,8 @@ returns-clause-meets g c =
     let out = on_output g.O.Sink c.args.out.now in
     let after = on_output g.O.Sink c.say_combined.new.sink in
     let is = c.in_ok-define.ensures.named ∙ ap (λ m. with_name c.args.name.now m named) c.in_ok-outcome.ensures.outcome.mesh in
-    combine_named (meanings c.args.kernels) c.args.limits.now c.args.op c.args.name.now c.args.left.now c.args.right.now p q named is_p is_q out after o (named_in c.define.new.self) is c.in_ok-outcome.ensures.meets (c.in_ok-say_combined.ensures.meets o same)
+    combine_named (meanings c.args.kernels) c.args.limits.now c.args.op c.args.name.now c.args.left.now c.args.right.now p q named is_p is_q out after o
+    (named_in c.define.new.self) is c.in_ok-outcome.ensures.meets (c.in_ok-say_combined.ensures.meets o same)
 
 pub returns-clause-named : goal.returns-clause-named
 returns-clause-named g c = (c.in_ok-outcome.outcome.mesh, c.in_ok-define.ensures.named)

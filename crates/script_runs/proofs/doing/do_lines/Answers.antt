@@ -21,7 +21,8 @@ do_step-requires-clause-taken g c =
     let lines = c.args.lines.now in
     let i = c.loop-line.line-index in
     let below : i < length lines = omega (arith, c.loop-line-test.true) in
-    next_taken meanings c.args.digits c.args.limits.now c.args.script.now (map line_of lines) (state_in Grid c.args.names.now) (seen_of g.S.Shelf g.O.Sink c.args.shelf.now c.args.out.now) c.args.steps.now
+    next_taken meanings c.args.digits c.args.limits.now c.args.script.now (map line_of lines) (state_in Grid c.args.names.now)
+    (seen_of g.S.Shelf g.O.Sink c.args.shelf.now c.args.out.now) c.args.steps.now
     i (line_of x) (state_in c.loop-line.kernels c.loop-line.names) (seen_of g.S.Shelf g.O.Sink c.loop-line.shelf c.loop-line.out) c.loop-line.steps
     (omega (arith, below, length-map lines line_of)) (line_at lines i x below c.line-item.is) c.loop-line.invariant
 
@@ -31,7 +32,8 @@ do_step-requires-clause-numbers g c =
     let lines = c.args.lines.now in
     let i = c.loop-line.line-index in
     let below : i < length lines = omega (arith, c.loop-line-test.true) in
-    next_numbers meanings c.args.digits c.args.limits.now c.args.script.now (map line_of lines) (state_in Grid c.args.names.now) (seen_of g.S.Shelf g.O.Sink c.args.shelf.now c.args.out.now) c.args.steps.now
+    next_numbers meanings c.args.digits c.args.limits.now c.args.script.now (map line_of lines) (state_in Grid c.args.names.now)
+    (seen_of g.S.Shelf g.O.Sink c.args.shelf.now c.args.out.now) c.args.steps.now
     i (line_of x) (state_in c.loop-line.kernels c.loop-line.names) (seen_of g.S.Shelf g.O.Sink c.loop-line.shelf c.loop-line.out) c.loop-line.steps
     (omega (arith, below, length-map lines line_of)) (line_at lines i x below c.line-item.is) c.loop-line.invariant
 
@@ -43,7 +45,8 @@ returns-in_err-do_step-clause-meets g c =
     let i = c.loop-line.line-index in
     let below : i < length lines = omega (arith, c.loop-line-test.true) in
     rw (e.1, e.2)
-    (stops meanings c.args.digits c.args.limits.now c.args.script.now (map line_of lines) (state_in Grid c.args.names.now) (seen_of g.S.Shelf g.O.Sink c.args.shelf.now c.args.out.now) c.args.steps.now
+    (stops meanings c.args.digits c.args.limits.now c.args.script.now (map line_of lines) (state_in Grid c.args.names.now)
+    (seen_of g.S.Shelf g.O.Sink c.args.shelf.now c.args.out.now) c.args.steps.now
     i (line_of x) (state_in c.loop-line.kernels c.loop-line.names) (seen_of g.S.Shelf g.O.Sink c.loop-line.shelf c.loop-line.out) c.loop-line.steps
     (omega (arith, below, length-map lines line_of)) (line_at lines i x below c.line-item.is) c.loop-line.invariant
     (seen_of g.S.Shelf g.O.Sink c.do_step.new.shelf c.do_step.new.out) c.do_step.new.steps c.in_err-do_step.ensures.cost _ c.in_err-do_step.ensures.meets)
@@ -54,7 +57,8 @@ returns-in_err-do_step-clause-cost g c =
     let lines = c.args.lines.now in
     let i = c.loop-line.line-index in
     let below : i < length lines = omega (arith, c.loop-line-test.true) in
-    stop_spent meanings c.args.digits c.args.limits.now c.args.script.now (map line_of lines) (state_in Grid c.args.names.now) (seen_of g.S.Shelf g.O.Sink c.args.shelf.now c.args.out.now) c.args.steps.now
+    stop_spent meanings c.args.digits c.args.limits.now c.args.script.now (map line_of lines) (state_in Grid c.args.names.now)
+    (seen_of g.S.Shelf g.O.Sink c.args.shelf.now c.args.out.now) c.args.steps.now
     i (line_of x) (state_in c.loop-line.kernels c.loop-line.names) (seen_of g.S.Shelf g.O.Sink c.loop-line.shelf c.loop-line.out) c.loop-line.steps
     (omega (arith, below, length-map lines line_of)) (line_at lines i x below c.line-item.is) c.loop-line.invariant
     (seen_of g.S.Shelf g.O.Sink c.do_step.new.shelf c.do_step.new.out) c.do_step.new.steps c.in_err-do_step.ensures.cost
@@ -66,17 +70,21 @@ loop-line-preserved g c =
     let i = c.loop-line.line-index in
     let below : i < length lines = omega (arith, c.loop-line-test.true) in
     let P : KernelKind → Type 0 = λ kernels.
-    HasDone meanings c.args.digits c.args.limits.now c.args.script.now (map line_of lines) (state_in Grid c.args.names.now) (seen_of g.S.Shelf g.O.Sink c.args.shelf.now c.args.out.now) c.args.steps.now
+    HasDone meanings c.args.digits c.args.limits.now c.args.script.now (map line_of lines) (state_in Grid c.args.names.now)
+    (seen_of g.S.Shelf g.O.Sink c.args.shelf.now c.args.out.now) c.args.steps.now
     (i + 1) (state_in kernels c.do_step.new.names) (seen_of g.S.Shelf g.O.Sink c.do_step.new.shelf c.do_step.new.out) c.do_step.new.steps in
     subst P (sym c.kernels_after-kernels.ensures)
-    (line_done meanings c.args.digits c.args.limits.now c.args.script.now (map line_of lines) (state_in Grid c.args.names.now) (seen_of g.S.Shelf g.O.Sink c.args.shelf.now c.args.out.now) c.args.steps.now
+    (line_done meanings c.args.digits c.args.limits.now c.args.script.now (map line_of lines) (state_in Grid c.args.names.now)
+    (seen_of g.S.Shelf g.O.Sink c.args.shelf.now c.args.out.now) c.args.steps.now
     i (line_of x) (state_in c.loop-line.kernels c.loop-line.names) (seen_of g.S.Shelf g.O.Sink c.loop-line.shelf c.loop-line.out) c.loop-line.steps
     (omega (arith, below, length-map lines line_of)) (line_at lines i x below c.line-item.is) c.loop-line.invariant
-    (seen_of g.S.Shelf g.O.Sink c.do_step.new.shelf c.do_step.new.out) c.do_step.new.steps c.in_ok-do_step.ensures.cost (named_in c.do_step.new.names) c.in_ok-do_step.ensures.meets c.in_ok-do_step.ensures.named)
+    (seen_of g.S.Shelf g.O.Sink c.do_step.new.shelf c.do_step.new.out) c.do_step.new.steps c.in_ok-do_step.ensures.cost (named_in c.do_step.new.names)
+    c.in_ok-do_step.ensures.meets c.in_ok-do_step.ensures.named)
 
 pub returns-clause-meets : goal.returns-clause-meets
 returns-clause-meets g c =
     let lines = c.args.lines.now in
-    ends meanings c.args.digits c.args.limits.now c.args.script.now (map line_of lines) (state_in Grid c.args.names.now) (seen_of g.S.Shelf g.O.Sink c.args.shelf.now c.args.out.now) c.args.steps.now
+    ends meanings c.args.digits c.args.limits.now c.args.script.now (map line_of lines) (state_in Grid c.args.names.now)
+    (seen_of g.S.Shelf g.O.Sink c.args.shelf.now c.args.out.now) c.args.steps.now
     c.loop-line.line-index (state_in c.loop-line.kernels c.loop-line.names) (seen_of g.S.Shelf g.O.Sink c.loop-line.shelf c.loop-line.out) c.loop-line.steps
     (omega (arith, c.loop-line-test.false, length-map lines line_of)) c.loop-line.invariant

@@ -11,7 +11,8 @@ pub returns-in-Err-clause-meets : goal.returns-in-Err-clause-meets
 returns-in-Err-clause-meets c now =
     let solid = c.args.solid in
     rw c.halt_at.ensures.why
-    (unmade c.args.script.now c.args.line c.args.name.now (solid_mesh solid) (named_in c.args.names.now) _ (solid_fault c.args.limits.now solid) c.in-Err.fault c.in-Err.ensures.refused now)
+    (unmade c.args.script.now c.args.line c.args.name.now (solid_mesh solid) (named_in c.args.names.now) _ (solid_fault c.args.limits.now solid) c.in-Err.fault
+    c.in-Err.ensures.refused now)
 
 pub returns-in_err-define-clause-meets : goal.returns-in_err-define-clause-meets
 returns-in_err-define-clause-meets c now =
@@ -24,7 +25,8 @@ returns-clause-meets c now =
     let name = c.args.name.now in
     let named = named_in c.args.names.now in
     let is = c.in_ok-define.ensures.named ∙ ap (λ m. with_name name m named) c.in-Ok.ensures.mesh in
-    made_so c.args.script.now c.args.line name (solid_mesh solid) named (solid_fault c.args.limits.now solid) c.in-Ok.mesh c.in-Ok.ensures.refused (named_in c.define.new.self) is now
+    made_so c.args.script.now c.args.line name (solid_mesh solid) named (solid_fault c.args.limits.now solid) c.in-Ok.mesh c.in-Ok.ensures.refused
+    (named_in c.define.new.self) is now
 
 pub returns-clause-named : goal.returns-clause-named
 returns-clause-named c = (c.in-Ok.mesh, c.in_ok-define.ensures.named)

@@ -23,7 +23,8 @@ returns-in_err-say_measured-clause-meets g c =
     let m = c.in_ok-measure.ensures in
     let measured : IsMeasureOf mesh c.in_ok-measure.measure = record { points = m.points; triangles = m.triangles; components = m.count; euler = m.euler; volume6 = m.volume } in
     rw (e.1, e.2)
-    (measure_unsaid c.args.name.now (mesh_at named c.args.name.now) mesh named is (on_output g.O.Sink c.args.out.now) (on_output g.O.Sink c.say_measured.new.sink) _ (c.in_err-say_measured.ensures.meets mesh measured))
+    (measure_unsaid c.args.name.now (mesh_at named c.args.name.now) mesh named is (on_output g.O.Sink c.args.out.now)
+    (on_output g.O.Sink c.say_measured.new.sink) _ (c.in_err-say_measured.ensures.meets mesh measured))
 
 pub returns-clause-meets : goal.returns-clause-meets
 returns-clause-meets g c =
@@ -32,4 +33,5 @@ returns-clause-meets g c =
     let is = sym c.mesh_of-mesh.ensures in
     let m = c.in_ok-measure.ensures in
     let measured : IsMeasureOf mesh c.in_ok-measure.measure = record { points = m.points; triangles = m.triangles; components = m.count; euler = m.euler; volume6 = m.volume } in
-    measure_told c.args.name.now (mesh_at named c.args.name.now) mesh named is (on_output g.O.Sink c.args.out.now) (on_output g.O.Sink c.say_measured.new.sink) (c.in_ok-say_measured.ensures.meets mesh measured)
+    measure_told c.args.name.now (mesh_at named c.args.name.now) mesh named is (on_output g.O.Sink c.args.out.now) (on_output g.O.Sink c.say_measured.new.sink)
+    (c.in_ok-say_measured.ensures.meets mesh measured)

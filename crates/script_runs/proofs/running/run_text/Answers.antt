@@ -9,7 +9,8 @@ use Rattle.script_runs.proofs.running.run_text.Goals as goal
 pub returns-in-Err-clause-meets : goal.returns-in-Err-clause-meets
 returns-in-Err-clause-meets g c =
     rw c.halt_of.ensures.why
-    (text_refused meanings c.args.digits c.args.limits.now c.args.name.now c.args.text.now c.in-Err.fault (seen_of g.S.Shelf g.O.Sink c.args.shelf.now c.args.out.now) c.in-Err.ensures.fault)
+    (text_refused meanings c.args.digits c.args.limits.now c.args.name.now c.args.text.now c.in-Err.fault
+    (seen_of g.S.Shelf g.O.Sink c.args.shelf.now c.args.out.now) c.in-Err.ensures.fault)
 
 pub returns-in_err-do_lines-clause-meets : goal.returns-in_err-do_lines-clause-meets
 returns-in_err-do_lines-clause-meets g c =

@@ -12,14 +12,17 @@ unfolding spot10
 returns-in-OfP g c =
     let w : Between = g.R.Rounding.between_of c.args.rounding.now in
     let v = c.args.vertex.now in
-    same_spot (omega (arith, ints)) (kept_value w 1 c.args.left.now c.args.right.now (axis 0 v) c.edge_value-edge_y.ensures c.requires.fine (search rules)) (omega (arith, ints)) (kept_value w 2 c.args.left.now c.args.right.now (axis 0 v) c.edge_value-edge_z.ensures c.requires.fine (search rules)) (omega (arith, ints))
-    (same_marks c.args.left.now.up c.args.right.now.up c.marks_between.ensures (kept_less c.requires.fine c.requires.left_fine.x) (kept_less c.requires.right_fine.x c.requires.fine))
+    same_spot (omega (arith, ints)) (kept_value w 1 c.args.left.now c.args.right.now (axis 0 v) c.edge_value-edge_y.ensures c.requires.fine (search rules))
+    (omega (arith, ints)) (kept_value w 2 c.args.left.now c.args.right.now (axis 0 v) c.edge_value-edge_z.ensures c.requires.fine (search rules)) (omega (arith, ints))
+    (same_marks c.args.left.now.up c.args.right.now.up c.marks_between.ensures (kept_less c.requires.fine c.requires.left_fine.x)
+    (kept_less c.requires.right_fine.x c.requires.fine))
     ∙ ap (λ (e : Edge). edge_spot e w v c.args.left.now c.args.right.now) (sym c.in-OfP.is)
 
 pub returns-in-OfQ : goal.returns-in-OfQ
 unfolding spot01
 returns-in-OfQ g c =
     let w : Between = g.R.Rounding.between_of c.args.rounding.now in
-    same_spot (omega (arith, ints)) (omega (arith, ints)) (kept_value w 1 c.args.left.now c.args.right.now (axis 0 c.args.vertex.now) c.edge_value-edge_y.ensures c.requires.fine (search rules)) (omega (arith, ints))
+    same_spot (omega (arith, ints)) (omega (arith, ints))
+    (kept_value w 1 c.args.left.now c.args.right.now (axis 0 c.args.vertex.now) c.edge_value-edge_y.ensures c.requires.fine (search rules)) (omega (arith, ints))
     (kept_value w 2 c.args.left.now c.args.right.now (axis 0 c.args.vertex.now) c.edge_value-edge_z.ensures c.requires.fine (search rules)) refl
     ∙ ap (λ (e : Edge). edge_spot e w c.args.vertex.now c.args.left.now c.args.right.now) (sym c.in-OfQ.is)

@@ -21,5 +21,6 @@ returns g c =
     let before : seen w64 (seen w64 x -ℤ seen w64 (axis 0 l)) ≡ x -ℤ axis 0 l = omega (arith, ints) in
     let after : seen w64 (seen w64 (axis 0 r) -ℤ seen w64 x) ≡ axis 0 r -ℤ x = omega (arith, ints) in
     kept
-    ∙ same_between (g.R.Rounding.between_of c.args.rounding.now) y (seen w64 (axis i l)) (seen w64 (axis i r)) (seen w64 (seen w64 x -ℤ seen w64 (axis 0 l))) (seen w64 (seen w64 (axis 0 r) -ℤ seen w64 x))
+    ∙ same_between (g.R.Rounding.between_of c.args.rounding.now) y (seen w64 (axis i l)) (seen w64 (axis i r)) (seen w64 (seen w64 x -ℤ seen w64 (axis 0 l)))
+    (seen w64 (seen w64 (axis 0 r) -ℤ seen w64 x))
     (axis i l) (axis i r) (x -ℤ axis 0 l) (axis 0 r -ℤ x) c.between.ensures (omega (arith, ints, fl.low, fl.high)) (omega (arith, ints, fr.low, fr.high)) before after

@@ -20,4 +20,5 @@ returns g c =
     let kept : seen w8 c.count-count.result ≡ c.count-count.result = omega (arith, ints) in
     let other : c.count-count.result ≢ pos 0 = λ z. omega (arith, ints) in
     let some : c.edge_edge_tally-tally.result.count ≢ pos 0 = λ z. other (c.count-count.ensures ∙ z) in
-    some_of_tally _ _ _ c.edge_edge_tally-tally.result (seen w8 c.count-count.result) c.is_over_edges_at-above.result c.spot-spot.result c.edge_edge_tally-tally.ensures.tally some (kept ∙ c.count-count.ensures) c.spot-spot.ensures c.is_over_edges_at-above.ensures
+    some_of_tally _ _ _ c.edge_edge_tally-tally.result (seen w8 c.count-count.result) c.is_over_edges_at-above.result c.spot-spot.result
+    c.edge_edge_tally-tally.ensures.tally some (kept ∙ c.count-count.ensures) c.spot-spot.ensures c.is_over_edges_at-above.ensures

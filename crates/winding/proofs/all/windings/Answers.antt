@@ -67,7 +67,8 @@ p_identity : (g : Over) → (k : g.row.K.Denot) → (p q : Side) → IsSide p �
 p_identity g k p q p_side q_side hits found w each =
     let test : CrossTest = g.K.Crosses-1.cross_of k in
     edges_conserve p q test (p_ends g k p q) (p_sides g k p q) hits w p_side q_side
-    (λ t a b. (g.met.K.Crosses-1.laws k).turn_p (edge_of p.corners a b) (face_of q.corners t) refl refl refl (edge_fine p.corners p_side.fine a b) (face_fine q.corners q_side.fine t))
+    (λ t a b. (g.met.K.Crosses-1.laws k).turn_p (edge_of p.corners a b) (face_of q.corners t) refl refl refl (edge_fine p.corners p_side.fine a b)
+    (face_fine q.corners q_side.fine t))
     (p_lifts g k p q p_side.fine q_side.fine) (p_odd g k p q p_side.fine q_side.fine) found each
 
 -- the shadows of P's faces on Q's vertices, and of P's edges on Q's
@@ -105,7 +106,8 @@ q_segments g k p p_side = record {
   between = λ a b a_fine b_fine.
       let q = two_corners a b in
       let fine = fine_two a b a_fine b_fine in
-      crossings_sum q p (λ edge face. g.K.Crosses-2.cross_of k face edge) (q_ends g k p q) (q_sides g k p q) p_side (q_lifts g k p q p_side.fine fine) (q_odd g k p q p_side.fine fine) 0 1;
+      crossings_sum q p (λ edge face. g.K.Crosses-2.cross_of k face edge) (q_ends g k p q) (q_sides g k p q) p_side (q_lifts g k p q p_side.fine fine)
+      (q_odd g k p q p_side.fine fine) 0 1;
 }
 
 -- and along each half-edge of Q
@@ -115,7 +117,8 @@ q_identity : (g : Over) → (k : g.row.K.Denot) → (p q : Side) → IsSide p �
 q_identity g k p q p_side q_side hits found w each =
     let test : CrossTest = λ edge face. g.K.Crosses-2.cross_of k face edge in
     edges_conserve q p test (q_ends g k p q) (q_sides g k p q) hits w q_side p_side
-    (λ t a b. (g.met.K.Crosses-2.laws k).turn_q (face_of p.corners t) (edge_of q.corners a b) refl refl refl (face_fine p.corners p_side.fine t) (edge_fine q.corners q_side.fine a b))
+    (λ t a b. (g.met.K.Crosses-2.laws k).turn_q (face_of p.corners t) (edge_of q.corners a b) refl refl refl (face_fine p.corners p_side.fine t)
+    (edge_fine q.corners q_side.fine a b))
     (q_lifts g k p q p_side.fine q_side.fine) (q_odd g k p q p_side.fine q_side.fine) found each
 
 -- a shadow of a vertex of P on a face of Q is -1, 0 or 1

@@ -24,5 +24,6 @@ loop-triple-preserved g c =
     let low = c.shadow-winding.ensures.size.0 in
     let high = c.shadow-winding.ensures.size.1 in
     let more = one_more f (triples_of xs) i (to_z w64 c.loop-triple.winding-bits) c.shadow-winding.result inside c.loop-triple.invariant.value here in
-    let whole : to_z w64 (of_z w64 (to_z w64 c.loop-triple.winding-bits -ℤ to_z w64 (of_z w64 c.shadow-winding.result))) ≡ to_z w64 c.loop-triple.winding-bits -ℤ c.shadow-winding.result = omega (arith, ints) in
+    let whole : to_z w64 (of_z w64 (to_z w64 c.loop-triple.winding-bits -ℤ to_z w64 (of_z w64 c.shadow-winding.result)))
+    ≡ to_z w64 c.loop-triple.winding-bits -ℤ c.shadow-winding.result = omega (arith, ints) in
     record { value = whole ∙ more; low = omega (arith, ints); high = omega (arith, ints) }

@@ -26,7 +26,8 @@ loop-face-init g c =
     let near = c.into_iter-face-iterator.result in
     let found = subst (λ (boxes : List Box3). IsPermutation (touching_numbers boxes area) c.touching-face-items.result) c.tree.ensures.value c.touching-face-items.ensures in
     let moved : IsPermutation (touching_numbers (face_boxes faces) area) near = rw c.into_iter-face-iterator.ensures.into_iter_gives found in
-    let none : HasShadowsIn area number = subst (λ (b : Box3). HasShadowsIn b number) (sym c.box_of.ensures.value) (crosses_near test (g.met.C.EdgeFace.apart c.args.pairs.now) segment c.told-segment c.requires) in
+    let none : HasShadowsIn area number = subst (λ (b : Box3). HasShadowsIn b number) (sym c.box_of.ensures.value)
+    (crosses_near test (g.met.C.EdgeFace.apart c.args.pairs.now) segment c.told-segment c.requires) in
     let few = near_few faces area near moved in
     record {
       value = all_to_come (total (λ f. number (face_at faces f)) near) (segment_total test segment faces) (near_total faces area near moved number c.tree.ensures.side none);
@@ -37,7 +38,8 @@ loop-face-init g c =
 
 pub face-requires : goal.face-requires
 face-requires g c =
-    let inside : ℕ → Type 0 = λ f. f < length c.args.faces.now.triples in All-head inside c.in-Some.face c.next.new.self (subst (All inside) c.in-Some.ensures.steps c.loop-face.invariant.below)
+    let inside : ℕ → Type 0 = λ f. f < length c.args.faces.now.triples in
+    All-head inside c.in-Some.face c.next.new.self (subst (All inside) c.in-Some.ensures.steps c.loop-face.invariant.below)
 
 pub loop-face-preserved : goal.loop-face-preserved
 loop-face-preserved g c =
@@ -58,7 +60,8 @@ loop-face-preserved g c =
     let after = c.loop-face.invariant.high in
     let whole : to_z w64 (of_z w64 (sum +ℤ to_z w64 (of_z w64 number))) ≡ sum +ℤ number = omega (arith, ints, few, size, before, after, long) in
     record {
-      value = ap (λ w. w +ℤ total value rest) whole ∙ one_taken sum number (total value rest) (total value c.loop-face.face-iterator) (segment_total test segment faces) (omega (arith, ints, split, here)) c.loop-face.invariant.value;
+      value = ap (λ w. w +ℤ total value rest) whole ∙ one_taken sum number (total value rest) (total value c.loop-face.face-iterator)
+          (segment_total test segment faces) (omega (arith, ints, split, here)) c.loop-face.invariant.value;
       below = All-tail inside c.in-Some.face rest (subst (All inside) c.in-Some.ensures.steps c.loop-face.invariant.below);
       low = omega (arith, ints, whole, size, before, after, long);
       high = omega (arith, ints, whole, size, before, after, long);
@@ -70,4 +73,5 @@ returns-clause-value g c =
     let segment : List Corner = c.args.segment.now in
     let faces = c.args.faces.now in
     let value : ℕ → ℤ = λ f. number_of (test segment (face_at faces f)) in
-    none_to_come (to_z w64 c.loop-face.sum-bits) (total value c.loop-face.face-iterator) (segment_total test segment faces) (ap (total value) c.in-None.ensures.steps.0) c.loop-face.invariant.value
+    none_to_come (to_z w64 c.loop-face.sum-bits) (total value c.loop-face.face-iterator) (segment_total test segment faces)
+    (ap (total value) c.in-None.ensures.steps.0) c.loop-face.invariant.value

@@ -8,7 +8,8 @@ use Rattle.winding.proofs.segments.crossings_between.Given as goal
 
 abbrev pub invariant-loop-face : goal.invariant-loop-face
 invariant-loop-face g l = record {
-  value : (l.sum +ℤ total (λ f. number_of (g.C.EdgeFace.crossing_of l.pairs l.segment (face_at l.faces f))) l.face-iterator) ≡ segment_total (g.C.EdgeFace.crossing_of l.pairs) l.segment l.faces;
+  value : (l.sum +ℤ total (λ f. number_of (g.C.EdgeFace.crossing_of l.pairs l.segment (face_at l.faces f))) l.face-iterator)
+      ≡ segment_total (g.C.EdgeFace.crossing_of l.pairs) l.segment l.faces;
   below : All (λ f. f < length l.faces.triples) l.face-iterator;
   low : neg_ℤ (pos (128 * length l.faces.triples)) ≤ℤ (l.sum -ℤ pos (128 * length l.face-iterator));
   high : (l.sum +ℤ pos (128 * length l.face-iterator)) ≤ℤ pos (128 * length l.faces.triples);

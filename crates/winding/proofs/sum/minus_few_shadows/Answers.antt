@@ -32,7 +32,8 @@ loop-face-init g c =
 
 pub face-requires : goal.face-requires
 face-requires g c =
-    let inside : ℕ → Type 0 = λ f. f < length c.args.faces.now.triples in All-head inside c.in-Some.face c.next.new.self (subst (All inside) c.in-Some.ensures.steps c.loop-face.invariant.below)
+    let inside : ℕ → Type 0 = λ f. f < length c.args.faces.now.triples in
+    All-head inside c.in-Some.face c.next.new.self (subst (All inside) c.in-Some.ensures.steps c.loop-face.invariant.below)
 
 pub overflow_sub-winding : goal.overflow_sub-winding
 overflow_sub-winding g c =
@@ -56,9 +57,11 @@ loop-face-preserved g c =
     let high = c.shadow-winding.ensures.size.1 in
     let before = c.loop-face.invariant.low in
     let after = c.loop-face.invariant.high in
-    let whole : to_z w64 (of_z w64 (winding -ℤ to_z w64 (of_z w64 c.shadow-winding.result))) ≡ winding -ℤ c.shadow-winding.result = omega (arith, ints, few, low, high, before, after, long) in
+    let whole : to_z w64 (of_z w64 (winding -ℤ to_z w64 (of_z w64 c.shadow-winding.result))) ≡ winding -ℤ c.shadow-winding.result =
+    omega (arith, ints, few, low, high, before, after, long) in
     record {
-      value = ap (λ w. w -ℤ total value rest) whole ∙ one_less winding c.shadow-winding.result (total value rest) (total value c.loop-face.face-iterator) (minus_shadows shadow faces) (omega (arith, ints, split, here)) c.loop-face.invariant.value;
+      value = ap (λ w. w -ℤ total value rest) whole ∙ one_less winding c.shadow-winding.result (total value rest) (total value c.loop-face.face-iterator)
+          (minus_shadows shadow faces) (omega (arith, ints, split, here)) c.loop-face.invariant.value;
       below = All-tail inside c.in-Some.face rest (subst (All inside) c.in-Some.ensures.steps c.loop-face.invariant.below);
       low = omega (arith, ints, whole, low, high, before, after, long);
       high = omega (arith, ints, whole, low, high, before, after, long);
@@ -70,4 +73,5 @@ returns-clause-value g c =
     let shadow = g.S.VertexFace.vertex_shadow c.args.shadows.now c.args.vertex.now in
     let faces = c.args.faces.now in
     let value : ℕ → ℤ = λ f. shadow (face_at faces f) in
-    none_left (to_z w64 c.loop-face.winding-bits) (total value c.loop-face.face-iterator) (minus_shadows shadow faces) (ap (total value) c.in-None.ensures.steps.0) c.loop-face.invariant.value
+    none_left (to_z w64 c.loop-face.winding-bits) (total value c.loop-face.face-iterator) (minus_shadows shadow faces)
+    (ap (total value) c.in-None.ensures.steps.0) c.loop-face.invariant.value

@@ -7,7 +7,8 @@ use Rattle.winding.proofs.sum.minus_few_shadows.Given as goal
 
 abbrev pub invariant-loop-face : goal.invariant-loop-face
 invariant-loop-face g l = record {
-  value : (l.winding -ℤ total (λ f. g.S.VertexFace.vertex_shadow l.shadows l.vertex (face_at l.faces f)) l.face-iterator) ≡ minus_shadows (g.S.VertexFace.vertex_shadow l.shadows l.vertex) l.faces;
+  value : (l.winding -ℤ total (λ f. g.S.VertexFace.vertex_shadow l.shadows l.vertex (face_at l.faces f)) l.face-iterator)
+      ≡ minus_shadows (g.S.VertexFace.vertex_shadow l.shadows l.vertex) l.faces;
   below : All (λ f. f < length l.faces.triples) l.face-iterator;
   low : neg_ℤ (pos (length l.faces.triples)) ≤ℤ (l.winding -ℤ pos (length l.face-iterator));
   high : (l.winding +ℤ pos (length l.face-iterator)) ≤ℤ pos (length l.faces.triples);

@@ -109,7 +109,8 @@ loop-entrance-preserved g c =
             full = ap length items ∙ length-set old root z ∙ full;
             known = subst (λ (l : List ℤ). AreKnown number l (vertices_of es (take (i + 1) entrances))) (sym items) known;
             cost = omega (arith, w.steps-is, counted, one_more, c.loop-entrance.invariant.cost);
-            from = subst (λ (o : Option Known). IfSome o (IsKnown winding (length faces.triples))) (sym w.known-is) (record { fine = fine; number = whole ∙ w.number_from-number.ensures.value; size = small });
+            from = subst (λ (o : Option Known). IfSome o (IsKnown winding (length faces.triples))) (sym w.known-is)
+                (record { fine = fine; number = whole ∙ w.number_from-number.ensures.value; size = small });
           }
       | in-Along w ↦
           let half = w.in-Along.half in

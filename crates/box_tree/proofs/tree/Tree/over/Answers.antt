@@ -20,8 +20,11 @@ invariant_of-result g c =
     let nodes = c.in_ok-nodes.nodes.items in
     let T : List Box3 → Type 0 = λ boxes. IsTree shift stored boxes entries nodes in
     subst T (sym (boxes_there shift stored (g.B.Boxes.boxes c.args.boxes.now) entries c.in_ok-entries.ensures c.in_ok-boxes.ensures))
-    (tree_made shift stored (g.B.Boxes.boxes c.args.boxes.now) entries c.deref.result.now nodes c.steps_over-steps.ensures.small c.requires.boxes c.in_ok-entries.ensures c.in_ok-boxes.ensures
+    (tree_made shift stored (g.B.Boxes.boxes c.args.boxes.now) entries c.deref.result.now nodes c.steps_over-steps.ensures.small c.requires.boxes
+    c.in_ok-entries.ensures c.in_ok-boxes.ensures
     c.deref.ensures.value c.in_ok-nodes.ensures.nodes c.in_ok-nodes.ensures.short c.in_ok-nodes.ensures.root)
 
 pub returns : goal.returns
-returns g c = boxes_there c.steps_over-steps.result.shift c.in_ok-boxes.boxes.items (g.B.Boxes.boxes c.args.boxes.now) c.in_ok-entries.entries.items c.in_ok-entries.ensures c.in_ok-boxes.ensures
+returns g c =
+    boxes_there c.steps_over-steps.result.shift c.in_ok-boxes.boxes.items (g.B.Boxes.boxes c.args.boxes.now) c.in_ok-entries.entries.items
+    c.in_ok-entries.ensures c.in_ok-boxes.ensures

@@ -15,12 +15,14 @@ pub returns-then-not-meets-clause-hits : goal.returns-then-not-meets-clause-hits
 returns-then-not-meets-clause-hits c =
     let q = c.args.self.now.question in
     let node = node_at q.nodes.now c.args.place in
-    let none = hits_pruned q node.bounds (run_of q.entries.now node.first node.count) (c.requires.walk.question.nodes c.args.place c.requires.there).round (sym c.meets.ensures ∙ c.if-not-meets.true) in
+    let none = hits_pruned q node.bounds (run_of q.entries.now node.first node.count) (c.requires.walk.question.nodes c.args.place c.requires.there).round
+    (sym c.meets.ensures ∙ c.if-not-meets.true) in
     sym (ap (λ xs. xs ++ hits_left c.args.self.now) none)
 
 -- the first half, below the stack's top, and the other half on a stack
 pub halves_waiting : (nodes : List Node) (entries : List Entry) (stack one two : List ℕ) (place : ℕ) → IsNode (length nodes) nodes entries place → 1 < (node_at nodes place).count →
-    IsSmall nodes place (length stack) → IsStack nodes stack → one ≡ stack ++ (place + 2 * half (node_at nodes place).count) ∷ [] → two ≡ one ++ (place + 1) ∷ [] → IsStack nodes two
+    IsSmall nodes place (length stack) → IsStack nodes stack → one ≡ stack ++ (place + 2 * half (node_at nodes place).count) ∷ [] →
+    two ≡ one ++ (place + 1) ∷ [] → IsStack nodes two
 halves_waiting nodes entries stack one two place node more small waiting e f =
     let count = (node_at nodes place).count in
     let right = place + 2 * half count in
@@ -37,7 +39,8 @@ halves_waiting nodes entries stack one two place node more small waiting e f =
     subst S (sym f) (stack_push nodes one (place + 1) first (omega (arith, more, room)) (subst L long small_left))
 
 -- what is at hand and what waits, once the halves are on the stack
-pub halves_give : (q : Question) (stack one two : List ℕ) (place at end : ℕ) → IsNode (length q.nodes.now) q.nodes.now q.entries.now place → 1 < (node_at q.nodes.now place).count → at ≡ end →
+pub halves_give : (q : Question) (stack one two : List ℕ) (place at end : ℕ) → IsNode (length q.nodes.now) q.nodes.now q.entries.now place →
+    1 < (node_at q.nodes.now place).count → at ≡ end →
     one ≡ stack ++ (place + 2 * half (node_at q.nodes.now place).count) ∷ [] → two ≡ one ++ (place + 1) ∷ [] →
     hits q (slice_range q.entries.now at end) ++ hits_waiting q two ≡ hits_below q place ++ (hits q (slice_range q.entries.now at end) ++ hits_waiting q stack)
 halves_give q stack one two place at end node more done e f =
@@ -50,13 +53,15 @@ halves_give q stack one two place at end node more done e f =
 pub push-requires : goal.push-requires
 push-requires c =
     let node = c.requires.walk.question.nodes c.args.place c.requires.there in
-    let low = small_depth (node_at c.args.self.now.question.nodes.now c.args.place).count (length c.args.self.now.stack.items) (omega (arith, node.some, c.if-node-eq1.false)) c.requires.small in
+    let low = small_depth (node_at c.args.self.now.question.nodes.now c.args.place).count (length c.args.self.now.stack.items)
+    (omega (arith, node.some, c.if-node-eq1.false)) c.requires.small in
     (omega arith, omega (arith, low))
 
 pub push-requires-2 : goal.push-requires-2
 push-requires-2 c =
     let node = c.requires.walk.question.nodes c.args.place c.requires.there in
-    let low = small_depth (node_at c.args.self.now.question.nodes.now c.args.place).count (length c.args.self.now.stack.items) (omega (arith, node.some, c.if-node-eq1.false)) c.requires.small in
+    let low = small_depth (node_at c.args.self.now.question.nodes.now c.args.place).count (length c.args.self.now.stack.items)
+    (omega (arith, node.some, c.if-node-eq1.false)) c.requires.small in
     (omega arith, omega (arith, low, c.push.ensures.len))
 
 pub returns-clause-walk : goal.returns-clause-walk
@@ -66,7 +71,8 @@ returns-clause-walk c =
       question = c.requires.walk.question;
       begins = c.requires.walk.begins;
       ends = c.requires.walk.ends;
-      stack = halves_waiting c.args.self.now.question.nodes.now c.args.self.now.question.entries.now c.args.self.now.stack.items c.push.new.self.items c.push-2.new.self.items c.args.place node
+      stack = halves_waiting c.args.self.now.question.nodes.now c.args.self.now.question.entries.now c.args.self.now.stack.items c.push.new.self.items
+          c.push-2.new.self.items c.args.place node
           (omega (arith, node.some, c.if-node-eq1.false)) c.requires.small c.requires.walk.stack c.push.ensures.items c.push-2.ensures.items;
     }
 

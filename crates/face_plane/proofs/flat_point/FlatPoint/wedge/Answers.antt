@@ -20,8 +20,10 @@ pub returns-clause-value : goal.returns-clause-value
 returns-clause-value c =
     let a = c.args.a in
     let b = c.args.b in
-    let first = same_product c.grid_product.result c.u.result c.v.result a.0 b.1 c.u.ensures.on_grid c.v.ensures.on_grid c.u.ensures.value c.v.ensures.value c.grid_product.ensures.value in
-    let second = same_product c.grid_product-2.result c.u-2.result c.v-2.result b.0 a.1 c.u-2.ensures.on_grid c.v-2.ensures.on_grid c.u-2.ensures.value c.v-2.ensures.value c.grid_product-2.ensures.value in
+    let first = same_product c.grid_product.result c.u.result c.v.result a.0 b.1 c.u.ensures.on_grid c.v.ensures.on_grid c.u.ensures.value c.v.ensures.value
+    c.grid_product.ensures.value in
+    let second = same_product c.grid_product-2.result c.u-2.result c.v-2.result b.0 a.1 c.u-2.ensures.on_grid c.v-2.ensures.on_grid c.u-2.ensures.value
+    c.v-2.ensures.value c.grid_product-2.ensures.value in
     let whole = kept_difference c.grid_product.result c.grid_product-2.result c.grid_product.ensures.small c.grid_product-2.ensures.small in
     cc
 

@@ -73,8 +73,10 @@ loop-half-preserved c = elim c.if-index.branch [
       let full : length w.number_fan.new.of ≡ c.loop-half.of.len = numbered.full ∙ sym inv.fans.full ∙ sym c.loop-half.of.ok.0 in
       record {
         known = inv.known;
-        fans = fans_as es order (i + 1) _ _ _ _ (ap (λ (v : Vec ℕ Global). v.items) w.of-is ∙ with_items_is c.loop-half.of w.number_fan.new.of full) (ap (λ (v : Vec ℕ Global). v.items) w.first-is ∙ w.in_ok-push.ensures.items)
-            (fan_more ts c.triples.ensures.twinned.closed c.triples.ensures.twinned.few order i c.loop-half.of.items w.number_fan.new.of c.loop-half.first.items inv.known c.loop-half-test.true inv.fans none numbered);
+        fans = fans_as es order (i + 1) _ _ _ _ (ap (λ (v : Vec ℕ Global). v.items) w.of-is ∙ with_items_is c.loop-half.of w.number_fan.new.of full)
+            (ap (λ (v : Vec ℕ Global). v.items) w.first-is ∙ w.in_ok-push.ensures.items)
+            (fan_more ts c.triples.ensures.twinned.closed c.triples.ensures.twinned.few order i c.loop-half.of.items w.number_fan.new.of c.loop-half.first.items
+            inv.known c.loop-half-test.true inv.fans none numbered);
       }
   | else-index w ↦
       let es = all_edges c.args.self.now.triples in

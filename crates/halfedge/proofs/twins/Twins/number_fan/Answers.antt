@@ -13,7 +13,8 @@ use Rattle.halfedge.proofs.Listed.{length-twins, twin_listed}
 use Rattle.halfedge.proofs.twins.Twins.number_fan.Goals as goal
 
 -- where the walk stands is a half-edge
-stands_below : (ts : List Triple) → IsClosed (all_edges ts) → (h number : ℕ) (old of : List ℕ) (g : ℕ) → h < length (all_edges ts) → IsWalked (around (all_edges ts)) (length (all_edges ts)) h number old of g → g < length (all_edges ts)
+stands_below : (ts : List Triple) → IsClosed (all_edges ts) → (h number : ℕ) (old of : List ℕ) (g : ℕ) → h < length (all_edges ts) →
+    IsWalked (around (all_edges ts)) (length (all_edges ts)) h number old of g → g < length (all_edges ts)
 stands_below ts closed =
     let es = all_edges ts in
     walk_below (around es) (λ g. twin es (prev_half g)) (length es) (around_inverse ts closed)
@@ -40,7 +41,13 @@ next-half-requires c =
     let ts = c.args.self.now.triples in
     let below = stands_below ts c.requires.twinned.closed c.args.h c.args.number _ _ _ c.requires.half c.loop-of.invariant in
     let within = (twin_runs_back (all_edges ts) c.requires.twinned.closed c.loop-of.half below).within in
-    omega (arith, within, twin_read ts c.args.self.now.twins c.twins-twins.result.now c.twins-twins.ensures.twinned c.twins-twins.ensures.value c.loop-of.half below, length-all_edges ts)
+    omega (
+      arith,
+      within,
+      twin_read ts c.args.self.now.twins c.twins-twins.result.now c.twins-twins.ensures.twinned c.twins-twins.ensures.value c.loop-of.half
+          below,
+      length-all_edges ts,
+    )
 
 pub loop-of-preserved : goal.loop-of-preserved
 loop-of-preserved c =
@@ -59,5 +66,6 @@ pub returns : goal.returns
 returns c =
     let ts = c.args.self.now.triples in
     let es = all_edges ts in
-    let done = walk_done (around es) (λ g. twin es (prev_half g)) (length es) (around_inverse ts c.requires.twinned.closed) c.args.h c.args.number _ _ _ c.requires.half c.requires.kept_around c.requires.fresh c.loop-of.invariant c.loop-of-test.false in
+    let done = walk_done (around es) (λ g. twin es (prev_half g)) (length es) (around_inverse ts c.requires.twinned.closed) c.args.h c.args.number _ _ _
+    c.requires.half c.requires.kept_around c.requires.fresh c.loop-of.invariant c.loop-of-test.false in
     record { full = done.full; here = done.here; kept_around = done.kept_around; each = done.each }

@@ -20,4 +20,5 @@ returns-clause-value c = returns-clause-listed c ∙ twin_listed c.args.self.now
 pub returns-clause-back : goal.returns-clause-back
 returns-clause-back c =
     let es = all_edges c.args.self.now.triples in
-    subst (RunsBack es c.args.h) (sym (returns-clause-value c)) (twin_runs_back es c.twins.ensures.twinned.closed c.args.h (omega (arith, c.requires, length-all_edges c.args.self.now.triples)))
+    subst (RunsBack es c.args.h) (sym (returns-clause-value c))
+    (twin_runs_back es c.twins.ensures.twinned.closed c.args.h (omega (arith, c.requires, length-all_edges c.args.self.now.triples)))

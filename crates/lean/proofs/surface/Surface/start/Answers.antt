@@ -16,4 +16,5 @@ returns-clause-value c =
 pub returns-clause-below : goal.returns-clause-below
 returns-clause-below c =
     let side = c.args.self.now in
-    subst (λ v. v < length side.corners) (sym (returns-clause-value c)) (start_below (length side.corners) side.triples c.args.half c.triples.ensures.side.accepted.mesh.below c.requires)
+    subst (λ v. v < length side.corners) (sym (returns-clause-value c))
+    (start_below (length side.corners) side.triples c.args.half c.triples.ensures.side.accepted.mesh.below c.requires)

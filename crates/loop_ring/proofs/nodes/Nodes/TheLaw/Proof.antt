@@ -8,4 +8,6 @@ use Rattle.loop_ring.proofs.nodes.Nodes.TheLaw.Statement.{statement}
 use Rattle.loop_ring.proofs.Lending.{lends_nodes-laws, lends_nodes-Lends}
 
 pub shares : statement
-shares = of_Lends struct the_codes the_heap the_lent (λ nodes p. lends_nodes-laws nodes.list) (copy_shared unit-field unit-copy, tt) (λ M 𝓤 𝓛 nodes p. lends_nodes-Lends 𝓛 (the_row).lives nodes.list)
+shares =
+    of_Lends struct the_codes the_heap the_lent (λ nodes p. lends_nodes-laws nodes.list) (copy_shared unit-field unit-copy, tt)
+    (λ M 𝓤 𝓛 nodes p. lends_nodes-Lends 𝓛 (the_row).lives nodes.list)

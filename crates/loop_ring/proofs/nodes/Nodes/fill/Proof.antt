@@ -31,13 +31,15 @@ fill_spec 𝓤 𝓛 𝓜 𝓡 wired =
     qed 𝓛 (((‵ (flft κ q) ⊛ ‵ ftrue) ⊛ ‵ (owns (MutRef (named 0) κ R ∷ Room ∷ u32 ∷ []) a vss)) ∷ ‵ ftrue ∷ []) ∵
     split ! $ split ! $ move ! (2 ∷ []) $ fsplit3 ! $
     -- [self; the room; the value; self's token]
-    move ! (1 ∷ []) $ room_out ! room vss.1.0 (λ b o there stored. move ! (3 ∷ []) $ fsplit3 ! $ feq_l ! (λ passed. feq_i ! (List Val) vs (vptr self.ref_ptr.0 self.ref_ptr.1 ∷ []) passed $ fjoin3 ! $
+    move ! (1 ∷ []) $ room_out ! room vss.1.0
+    (λ b o there stored. move ! (3 ∷ []) $ fsplit3 ! $ feq_l ! (λ passed. feq_i ! (List Val) vs (vptr self.ref_ptr.0 self.ref_ptr.1 ∷ []) passed $ fjoin3 ! $
     keep ! (0 ∷ 5 ∷ 1 ∷ 2 ∷ []) $
     let block : Val = room_val b o room.alloc in let at : Ptr = block_ptr b o in let x : Node = (alone at value).1 in let more : List Located = ns ++ alone at value ∷ [] in
     let typed = (subst (Typed Room.mir) stored (((vacant.the_field_loose N G ghosts the_row_laws global.the_row_laws).lawful 𝓛).typed room vss.1.0 are.1.0)).0 in
     -- [self; its token; memory for a node; the right to free it]
     regoal ! (λ (us : List Val). prop (WpFn 𝓤 𝓛.H 𝓣.C 𝓣.Λ code.function us Post)) (λ i. passed i ++ (stored i ++ (are.1.1.0.0 i ++ []))) refl $
-    enter ! 𝓣.C 𝓣.Λ code.function (vptr self.ref_ptr.0 self.ref_ptr.1 ∷ block ∷ vint w32 value ∷ []) Post $ alloc_all ! (λ l. pass_all ! refl ((tt, tt), (typed, ((tt, record { fits = small }), tt))) $
+    enter ! 𝓣.C 𝓣.Λ code.function (vptr self.ref_ptr.0 self.ref_ptr.1 ∷ block ∷ vint w32 value ∷ []) Post $ alloc_all !
+    (λ l. pass_all ! refl ((tt, tt), (typed, ((tt, record { fits = small }), tt))) $
     nodes_out self vs ! tt (λ us. move ! (2 ∷ []) $ as_written ! node_type b o $
     let good : Good node_type (lowered x) = (tt, (tt, (tt, (record { fits = small }, tt)))) in
     sets ! (of_opd ! (get_in ! (fld ! refl (stop !)) (sub ! 0 refl (whole !)))) refl (tt, tt) $

@@ -20,14 +20,17 @@ stayed = (stay_dropped (RefOf (0 ∷ []) tt (plain (λ _. C.the_row)) (λ _. tt)
 pub node_spec : {M : Type 1} → statement M
 node_spec 𝓤 𝓛 𝓜 𝓡 wired =
     let c = f.clauses 𝓛 𝓜.mem 𝓡.returns in let W = walk_of 𝓛 f.ended stayed c in let 𝓣 = tables 𝓤 𝓛.H 𝓜 𝓡 𝓡.env in
-    proved 𝓛 f.ended stayed c 𝓜 𝓡
-    (Goes-dropped 𝓛 1 (RefOf (0 ∷ []) tt (plain (λ _. C.the_row)) (λ _. tt)) yes (λ κs x w. refl), (Goes-dropped 𝓛 1 (plain (λ _. RawPtr)) yes (λ κs x w. refl), (Goes-dropped 𝓛 1 (plain (λ _. usize)) yes (λ κs x w. refl), tt)))
+    proved 𝓛 f.ended stayed c 𝓜 𝓡 (
+      Goes-dropped 𝓛 1 (RefOf (0 ∷ []) tt (plain (λ _. C.the_row)) (λ _. tt)) yes (λ κs x w. refl),
+      (Goes-dropped 𝓛 1 (plain (λ _. RawPtr)) yes (λ κs x w. refl), (Goes-dropped 𝓛 1 (plain (λ _. usize)) yes (λ κs x w. refl), tt)),
+    )
     f.Key.name code.function (code.unfolded 𝓤 𝓛.H 𝓜 𝓡 wired)
     (λ κs. (shr_vals, (rawptr_vals, (uint_vals w64, tt)))) (λ κs. (shr_Tells (named 0) κs.0 C.the_row, (rawptr_Tells, (uint_Tells w64, tt)))) (λ κs qs bounds a _ are.
     let κ = κs.0 in let self = a.0 in let vs = shr_vals self in let at : Ptr = a.1.0 in let i : ℕ = a.1.1.0 in
     let ns : List Located = self.now.list in let n : Located = get_or ns i nowhere in let b = self.ref_ptr.0 in let o = self.ref_ptr.1 in
     let y : W.Ghost = ((κs, qs, bounds, a, (vs, (rawptr_vals at, (uint_vals w64 i, tt)))), tt) in
-    qed 𝓛 (((‵ (flft κ qs.0) ⊛ ‵ ftrue) ⊛ ‵ ((ShrRef (named 0) κ C.the_row).own_val self vs) ⊛ ‵ (RawPtr.own_val at (rawptr_vals at)) ⊛ ‵ (usize.own_val i (vint w64 i ∷ [])) ⊛ ‵ ftrue) ∷ raw (fact 𝓤 (IsAddress ns i at)) ∷ []) ∵
+    qed 𝓛 (((‵ (flft κ qs.0) ⊛ ‵ ftrue) ⊛ ‵ ((ShrRef (named 0) κ C.the_row).own_val self vs) ⊛ ‵ (RawPtr.own_val at (rawptr_vals at)) ⊛ ‵
+    (usize.own_val i (vint w64 i ∷ [])) ⊛ ‵ ftrue) ∷ raw (fact 𝓤 (IsAddress ns i at)) ∷ []) ∵
     move ! (1 ∷ []) $ heard ! (IsAddress ns i at) (λ asked. split ! $ split ! $ move ! (2 ∷ []) $ split ! $ fsplit ! $ keep ! (1 ∷ 3 ∷ []) $
     -- [what self shares; its token]
     enter ! _ _ _ _ _ $ alloc_all ! (λ l. pass_all ! refl ((tt, tt), (Ptr-Good at, ((tt, record { fits = are.1.1.0.1 }), tt))) $

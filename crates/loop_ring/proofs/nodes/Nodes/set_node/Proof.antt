@@ -17,15 +17,23 @@ stayed = (stay_ref (0 ∷ []) tt (plain (λ _. R)), (stay_dropped _ yes, (stay_d
 pub set_node_spec : {M : Type 1} → statement M
 set_node_spec 𝓤 𝓛 𝓜 𝓡 wired =
     let c = f.clauses 𝓛 𝓜.mem 𝓡.returns in let W = walk_of 𝓛 f.ended stayed c in let 𝓣 = tables 𝓤 𝓛.H 𝓜 𝓡 𝓡.env in
-    proved 𝓛 f.ended stayed c 𝓜 𝓡
-    (Goes-ref 𝓛 1 0 tt (plain (λ _. R)), (Goes-dropped 𝓛 1 (plain (λ _. RawPtr)) yes (λ κs x w. refl), (Goes-dropped 𝓛 1 (plain (λ _. usize)) yes (λ κs x w. refl), (Goes-dropped 𝓛 1 (plain (λ _. N)) yes (λ κs x w. refl), tt))))
+    proved 𝓛 f.ended stayed c 𝓜 𝓡 (
+      Goes-ref 𝓛 1 0 tt (plain (λ _. R)),
+      (
+        Goes-dropped 𝓛 1 (plain (λ _. RawPtr)) yes (λ κs x w. refl),
+        (Goes-dropped 𝓛 1 (plain (λ _. usize)) yes (λ κs x w. refl), (Goes-dropped 𝓛 1 (plain (λ _. N)) yes (λ κs x w. refl), tt)),
+      ),
+    )
     f.Key.name code.function (code.unfolded 𝓤 𝓛.H 𝓜 𝓡 wired)
-    (λ κs. (mut_vals, (rawptr_vals, (uint_vals w64, ((λ x. lowered x ∷ []), tt))))) (λ κs. (mut_Tells (named 0) κs.0 R, (rawptr_Tells, (uint_Tells w64, (lowers.val_is, tt))))) (λ κs qs bounds a _ are.
+    (λ κs. (mut_vals, (rawptr_vals, (uint_vals w64, ((λ x. lowered x ∷ []), tt)))))
+    (λ κs. (mut_Tells (named 0) κs.0 R, (rawptr_Tells, (uint_Tells w64, (lowers.val_is, tt))))) (λ κs qs bounds a _ are.
     let self = a.0 in let vs = mut_vals self in let at : Ptr = a.1.0 in let i : ℕ = a.1.1.0 in let x : Node = a.1.1.1.0 in let ns : List Located = self.now.list in
     let good = ((the_row_laws.lawful 𝓛).typed x _ are.1.1.1.0).0 in
     let y : W.Ghost = ((κs, qs, bounds, a, (vs, (rawptr_vals at, (uint_vals w64 i, (lowered x ∷ [], tt))))), tt) in
-    qed 𝓛 (((‵ (flft κs.0 qs.0) ⊛ ‵ ftrue) ⊛ ‵ ((Self κs.0).own_val self vs) ⊛ ‵ (RawPtr.own_val at (rawptr_vals at)) ⊛ ‵ (usize.own_val i (vint w64 i ∷ [])) ⊛ ‵ (N.own_val x (lowered x ∷ [])) ⊛ ‵ ftrue) ∷ raw (fact 𝓤 (IsAddress ns i at)) ∷ []) ∵
-    move ! (1 ∷ []) $ heard ! (IsAddress ns i at) (λ asked. split ! $ split ! $ move ! (2 ∷ []) $ split ! $ move ! (1 ∷ []) $ split ! $ move ! (1 ∷ []) $ split ! $ move ! (1 ∷ []) $ split ! $ keep ! (4 ∷ 5 ∷ 0 ∷ []) $
+    qed 𝓛 (((‵ (flft κs.0 qs.0) ⊛ ‵ ftrue) ⊛ ‵ ((Self κs.0).own_val self vs) ⊛ ‵ (RawPtr.own_val at (rawptr_vals at)) ⊛ ‵ (usize.own_val i (vint w64 i ∷ [])) ⊛
+    ‵ (N.own_val x (lowered x ∷ [])) ⊛ ‵ ftrue) ∷ raw (fact 𝓤 (IsAddress ns i at)) ∷ []) ∵
+    move ! (1 ∷ []) $ heard ! (IsAddress ns i at)
+    (λ asked. split ! $ split ! $ move ! (2 ∷ []) $ split ! $ move ! (1 ∷ []) $ split ! $ move ! (1 ∷ []) $ split ! $ move ! (1 ∷ []) $ split ! $ keep ! (4 ∷ 5 ∷ 0 ∷ []) $
     -- [self; its token; what the node owns of its fields]
     enter ! _ _ _ _ _ $ alloc_all ! (λ l. pass_all ! refl ((tt, tt), (Ptr-Good at, ((tt, record { fits = are.1.1.0.1 }), (good, tt)))) $
     nodes_out self vs ! tt (λ us. one_out ns i at asked.0 ! asked.1 (λ b o there.

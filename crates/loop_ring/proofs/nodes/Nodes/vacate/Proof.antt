@@ -25,7 +25,8 @@ vacate_spec 𝓤 𝓛 𝓜 𝓡 wired =
     let self = a.0 in let vs = mut_vals self in let handle : G.Denot = a.1.0 in let stored : Val = global.lowered handle in let at : Ptr = a.1.1.0 in
     let ns : List Located = self.now.list in let known = ((global.the_row_laws.lawful 𝓛).typed handle _ are.1.0).0 in
     let y : W.Ghost = ((κs, qs, bounds, a, (vs, (stored ∷ [], (rawptr_vals at, tt)))), tt) in
-    qed 𝓛 (((‵ (flft κs.0 qs.0) ⊛ ‵ ftrue) ⊛ ‵ ((Self κs.0).own_val self vs) ⊛ ‵ (G.own_val handle (stored ∷ [])) ⊛ ‵ (RawPtr.own_val at (rawptr_vals at)) ⊛ ‵ ftrue) ∷ raw (fact 𝓤 (IsAddress ns 0 at)) ∷ []) ∵
+    qed 𝓛 (((‵ (flft κs.0 qs.0) ⊛ ‵ ftrue) ⊛ ‵ ((Self κs.0).own_val self vs) ⊛ ‵ (G.own_val handle (stored ∷ [])) ⊛ ‵ (RawPtr.own_val at (rawptr_vals at)) ⊛ ‵
+    ftrue) ∷ raw (fact 𝓤 (IsAddress ns 0 at)) ∷ []) ∵
     move ! (1 ∷ []) $ heard ! (IsAddress ns 0 at) (λ asked. split ! $ split ! $ move ! (2 ∷ []) $ split ! $ move ! (1 ∷ []) $ split ! $ keep ! (2 ∷ 3 ∷ 0 ∷ []) $
     -- [self; its token; the handle]
     enter ! _ _ _ _ _ $ alloc_all ! (λ l. pass_all ! refl ((tt, tt), (known, (Ptr-Good at, tt))) $
@@ -36,5 +37,6 @@ vacate_spec 𝓤 𝓛 𝓜 𝓡 wired =
     use1 𝓛 (‵ (froom node_type b o)) (𝓛.laws.at_room node_type b o (lowered (get_or ns 0 nowhere).1)) $ as_raw ! node_type b o $
     move ! (0 ∷ 1 ∷ 5 ∷ []) $ room_in ! handle b o $ move ! (1 ∷ []) $ leave ! $ move ! (1 ∷ 2 ∷ []) $ nodes_in self vs ! tt us (drop 1 ns) $
     returns ! (look_at ! 0 refl) $ free_all ! refl $
-    suffices ! _ (ends_at 𝓛 f.ended stayed c y (room_val b o handle) (record { ptr = block_ptr b o; alloc = handle }) (record self.now { list = drop 1 ns }, (tt, (tt, tt))) (tt, (tt, (tt, tt)))) $ says ! refl $
+    suffices ! _ (ends_at 𝓛 f.ended stayed c y (room_val b o handle) (record { ptr = block_ptr b o; alloc = handle })
+    (record self.now { list = drop 1 ns }, (tt, (tt, tt))) (tt, (tt, (tt, tt)))) $ says ! refl $
     nothing ! $ nothing ! $ join ! $ nothing ! $ join ! $ move ! (1 ∷ 0 ∷ []) $ join ! $ nothing ! $ move ! (2 ∷ 0 ∷ []) $ join ! $ frame ! $ frame ! $ done !)))))

@@ -9,6 +9,7 @@ invariant_of-self c =
     let ring = c.self.inside in let n : ℕ = ring.len in let ns : List Located = ring.nodes.list in let count = c.self.invariant.1 in let asked = c.requires in
     let seen = ap length c.self.view_is in let values = length-map ns (λ x. x.1.value) in let more : 1 < n = omega arith in let link = c.link.ensures in
     let gone = ap length c.remove.ensures in let left = length-drop 1 c.link.new.self.list in let same = link.count in (
-      circle_cut ring.first _ _ ns c.link.new.self.list _ n count more c.self.invariant.0 c.next-next.ensures c.prev-before.ensures link.addresses link.nexts link.prevs c.remove.ensures,
+      circle_cut ring.first _ _ ns c.link.new.self.list _ n count more c.self.invariant.0 c.next-next.ensures c.prev-before.ensures link.addresses link.nexts
+          link.prevs c.remove.ensures,
       omega arith,
     )

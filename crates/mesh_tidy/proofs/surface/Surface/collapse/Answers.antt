@@ -33,7 +33,8 @@ join-requires-clause-apart c =
     let can = subst (Can h) (sym view) c.requires.can in
     let p : c.start-from.result ≡ starts_at s h = c.start-from.ensures.value ∙ ap (λ v. starts_at v h) (sym view) in
     let q : c.start-to.result ≡ starts_at s g = c.start-to.ensures.value ∙ ap (λ v. starts_at v g) (sym view) in
-    let there = can_read s inside.twins.items inside.stars c.self.invariant h (subst (λ v. Has v h) (sym view) c.requires.has) can.0 can.1 can.2 can.3 can.4 g (subst (λ v. IsTwin v h g) (sym view) c.twin-twin.ensures) c.start-from.result c.start-to.result p q in
+    let there = can_read s inside.twins.items inside.stars c.self.invariant h (subst (λ v. Has v h) (sym view) c.requires.has) can.0 can.1 can.2 can.3 can.4 g
+    (subst (λ v. IsTwin v h g) (sym view) c.twin-twin.ensures) c.start-from.result c.start-to.result p q in
     there.distinct
 
 pub rename-requires : goal.rename-requires
@@ -43,7 +44,8 @@ rename-requires c =
     let vertices : length inside.stars ≡ c.args.self.now.vertices = ap (λ (v : Surface). v.vertices) c.self.view_is in
     let read : c.star.result.now ≡ get_or (joined inside.stars c.start-from.result c.start-to.result) c.start-from.result [] =
     c.star.ensures ∙ ap (λ st. get_or st c.start-from.result []) c.in_ok-join.ensures.joined in
-    let low = low_joined inside.stars c.start-from.result c.start-to.result (3 * length (triples_of inside.triples.items)) (omega (arith, vertices, c.start-from.ensures.below)) (omega (arith, vertices, c.start-to.ensures.below)) c.self.invariant.within in
+    let low = low_joined inside.stars c.start-from.result c.start-to.result (3 * length (triples_of inside.triples.items))
+    (omega (arith, vertices, c.start-from.ensures.below)) (omega (arith, vertices, c.start-to.ensures.below)) c.self.invariant.within in
     subst (λ (l : List ℕ). (k : ℕ) (d : ℕ) → k < length l → get_or l k d < 3 * length c.deref_mut.result.now) (sym read)
     (λ k d within. omega (arith, low k d within, length-map inside.triples.items triple_of, ap length c.deref_mut.ensures.value))
 
@@ -60,11 +62,14 @@ pair_across-requires-2-clause-one c =
     let p : from ≡ starts_at s h = c.start-from.ensures.value ∙ ap (λ v. starts_at v h) (sym view) in
     let q : to ≡ starts_at s g = c.start-to.ensures.value ∙ ap (λ v. starts_at v g) (sym view) in
     let us = triples_of c.rename.new.triples in
-    let count : length us ≡ length s.triples = omega (arith, length-map c.rename.new.triples triple_of, length-map inside.triples.items triple_of, c.rename.ensures.count, ap length c.deref_mut.ensures.value) in
+    let count : length us ≡ length s.triples =
+    omega (arith, length-map c.rename.new.triples triple_of, length-map inside.triples.items triple_of, c.rename.ensures.count, ap length c.deref_mut.ensures.value) in
     let renames = renamed_so c.deref_mut.result.now inside.triples.items us c.star.result.now (get_or (joined inside.stars from to) from []) to from c.deref_mut.ensures.value
     (c.star.ensures ∙ ap (λ st. get_or st from []) c.in_ok-join.ensures.joined) c.rename.ensures.renamed in
-    let is = first_pair_is inside.twins c.deref_mut-2.result.now c.pair_across.new.twins c.deref_mut-3.result.now h c.deref_mut-2.ensures.value c.pair_across.ensures c.deref_mut-3.ensures.value in
-    next_in s inside.twins.items inside.stars c.self.invariant h (subst (λ v. Has v h) (sym view) c.requires.has) can.0 can.1 can.2 can.3 can.4 g (subst (λ v. IsTwin v h g) (sym view) c.twin-twin.ensures) refl from to p q us count renames c.deref_mut-3.result.now is
+    let is = first_pair_is inside.twins c.deref_mut-2.result.now c.pair_across.new.twins c.deref_mut-3.result.now h c.deref_mut-2.ensures.value
+    c.pair_across.ensures c.deref_mut-3.ensures.value in
+    next_in s inside.twins.items inside.stars c.self.invariant h (subst (λ v. Has v h) (sym view) c.requires.has) can.0 can.1 can.2 can.3 can.4 g
+    (subst (λ v. IsTwin v h g) (sym view) c.twin-twin.ensures) refl from to p q us count renames c.deref_mut-3.result.now is
 
 pub pair_across-requires-2-clause-other : goal.pair_across-requires-2-clause-other
 pair_across-requires-2-clause-other c =
@@ -79,11 +84,14 @@ pair_across-requires-2-clause-other c =
     let p : from ≡ starts_at s h = c.start-from.ensures.value ∙ ap (λ v. starts_at v h) (sym view) in
     let q : to ≡ starts_at s g = c.start-to.ensures.value ∙ ap (λ v. starts_at v g) (sym view) in
     let us = triples_of c.rename.new.triples in
-    let count : length us ≡ length s.triples = omega (arith, length-map c.rename.new.triples triple_of, length-map inside.triples.items triple_of, c.rename.ensures.count, ap length c.deref_mut.ensures.value) in
+    let count : length us ≡ length s.triples =
+    omega (arith, length-map c.rename.new.triples triple_of, length-map inside.triples.items triple_of, c.rename.ensures.count, ap length c.deref_mut.ensures.value) in
     let renames = renamed_so c.deref_mut.result.now inside.triples.items us c.star.result.now (get_or (joined inside.stars from to) from []) to from c.deref_mut.ensures.value
     (c.star.ensures ∙ ap (λ st. get_or st from []) c.in_ok-join.ensures.joined) c.rename.ensures.renamed in
-    let is = first_pair_is inside.twins c.deref_mut-2.result.now c.pair_across.new.twins c.deref_mut-3.result.now h c.deref_mut-2.ensures.value c.pair_across.ensures c.deref_mut-3.ensures.value in
-    prev_in s inside.twins.items inside.stars c.self.invariant h (subst (λ v. Has v h) (sym view) c.requires.has) can.0 can.1 can.2 can.3 can.4 g (subst (λ v. IsTwin v h g) (sym view) c.twin-twin.ensures) refl from to p q us count renames c.deref_mut-3.result.now is
+    let is = first_pair_is inside.twins c.deref_mut-2.result.now c.pair_across.new.twins c.deref_mut-3.result.now h c.deref_mut-2.ensures.value
+    c.pair_across.ensures c.deref_mut-3.ensures.value in
+    prev_in s inside.twins.items inside.stars c.self.invariant h (subst (λ v. Has v h) (sym view) c.requires.has) can.0 can.1 can.2 can.3 can.4 g
+    (subst (λ v. IsTwin v h g) (sym view) c.twin-twin.ensures) refl from to p q us count renames c.deref_mut-3.result.now is
 
 pub invariant_of-self-2 : goal.invariant_of-self-2
 invariant_of-self-2 c =
@@ -98,20 +106,35 @@ invariant_of-self-2 c =
     let p : from ≡ starts_at s h = c.start-from.ensures.value ∙ ap (λ v. starts_at v h) (sym view) in
     let q : to ≡ starts_at s g = c.start-to.ensures.value ∙ ap (λ v. starts_at v g) (sym view) in
     let us = triples_of c.rename.new.triples in
-    let count : length us ≡ length s.triples = omega (arith, length-map c.rename.new.triples triple_of, length-map inside.triples.items triple_of, c.rename.ensures.count, ap length c.deref_mut.ensures.value) in
+    let count : length us ≡ length s.triples =
+    omega (arith, length-map c.rename.new.triples triple_of, length-map inside.triples.items triple_of, c.rename.ensures.count, ap length c.deref_mut.ensures.value) in
     let renames = renamed_so c.deref_mut.result.now inside.triples.items us c.star.result.now (get_or (joined inside.stars from to) from []) to from c.deref_mut.ensures.value
     (c.star.ensures ∙ ap (λ st. get_or st from []) c.in_ok-join.ensures.joined) c.rename.ensures.renamed in
-    let is = first_pair_is inside.twins c.deref_mut-2.result.now c.pair_across.new.twins c.deref_mut-3.result.now h c.deref_mut-2.ensures.value c.pair_across.ensures c.deref_mut-3.ensures.value in
+    let is = first_pair_is inside.twins c.deref_mut-2.result.now c.pair_across.new.twins c.deref_mut-3.result.now h c.deref_mut-2.ensures.value
+    c.pair_across.ensures c.deref_mut-3.ensures.value in
     let two = c.pair_across-2.new.twins in
-    let kept = kept_so s inside.twins.items inside.stars c.self.invariant h (subst (λ v. Has v h) (sym view) c.requires.has) can.0 can.1 can.2 can.3 can.4 g (subst (λ v. IsTwin v h g) (sym view) c.twin-twin.ensures) refl from to p q us count renames c.deref_mut-3.result.now is two c.pair_across-2.ensures in
+    let kept = kept_so s inside.twins.items inside.stars c.self.invariant h (subst (λ v. Has v h) (sym view) c.requires.has) can.0 can.1 can.2 can.3 can.4 g
+    (subst (λ v. IsTwin v h g) (sym view) c.twin-twin.ensures) refl from to p q us count renames c.deref_mut-3.result.now is two c.pair_across-2.ensures in
     let triples_is = with_items_is inside.triples c.rename.new.triples (omega (arith, c.rename.ensures.count, ap length c.deref_mut.ensures.value, inside.triples.ok.0)) in
     let first : Vec ℕ Global = with_items inside.twins c.pair_across.new.twins in
-    let twins_is = with_items_is first two (omega (arith, ap length c.pair_across-2.ensures, length-paired c.deref_mut-3.result.now (get_or c.deref_mut-3.result.now (next_half g) 0) (get_or c.deref_mut-3.result.now (prev_half g) 0), ap length c.deref_mut-3.ensures.value, first.ok.0)) in
+    let twins_is = with_items_is first two
+    (omega (
+      arith,
+      ap length c.pair_across-2.ensures,
+      length-paired c.deref_mut-3.result.now (get_or c.deref_mut-3.result.now (next_half g) 0)
+          (get_or c.deref_mut-3.result.now (prev_half g) 0),
+      ap length c.deref_mut-3.ensures.value,
+      first.ok.0,
+    )) in
     let left = without inside.left.items (h / 3) (g / 3) in
     let stars_is = c.in_ok-join.ensures.joined in
-    subst (λ st. IsKept (record { triples = triples_of (with_items inside.triples c.rename.new.triples).items; left = left; vertices = length st }) (with_items first two).items st) (sym stars_is)
-    (subst (λ tw. IsKept (record { triples = triples_of (with_items inside.triples c.rename.new.triples).items; left = left; vertices = length (joined inside.stars from to) }) tw (joined inside.stars from to)) (sym twins_is)
-    (subst (λ ts. IsKept (record { triples = triples_of ts; left = left; vertices = length (joined inside.stars from to) }) two (joined inside.stars from to)) (sym triples_is) kept))
+    subst (λ st. IsKept (record { triples = triples_of (with_items inside.triples c.rename.new.triples).items; left = left; vertices = length st })
+    (with_items first two).items st) (sym stars_is)
+    (subst (λ tw. IsKept
+    (record { triples = triples_of (with_items inside.triples c.rename.new.triples).items; left = left; vertices = length (joined inside.stars from to) }) tw
+    (joined inside.stars from to)) (sym twins_is)
+    (subst (λ ts. IsKept (record { triples = triples_of ts; left = left; vertices = length (joined inside.stars from to) }) two (joined inside.stars from to))
+    (sym triples_is) kept))
 
 pub returns-clause-collapsed : goal.returns-clause-collapsed
 returns-clause-collapsed c =
@@ -126,12 +149,15 @@ returns-clause-collapsed c =
     let p : from ≡ starts_at s h = c.start-from.ensures.value ∙ ap (λ v. starts_at v h) (sym view) in
     let q : to ≡ starts_at s g = c.start-to.ensures.value ∙ ap (λ v. starts_at v g) (sym view) in
     let us = triples_of c.rename.new.triples in
-    let count : length us ≡ length s.triples = omega (arith, length-map c.rename.new.triples triple_of, length-map inside.triples.items triple_of, c.rename.ensures.count, ap length c.deref_mut.ensures.value) in
+    let count : length us ≡ length s.triples =
+    omega (arith, length-map c.rename.new.triples triple_of, length-map inside.triples.items triple_of, c.rename.ensures.count, ap length c.deref_mut.ensures.value) in
     let renames = renamed_so c.deref_mut.result.now inside.triples.items us c.star.result.now (get_or (joined inside.stars from to) from []) to from c.deref_mut.ensures.value
     (c.star.ensures ∙ ap (λ st. get_or st from []) c.in_ok-join.ensures.joined) c.rename.ensures.renamed in
-    let follows = follows_so s inside.twins.items inside.stars c.self.invariant h (subst (λ v. Has v h) (sym view) c.requires.has) can.0 can.1 can.2 can.3 can.4 g (subst (λ v. IsTwin v h g) (sym view) c.twin-twin.ensures) refl from to p q us count renames in
+    let follows = follows_so s inside.twins.items inside.stars c.self.invariant h (subst (λ v. Has v h) (sym view) c.requires.has) can.0 can.1 can.2 can.3 can.4
+    g (subst (λ v. IsTwin v h g) (sym view) c.twin-twin.ensures) refl from to p q us count renames in
     let triples_is = with_items_is inside.triples c.rename.new.triples (omega (arith, c.rename.ensures.count, ap length c.deref_mut.ensures.value, inside.triples.ok.0)) in
     let left = without inside.left.items (h / 3) (g / 3) in
     subst (λ v. HasCollapsed v (record { triples = triples_of (with_items inside.triples c.rename.new.triples).items; left = left; vertices = length c.join.new.self }) h) view
-    (subst (λ st. HasCollapsed s (record { triples = triples_of (with_items inside.triples c.rename.new.triples).items; left = left; vertices = length st }) h) (sym c.in_ok-join.ensures.joined)
+    (subst (λ st. HasCollapsed s (record { triples = triples_of (with_items inside.triples c.rename.new.triples).items; left = left; vertices = length st }) h)
+    (sym c.in_ok-join.ensures.joined)
     (subst (λ ts. HasCollapsed s (record { triples = triples_of ts; left = left; vertices = length (joined inside.stars from to) }) h) (sym triples_is) follows))

@@ -16,4 +16,5 @@ invariant_of-self c =
     let low : v < length stars = omega (arith, c.requires, ap (λ (v : Surface). v.vertices) c.self.view_is) in
     let now : c.prune.new.self ≡ pruned left stars v = c.prune.ensures ∙ ap (λ l. pruned l stars v) c.deref.ensures.value in
     let kept = pruned_kept (s (length stars)) tw stars v c.self.invariant refl low in
-    subst (λ st. IsKept (s (length st)) tw st) (sym now) (subst (λ n. IsKept (s n) tw (pruned left stars v)) (sym (length-set stars v (filter (is_left left) (get_or stars v [])))) kept)
+    subst (λ st. IsKept (s (length st)) tw st) (sym now)
+    (subst (λ n. IsKept (s n) tw (pruned left stars v)) (sym (length-set stars v (filter (is_left left) (get_or stars v [])))) kept)

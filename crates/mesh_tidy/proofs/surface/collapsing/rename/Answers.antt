@@ -27,13 +27,18 @@ loop-half-preserved c =
     elim c.if-start-old.branch [
       | then-start-old w ↦
           let row = get_or xs (h / 3) [] in
-          let low : h < 3 * length xs = omega (arith, All-get_or (λ x. x < 3 * length c.args.triples.now) halves i 0 c.loop-half-test.true c.requires, c.loop-half.invariant.count) in
+          let low : h < 3 * length xs = omega (
+            arith,
+            All-get_or (λ x. x < 3 * length c.args.triples.now) halves i 0 c.loop-half-test.true c.requires,
+            c.loop-half.invariant.count,
+          ) in
           let three : length row ≡ 3 = All-get_or (λ r. length r ≡ 3) xs (h / 3) [] (omega (arith, low)) rows in
           let within : h % 3 < length row = omega (arith, three) in
           let put = set row (h % 3) c.args.new in
           record {
             count = omega (arith, ap length w.triples-is, length-set xs (h / 3) put, c.loop-half.invariant.count);
-            rows = subst (λ (us : List (List ℕ)). (k : ℕ) (d : List ℕ) → k < length us → length (get_or us k d) ≡ 3) (sym w.triples-is) (All-set (λ r. length r ≡ 3) xs (h / 3) put (length-set row (h % 3) c.args.new ∙ three) rows);
+            rows = subst (λ (us : List (List ℕ)). (k : ℕ) (d : List ℕ) → k < length us → length (get_or us k d) ≡ 3) (sym w.triples-is)
+                (All-set (λ r. length r ≡ 3) xs (h / 3) put (length-set row (h % 3) c.args.new ∙ three) rows);
             renamed = subst Renamed (sym w.triples-is)
                 (renamed_more before (triples_of xs) halves i c.args.old c.args.new c.loop-half-test.true so_far (triples_of (written xs h c.args.new row low refl within))
                 (sym c.start.ensures ∙ w.if-start-old.true) (start_written xs h c.args.new row low refl within) (start_other xs h c.args.new row low refl within));

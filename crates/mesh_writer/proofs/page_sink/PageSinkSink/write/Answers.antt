@@ -20,7 +20,8 @@ own_less : (name : Bytes) (p : Bytes × ℕ) (new : Option (Bytes × ℕ)) (coun
     → room_of name new ≡ option_map (λ free. free - count) (room_of name (Some p))
 own_less name p new count is less =
     let here = (bytes_eq-Decides p.0 name).1 is in
-    spare_is name new (p.1 - count) (less p.1 (ap (λ (n : Bytes). Some (n, p.1)) is)) ∙ sym (ap (λ (b : Bool). option_map (λ (free : ℕ). free - count) (cond b (Some p.1) None)) here)
+    spare_is name new (p.1 - count) (less p.1 (ap (λ (n : Bytes). Some (n, p.1)) is))
+    ∙ sym (ap (λ (b : Bool). option_map (λ (free : ℕ). free - count) (cond b (Some p.1) None)) here)
 
 -- where the spare is another's, no room is told before and after
 less_by : (name : Bytes) (old new : Option (Bytes × ℕ)) (count : ℕ) → IsSpareOf old name ⊎ (new ≡ old) → ((free : ℕ) → old ≡ Some (name, free) → new ≡ Some (name, free - count))
@@ -32,7 +33,8 @@ less_by name (Some p) new count (inr same) less = by (bytes_eq p.0 name) refl
   where
     by : (t : Bool) → bytes_eq p.0 name ≡ t → room_of name new ≡ option_map (λ free. free - count) (room_of name (Some p))
     by true is = own_less name p new count ((bytes_eq-Decides p.0 name).0 is) less
-    by false is = ap (room_of name) same ∙ ap (λ (b : Bool). cond b (Some p.1) None) is ∙ sym (ap (λ (b : Bool). option_map (λ (free : ℕ). free - count) (cond b (Some p.1) None)) is)
+    by false is = ap (room_of name) same ∙ ap (λ (b : Bool). cond b (Some p.1) None) is
+        ∙ sym (ap (λ (b : Bool). option_map (λ (free : ℕ). free - count) (cond b (Some p.1) None)) is)
 
 -- a spare of another file stays
 beside_same : {E : Type 0} (name : Bytes) (old new : Option (Bytes × ℕ)) (r : Result ℕ E) → IsSpareOf old name ⊎ (new ≡ old)
@@ -43,7 +45,8 @@ beside_same name None new (Ok count) (inl is) less kept = absurd is
 beside_same name (Some p) new (Ok count) (inl is) less kept =
     let here = (bytes_eq-Decides p.0 name).1 is in
     let own = (bytes_eq-Decides name name).1 refl in
-    ap (spare_beside name) (less p.1 (ap (λ (n : Bytes). Some (n, p.1)) is)) ∙ ap (λ (b : Bool). cond b None (Some (name, p.1 - count))) own ∙ sym (ap (λ (b : Bool). cond b None (Some p)) here)
+    ap (spare_beside name) (less p.1 (ap (λ (n : Bytes). Some (n, p.1)) is)) ∙ ap (λ (b : Bool). cond b None (Some (name, p.1 - count))) own
+    ∙ sym (ap (λ (b : Bool). cond b None (Some p)) here)
 
 pub returns-clause-sure : goal.returns-clause-sure
 returns-clause-sure g c free is fits = c.append.ensures.sure free (room_is c.args.self.now.name.now (g.S.Shelf.spare c.args.self.now.shelf.now) free is) fits

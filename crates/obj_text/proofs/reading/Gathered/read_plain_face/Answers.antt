@@ -9,7 +9,8 @@ returns c k =
     let apart : HasThree (c.in-Some.a, c.in-Some.b, c.in-Some.c) = search rules in
     let room : length c.args.self.now.triples < c.args.limits.now.triangles = search rules in
     record {
-      read = face-read k c.args.limits.now c.args.lines.now c.in-Some.after c.in-Some.a c.in-Some.b c.in-Some.c c.args.self.now c.push_triangle.new.self c.in-Some.ensures below apart room c.in_ok-push_triangle.ensures;
+      read = face-read k c.args.limits.now c.args.lines.now c.in-Some.after c.in-Some.a c.in-Some.b c.in-Some.c c.args.self.now c.push_triangle.new.self
+          c.in-Some.ensures below apart room c.in_ok-push_triangle.ensures;
       fewer = λ _. face-fewer c.args.lines.now c.in-Some.after c.in-Some.a c.in-Some.b c.in-Some.c c.in-Some.ensures;
       kept = search rules;
     }

@@ -10,7 +10,8 @@ use Rattle.operation_tests.proofs.faces.words.push_faces.Goals as goal
 pub runs_of-requires-clause-fits : goal.runs_of-requires-clause-fits
 runs_of-requires-clause-fits c =
     let few = c.given_have_parts.ensures.few in
-    let same : vertex_count (p_number c.args.op) c.deref.result.now ≡ p_kept c.args.op (numbers c.args.windings.now c.args.hits.now) = ap (vertex_count (p_number c.args.op)) c.deref.ensures.value in
+    let same : vertex_count (p_number c.args.op) c.deref.result.now ≡ p_kept c.args.op (numbers c.args.windings.now c.args.hits.now) =
+    ap (vertex_count (p_number c.args.op)) c.deref.ensures.value in
     omega (arith, few, same)
 
 pub overflow_cast-p_kept : goal.overflow_cast-p_kept
@@ -22,7 +23,8 @@ overflow_cast-p_kept c =
 pub runs_of-requires-2-clause-fits : goal.runs_of-requires-2-clause-fits
 runs_of-requires-2-clause-fits c =
     let few = c.given_have_parts.ensures.few in
-    let same : vertex_count (q_number c.args.op) c.deref-2.result.now ≡ q_kept c.args.op (numbers c.args.windings.now c.args.hits.now) = ap (vertex_count (q_number c.args.op)) c.deref-2.ensures.value in
+    let same : vertex_count (q_number c.args.op) c.deref-2.result.now ≡ q_kept c.args.op (numbers c.args.windings.now c.args.hits.now) =
+    ap (vertex_count (q_number c.args.op)) c.deref-2.ensures.value in
     let kept = ap (λ k. slice_index k 0) c.requires.kept in
     omega (arith, few, same, kept)
 
@@ -57,7 +59,8 @@ push_both-requires-clause-p_parts c =
     let cs = copies op p q c.args.windings.now c.args.hits.now in
     let runs = p_runs_given op n c.deref.result.now c.deref-3.result.now c.in_ok-p_runs.p_runs.items c.deref-3.ensures.value c.in_ok-p_runs.ensures c.deref.ensures.value in
     let stands = stands_given op p q n kept c.deref-5.result.now c.in_ok-stands.stands.items c.deref-5.ensures.value c.in_ok-stands.ensures c.requires.kept in
-    parts_same p c.deref-3.result.now (given_p_runs op n) c.deref-6.result.now (points_of_copies cs) 0 c.deref-5.result.now (given_stands op p q n) runs (c.deref-6.ensures.value ∙ c.requires.points) stands c.given_have_parts.ensures.parts.p_parts
+    parts_same p c.deref-3.result.now (given_p_runs op n) c.deref-6.result.now (points_of_copies cs) 0 c.deref-5.result.now (given_stands op p q n) runs
+    (c.deref-6.ensures.value ∙ c.requires.points) stands c.given_have_parts.ensures.parts.p_parts
 
 pub push_both-requires-clause-q_parts : goal.push_both-requires-clause-q_parts
 push_both-requires-clause-q_parts c =
@@ -67,7 +70,9 @@ push_both-requires-clause-q_parts c =
     let n = numbers c.args.windings.now c.args.hits.now in
     let kept = c.args.prescribed.now.kept in
     let cs = copies op p q c.args.windings.now c.args.hits.now in
-    let runs = q_runs_given op n kept c.deref-2.result.now c.deref-4.result.now c.in_ok-q_runs.q_runs.items c.deref-4.ensures.value c.in_ok-q_runs.ensures c.deref-2.ensures.value c.requires.kept in
+    let runs = q_runs_given op n kept c.deref-2.result.now c.deref-4.result.now c.in_ok-q_runs.q_runs.items c.deref-4.ensures.value c.in_ok-q_runs.ensures
+    c.deref-2.ensures.value c.requires.kept in
     let stands = stands_given op p q n kept c.deref-5.result.now c.in_ok-stands.stands.items c.deref-5.ensures.value c.in_ok-stands.ensures c.requires.kept in
-    parts_same q c.deref-4.result.now (given_q_runs op n) c.deref-6.result.now (points_of_copies cs) (length p.triples) c.deref-5.result.now (given_stands op p q n) runs (c.deref-6.ensures.value ∙ c.requires.points) stands
+    parts_same q c.deref-4.result.now (given_q_runs op n) c.deref-6.result.now (points_of_copies cs) (length p.triples) c.deref-5.result.now
+    (given_stands op p q n) runs (c.deref-6.ensures.value ∙ c.requires.points) stands
     c.given_have_parts.ensures.parts.q_parts

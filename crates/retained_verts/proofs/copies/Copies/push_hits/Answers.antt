@@ -20,9 +20,13 @@ loop-hit-preserved c =
     let more = hits_more origin number hs i h c.loop-hit-test.true in
     let small : IsNumber h.number = (rw same at (c.requires i h c.loop-hit-test.true)) in
     let times : c.unsigned_abs.result ≡ nat_abs (number h.number) =
-    c.unsigned_abs.ensures.value ∙ ap nat_abs (kept_64 c.hit_number-number.result (omega (arith, c.hit_number-number.ensures.small)) ∙ c.hit_number-number.ensures.value ∙ ap number (kept_8 h.number small)) in
+    c.unsigned_abs.ensures.value ∙ ap nat_abs
+    (kept_64 c.hit_number-number.result (omega (arith, c.hit_number-number.ensures.small)) ∙ c.hit_number-number.ensures.value ∙ ap number (kept_8 h.number small)) in
     let step : included_hits origin number (take (i + 1) hs) ≡ so_far ++ one ∷ [] = rw same at more in
     record {
-      origins = grown (λ k. k.origin) c.push.new.self.origins.items c.loop-hit.self.origins.items c.args.self.now.origins.items so_far (included_hits origin number (take (i + 1) hs)) one c.unsigned_abs.result c.edge-origin.result c.in_ok-push.ensures.origins c.loop-hit.invariant.origins step times c.edge-origin.ensures;
-      points = grown (λ k. k.point) c.push.new.self.points.items c.loop-hit.self.points.items c.args.self.now.points.items so_far (included_hits origin number (take (i + 1) hs)) one c.unsigned_abs.result h.at c.in_ok-push.ensures.points c.loop-hit.invariant.points step times refl;
+      origins = grown (λ k. k.origin) c.push.new.self.origins.items c.loop-hit.self.origins.items c.args.self.now.origins.items so_far
+          (included_hits origin number (take (i + 1) hs)) one c.unsigned_abs.result c.edge-origin.result c.in_ok-push.ensures.origins
+          c.loop-hit.invariant.origins step times c.edge-origin.ensures;
+      points = grown (λ k. k.point) c.push.new.self.points.items c.loop-hit.self.points.items c.args.self.now.points.items so_far
+          (included_hits origin number (take (i + 1) hs)) one c.unsigned_abs.result h.at c.in_ok-push.ensures.points c.loop-hit.invariant.points step times refl;
     }

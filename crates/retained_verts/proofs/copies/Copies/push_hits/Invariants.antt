@@ -6,6 +6,8 @@ use Rattle.retained_verts.proofs.copies.Copies.push_hits.Given as goal
 
 abbrev pub invariant-loop-hit : goal.invariant-loop-hit
 invariant-loop-hit l = record {
-  origins : l.self.origins.items ≡ l.fn.self.origins.items ++ map (λ c. c.origin) (flat_map copies_of (included_hits (edge_origin l.operand) (hit_number_of l.op) (take l.hit-index l.hits)));
-  points : l.self.points.items ≡ l.fn.self.points.items ++ map (λ c. c.point) (flat_map copies_of (included_hits (edge_origin l.operand) (hit_number_of l.op) (take l.hit-index l.hits)));
+  origins : l.self.origins.items ≡ l.fn.self.origins.items
+      ++ map (λ c. c.origin) (flat_map copies_of (included_hits (edge_origin l.operand) (hit_number_of l.op) (take l.hit-index l.hits)));
+  points : l.self.points.items ≡ l.fn.self.points.items
+      ++ map (λ c. c.point) (flat_map copies_of (included_hits (edge_origin l.operand) (hit_number_of l.op) (take l.hit-index l.hits)));
 }

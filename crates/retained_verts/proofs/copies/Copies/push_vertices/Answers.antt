@@ -19,9 +19,14 @@ loop-vertex-preserved c =
     let one : Included = record { origin = origin v; number = number (get_or ws v (pos 0)); point = get_or ps v [] } in
     let more = vertices_more origin number ws ps v in
     let times : c.unsigned_abs.result ≡ nat_abs (number (get_or ws v (pos 0))) =
-    c.unsigned_abs.ensures.value ∙ ap nat_abs (kept_64 c.number-number.result (omega (arith, c.number-number.ensures.small)) ∙ c.number-number.ensures.value ∙ ap number (kept_64 (get_or ws v (pos 0)) (omega (arith, c.requires.small v (pos 0) (omega arith))))) in
+    c.unsigned_abs.ensures.value ∙ ap nat_abs (kept_64 c.number-number.result (omega (arith, c.number-number.ensures.small)) ∙ c.number-number.ensures.value
+    ∙ ap number (kept_64 (get_or ws v (pos 0)) (omega (arith, c.requires.small v (pos 0) (omega arith))))) in
     let at : c.point_of-point.result ≡ get_or ps v [] = c.point_of-point.ensures ∙ sym (get_or-map point_of c.args.corners.now v blank_corner [] (omega arith)) in
     record {
-      origins = grown (λ k. k.origin) c.push.new.self.origins.items c.loop-vertex.self.origins.items c.args.self.now.origins.items so_far (included_vertices origin number ws ps (v + 1)) one c.unsigned_abs.result c.vertex.result c.in_ok-push.ensures.origins c.loop-vertex.invariant.origins more times c.vertex.ensures;
-      points = grown (λ k. k.point) c.push.new.self.points.items c.loop-vertex.self.points.items c.args.self.now.points.items so_far (included_vertices origin number ws ps (v + 1)) one c.unsigned_abs.result c.point_of-point.result c.in_ok-push.ensures.points c.loop-vertex.invariant.points more times at;
+      origins = grown (λ k. k.origin) c.push.new.self.origins.items c.loop-vertex.self.origins.items c.args.self.now.origins.items so_far
+          (included_vertices origin number ws ps (v + 1)) one c.unsigned_abs.result c.vertex.result c.in_ok-push.ensures.origins c.loop-vertex.invariant.origins
+          more times c.vertex.ensures;
+      points = grown (λ k. k.point) c.push.new.self.points.items c.loop-vertex.self.points.items c.args.self.now.points.items so_far
+          (included_vertices origin number ws ps (v + 1)) one c.unsigned_abs.result c.point_of-point.result c.in_ok-push.ensures.points
+          c.loop-vertex.invariant.points more times at;
     }

@@ -7,6 +7,8 @@ use Rattle.retained_verts.proofs.copies.Copies.push_vertices.Given as goal
 
 abbrev pub invariant-loop-vertex : goal.invariant-loop-vertex
 invariant-loop-vertex l = record {
-  origins : l.self.origins.items ≡ l.fn.self.origins.items ++ map (λ c. c.origin) (flat_map copies_of (included_vertices (vertex_origin l.operand) (vertex_number l.op l.operand) l.windings (points_of l.corners) l.vertex));
-  points : l.self.points.items ≡ l.fn.self.points.items ++ map (λ c. c.point) (flat_map copies_of (included_vertices (vertex_origin l.operand) (vertex_number l.op l.operand) l.windings (points_of l.corners) l.vertex));
+  origins : l.self.origins.items ≡ l.fn.self.origins.items
+      ++ map (λ c. c.origin) (flat_map copies_of (included_vertices (vertex_origin l.operand) (vertex_number l.op l.operand) l.windings (points_of l.corners) l.vertex));
+  points : l.self.points.items ≡ l.fn.self.points.items
+      ++ map (λ c. c.point) (flat_map copies_of (included_vertices (vertex_origin l.operand) (vertex_number l.op l.operand) l.windings (points_of l.corners) l.vertex));
 }

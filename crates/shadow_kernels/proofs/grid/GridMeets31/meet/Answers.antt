@@ -9,5 +9,6 @@ use Rattle.shadow_kernels.proofs.grid.GridMeets31.meet.Goals as goal
 pub returns : goal.returns
 unfolding meet20
 returns g c =
-    let value : c.face_meet.result ≡ meet20 grid (g.R.Rounding.between_of c.args.self.now.rounding) (corner_at c.args.p.now 0) (corner_at c.args.p.now 1) (corner_at c.args.p.now 2) (corner_at c.args.q.now 0) = c.face_meet.ensures in
+    let value : c.face_meet.result ≡ meet20 grid (g.R.Rounding.between_of c.args.self.now.rounding) (corner_at c.args.p.now 0) (corner_at c.args.p.now 1)
+    (corner_at c.args.p.now 2) (corner_at c.args.q.now 0) = c.face_meet.ensures in
     record { value = value; lift = ap count_of value ∙ lift20 grid _ (corner_at c.args.p.now 0) (corner_at c.args.p.now 1) (corner_at c.args.p.now 2) (corner_at c.args.q.now 0) }

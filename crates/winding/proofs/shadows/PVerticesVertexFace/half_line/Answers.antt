@@ -13,5 +13,6 @@ returns g c =
     let k = c.args.self.now.0.now in
     let p = c.args.vertex.now in
     let fits : FitsSigned w64 (axis 2 p) = search rules in
-    subst (λ area. HasShadowsIn area (λ (face : List Corner). shadow_of (g.K.Meets.meet_of k (p ∷ []) face))) (sym (c.line_at.ensures ∙ ap (line_at p (neg_ℤ fine_edge)) (to_z-of_z w64 (axis 2 p) fits)))
+    subst (λ area. HasShadowsIn area (λ (face : List Corner). shadow_of (g.K.Meets.meet_of k (p ∷ []) face)))
+    (sym (c.line_at.ensures ∙ ap (line_at p (neg_ℤ fine_edge)) (to_z-of_z w64 (axis 2 p) fits)))
     (shadows_below (g.K.Meets.meet_of k) p (g.met.K.Meets.laws k) c.requires)

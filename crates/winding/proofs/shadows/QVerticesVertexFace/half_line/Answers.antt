@@ -13,5 +13,6 @@ returns g c =
     let k = c.args.self.now.0.now in
     let q = c.args.vertex.now in
     let fits : FitsSigned w64 (axis 2 q) = search rules in
-    subst (λ area. HasShadowsIn area (λ (face : List Corner). shadow_of (g.K.Meets.meet_of k face (q ∷ [])))) (sym (c.line_at.ensures ∙ ap (λ low. line_at q low fine_edge) (to_z-of_z w64 (axis 2 q) fits)))
+    subst (λ area. HasShadowsIn area (λ (face : List Corner). shadow_of (g.K.Meets.meet_of k face (q ∷ []))))
+    (sym (c.line_at.ensures ∙ ap (λ low. line_at q low fine_edge) (to_z-of_z w64 (axis 2 q) fits)))
     (shadows_above (g.K.Meets.meet_of k) q (g.met.K.Meets.laws k) c.requires)

@@ -1,4 +1,4 @@
-// Half-edges by their numbers, three to a triangle in the order of its vertices.
+//! Half-edges by their numbers, three to a triangle in the order of its vertices.
 ghost use Rattle.std.specs.Prelude.{◌≡◌, ◌*◌, ◌<◌, ◌≤◌, length};
 ghost use Rattle.chain_terms.specs.Chains.{all_edges};
 ghost use Rattle.chain_terms.specs.Ranks.{start, finish};
@@ -7,6 +7,7 @@ ghost use Rattle.mesh_terms.specs.Limits.{most_triangles};
 ghost use Rattle.mesh_terms.specs.Meshes.{triples_of};
 
 /// The next half-edge round the triangle.
+#[inline]
 pub fn next(half: u32) -> u32
     requires { half < 3 * most_triangles }
     ensures { result ≡ next_half half }
@@ -15,6 +16,7 @@ pub fn next(half: u32) -> u32
 }
 
 /// The half-edge before it round the triangle.
+#[inline]
 pub fn previous(half: u32) -> u32
     requires { half < 3 * most_triangles }
     ensures { result ≡ prev_half half }
@@ -22,7 +24,8 @@ pub fn previous(half: u32) -> u32
     if half % 3 == 0 { half + 2 } else { half - 1 }
 }
 
-/// Where the half-edge of the triangles starts.
+/// The vertex where the half-edge of the triangles starts.
+#[inline]
 pub fn start(triples: &[[u32; 3]], half: u32) -> u32
     requires { half < 3 * length triples.now }
     ensures { result ≡ start (all_edges (triples_of triples.now)) half }
@@ -30,7 +33,8 @@ pub fn start(triples: &[[u32; 3]], half: u32) -> u32
     triples[half as usize / 3][half as usize % 3]
 }
 
-/// Where it ends.
+/// The vertex where it ends.
+#[inline]
 pub fn end(triples: &[[u32; 3]], half: u32) -> u32
     requires half { half < 3 * length triples.now }
     requires few { length triples.now ≤ most_triangles }

@@ -16,7 +16,11 @@ use Rattle.hole_joining.proofs.Loops.{settled_up}
 use Rattle.ring_cutting.specs.Cuts.{Cut, cut_ring}
 use Rattle.triangulate.specs.Fills.{both, cuts, fill_of}
 use Rattle.triangulate.proofs.Areas.{areas}
-use Rattle.source_faces.proofs.Copies.{loops_of}
+
+-- the loops of the first vertices from a, b and c on, of the second ones, and so on
+abbrev pub loops_of : ℕ → ℕ → ℕ → ℕ → List (List ℕ)
+loops_of a b c zero = []
+loops_of a b c (suc n) = (a ∷ b ∷ c ∷ []) ∷ loops_of (suc a) (suc b) (suc c) n
 
 -- the loops as triangles
 abbrev pub loop_triples : ℕ → ℕ → ℕ → ℕ → List Triple
