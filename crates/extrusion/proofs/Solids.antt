@@ -14,11 +14,11 @@ use Rattle.chain_terms.specs.Sums.{total}
 use Rattle.chain_laws.specs.Areas.{area_at}
 use Rattle.chain_laws.specs.Sums.{total-flat_map, total-same}
 use Rattle.chain_laws.specs.Triples.{opposite_triple, renamed_triple}
-use Rattle.made_terms.specs.Volume.{volume6_of}
 use Rattle.mesh_terms.specs.Limits.{Limits, most_triangles}
 use Rattle.mb_base.specs.declared.fault.Counted.TheVariants.{Triangles}
 use Rattle.mesh_terms.specs.Meshes.{IsAccepted, IsBelow, Triple, triple_of, triples_of}
 use Rattle.mesh_terms.specs.Points.{IsOnGrid, coordinate_of}
+use Rattle.mesh_terms.specs.Volume.{volume6_of}
 use Rattle.face_plane.specs.Planes.{Plane, across, area, plane_of, point_at}
 use Rattle.hole_joining.specs.Holes.{hole_count, is_hole}
 use Rattle.hole_joining.specs.Laws.{AreFillable}

@@ -1,9 +1,9 @@
 // Extruding an outline.
 ghost use Rattle.std.specs.Prelude.{◌≡◌, ◌≤◌, ◌+◌, ◌*◌, ◌*ℤ◌, ◌-ℤ◌, pos, IfOk, IfSome, IsErrOf, None, length};
-ghost use Rattle.made_terms.specs.Volume.{volume6_of};
 ghost use Rattle.mesh_terms.specs.Labels.{no_labels};
 ghost use Rattle.mesh_terms.specs.Limits.{most_triangles};
 ghost use Rattle.mesh_terms.specs.Points.{IsOnGrid};
+ghost use Rattle.mesh_terms.specs.Volume.{volume6_of};
 ghost use Rattle.outline_terms.specs.Extrusion.{extruded_points, extruded_triples};
 ghost use Rattle.outline_terms.specs.Outlines.{outline_edges};
 ghost use Rattle.extrusion.specs.Extruded.{AreOver, IsRefusedFor, doubled_area, extruded, extrusion_fault, filling_of, flat_or_over, over};

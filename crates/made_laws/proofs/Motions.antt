@@ -6,6 +6,7 @@ use Rattle.std.proofs.lemmas.List.{length-map}
 use Rattle.std.proofs.lemmas.List.Elements.{All-map}
 use Rattle.made_terms.specs.Motions.{mirrored, quarter_turned, scaled, shifted, turned_over}
 use Rattle.made_terms.specs.Refusals.{Outside, all_on_grid, moved_fault}
+use Rattle.mesh_terms.specs.Given.{IsGiven, IsGivenWithin}
 use Rattle.mesh_terms.specs.Labels.{AreLabels}
 use Rattle.mesh_terms.specs.Limits.{Limits}
 use Rattle.mesh_terms.specs.Meshes.{IsAccepted, Mesh, Triple}
@@ -13,7 +14,7 @@ use Rattle.mesh_terms.specs.Points.{IsPoint}
 use Rattle.made_terms.specs.Motions.{motion_fault, moved_mesh}
 use Rattle.made_terms.specs.declared.motion.Motion.{Motion}
 use Rattle.made_terms.specs.declared.motion.Motion.TheVariants.{Mirror, Scale, Shift, Turn}
-use Rattle.made_laws.specs.Laws.{IsGiven, IsGivenWithin, IsMovedFrom}
+use Rattle.made_laws.specs.Laws.{IsMovedFrom}
 use Rattle.made_laws.proofs.Mirrors.{turned_accepted}
 use Rattle.made_laws.proofs.Points.{is_three, mirrored_point, moved_points, turned_point}
 

@@ -8,13 +8,13 @@ use Rattle.made_terms.specs.Refusals.{Exceeds, Flat, MadeFault, Outside, all_on_
 use Rattle.made_terms.specs.Solids.{box_points, box_triples, prism_points, prism_triples, tetra_points, tetra_triples}
 use Rattle.mesh_terms.specs.Faults.{Points, Triangles}
 use Rattle.mesh_terms.proofs.Labels.{no_labels-are}
+use Rattle.mesh_terms.specs.Given.{IsGivenWithin}
 use Rattle.mesh_terms.specs.Labels.{no_labels}
 use Rattle.mesh_terms.specs.Limits.{IsLawful, Limits}
 use Rattle.mesh_terms.specs.Meshes.{Triple}
 use Rattle.made_terms.specs.Making.{solid_fault, solid_mesh}
 use Rattle.made_terms.specs.declared.solid.Solid.{Solid}
 use Rattle.made_terms.specs.declared.solid.Solid.TheVariants.{Box, Lattice, Prism, Tetra}
-use Rattle.made_laws.specs.Laws.{IsGivenWithin}
 use Rattle.made_laws.specs.Solids.{IsSolid}
 use Rattle.made_laws.proofs.Lattices.{boxes_solid, lattice_threes, points_of_boxes}
 use Rattle.made_laws.proofs.Points.{is_three, points_by_tests}

@@ -1,7 +1,5 @@
-pub mod Euler
 pub mod Lattice
 pub mod Making
 pub mod Motions
 pub mod Refusals
 pub mod Solids
-pub mod Volume

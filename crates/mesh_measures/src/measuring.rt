@@ -3,9 +3,9 @@ ghost use Rattle.std.specs.Prelude.{◌≡◌, ◌≤◌, IfOk, length};
 ghost use Rattle.chain_terms.specs.Chains.{all_edges};
 ghost use Rattle.component_terms.specs.Components.{HasComponents};
 ghost use Rattle.component_terms.specs.Counts.{component_count};
+ghost use Rattle.mesh_terms.specs.Euler.{euler_of};
 ghost use Rattle.mesh_terms.specs.Limits.{most_points, most_triangles};
-ghost use Rattle.made_terms.specs.Euler.{euler_of};
-ghost use Rattle.made_terms.specs.Volume.{volume6_of};
+ghost use Rattle.mesh_terms.specs.Volume.{volume6_of};
 
 use crate::components::components;
 use crate::figures::Measure;

@@ -4,7 +4,7 @@ ghost use Rattle.std.specs.List.{All};
 ghost use Rattle.mesh_terms.specs.Limits.{most_triangles};
 ghost use Rattle.mesh_terms.specs.Meshes.{IsBelow, triple_of, triples_of};
 ghost use Rattle.mesh_terms.specs.Points.{IsOnGrid};
-ghost use Rattle.made_terms.specs.Volume.{determinant, triangle_determinant, volume6_of};
+ghost use Rattle.mesh_terms.specs.Volume.{determinant, triangle_determinant, volume6_of};
 
 use mb_base::Point;
 use mesh_check::Mesh;

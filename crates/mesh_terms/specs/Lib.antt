@@ -1,5 +1,7 @@
+pub mod Euler
 pub mod Fans
 pub mod Faults
+pub mod Given
 pub mod Halves
 pub mod Labels
 pub mod Limits
@@ -7,3 +9,4 @@ pub mod Meshes
 pub mod OpenEdges
 pub mod Points
 pub mod Twins
+pub mod Volume

@@ -3,8 +3,8 @@ ghost use Rattle.std.specs.Prelude.{◌≡◌, ◌≤◌, ◌+◌, ◌∷◌, If
 ghost use Rattle.std.specs.List.{All};
 ghost use Rattle.chain_terms.specs.Chains.{all_edges};
 ghost use Rattle.halfedge.specs.Clean.{IsClean};
-ghost use Rattle.made_terms.specs.Volume.{volume6_of};
 ghost use Rattle.mesh_terms.specs.Meshes.{IsAccepted};
+ghost use Rattle.mesh_terms.specs.Volume.{volume6_of};
 ghost use Rattle.tidy_laws.specs.Laws.{LieAtSame, NoneCollapsible};
 ghost use Rattle.tidy_terms.specs.Collapsible.{is_collapsible};
 ghost use Rattle.tidy_terms.specs.Tidy.{tidied, tidy_mesh};

@@ -1,8 +1,8 @@
 -- The labels of what an operation makes are labels, one for each triangle.
 use Rattle.std.specs.List.{All}
 use Rattle.std.proofs.lemmas.List.Elements.{All-append}
-use Rattle.made_laws.specs.Laws.{IsGiven}
 use Rattle.mesh_boolean.specs.Operation.{face_labels, reduced_mesh}
+use Rattle.mesh_terms.specs.Given.{IsGiven}
 use Rattle.mesh_terms.specs.Labels.{IsLabel}
 use Rattle.mesh_terms.specs.Meshes.{Mesh}
 use Rattle.remesh_laws.proofs.Labels.{kept_labels}

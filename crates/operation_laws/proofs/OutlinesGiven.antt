@@ -6,10 +6,10 @@ use Rattle.std.proofs.lemmas.Bool.{ltb-false}
 use Rattle.std.proofs.lemmas.List.Elements.{All-append, All-map}
 use Rattle.mb_base.specs.declared.kernel_kind.KernelKind.{KernelKind}
 use Rattle.mb_base.specs.declared.op.Op.{Op}
-use Rattle.made_laws.specs.Laws.{IsGivenWithin}
 use Rattle.made_terms.specs.Refusals.{Exceeds, Flat}
 use Rattle.mesh_terms.specs.Faults as faults
 use Rattle.mesh_terms.proofs.Labels.{no_labels-are}
+use Rattle.mesh_terms.specs.Given.{IsGivenWithin}
 use Rattle.mesh_terms.specs.Limits.{IsLawful, Limits}
 use Rattle.mesh_terms.specs.Meshes.{Mesh}
 use Rattle.mesh_terms.specs.Points.{IsOnGrid, IsPoint}

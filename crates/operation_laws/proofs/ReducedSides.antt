@@ -6,6 +6,7 @@ use Rattle.std.proofs.lemmas.Int.{ints}
 use Rattle.std.proofs.lemmas.List.{length-map}
 use Rattle.std.proofs.lemmas.List.Elements.{All-cons, All-head, All-nil, All-tail}
 use Rattle.mb_base.specs.declared.TheConstants.{UNIT}
+use Rattle.mesh_terms.specs.Given.{IsGiven}
 use Rattle.mesh_terms.specs.Labels.{AreLabels}
 use Rattle.mesh_terms.specs.Meshes.{IsAccepted, Mesh, Triple, is_used, new_number, renumbered, used_from}
 use Rattle.mesh_terms.specs.Points.{IsOnGrid, IsPoint, coordinate_of}
@@ -19,7 +20,6 @@ use Rattle.lean.proofs.Corners.{corners_long, corners_whole}
 use Rattle.assembly_terms.specs.PointLaws.{corners_points}
 use Rattle.assembly_terms.specs.Points.{points_of}
 use Rattle.mesh_boolean.specs.Operation.{reduced_mesh}
-use Rattle.made_laws.specs.Laws.{IsGiven}
 use Rattle.remesh_laws.proofs.Making.{reduced_given}
 
 -- a side at points of the grid, without opposite triples

@@ -9,6 +9,7 @@ use Rattle.exact_kernels.specs.ExactRule.{exact_rule}
 use Rattle.mb_base.specs.declared.kernel_kind.KernelKind.{KernelKind}
 use Rattle.mb_base.specs.declared.kernel_kind.KernelKind.TheVariants.{Exact, Grid}
 use Rattle.mb_base.specs.declared.op.Op.{Op}
+use Rattle.mesh_terms.specs.Given.{IsGiven, IsGivenWithin}
 use Rattle.mesh_terms.specs.Limits.{IsLawful, Limits, most_halfedges}
 use Rattle.mesh_terms.specs.Meshes.{Mesh}
 use Rattle.run_terms.specs.Files.{Bytes}
@@ -19,7 +20,6 @@ use Rattle.shadow_kernels.specs.Hulls.{StaysBetween}
 use Rattle.shadow_kernels.specs.Lawful.{IsRule, grid_rule}
 use Rattle.edge_face.specs.CrossLaws.{IsSettling}
 use Rattle.filling_laws.specs.Laws.{FacesAreFilled}
-use Rattle.made_laws.specs.Laws.{IsGiven, IsGivenWithin}
 use Rattle.play_laws.specs.ScriptsReadingBack.{MeshReadable, MeshesReadable}
 use Rattle.play_laws.proofs.Readable.{readable_within, within_of_readable}
 use Rattle.play_laws.proofs.ScriptsReadingBack.{steps_keep}

@@ -2,9 +2,9 @@
 use Rattle.std.specs.Prelude.{ℕ, ◌≤◌}
 use Rattle.mb_base.specs.declared.kernel_kind.KernelKind.{KernelKind}
 use Rattle.mb_base.specs.declared.op.Op.{Op}
+use Rattle.mesh_terms.specs.Given.{IsGiven, IsGivenWithin}
 use Rattle.mesh_terms.specs.Limits.{IsLawful, Limits}
 use Rattle.mesh_terms.specs.Meshes.{Mesh}
-use Rattle.made_laws.specs.Laws.{IsGiven, IsGivenWithin}
 use Rattle.play_laws.specs.ScriptsReadingBack.{ResultsReadable}
 use Rattle.mesh_boolean.specs.Operation.{operation}
 use Rattle.operation_laws.specs.Kernels.{meanings_under, tests_under, told_of}

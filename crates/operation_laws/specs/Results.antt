@@ -3,11 +3,12 @@
 use Rattle.std.specs.Prelude.{◌≡◌, ◌≤◌, ℕ, ℤ, pos, ◌-ℤ◌, ◌*ℤ◌, min, length, List, None, Ok, map}
 use Rattle.mb_base.specs.declared.kernel_kind.KernelKind.{KernelKind}
 use Rattle.mb_base.specs.declared.op.Op.{Op}
+use Rattle.mesh_terms.specs.Given.{IsGiven}
 use Rattle.mesh_terms.specs.Labels.{label_at}
 use Rattle.mesh_terms.specs.Limits.{IsLawful, Limits, most_halfedges}
 use Rattle.mesh_terms.specs.Meshes.{IsAccepted, Mesh}
 use Rattle.mesh_terms.specs.Points.{IsOnGrid}
-use Rattle.made_terms.specs.Volume.{volume6_of}
+use Rattle.mesh_terms.specs.Volume.{volume6_of}
 use Rattle.extrusion.specs.Extruded.{doubled_area, extruded}
 use Rattle.outline_pair_terms.specs.Balance.{AreConserved}
 use Rattle.outline_pair_terms.specs.Lists.{flat_copies}
@@ -15,7 +16,6 @@ use Rattle.outline_terms.specs.Outlines.{IsOutline, Outline, most_vertices, outl
 use Rattle.run_terms.specs.Files.{Bytes, Files}
 use Rattle.filling_terms.specs.Filled.{points_of_copies}
 use Rattle.pinch_split.specs.Back.{ComeFrom}
-use Rattle.made_laws.specs.Laws.{IsGiven}
 use Rattle.play_terms.specs.Plays.{State, at_first, extrusion_fault, mesh_at, outline_at, steps_task, vertex_count}
 use Rattle.play_terms.specs.Sound.{HavePlaces}
 use Rattle.play_terms.specs.Steps.{Line}

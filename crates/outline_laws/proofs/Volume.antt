@@ -14,9 +14,9 @@ use Rattle.chain_laws.specs.Products.{mul-add, mul-assoc, mul-neg, mul-sub, sub-
 use Rattle.chain_laws.specs.Sums.{total-append}
 use Rattle.chain_laws.specs.Triples.{opposite_triple, renamed_triple}
 use Rattle.chain_laws.proofs.Areas.{area_odd}
-use Rattle.made_terms.specs.Volume.{determinant, triangle_determinant, volume6_of}
 use Rattle.mesh_terms.specs.Meshes.{IsBelow, Triple}
 use Rattle.mesh_terms.specs.Points.{coordinate_of}
+use Rattle.mesh_terms.specs.Volume.{determinant, triangle_determinant, volume6_of}
 use Rattle.outline_terms.specs.Extrusion.{at_height, extruded_points, extruded_triples, walls}
 
 -- the first of three factors moved by one, and the last moved to the front

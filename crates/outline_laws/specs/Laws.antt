@@ -8,9 +8,9 @@ use Rattle.chain_terms.specs.Odd.{SameChain, along}
 use Rattle.chain_terms.specs.Paths.{round_edges}
 use Rattle.chain_terms.specs.Sums.{total, upto}
 use Rattle.chain_laws.specs.Areas.{area_at}
-use Rattle.made_terms.specs.Volume.{volume6_of}
 use Rattle.mesh_terms.specs.Meshes.{HasThree, IsBelow, Triple, is_used}
 use Rattle.mesh_terms.specs.Points.{coordinate_of}
+use Rattle.mesh_terms.specs.Volume.{volume6_of}
 use Rattle.face_loops.specs.Segments.{AreDifferent}
 use Rattle.outline_terms.specs.Extrusion.{extruded_points, extruded_triples}
 

@@ -12,7 +12,7 @@ use Rattle.chain_laws.specs.Counts.{count_by-cons, total-count_by}
 use Rattle.chain_laws.specs.Sums.{total-same}
 use Rattle.chain_laws.proofs.Places.{total-upto_more, upto_more}
 use Rattle.face_plane.specs.Rings.{in_list}
-use Rattle.made_laws.specs.Laws.{IsGiven}
+use Rattle.mesh_terms.specs.Given.{IsGiven}
 use Rattle.mesh_terms.specs.Meshes.{Mesh, Triple, triples_of}
 use Rattle.planar_patches.specs.Found.{patch_at, patch_number}
 use Rattle.planar_patches.specs.Pieces.{AreAdded, HasPieces, IsAdded, IsGathered, seeded, staying}

@@ -16,7 +16,7 @@ use Rattle.face_plane.specs.Rings.{in_list}
 use Rattle.face_plane.proofs.Dropped.{drop_below, turn_on_axis}
 use Rattle.halfedge.proofs.Around.{pair_up}
 use Rattle.halfedge.proofs.Edges.{length-all_edges}
-use Rattle.made_laws.specs.Laws.{IsGiven}
+use Rattle.mesh_terms.specs.Given.{IsGiven}
 use Rattle.mesh_terms.specs.Halves.{around, next_half}
 use Rattle.mesh_terms.specs.Limits.{most_halfedges}
 use Rattle.mesh_terms.specs.Meshes.{Mesh, Triple}

@@ -13,7 +13,7 @@ use Rattle.chain_laws.specs.Sums.{total-flat_map}
 use Rattle.face_plane.specs.Planes.{across, face_plane, wedge}
 use Rattle.halfedge.proofs.Edges.{length-all_edges}
 use Rattle.halfedge.proofs.Starts.{start_below}
-use Rattle.made_laws.specs.Laws.{IsGiven}
+use Rattle.mesh_terms.specs.Given.{IsGiven}
 use Rattle.mesh_terms.specs.Limits.{most_halfedges}
 use Rattle.mesh_terms.specs.Meshes.{IsAccepted, Mesh, Triple}
 use Rattle.hole_joining.specs.Laws.{AreFillable}

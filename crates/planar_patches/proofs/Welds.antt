@@ -6,7 +6,7 @@ use Rattle.std.proofs.lemmas.List.Elements.{All-head, All-tail}
 use Rattle.chain_terms.specs.Sums.{upto}
 use Rattle.chain_laws.proofs.Ascending.{filter-upto_no, filter-upto_same, filter-upto_yes, kept_at}
 use Rattle.chain_laws.proofs.Places.{get_or-up_from, length-up_from}
-use Rattle.made_laws.specs.Laws.{IsGiven}
+use Rattle.mesh_terms.specs.Given.{IsGiven}
 use Rattle.mesh_terms.specs.Labels.{label_at}
 use Rattle.mesh_terms.specs.Meshes.{IsBelow, Mesh, Triple, soup_of, triple_of, triples_of}
 use Rattle.planar_patches.specs.Welds.{AreRenamed, renamed_at}

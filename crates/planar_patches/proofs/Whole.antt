@@ -5,7 +5,7 @@ use Rattle.std.proofs.lemmas.List.Elements.{All-append, All-cons, All-head, All-
 use Rattle.chain_terms.specs.Chains.{IsClosed, all_edges}
 use Rattle.chain_terms.specs.Sums.{upto}
 use Rattle.chain_laws.proofs.Places.{get_or-up_from, length-up_from}
-use Rattle.made_laws.specs.Laws.{IsGiven}
+use Rattle.mesh_terms.specs.Given.{IsGiven}
 use Rattle.mesh_terms.specs.Meshes.{Mesh, Triple}
 use Rattle.planar_patches.specs.Pieces.{staying}
 use Rattle.remesh_laws.specs.Laws.{IsRemeshed}

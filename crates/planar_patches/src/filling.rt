@@ -7,7 +7,7 @@ ghost use Rattle.chain_terms.specs.Sums.{up_from};
 ghost use Rattle.face_loops.specs.Segments.{IsOneToOne, edges_of};
 ghost use Rattle.face_plane.specs.Planes.{across, face_plane, point_at};
 ghost use Rattle.hole_joining.specs.Laws.{AreFillable};
-ghost use Rattle.made_laws.specs.Laws.{IsGiven};
+ghost use Rattle.mesh_terms.specs.Given.{IsGiven};
 ghost use Rattle.mesh_terms.specs.Limits.{most_halfedges};
 ghost use Rattle.mesh_terms.specs.Meshes.{IsBelow, triple_of, triples_of};
 ghost use Rattle.planar_patches.specs.Found.{HasFound, patch_at};

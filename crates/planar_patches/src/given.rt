@@ -1,6 +1,6 @@
 // What the types of a mesh keep.
-ghost use Rattle.made_laws.specs.Laws.{IsGiven};
 ghost use Rattle.std.specs.List.{All};
+ghost use Rattle.mesh_terms.specs.Given.{IsGiven};
 ghost use Rattle.mesh_terms.specs.Points.{IsPoint};
 
 use mb_base::Point;

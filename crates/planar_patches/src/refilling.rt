@@ -1,7 +1,7 @@
 // All patches of a mesh filled anew.
 ghost use Rattle.std.specs.Prelude.{◌≡◌, ◌+◌, ◌∷◌, ◌<◌, [], IfOk, OnOk, length, map};
 ghost use Rattle.std.specs.List.{All};
-ghost use Rattle.made_laws.specs.Laws.{IsGiven};
+ghost use Rattle.mesh_terms.specs.Given.{IsGiven};
 ghost use Rattle.mesh_terms.specs.Limits.{most_triangles};
 ghost use Rattle.mesh_terms.specs.Meshes.{triple_of, triples_of};
 ghost use Rattle.planar_patches.specs.Found.{HasFound, patch_at};

@@ -2,8 +2,8 @@
 ghost use Rattle.std.specs.Prelude.{◌≡◌, ◌*◌, ◌≤◌, IfOk, length};
 ghost use Rattle.chain_terms.specs.Chains.{all_edges};
 ghost use Rattle.halfedge.specs.Clean.{IsClean};
-ghost use Rattle.made_terms.specs.Volume.{volume6_of};
 ghost use Rattle.mesh_terms.specs.Meshes.{IsAccepted};
+ghost use Rattle.mesh_terms.specs.Volume.{volume6_of};
 ghost use Rattle.remesh_laws.specs.Laws.{AreKept, IsWelded};
 ghost use Rattle.remesh_laws.specs.Patches.{ArePatches};
 ghost use Rattle.remesh_terms.specs.Patches.{patches};

@@ -4,7 +4,7 @@ ghost use Rattle.std.specs.List.{All};
 ghost use Rattle.chain_terms.specs.Chains.{all_edges};
 ghost use Rattle.chain_terms.specs.Sums.{upto};
 ghost use Rattle.halfedge.specs.Clean.{IsClean};
-ghost use Rattle.made_laws.specs.Laws.{IsGiven};
+ghost use Rattle.mesh_terms.specs.Given.{IsGiven};
 ghost use Rattle.mesh_terms.specs.Limits.{most_points, most_triangles};
 ghost use Rattle.mesh_terms.specs.Meshes.{IsBelow, triple_of, triples_of};
 ghost use Rattle.mesh_terms.specs.Points.{IsPoint};

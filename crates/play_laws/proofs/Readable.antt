@@ -3,6 +3,7 @@ use Rattle.std.proofs.Common.{◌≡◌, ◌≤◌, ℕ, Bool, true, false, if�
 use Rattle.std.specs.Prelude.{nat_lt}
 use Rattle.chain_terms.specs.Chains.{all_edges}
 use Rattle.mesh_terms.specs.Faults.{FileBytes}
+use Rattle.mesh_terms.specs.Given.{IsGivenWithin}
 use Rattle.mesh_terms.specs.Limits.{IsLawful, Limits}
 use Rattle.mesh_terms.specs.Meshes.{Mesh, Soup}
 use Rattle.obj_terms.specs.Written.{obj_text}
@@ -13,7 +14,6 @@ use Rattle.play_terms.specs.Commands.{checked}
 use Rattle.play_terms.specs.Formats.{mesh_soup}
 use Rattle.play_laws.proofs.ReadingBack.{closed_readable, mesh_taken}
 use Rattle.halfedge.proofs.OpenPair.{closed_from_open_pair, open_pair_closed}
-use Rattle.made_laws.specs.Laws.{IsGivenWithin}
 use Rattle.play_laws.specs.ScriptsReadingBack.{MeshReadable, soup_of_mesh}
 
 -- what the bytes of a file without a name give, where each file holds a text

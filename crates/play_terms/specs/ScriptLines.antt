@@ -3,9 +3,9 @@ use Rattle.std.specs.Prelude.{ℕ, ◌++◌, ◌==◌, if◌then◌else◌, leng
 use Rattle.std.specs.Fmt.{signed_decimal}
 use Rattle.chain_terms.specs.Chains.{all_edges}
 use Rattle.component_terms.specs.Counts.{component_count}
-use Rattle.made_terms.specs.Euler.{euler_of}
-use Rattle.made_terms.specs.Volume.{volume6_of}
+use Rattle.mesh_terms.specs.Euler.{euler_of}
 use Rattle.mesh_terms.specs.Meshes.{Mesh, Soup}
+use Rattle.mesh_terms.specs.Volume.{volume6_of}
 use Rattle.text_terms.specs.Written.{line_of}
 use Rattle.run_terms.specs.Files.{Bytes}
 use Rattle.play_terms.specs.Lines.{counts_text}

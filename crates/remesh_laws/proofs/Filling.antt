@@ -20,7 +20,7 @@ use Rattle.filling_laws.proofs.Fillings.{Fills, fills}
 use Rattle.hole_joining.specs.Bridges.{join_holes}
 use Rattle.hole_joining.specs.Laws.{AreFillable, settled_in}
 use Rattle.hole_joining.proofs.Keeps.{is_joining}
-use Rattle.made_laws.specs.Laws.{IsGiven}
+use Rattle.mesh_terms.specs.Given.{IsGiven}
 use Rattle.mesh_terms.specs.Limits.{most_halfedges}
 use Rattle.mesh_terms.specs.Meshes.{IsBelow, Mesh, Triple}
 use Rattle.ring_cutting.specs.Cuts.{cut_of, cut_place, forced_here, last_triple, triple_at as triple_of_place}

@@ -14,11 +14,11 @@ use Rattle.chain_terms.specs.Ranks.{start, twin}
 use Rattle.chain_laws.specs.Chains.{boundary_same}
 use Rattle.face_plane.specs.Planes.{point_at}
 use Rattle.face_plane.specs.Rings.{in_list}
-use Rattle.made_laws.specs.Laws.{IsGiven}
-use Rattle.made_terms.specs.Volume.{volume6_of}
+use Rattle.mesh_terms.specs.Given.{IsGiven}
 use Rattle.mesh_terms.specs.Labels.{label_at}
 use Rattle.mesh_terms.specs.Meshes.{HasThree, IsBelow, Mesh, Triple}
 use Rattle.mesh_terms.specs.Points.{coordinate_of}
+use Rattle.mesh_terms.specs.Volume.{volume6_of}
 use Rattle.remesh_laws.specs.Laws.{IsKept, LiesIn, PatchesAreKept}
 use Rattle.remesh_laws.specs.Patches.{IsPatch}
 use Rattle.remesh_laws.proofs.Dropping.{three_of}

@@ -11,11 +11,11 @@ use Rattle.chain_terms.specs.Sums.{total}
 use Rattle.chain_laws.specs.Counts.{count_by-map}
 use Rattle.chain_laws.specs.Sums.{total-map, total-same_all}
 use Rattle.halfedge.specs.Clean.{IsClean}
-use Rattle.made_laws.specs.Laws.{IsGiven}
-use Rattle.made_terms.specs.Volume.{determinant, triangle_determinant, volume6_of}
+use Rattle.mesh_terms.specs.Given.{IsGiven}
 use Rattle.mesh_terms.specs.Labels.{AreLabels}
 use Rattle.mesh_terms.specs.Meshes.{HasThree, IsBelow, IsMesh, Mesh, Triple, is_used, new_number, renumbered, used_from}
 use Rattle.mesh_terms.specs.Points.{IsPoint}
+use Rattle.mesh_terms.specs.Volume.{determinant, triangle_determinant, volume6_of}
 use Rattle.mesh_check.specs.Orientations.{IsTriangle}
 use Rattle.mesh_check.specs.Reduced.{kept_marks, kept_triples, picked}
 use Rattle.mesh_check.proofs.Kept.{kept_closed, length-kept}

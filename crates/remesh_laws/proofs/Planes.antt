@@ -14,9 +14,9 @@ use Rattle.chain_laws.specs.Sums.{total-same_all}
 use Rattle.chain_laws.proofs.Areas.{area_odd, areas_of_triangles}
 use Rattle.face_plane.specs.Planes.{flat_point, plane_drop, point_at, turn}
 use Rattle.face_plane.proofs.Dropped.{all_none, no_size}
-use Rattle.made_terms.specs.Volume.{determinant, triangle_determinant, volume6_of}
 use Rattle.mesh_terms.specs.Meshes.{Triple}
 use Rattle.mesh_terms.specs.Points.{coordinate_of, cross_product, cross_x, cross_y, cross_z}
+use Rattle.mesh_terms.specs.Volume.{determinant, triangle_determinant, volume6_of}
 use Rattle.plane_laws.specs.Areas.{Place, area, area_is, exchanged, minor, no_volume}
 use Rattle.remesh_terms.specs.Patches.{scalar}
 

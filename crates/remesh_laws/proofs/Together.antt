@@ -14,9 +14,9 @@ use Rattle.chain_laws.specs.Counts.{count_by-cons}
 use Rattle.chain_laws.specs.Sums.{total-add, total-append, total-flat_map, total-map, total-same, total-same_all, total-swap}
 use Rattle.chain_laws.proofs.Ascending.{total-filter}
 use Rattle.chain_laws.proofs.Places.{get_or-up_from, length-up_from, one_hit, total-places, where_same, where_same-apart, where_same-at}
-use Rattle.made_laws.specs.Laws.{IsGiven}
-use Rattle.made_terms.specs.Volume.{triangle_determinant, volume6_of}
+use Rattle.mesh_terms.specs.Given.{IsGiven}
 use Rattle.mesh_terms.specs.Meshes.{HasThree, IsBelow, Mesh, Triple}
+use Rattle.mesh_terms.specs.Volume.{triangle_determinant, volume6_of}
 use Rattle.remesh_laws.specs.Laws.{IsKept, RemeshingRemeshes}
 use Rattle.remesh_laws.specs.Patches.{ArePatches}
 use Rattle.remesh_laws.proofs.Kept.{patch_chain, patches_are_kept}

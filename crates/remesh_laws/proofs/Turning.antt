@@ -10,8 +10,8 @@ use Rattle.chain_terms.specs.Sums.{total}
 use Rattle.chain_laws.specs.Chains.{same_boundary}
 use Rattle.chain_laws.specs.Counts.{total-count_by}
 use Rattle.chain_laws.specs.Sums.{total-same_all, total-sub}
-use Rattle.made_terms.specs.Volume.{triangle_determinant}
 use Rattle.mesh_terms.specs.Meshes.{Triple}
+use Rattle.mesh_terms.specs.Volume.{triangle_determinant}
 use Rattle.mesh_check.specs.Orientations.{IsNarrow, IsTriangle, edge_of, least_first, orientation_edge, orientation_edges, pair_number}
 use Rattle.mesh_check.specs.Reduced.{kept_triples}
 use Rattle.mesh_check.proofs.Kept.{kept_all, kept_count}

@@ -14,10 +14,10 @@ use Rattle.chain_terms.specs.Sums.{total}
 use Rattle.chain_laws.specs.Chains.{closed_same}
 use Rattle.chain_laws.specs.Sums.{total-map, total-same_all}
 use Rattle.chain_laws.specs.Triples.{closed-renamed_triples, renamed_triple}
-use Rattle.made_laws.specs.Laws.{IsGiven}
-use Rattle.made_terms.specs.Volume.{determinant, triangle_determinant, volume6_of}
+use Rattle.mesh_terms.specs.Given.{IsGiven}
 use Rattle.mesh_terms.specs.Meshes.{HasThree, IsBelow, Mesh, Triple}
 use Rattle.mesh_terms.specs.Points.{IsPoint, coordinate_of}
+use Rattle.mesh_terms.specs.Volume.{determinant, triangle_determinant, volume6_of}
 use Rattle.remesh_laws.specs.Laws.{WeldingKeeps, surplus_at}
 use Rattle.remesh_laws.proofs.Dropping.{HasTwo, at_places, kept_chain, kept_total, three_of, two_of}
 use Rattle.remesh_laws.proofs.Making.{CanBeDerived, derived_is, reduced_is, split_is}

@@ -3,9 +3,9 @@ use Rattle.std.specs.Prelude.{◌≡◌, ℕ, ◌*◌, ◌≤◌, ℤ, pos, ◌-
 use Rattle.std.specs.List.{All}
 use Rattle.chain_terms.specs.Chains.{all_edges, boundary}
 use Rattle.halfedge.specs.Clean.{IsClean}
-use Rattle.made_laws.specs.Laws.{IsGiven}
-use Rattle.made_terms.specs.Volume.{volume6_of}
+use Rattle.mesh_terms.specs.Given.{IsGiven}
 use Rattle.mesh_terms.specs.Meshes.{HasThree, IsBelow, Mesh, Triple}
+use Rattle.mesh_terms.specs.Volume.{volume6_of}
 use Rattle.remesh_laws.specs.Patches.{ArePatches}
 use Rattle.remesh_terms.specs.Patches.{Patch, lies_in_plane, patches}
 use Rattle.remesh_terms.specs.Refilled.{is_refilled, not_left, old_triangles, patch_filling, patch_plane, patch_triangles}

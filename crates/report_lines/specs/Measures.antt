@@ -2,9 +2,9 @@
 use Rattle.std.specs.Prelude.{◌≡◌, length}
 use Rattle.chain_terms.specs.Chains.{all_edges}
 use Rattle.component_terms.specs.Counts.{component_count}
-use Rattle.made_terms.specs.Euler.{euler_of}
-use Rattle.made_terms.specs.Volume.{volume6_of}
+use Rattle.mesh_terms.specs.Euler.{euler_of}
 use Rattle.mesh_terms.specs.Meshes.{Mesh}
+use Rattle.mesh_terms.specs.Volume.{volume6_of}
 use Rattle.mesh_measures.specs.declared.figures.Measure.{Measure}
 
 -- each number is that of the mesh

@@ -11,10 +11,10 @@ use Rattle.chain_laws.specs.Triples.{renamed_triple, all_edges-renamed, closed-r
 use Rattle.chain_laws.proofs.Twins.{twin_runs_back}
 use Rattle.halfedge.specs.Clean.{IsClean}
 use Rattle.halfedge.proofs.Edges.{length-all_edges, next_below, next_starts}
-use Rattle.made_terms.specs.Volume.{determinant, triangle_determinant, volume6_of}
 use Rattle.mesh_check.specs.Opposites.{third_vertex}
 use Rattle.mesh_terms.specs.Halves.{next_half}
 use Rattle.mesh_terms.specs.Meshes.{HasThree, IsBelow, IsMesh, Triple, is_used, new_number, renumbered, used_from}
+use Rattle.mesh_terms.specs.Volume.{determinant, triangle_determinant, volume6_of}
 use Rattle.tidy_terms.specs.Collapsible.{is_collapsible}
 use Rattle.tidy_terms.specs.PointTriples.{count_at, is_at, lies_round, same_point}
 use Rattle.tidy_laws.specs.Conditions.{CanCollapse}

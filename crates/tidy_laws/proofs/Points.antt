@@ -12,9 +12,9 @@ use Rattle.chain_terms.specs.Chains.{one_if}
 use Rattle.chain_laws.specs.Counts.{count_by-cons}
 use Rattle.chain_laws.specs.Products.{mul-assoc, mul-sub}
 use Rattle.chain_laws.specs.Triples.{renamed_triple}
-use Rattle.made_terms.specs.Volume.{determinant, triangle_determinant, volume6_of}
 use Rattle.mesh_terms.specs.Meshes.{Triple, HasThree, has}
 use Rattle.mesh_terms.specs.Points.{coordinate_of}
+use Rattle.mesh_terms.specs.Volume.{determinant, triangle_determinant, volume6_of}
 use Rattle.tidy_terms.specs.Collapse.{collapsed, merged, stays}
 use Rattle.tidy_terms.specs.PointTriples.{count_at, is_at, lies_at, lies_round, same_point}
 use Rattle.tidy_laws.proofs.Closed.{IsVertexOf, goes_both, merged_other, merged_second, vertex_of}

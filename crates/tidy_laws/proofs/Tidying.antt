@@ -14,11 +14,11 @@ use Rattle.chain_laws.specs.Triples.{renamed_triple}
 use Rattle.chain_laws.proofs.Places.{get_or-up_from, length-up_from}
 use Rattle.halfedge.specs.Clean.{IsClean}
 use Rattle.halfedge.proofs.Edges.{length-all_edges, next_starts, next_below, not_back}
-use Rattle.made_terms.specs.Volume.{volume6_of}
 use Rattle.mesh_check.specs.Opposites.{third_vertex}
 use Rattle.mesh_terms.specs.Halves.{next_half}
 use Rattle.mesh_terms.specs.Meshes.{HasThree, IsBelow, Triple}
 use Rattle.mesh_terms.specs.Points.{coordinate_of}
+use Rattle.mesh_terms.specs.Volume.{volume6_of}
 use Rattle.std.specs.Ordering.{int_eq}
 use Rattle.tidy_terms.specs.Collapse.{collapsed, collapsed_at, labels_left_at, merged, stays}
 use Rattle.tidy_terms.specs.Collapsible.{are_joined, can_collapse, is_collapsible, join_only, least_collapsible}

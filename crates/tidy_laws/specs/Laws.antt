@@ -3,10 +3,10 @@ use Rattle.std.specs.Prelude.{◌+◌, ◌≡◌, ◌≢◌, ℕ, ℤ, List, [],
 use Rattle.std.specs.List.{All}
 use Rattle.chain_terms.specs.Chains.{all_edges, IsClosed}
 use Rattle.chain_terms.specs.Ranks.{start, finish, twin}
-use Rattle.made_terms.specs.Volume.{volume6_of}
 use Rattle.mesh_check.specs.Opposites.{third_vertex}
 use Rattle.mesh_terms.specs.Halves.{next_half}
 use Rattle.mesh_terms.specs.Meshes.{Mesh, Triple, HasThree, IsAccepted, IsBelow, is_used}
+use Rattle.mesh_terms.specs.Volume.{volume6_of}
 use Rattle.halfedge.specs.Clean.{IsClean}
 use Rattle.tidy_terms.specs.Collapse.{collapsed, merged, stays}
 use Rattle.tidy_terms.specs.Collapsible.{is_collapsible}

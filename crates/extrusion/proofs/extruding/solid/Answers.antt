@@ -1,7 +1,7 @@
 use Rattle.std.proofs.Common.{◌≡◌, ◌*ℤ◌, ◌-ℤ◌, pos, ℤ, List, length, sym, ap, subst, ◌∙◌}
 use Rattle.std.specs.Prelude.{IfOk, Result, Ok, Err}
-use Rattle.made_terms.specs.Volume.{volume6_of}
 use Rattle.mesh_terms.specs.Meshes.{IsAccepted, Mesh, Triple, triples_of}
+use Rattle.mesh_terms.specs.Volume.{volume6_of}
 use Rattle.outline_terms.specs.Extrusion.{extruded_points, extruded_triples}
 use Rattle.outline_terms.specs.Outlines.{outline_edges}
 use Rattle.ring_cutting.specs.Cuts.{Cut}

@@ -5,7 +5,7 @@ use Rattle.std.proofs.lemmas.Int.{ints}
 use Rattle.std.proofs.lemmas.List.{get_or-map, length-map}
 use Rattle.chain_laws.specs.Sums.{IsWithin, total-map, total_more}
 use Rattle.mesh_terms.specs.Meshes.{IsBelow, triple_of, triples_of}
-use Rattle.made_terms.specs.Volume.{triangle_determinant, volume6_of}
+use Rattle.mesh_terms.specs.Volume.{triangle_determinant, volume6_of}
 use Rattle.mesh_measures.proofs.volume.volume_of.Goals as goal
 
 -- the sum so far and one more determinant fit 128 bits

@@ -1,7 +1,7 @@
 use Rattle.std.proofs.Common.{◌≡◌, ◌*◌, ◌^◌, take}
 use Rattle.chain_laws.specs.Sums.{IsWithin}
 use Rattle.mesh_terms.specs.Meshes.{triples_of}
-use Rattle.made_terms.specs.Volume.{volume6_of}
+use Rattle.mesh_terms.specs.Volume.{volume6_of}
 use Rattle.mesh_measures.proofs.volume.volume_of.Given as goal
 
 abbrev pub invariant-loop-triple : goal.invariant-loop-triple

@@ -1,8 +1,8 @@
 use Rattle.std.proofs.Common.{◌≡◌, ◌<◌, ◌≤◌, ◌*◌, length, subst, sym, ap, ◌∙◌}
 use Rattle.std.proofs.lemmas.List.{length-map}
 use Rattle.std.specs.List.{All}
-use Rattle.made_terms.specs.Volume.{volume6_of}
 use Rattle.mesh_terms.specs.Meshes.{IsAccepted, Mesh, triple_of, triples_of}
+use Rattle.mesh_terms.specs.Volume.{volume6_of}
 use Rattle.remesh_laws.proofs.Kept.{patches_are_kept}
 use Rattle.remesh_laws.proofs.Reaching.{patches_are_patches}
 use Rattle.remesh_laws.proofs.Welding.{welding_keeps}
