@@ -2,7 +2,9 @@
 use crate::Twins;
 use std::rc::Rc;
 use std::test::Fail;
-use test_soups::TETRAHEDRON;
+
+// The triangles of a tetrahedron.
+const TETRAHEDRON: [[u32; 3]; 4] = [[0, 2, 1], [0, 1, 3], [1, 2, 3], [2, 0, 3]];
 
 #[test]
 fn a_clone_shares_both_lists(rt: HostRuntime) -> Result<(), Fail> {
