@@ -4,6 +4,7 @@ pub mod Cancelling
 pub mod Kept
 pub mod KeptLabels
 pub mod KeptMarks
+pub mod KeptPlaces
 pub mod MarkedLabels
 pub mod OpenPair
 pub mod Orientations

@@ -39,6 +39,14 @@ picked [] xs = []
 picked (m ∷ ms) [] = []
 picked (m ∷ ms) (x ∷ xs) = cond m (x ∷ []) [] ++ picked ms xs
 
+-- the places of the kept triples, ascending: those whose mark stands
+abbrev pub kept_places : List Triple → List ℕ
+kept_places ts = picked (kept_marks ts) (upto (length ts))
+
+-- the members at these places
+abbrev pub members_at : {X : Type 0} → X → List X → List ℕ → List X
+members_at d xs places = map (λ p. get_or xs p d) places
+
 -- points and kept triples with their labels, without the points that none of these uses
 abbrev pub reduced : List (List ℤ) → List Triple → List (List ℕ) → Soup
 reduced points ts labels = soup_of points (kept_triples ts) (picked (kept_marks ts) labels)

@@ -1,7 +1,7 @@
 //! Closed triangle meshes: `Mesh::check` accepts a soup exactly where each directed edge occurs as
 //! often as its reverse, and names the least open edge where one does not. `reduce` removes the
 //! triangles that cancel, and leaves no two with the same three vertices and different orientations;
-//! `is_plainly_reduced` tells in one pass where there are none to remove. `marked`, `mesh_of_used` and
+//! `is_plainly_reduced` tells in one pass where there are none to remove, and `kept_places` which stay. `marked`, `mesh_of_used` and
 //! `with_marked_labels` make a mesh of some of the triangles of another.
 #![tactic(auto)]
 
@@ -15,4 +15,4 @@ mod reduction;
 
 pub use marks::{marked, mesh_of_used, with_marked_labels};
 pub use mesh::{Mesh, MeshFault};
-pub use reduction::{is_plainly_reduced, reduce};
+pub use reduction::{is_plainly_reduced, kept_places, reduce};

@@ -1,6 +1,7 @@
 // Meshes of some of a mesh's triangles, each of which has a mark.
 ghost use Rattle.std.specs.Prelude.{◌≡◌, ◌≤◌, IfOk, length};
 ghost use Rattle.chain_terms.specs.Chains.{all_edges, IsClosed};
+ghost use Rattle.chain_terms.specs.Sums.{upto};
 ghost use Rattle.mesh_terms.specs.Labels.{no_labels};
 ghost use Rattle.mesh_terms.specs.Limits.{most_triangles};
 ghost use Rattle.mesh_terms.specs.Meshes.{renumbered, triples_of, used_from};
@@ -72,6 +73,20 @@ pub fn marked(
         }
     }
     Ok(kept)
+}
+
+/// The places with a mark, ascending. `NoMemory` may come for any.
+pub fn marked_places(alloc: Global, marks: &[bool]) -> Result<Vec<u32>, NoMemory>
+    requires { length marks.now ≤ most_triangles }
+    ensures { IfOk result (λ places. places.items ≡ picked marks.now (upto (length marks.now))) }
+{
+    let mut places = Vec::new(alloc);
+    for place in 0..marks.len() {
+        if marks[place] {
+            places.push(place as u32)?;
+        }
+    }
+    Ok(places)
 }
 
 // The labels with a mark. Those past the end of the list, which are empty, end the new list too.

@@ -1,12 +1,12 @@
 // Reduced meshes.
-ghost use Rattle.std.specs.Prelude.{◌≡◌, ◌≤◌, IfOk, IsTrue, length};
+ghost use Rattle.std.specs.Prelude.{◌≡◌, ◌≤◌, [], IfOk, IsTrue, length};
 ghost use Rattle.mesh_terms.specs.Labels.{no_labels};
 ghost use Rattle.mesh_terms.specs.Limits.{most_triangles};
-ghost use Rattle.mesh_terms.specs.Meshes.{triples_of};
-ghost use Rattle.mesh_check.specs.Reduced.{kept_marks, kept_triples, reduced, NoOpposite, picked};
+ghost use Rattle.mesh_terms.specs.Meshes.{renumbered, triples_of};
+ghost use Rattle.mesh_check.specs.Reduced.{kept_marks, kept_places, kept_triples, members_at, reduced, NoOpposite, picked};
 
 use crate::cancel::uncancelled;
-use crate::marks::{marked, mesh_of_used, with_marked_labels};
+use crate::marks::{marked, marked_places, mesh_of_used, with_marked_labels};
 use crate::mesh::Mesh;
 use crate::opposites::has_no_opposites;
 use mb_base::NoMemory;
@@ -52,6 +52,33 @@ pub fn is_plainly_reduced(mesh: &Mesh) -> bool
     // Read so that what the type of the mesh keeps of them is known here.
     let _ = mesh.labels();
     has_no_opposites(mesh.twins())
+}
+
+/// The places in a mesh of the triangles that `reduce` keeps, ascending, so that triangle k of the reduced mesh is the one at the
+/// k-th of them, with its label; only the numbers of its points may be others. They are all places where nothing is removed.
+/// `NoMemory` may come for any mesh. The time is that of `reduce`, whose marks they are.
+pub fn kept_places(alloc: Global, mesh: &Mesh) -> Result<Vec<u32>, NoMemory>
+    ensures places { IfOk result (λ places. places.items ≡ kept_places mesh.now.triples) }
+    ensures triples { IfOk result (λ places. (reduced mesh.now.points mesh.now.triples mesh.now.labels).triples ≡
+        renumbered (members_at (0, 0, 0) mesh.now.triples places.items)) }
+    ensures labels { IfOk result (λ places. (reduced mesh.now.points mesh.now.triples mesh.now.labels).labels ≡ members_at [] mesh.now.labels places.items) }
+{
+    // Read so that what the type of the mesh keeps of them is known here.
+    let _ = mesh.labels();
+    if is_plainly_reduced(mesh) {
+        return places_of_all(alloc, mesh);
+    }
+    let marks = uncancelled(alloc, mesh.triples())?;
+    marked_places(alloc, &marks)
+}
+
+// The places of the kept triangles where none is removed: all of them.
+fn places_of_all(alloc: Global, mesh: &Mesh) -> Result<Vec<u32>, NoMemory>
+    requires { mesh.now.triples ≡ (reduced mesh.now.points mesh.now.triples mesh.now.labels).triples }
+    ensures { IfOk result (λ places. places.items ≡ kept_places mesh.now.triples) }
+{
+    let marks = vec![in alloc; true; mesh.triples().len()]?;
+    marked_places(alloc, &marks)
 }
 
 // The triangles that stay.

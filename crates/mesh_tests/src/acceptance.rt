@@ -2,7 +2,7 @@
 mod table;
 
 use crate::lines::{DOUBLED, are_same, consists_of, line_mesh};
-use mesh_check::{Mesh, MeshFault, is_plainly_reduced, reduce};
+use mesh_check::{Mesh, MeshFault, is_plainly_reduced, kept_places, reduce};
 use std::alloc::Global;
 use std::process::Abort;
 use table::{ROWS, SHEET_AND_BOX};
@@ -108,6 +108,46 @@ fn a_box_is_plainly_reduced(rt: HostRuntime) {
     for (name, count, triples, wanted) in &PLAIN {
         let mesh = line_mesh(&rt, rt.alloc(), *count, triples);
         assert!(rt; is_plainly_reduced(&mesh) == *wanted, "{name}");
+    }
+}
+
+// How many points, the triangles, and the places of those that are kept: all of them; those of a box, in which the sides of a
+// sheet stand; all but a face of a tetrahedron and the same one turned over, of which the tetrahedron's own comes later; none.
+static KEPT: [(&str, u8, &[[u32; 3]], &[u32]); 4] = [
+    (
+        "two tetrahedra in one place",
+        4,
+        &DOUBLED,
+        &[0, 1, 2, 3, 4, 5, 6, 7],
+    ),
+    (
+        "a sheet and a box",
+        11,
+        &SHEET_AND_BOX,
+        &[1, 2, 3, 4, 5, 6, 7, 9, 10, 11, 12, 13],
+    ),
+    (
+        "a face twice and turned over",
+        4,
+        &[
+            [0, 2, 1],
+            [0, 1, 3],
+            [0, 2, 1],
+            [1, 2, 3],
+            [0, 1, 2],
+            [2, 0, 3],
+        ],
+        &[1, 2, 3, 5],
+    ),
+    ("a sheet", 3, &[[0, 1, 2], [2, 1, 0]], &[]),
+];
+
+#[test]
+fn kept_triangles_have_their_places(rt: HostRuntime) {
+    for (name, count, triples, wanted) in &KEPT {
+        let mesh = line_mesh(&rt, rt.alloc(), *count, triples);
+        let places = kept_places(rt.alloc(), &mesh).expect(&rt, "memory");
+        assert!(rt; places.as_slice() == *wanted, "{name}");
     }
 }
 
