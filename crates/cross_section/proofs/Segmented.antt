@@ -6,7 +6,7 @@ use Rattle.std.proofs.lemmas.List.Concat.{flat_map-append}
 use Rattle.std.proofs.lemmas.List.Elements.{All-map}
 use Rattle.chain_terms.specs.Ranks.{finish, start}
 use Rattle.chain_terms.specs.Sums.{upto}
-use Rattle.counting_sort.specs.Buckets.{places_of}
+use Rattle.places_by_key.specs.Buckets.{places_of}
 use Rattle.edge_pairing.specs.Entries.{place_in}
 use Rattle.edge_pairing.specs.Pairing.{pair_up, paired_along, scalar_product, step}
 use Rattle.outlines.proofs.Written.{value_at, values_long}

@@ -3,7 +3,7 @@ ghost use Rattle.std.specs.Prelude.{◌≡◌, ◌≤◌, ◌<◌, ◌+◌, ◌*
 ghost use Rattle.std.specs.List.{All, flat_map};
 ghost use Rattle.chain_terms.specs.Ranks.{finish, start};
 ghost use Rattle.chain_terms.specs.Sums.{upto};
-ghost use Rattle.counting_sort.specs.Buckets.{places_of};
+ghost use Rattle.places_by_key.specs.Buckets.{places_of};
 ghost use Rattle.cross_section.specs.Copies.{AreCopies, AreNumbers};
 ghost use Rattle.edge_pairing.specs.Entries.{ends_of, place_in, starts_of};
 ghost use Rattle.edge_pairing.specs.Pairing.{paired_along};
@@ -12,11 +12,11 @@ ghost use Rattle.outline_pair_terms.specs.Lists.{flat_copies, flat_segments};
 ghost use Rattle.outline_terms.specs.Outlines.{IsBetween, most_vertices, outline_edges};
 
 use crate::copies::Copies;
-use counting_sort::Buckets;
 use edge_pairing::segments_of_edge;
 use mb_base::{Entry, NoMemory, Op, Point, Segment};
 use outline_numbers::Numbers;
 use outlines::Outline;
+use places_by_key::Buckets;
 use std::alloc::Global;
 
 /// The starts and the ends of lists.
@@ -79,8 +79,8 @@ fn lists_of(alloc: Global, copies: &Copies, count: usize) -> Result<Lists, NoMem
     ensures starts { IfOk result (λ l. l.starts ≡ map (places_of copies.now.starts.items) (upto count)) }
     ensures ends { IfOk result (λ l. l.ends ≡ map (places_of copies.now.ends.items) (upto count)) }
 {
-    let starts = Buckets::of(alloc, &copies.starts, count)?;
-    let ends = Buckets::of(alloc, &copies.ends, count)?;
+    let starts = Buckets::by_key(alloc, &copies.starts, count)?;
+    let ends = Buckets::by_key(alloc, &copies.ends, count)?;
     Ok(Lists { starts, ends })
 }
 

@@ -5,8 +5,8 @@ use Rattle.std.proofs.lemmas.List.{get_or-map, length-map}
 use Rattle.std.proofs.lemmas.List.Elements.{All-map}
 use Rattle.std.proofs.lemmas.Nat.{mod_below}
 use Rattle.chain_terms.specs.Sums.{upto}
-use Rattle.counting_sort.specs.Buckets.{places_of}
-use Rattle.counting_sort.proofs.Upto.{get_or-map-upto}
+use Rattle.places_by_key.specs.Buckets.{places_of}
+use Rattle.places_by_key.proofs.Upto.{get_or-map-upto}
 use Rattle.halfedge.specs.Pairing.{Half, turned, IsSortOf}
 use Rattle.halfedge.specs.Ways.{half_of, bucket_of, runs_up, AreWays}
 use Rattle.halfedge.proofs.Split.{AreKeys, key_ups, key_downs, places_below}

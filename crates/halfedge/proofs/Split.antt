@@ -10,7 +10,7 @@ use Rattle.chain_terms.specs.Sums.{up_from, upto}
 use Rattle.chain_terms.specs.Odd.{backward}
 use Rattle.chain_terms.specs.Ranks.{start, finish}
 use Rattle.chain_laws.proofs.Ascending.{filter-upto_same, kept_at}
-use Rattle.counting_sort.specs.Buckets.{places_of}
+use Rattle.places_by_key.specs.Buckets.{places_of}
 use Rattle.halfedge.specs.Pairing.{Half, numbered, turned}
 use Rattle.halfedge.specs.Ways.{half_of, lesser_end_at, runs_up, lies_in}
 use Rattle.halfedge.proofs.NumberedHalves.{turned-numbered}

@@ -6,14 +6,14 @@ ghost use Rattle.chain_terms.specs.Sums.{upto};
 ghost use Rattle.chain_terms.specs.Ranks.{twin};
 ghost use Rattle.mesh_terms.specs.Limits.{most_triangles};
 ghost use Rattle.mesh_terms.specs.Meshes.{HasThree, triples_of};
-ghost use Rattle.counting_sort.specs.Buckets.{places_of};
+ghost use Rattle.places_by_key.specs.Buckets.{places_of};
 ghost use Rattle.halfedge.specs.Laws.{AreSingle};
 ghost use Rattle.halfedge.specs.Pairing.{ends_of};
 ghost use Rattle.halfedge.specs.Ways.{bucket_of, ArePaired, ArePartners, AreWritten};
 
 use crate::ways::{Half, bucket_numbers, ways};
-use counting_sort::Buckets;
 use mb_base::NoMemory;
+use places_by_key::Buckets;
 use std::alloc::Global;
 
 /// The twin of each half-edge, and whether no two run the same way; none where the triangles are not
@@ -32,7 +32,7 @@ pub fn paired(alloc: Global, triples: &[[u32; 3]]) -> Result<Option<(Vec<u32>, b
 {
     let count = triples.len() as u32 + 1;
     let numbers = bucket_numbers(alloc, triples, count)?;
-    let buckets = Buckets::of(alloc, &numbers, count as usize)?;
+    let buckets = Buckets::by_key(alloc, &numbers, count as usize)?;
     // The bucket numbers are no longer needed; each is written over by a twin.
     let mut twins = numbers;
     match pair_buckets(alloc, triples, &buckets, &mut twins)? {

@@ -11,8 +11,8 @@ ghost use Rattle.mesh_check.specs.Reduced.{kept_marks};
 
 use crate::oriented::Oriented;
 use crate::oriented_ways::{bucket_numbers, oriented_ways};
-use counting_sort::Buckets;
 use mb_base::NoMemory;
+use places_by_key::Buckets;
 use std::alloc::Global;
 use std::cmp::Ordering;
 
@@ -28,7 +28,7 @@ pub fn uncancelled(alloc: Global, triples: &[[u32; 3]]) -> Result<Vec<bool>, NoM
 {
     let count = triples.len() as u32 + 1;
     let numbers = bucket_numbers(alloc, triples, count)?;
-    let buckets = Buckets::of(alloc, &numbers, count as usize)?;
+    let buckets = Buckets::by_key(alloc, &numbers, count as usize)?;
     // True for each triangle that is left over.
     let mut left = vec![in alloc; true; triples.len()]?;
     let mut lists = (Vec::new(alloc), Vec::new(alloc));

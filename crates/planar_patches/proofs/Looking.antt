@@ -6,7 +6,7 @@ use Rattle.std.proofs.lemmas.Bool.{cases_Bool, eq-eqb, eqb-true, or_left, or_rig
 use Rattle.std.proofs.lemmas.List.{length-map, map-append}
 use Rattle.chain_terms.specs.Chains.{IsClosed, all_edges}
 use Rattle.chain_terms.specs.Sums.{up_from, upto}
-use Rattle.counting_sort.specs.Buckets.{places_of}
+use Rattle.places_by_key.specs.Buckets.{places_of}
 use Rattle.mesh_terms.specs.Limits.{most_triangles}
 use Rattle.mesh_terms.specs.Meshes.{Mesh}
 use Rattle.planar_patches.specs.Found.{HasFound, patch_number}

@@ -11,7 +11,7 @@ use Rattle.chain_terms.specs.Sums.{upto}
 use Rattle.chain_laws.specs.Counts.{count_by-cons}
 use Rattle.chain_laws.proofs.Ascending.{ascending_is_filter, filter-upto_same}
 use Rattle.chain_laws.proofs.Places.{get_or-up_from, length-up_from, upto_more}
-use Rattle.counting_sort.specs.Buckets.{places_of}
+use Rattle.places_by_key.specs.Buckets.{places_of}
 use Rattle.face_plane.specs.Rings.{in_list}
 use Rattle.mesh_terms.specs.Limits.{most_triangles}
 use Rattle.mesh_terms.specs.Meshes.{Mesh}

@@ -8,9 +8,9 @@ ghost use Rattle.planar_patches.specs.Growth.{AreEntered, AreNumbered, IsLeftBeh
 
 use crate::patches::Patches;
 use crate::seed_plane::SeedPlane;
-use counting_sort::Buckets;
 use mb_base::NoMemory;
 use mesh_check::Mesh;
+use places_by_key::Buckets;
 use std::alloc::Global;
 
 /// The number that stands for none.
@@ -29,7 +29,7 @@ pub fn patches(alloc: Global, mesh: &Mesh) -> Result<Patches, NoMemory>
         look_at(mesh, seed, &mut seeds, &mut of, &mut entered)?;
     }
     fill_up(&mut of, seeds.len() as u32);
-    let triangles = Buckets::of(alloc, &of, seeds.len() + 1)?;
+    let triangles = Buckets::by_key(alloc, &of, seeds.len() + 1)?;
     Ok(Patches {
         seeds,
         of,

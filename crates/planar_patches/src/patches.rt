@@ -1,5 +1,5 @@
 // The patches of a mesh, as they are found.
-use counting_sort::Buckets;
+use places_by_key::Buckets;
 
 /// The patches of a mesh, in the order of their seeds. `triangles` has the triangles of each patch in order, and behind the last
 /// one those that are in none; `of` has for each triangle the number of its list there.

@@ -5,7 +5,7 @@ use Rattle.std.proofs.lemmas.Bool.{cases_Bool}
 use Rattle.std.proofs.lemmas.List.Elements.{All-filter, All-from_get_or, All-map}
 use Rattle.chain_terms.specs.Sums.{up_from, upto}
 use Rattle.chain_laws.proofs.Places.{get_or-up_from, length-up_from}
-use Rattle.counting_sort.specs.Buckets.{places_of}
+use Rattle.places_by_key.specs.Buckets.{places_of}
 use Rattle.mesh_terms.specs.Meshes.{Triple}
 use Rattle.source_boundaries.specs.Picked.{triples_of_face}
 use Rattle.source_boundaries.specs.Faces.{chosen}

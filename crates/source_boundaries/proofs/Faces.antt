@@ -4,8 +4,8 @@ use Rattle.std.proofs.lemmas.Bool.{cases_lt}
 use Rattle.chain_terms.specs.Chains.{all_edges}
 use Rattle.chain_terms.specs.Sums.{upto}
 use Rattle.chain_boundary.specs.Boundaries.{HaveOneBoundary}
-use Rattle.counting_sort.specs.Buckets.{places_of}
-use Rattle.counting_sort.proofs.Upto.{get_or-map-upto}
+use Rattle.places_by_key.specs.Buckets.{places_of}
+use Rattle.places_by_key.proofs.Upto.{get_or-map-upto}
 use Rattle.mesh_terms.specs.Meshes.{Triple}
 use Rattle.side_terms.specs.Sides.{Side}
 use Rattle.assembly_terms.specs.Lists.{Copy}

@@ -12,10 +12,10 @@ ghost use Rattle.source_boundaries.specs.Given.{AreGiven};
 
 use crate::face::is_bounded;
 use crate::given::given_have_segments;
-use counting_sort::Buckets;
 use face_lists::{CopyRange, Stand, group_end, runs_of, stands_of};
 use lean::Surface;
 use mb_base::{Hits, NoMemory, Op, Point, Windings};
+use places_by_key::Buckets;
 use retained_verts::{Operand, Prescribed};
 use std::alloc::Global;
 
@@ -46,7 +46,7 @@ pub fn are_bounded(
     let p_runs = runs_of(alloc, op, Operand::P, &windings.w03, 0)?;
     let q_runs = runs_of(alloc, op, Operand::Q, &windings.w30, p_kept as u32)?;
     let stands = stands_of(alloc, op, p, q, hits, (p_kept + q_kept) as u32)?;
-    let places = Buckets::of(alloc, source, p.triples().len() + q.triples().len())?;
+    let places = Buckets::by_key(alloc, source, p.triples().len() + q.triples().len())?;
     both_are_bounded(
         alloc,
         p,

@@ -7,7 +7,7 @@ use Rattle.std.proofs.lemmas.List.Elements.{All-contains, All-weaker}
 use Rattle.chain_terms.specs.Chains.{dir}
 use Rattle.chain_terms.specs.Ranks.{start, finish}
 use Rattle.chain_terms.specs.Sums.{upto}
-use Rattle.counting_sort.specs.Buckets.{places_of}
+use Rattle.places_by_key.specs.Buckets.{places_of}
 use Rattle.spanning_forest.specs.declared.entrance.Entrance.{Entrance}
 use Rattle.spanning_forest.specs.declared.entrance.Entrance.TheVariants.{Root}
 use Rattle.spanning_forest.specs.Forests.{entered, vertices_of, roots_of}

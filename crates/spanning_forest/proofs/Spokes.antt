@@ -10,8 +10,8 @@ use Rattle.chain_terms.specs.Sums.{upto}
 use Rattle.chain_laws.specs.Chains.{dir_contains}
 use Rattle.chain_laws.proofs.Ascending.{IsKept, kept_at, kept}
 use Rattle.component_laws.specs.Laws.{AreBelow}
-use Rattle.counting_sort.specs.Buckets.{places_of}
-use Rattle.counting_sort.proofs.Upto.{get_or-map-upto}
+use Rattle.places_by_key.specs.Buckets.{places_of}
+use Rattle.places_by_key.proofs.Upto.{get_or-map-upto}
 use Rattle.mesh_terms.specs.Meshes.{Triple, IsBelow, triple_of, triples_of}
 use Rattle.halfedge.proofs.Edges.{length-all_edges}
 use Rattle.spanning_forest.specs.Walks.{starts_of}

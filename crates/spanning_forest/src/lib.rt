@@ -13,10 +13,10 @@ mod entrance;
 mod passes;
 mod walk;
 
-use counting_sort::Buckets;
 pub use entrance::Entrance;
 use mb_base::NoMemory;
 use passes::enter_first;
+use places_by_key::Buckets;
 use std::alloc::Global;
 use walk::{enter_component, leave_all};
 
@@ -54,7 +54,7 @@ fn enter_rest(
     ensures { OnOk result (IsSpanningForest (length seen.old) (all_edges (triples_of triples.now)) entrances.new.items) }
 {
     // The triples, one after the other, are the starts of the half-edges.
-    let spokes = Buckets::of(alloc, triples.as_flattened(), seen.len())?;
+    let spokes = Buckets::by_key(alloc, triples.as_flattened(), seen.len())?;
     leave_all(triples, &spokes, seen, entrances, 0)?;
     for vertex in 1..seen.len() {
         if !seen[vertex] {

@@ -4,14 +4,14 @@ ghost use Rattle.std.specs.List.{All, Contains};
 ghost use Rattle.chain_terms.specs.Chains.{all_edges};
 ghost use Rattle.chain_terms.specs.Ranks.{start, finish};
 ghost use Rattle.chain_terms.specs.Sums.{upto};
-ghost use Rattle.counting_sort.specs.Buckets.{places_of};
+ghost use Rattle.places_by_key.specs.Buckets.{places_of};
 ghost use Rattle.mesh_terms.specs.Meshes.{triples_of, IsBelow};
 ghost use Rattle.spanning_forest.specs.Forests.{entered, vertices_of};
 ghost use Rattle.spanning_forest.specs.Walks.{starts_of, AreAllEntered, AreEntered, AreLeft, AreReached, AreWhole, IsComponentEntered, IsUnmarked, Lies};
 
 use crate::entrance::Entrance;
-use counting_sort::Buckets;
 use mb_base::NoMemory;
+use places_by_key::Buckets;
 
 /// Enters the vertex, which has no mark, as a root, and after it all that are joined to it. The half-edges are given by
 /// the vertices at which they start.

@@ -1,4 +1,4 @@
-//! Tests of what reads and writes texts and of what that stands on: plain types, decimal numbers, counting sort, shelves and sinks, the words of
+//! Tests of what reads and writes texts and of what that stands on: plain types, decimal numbers, places by key, shelves and sinks, the words of
 //! a command line, OBJ and STL texts, scripts, the writing of meshes, and the files of a shelf, by the public calls.
 #![tactic(auto)]
 

@@ -1,10 +1,10 @@
 // Keys whose buckets are known.
-use counting_sort::Buckets;
 use mb_base::NoMemory;
+use places_by_key::Buckets;
 use std::alloc::Global;
 
 // Whether bucket k has these places; no, where there are more than ten keys, or k or a key is not below the count. So
-// few keys are plainly below 2^32, as `Buckets::of` requires.
+// few keys are plainly below 2^32, as `Buckets::by_key` requires.
 fn is_bucket(
     alloc: Global,
     keys: &[u32],
@@ -15,7 +15,7 @@ fn is_bucket(
     if keys.len() > 10 || k >= count || !keys.iter().all(|key| (*key as usize) < count) {
         return Ok(false);
     }
-    let buckets = Buckets::of(alloc, keys, count)?;
+    let buckets = Buckets::by_key(alloc, keys, count)?;
     Ok(buckets.bucket(k) == places)
 }
 

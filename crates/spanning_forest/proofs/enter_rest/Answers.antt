@@ -3,7 +3,7 @@ use Rattle.std.specs.List.{All}
 use Rattle.std.proofs.lemmas.List.Elements.{All-from_get_or}
 use Rattle.chain_terms.specs.Chains.{all_edges}
 use Rattle.chain_terms.specs.Sums.{upto}
-use Rattle.counting_sort.specs.Buckets.{places_of}
+use Rattle.places_by_key.specs.Buckets.{places_of}
 use Rattle.mesh_terms.specs.Meshes.{IsBelow, triples_of}
 use Rattle.spanning_forest.specs.Walks.{starts_of}
 use Rattle.spanning_forest.proofs.Components.{AreWalked, spanning, walked_component, walked_first, walked_past, walked_same}
@@ -12,8 +12,8 @@ use Rattle.spanning_forest.proofs.Spokes.{edges_below, flat_starts, starts_below
 use Rattle.spanning_forest.proofs.enter_rest.Goals as goal
 use Rattle.spanning_forest.proofs.enter_rest.Goals.{then-not-seen-vertex+in_ok-enter_component, else-not-seen-vertex}
 
-pub of-requires-clause-below : goal.of-requires-clause-below
-of-requires-clause-below c =
+pub by_key-requires-clause-below : goal.by_key-requires-clause-below
+by_key-requires-clause-below c =
     let triples = c.args.triples.now in
     let es = all_edges (triples_of triples) in
     let three = All-from_get_or (λ t. length t ≡ 3) triples [] c.told-triples in

@@ -7,8 +7,8 @@ use Rattle.chain_terms.specs.Chains.{all_edges}
 use Rattle.chain_terms.specs.Sums.{upto}
 use Rattle.chain_terms.specs.Ranks.{twin}
 use Rattle.mesh_terms.specs.Meshes.{triple_of, triples_of}
-use Rattle.counting_sort.specs.Buckets.{places_of}
-use Rattle.counting_sort.proofs.Upto.{length-map-upto}
+use Rattle.places_by_key.specs.Buckets.{places_of}
+use Rattle.places_by_key.proofs.Upto.{length-map-upto}
 use Rattle.halfedge.specs.Laws.{AreSingle}
 use Rattle.halfedge.specs.Pairing.{Half, turned, half_at, half_cmp, ends_of, IsSortOf}
 use Rattle.halfedge.specs.Ways.{half_of, bucket_of, runs_up, AreWays, ArePartners, AreWritten, ArePaired}

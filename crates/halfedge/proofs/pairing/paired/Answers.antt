@@ -7,7 +7,7 @@ use Rattle.chain_terms.specs.Chains.{all_edges, IsClosed}
 use Rattle.chain_terms.specs.Sums.{upto}
 use Rattle.chain_terms.specs.Ranks.{twin}
 use Rattle.mesh_terms.specs.Meshes.{HasThree, triple_of, triples_of}
-use Rattle.counting_sort.specs.Buckets.{places_of}
+use Rattle.places_by_key.specs.Buckets.{places_of}
 use Rattle.halfedge.specs.Laws.{AreSingle}
 use Rattle.halfedge.specs.Ways.{lesser_end, bucket_of, ArePaired}
 use Rattle.halfedge.proofs.Edges.{length-all_edges}
@@ -19,13 +19,13 @@ use Rattle.halfedge.proofs.pairing.paired.Goals as goal
 edge_count : (ts : List (List ℕ)) → length (all_edges (triples_of ts)) ≡ 3 * length ts
 edge_count ts = length-all_edges (triples_of ts) ∙ ap (λ n. 3 * n) (length-map ts triple_of)
 
-pub of-requires-clause-below : goal.of-requires-clause-below
-of-requires-clause-below c =
+pub by_key-requires-clause-below : goal.by_key-requires-clause-below
+by_key-requires-clause-below c =
     let n : ℕ = length c.args.triples.now + 1 in
     subst (All (λ k. k < n)) (sym (c.deref.ensures.value ∙ c.in_ok-numbers.ensures)) (numbers_below lesser_end n (all_edges (triples_of c.args.triples.now)) (omega arith))
 
-pub of-requires-clause-few : goal.of-requires-clause-few
-of-requires-clause-few c =
+pub by_key-requires-clause-few : goal.by_key-requires-clause-few
+by_key-requires-clause-few c =
     let n : ℕ = length c.args.triples.now + 1 in
     omega (
       arith,

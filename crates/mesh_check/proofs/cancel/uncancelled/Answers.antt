@@ -3,8 +3,8 @@ use Rattle.std.specs.List.{All}
 use Rattle.std.proofs.lemmas.List.{length-map}
 use Rattle.std.proofs.lemmas.Nat.{mod_below}
 use Rattle.mesh_terms.specs.Meshes.{Triple, triple_of, triples_of}
-use Rattle.counting_sort.specs.Buckets.{places_of}
-use Rattle.counting_sort.proofs.Upto.{length-map-upto}
+use Rattle.places_by_key.specs.Buckets.{places_of}
+use Rattle.places_by_key.proofs.Upto.{length-map-upto}
 use Rattle.halfedge.specs.Ways.{AreWays}
 use Rattle.halfedge.proofs.BucketContents.{numbers_below, read_bucket, bucket_members}
 use Rattle.mesh_check.specs.Cancelling.{halves_of, bucket_of_triple, bucket_of_end, AreMarked}
@@ -17,8 +17,8 @@ use Rattle.mesh_check.proofs.cancel.uncancelled.Goals as goal
 edge_count : (ts : List (List ℕ)) → length (orientation_edges (triples_of ts)) ≡ length ts
 edge_count ts = length-map (triples_of ts) orientation_edge ∙ length-map ts triple_of
 
-pub of-requires-clause-below : goal.of-requires-clause-below
-of-requires-clause-below c =
+pub by_key-requires-clause-below : goal.by_key-requires-clause-below
+by_key-requires-clause-below c =
     let n : ℕ = length c.args.triples.now + 1 in
     subst (All (λ k. k < n)) (sym (c.deref.ensures.value ∙ c.in_ok-numbers.ensures)) (numbers_below (λ t. (least_first t).0) n (triples_of c.args.triples.now) (omega arith))
 

@@ -4,7 +4,7 @@ use Rattle.std.proofs.lemmas.List.{length-map, with_items_is}
 use Rattle.std.specs.Vec.{with_items}
 use Rattle.chain_terms.specs.Chains.{IsClosed, all_edges}
 use Rattle.chain_terms.specs.Sums.{upto}
-use Rattle.counting_sort.specs.Buckets.{places_of}
+use Rattle.places_by_key.specs.Buckets.{places_of}
 use Rattle.mesh_terms.specs.Limits.{most_triangles}
 use Rattle.mesh_terms.specs.Meshes.{Mesh}
 use Rattle.planar_patches.specs.Growth.{AreNumbered, filled_up, no_patch}
@@ -89,14 +89,14 @@ filled_now c =
     filled_list c.loop-seed.of c.len.result (length seeds.items)
     c.deref_mut-2.result.now c.fill_up.new.of c.deref_mut-2.ensures.value c.fill_up.ensures (c.len.ensures ∙ seeds.ok.0)
 
-pub of-requires-clause-below : goal.of-requires-clause-below
-of-requires-clause-below c =
+pub by_key-requires-clause-below : goal.by_key-requires-clause-below
+by_key-requires-clause-below c =
     let m = c.args.mesh.now in
     let accepted = c.triples-count.ensures.accepted in
     let seeds = c.loop-seed.seeds in
     let of = c.loop-seed.of in
-    let are = ended (goal.at.of-requires-clause-below c).After-len in
-    let read = c.deref.ensures.value ∙ filled_now (goal.at.of-requires-clause-below c).After-len-2 in
+    let are = ended (goal.at.by_key-requires-clause-below c).After-len in
+    let read = c.deref.ensures.value ∙ filled_now (goal.at.by_key-requires-clause-below c).After-len-2 in
     subst (All (λ k. k < c.len-2.result + 1)) (sym read)
     (subst (λ n. All (λ k. k < n + 1) (filled_up (length seeds.items) of.items)) (sym (c.len-2.ensures ∙ seeds.ok.0))
     (low_numbers m accepted.closed accepted.mesh.few_triples seeds.items of.items are))

@@ -3,8 +3,8 @@ use Rattle.std.specs.Prelude.{IsTrue, slice_index}
 use Rattle.std.proofs.lemmas.List.{length-map}
 use Rattle.std.proofs.lemmas.Result.{IfOk-weaker}
 use Rattle.chain_terms.specs.Sums.{upto}
-use Rattle.counting_sort.specs.Buckets.{places_of}
-use Rattle.counting_sort.proofs.Upto.{length-map-upto}
+use Rattle.places_by_key.specs.Buckets.{places_of}
+use Rattle.places_by_key.proofs.Upto.{length-map-upto}
 use Rattle.assembly_terms.specs.Prescribed.{crossing_count, p_kept, p_number, q_kept, q_number, vertex_count}
 use Rattle.filling_terms.specs.Filled.{face_segments, points_of_copies}
 use Rattle.mesh_terms.specs.Limits.{most_points}

@@ -2,8 +2,8 @@ use Rattle.std.proofs.Common.{arith, ◌<◌, ◌≤◌, length, sym, ap, subst}
 use Rattle.std.specs.List.{All, Contains}
 use Rattle.chain_terms.specs.Chains.{all_edges}
 use Rattle.chain_terms.specs.Ranks.{start}
-use Rattle.counting_sort.proofs.Upto.{length-map-upto}
-use Rattle.counting_sort.specs.Buckets.{places_of}
+use Rattle.places_by_key.proofs.Upto.{length-map-upto}
+use Rattle.places_by_key.specs.Buckets.{places_of}
 use Rattle.mesh_terms.specs.Meshes.{triples_of}
 use Rattle.spanning_forest.specs.Forests.{vertices_of}
 use Rattle.spanning_forest.specs.Walks.{starts_of, AreReached}

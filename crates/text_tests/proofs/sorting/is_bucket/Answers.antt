@@ -1,6 +1,6 @@
 use Rattle.std.proofs.Common.{length, ap, arith}
-use Rattle.counting_sort.specs.Buckets.{places_of}
-use Rattle.counting_sort.proofs.Upto.{length-map-upto}
+use Rattle.places_by_key.specs.Buckets.{places_of}
+use Rattle.places_by_key.proofs.Upto.{length-map-upto}
 use Rattle.text_tests.proofs.sorting.is_bucket.Goals as goal
 
 pub bucket-requires : goal.bucket-requires
