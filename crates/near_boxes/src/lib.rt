@@ -1,7 +1,7 @@
 //! The numbers of the boxes of a tree that are near an area, ascending.
 #![tactic(auto)]
 
-ghost use Rattle.std.specs.Prelude.{◌≡◌, IfOk, IsTrue, OnOk};
+ghost use Rattle.std.specs.Prelude.{◌≡◌, ◌↔◌, ◌≤◌, IfOk, IsTrue, OnOk, length};
 ghost use Rattle.box_tree.specs.Touching.{touching_numbers};
 
 use box_tree::Tree;
@@ -20,10 +20,11 @@ pub fn find_near(near: &mut Vec<u32>, tree: &Tree, area: Box3) -> Result<(), NoM
     Ok(())
 }
 
-/// Makes the same list where there are at most so many, and tells whether that is so. Where there are more the list has some of
-/// them.
+/// Tells whether at most so many boxes touch the area, and makes the same list where that is so. Where there are more the list has
+/// some of them.
 pub fn find_few(near: &mut Vec<u32>, tree: &Tree, most: usize, area: Box3) -> Result<bool, NoMemory>
-    ensures { IfOk result (λ few. IsTrue few → near.new.items ≡ touching_numbers tree.now area) }
+    ensures few { IfOk result (λ few. IsTrue few ↔ length (touching_numbers tree.now area) ≤ most) }
+    ensures list { IfOk result (λ few. IsTrue few → near.new.items ≡ touching_numbers tree.now area) }
 {
     near.clear();
     for number in tree.touching(area) {

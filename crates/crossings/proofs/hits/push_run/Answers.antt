@@ -14,13 +14,13 @@ use Rattle.crossings.proofs.hits.push_run.Goals as goal
 pub find_boxes-requires : goal.find_boxes-requires
 find_boxes-requires g c =
     let faces = c.args.faces.now in
-    let near = c.deref.ensures.value ∙ c.in_ok-find_few.ensures c.if-not-branch.false ∙ ap (λ boxes. touching_numbers boxes c.box_round-area.result) c.tree.ensures.value in
+    let near = c.deref.ensures.value ∙ c.in_ok-find_few.ensures.list c.if-not-branch.false ∙ ap (λ boxes. touching_numbers boxes c.box_round-area.result) c.tree.ensures.value in
     subst (All (λ f. f < length faces.triples)) (sym near) (touching_below faces c.box_round-area.result)
 
 pub push_among-requires-clause-near : goal.push_among-requires-clause-near
 push_among-requires-clause-near g c =
     let faces = c.args.faces.now in
-    let near = c.in_ok-find_few.ensures c.if-not-branch.false ∙ ap (λ boxes. touching_numbers boxes c.box_round-area.result) c.tree.ensures.value in
+    let near = c.in_ok-find_few.ensures.list c.if-not-branch.false ∙ ap (λ boxes. touching_numbers boxes c.box_round-area.result) c.tree.ensures.value in
     record {
       below = subst (All (λ f. f < length faces.triples)) (sym near) (touching_below faces c.box_round-area.result);
       boxed = c.in_ok-find_boxes.ensures ∙ ap (map (λ f. box_of (face_at faces f))) c.deref.ensures.value;
@@ -33,7 +33,7 @@ push_among-requires-clause-all g c h low high =
     let faces = c.args.faces.now in
     let apart = g.met.C.EdgeFace.apart c.args.pairs.now in
     let own = c.box_round-area.ensures in
-    let near = c.in_ok-find_few.ensures c.if-not-branch.false ∙ ap (λ boxes. touching_numbers boxes c.box_round-area.result) c.tree.ensures.value in
+    let near = c.in_ok-find_few.ensures.list c.if-not-branch.false ∙ ap (λ boxes. touching_numbers boxes c.box_round-area.result) c.tree.ensures.value in
     ap (hits_with test edges faces h) near
     ∙ run_within test edges faces apart own.side c.tree.ensures.side c.box_round-area.result c.args.from c.args.to c.requires.within own.round h low high
 
@@ -44,7 +44,7 @@ returns-then-is_empty g c =
     let faces = c.args.faces.now in
     let apart = g.met.C.EdgeFace.apart c.args.pairs.now in
     let own = c.box_round-area.ensures in
-    let few = c.in_ok-find_few.ensures c.if-not-branch.false ∙ ap (λ boxes. touching_numbers boxes c.box_round-area.result) c.tree.ensures.value in
+    let few = c.in_ok-find_few.ensures.list c.if-not-branch.false ∙ ap (λ boxes. touching_numbers boxes c.box_round-area.result) c.tree.ensures.value in
     let near = c.find_few.new.near in
     let none : length near.items ≡ 0 = sym near.ok.0 ∙ eqb-true near.len 0 (sym c.is_empty.ensures ∙ c.if-is_empty.true) in
     let nothing = sym few ∙ nil_from_length near.items none in
