@@ -9,7 +9,7 @@ use Rattle.mb_base.specs.declared.point.Box3.{Box3}
 use Rattle.box_tree.specs.Coarse.{AreEnds, HasEnds, IsExact, IsWhole, bounds_around, bounds_inside, bounds_meet, fine, fine_box, range_around, range_inside, ranges_meet, step_above, step_below}
 use Rattle.box_tree.specs.Touching.{end_on, overlap, overlap_on, touches, IsBox}
 use Rattle.box_tree.proofs.Points.{overlap_meets, meets_overlap, test_from_le}
-use Rattle.box_tree.proofs.Steps.{below_keeps, above_keeps, below_tells, above_tells, below_whole, above_whole}
+use Rattle.box_tree.proofs.Quantized.{below_keeps, above_keeps, below_tells, above_tells, below_whole, above_whole}
 
 -- what three ends meet, they meet where it follows from that
 pub ends_weaker : (P Q : ℤ → Type 0) → ((z : ℤ) → P z → Q z) → (ends : List ℤ) → AreEnds P ends → AreEnds Q ends

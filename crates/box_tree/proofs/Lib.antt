@@ -7,7 +7,7 @@ pub mod Rounds
 pub mod Runs
 pub mod Shared
 pub mod Stacks
-pub mod Steps
+pub mod Quantized
 pub mod Orders
 pub mod Starts
 pub mod Trees

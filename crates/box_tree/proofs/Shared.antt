@@ -9,7 +9,7 @@ use lib.Count.{count_trailing_zeros, under}
 use Rattle.box_tree.specs.declared.extent.Extent.{Extent}
 use Rattle.box_tree.specs.Coarse.{IsWhole}
 use Rattle.box_tree.specs.Extents.{IsCovered}
-use Rattle.box_tree.proofs.Steps.{whole_from}
+use Rattle.box_tree.proofs.Quantized.{whole_from}
 
 -- by the last bit, and the zero bits before it
 by_last : (d t n : ℕ) → n % 2 ≡ d → n / 2 % 2 ^ t ≡ 0 → n % 2 ^ under d t ≡ 0

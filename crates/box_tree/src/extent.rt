@@ -7,12 +7,12 @@ ghost use Rattle.box_tree.specs.Extents.{IsCovered};
 use crate::boxes::Boxes;
 use mb_base::Box3;
 
-/// Coarse steps over boxes.
+/// How the coordinates of boxes are quantized.
 #[derive(Clone, Copy, Drop)]
-pub struct Steps {
-    /// The power of two of a step.
+pub struct Quantization {
+    /// The power of two of a coarse step.
     pub shift: u32,
-    /// Whether the boxes in these steps are the boxes, with nothing lost.
+    /// Whether the boxes in coarse steps are the boxes, with nothing lost.
     pub exact: bool,
 }
 
@@ -63,14 +63,14 @@ impl Extent {
 
     // The greatest steps of which each coordinate is a whole number, where an i32 holds that number; or else the least steps whose
     // number an i32 holds.
-    fn steps(self) -> Steps
+    fn quantization(self) -> Quantization
         ensures small { result.shift < 64 }
         ensures exact { (z : ℤ) → IsTrue result.exact → IsCovered self z → IsWhole result.shift z }
     {
         let shared = self.digits.trailing_zeros().min(63);
         let exact = self.most >> shared < 0x7fff_ffff;
         let shift = if exact { shared } else { shift_over(self.most) };
-        Steps { shift, exact }
+        Quantization { shift, exact }
     }
 }
 
@@ -81,8 +81,8 @@ fn shift_over(most: u64) -> u32
     (64 - most.leading_zeros()).saturating_sub(31)
 }
 
-// The coarse steps that the coordinates of the boxes have in common.
-fn common_steps<B: Boxes>(boxes: &B) -> Steps
+// The quantization in the coarse steps that the coordinates of the boxes have in common.
+fn common_quantization<B: Boxes>(boxes: &B) -> Quantization
     ensures small { result.shift < 64 }
     ensures exact { IsTrue result.exact → All (IsExact result.shift) (B.boxes boxes.now) }
 {
@@ -90,16 +90,16 @@ fn common_steps<B: Boxes>(boxes: &B) -> Steps
     for number in 0..boxes.count() {
         extent = extent.with_box(&boxes.box_at(number));
     }
-    extent.steps()
+    extent.quantization()
 }
 
-/// The coarse steps over boxes: those that are known of them, or else those that they are found to have in common.
-pub fn steps_over<B: Boxes>(boxes: &B) -> Steps
+/// The quantization of boxes: in the coarse steps that are known of them, or else in those that they are found to have in common.
+pub fn quantization_of<B: Boxes>(boxes: &B) -> Quantization
     ensures small { result.shift < 64 }
     ensures exact { IsTrue result.exact → All (IsExact result.shift) (B.boxes boxes.now) }
 {
     match boxes.whole_steps() {
-        Some(shift) => Steps { shift, exact: true },
-        None => common_steps(boxes),
+        Some(shift) => Quantization { shift, exact: true },
+        None => common_quantization(boxes),
     }
 }

@@ -4,7 +4,7 @@ ghost use Rattle.std.specs.List.{All};
 ghost use Rattle.box_tree.specs.Touching.{IsBox};
 
 use crate::Tree;
-use crate::extent::steps_over;
+use crate::extent::quantization_of;
 use crate::keys::keys_of;
 use mb_base::Box3;
 use std::alloc::Global;
@@ -284,8 +284,8 @@ fn plate(from: i64, to: i64, y: i64) -> Box3 {
 fn boxes_are_found_at_any_scale(rt: HostRuntime) -> Result<(), Fail> {
     for (row, shift, exact) in ROWS {
         let boxes = boxes_of_row(rt.alloc(), &row)?;
-        let steps = steps_over(&boxes.as_slice());
-        assert!(rt; steps.shift == shift && steps.exact == exact);
+        let quantization = quantization_of(&boxes.as_slice());
+        assert!(rt; quantization.shift == shift && quantization.exact == exact);
         for y in [0, 1, row.3, row.3.wrapping_add(1)] {
             assert!(rt; row_is_found(rt.alloc(), &row, y)?, "at {y}");
         }

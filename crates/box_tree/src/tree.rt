@@ -9,7 +9,7 @@ ghost use Rattle.box_tree.specs.Touching.{IsBox, touching_numbers};
 use crate::MOST_BOXES;
 use crate::bounds::Bounds;
 use crate::boxes::Boxes;
-use crate::extent::{Steps, steps_over};
+use crate::extent::{Quantization, quantization_of};
 use crate::nodes::{Entry, Node, nodes_over};
 use crate::order::entries_of;
 use crate::touching::Touching;
@@ -42,11 +42,15 @@ impl Model for Tree {
 }
 
 // The boxes that are stored beside the entries: none where the bounds of the entries are the boxes.
-fn stored<B: Boxes>(alloc: Global, boxes: &B, steps: Steps) -> Result<Vec<Box3>, NoMemory>
-    requires { IsTrue steps.exact → All (IsExact steps.shift) (B.boxes boxes.now) }
-    ensures { IfOk result (λ stored. AreKept steps.shift stored.items (B.boxes boxes.now)) }
+fn stored<B: Boxes>(
+    alloc: Global,
+    boxes: &B,
+    quantization: Quantization,
+) -> Result<Vec<Box3>, NoMemory>
+    requires { IsTrue quantization.exact → All (IsExact quantization.shift) (B.boxes boxes.now) }
+    ensures { IfOk result (λ stored. AreKept quantization.shift stored.items (B.boxes boxes.now)) }
 {
-    if steps.exact {
+    if quantization.exact {
         return Ok(Vec::new(alloc));
     }
     copy_of(alloc, boxes)
@@ -80,13 +84,13 @@ impl Tree {
         requires boxes { All IsBox (B.boxes boxes.now) }
         ensures { IfOk result (λ tree. tree ≡ B.boxes boxes.now) }
     {
-        let steps = steps_over(boxes);
-        let entries = entries_of(alloc, boxes, steps.shift)?;
+        let quantization = quantization_of(boxes);
+        let entries = entries_of(alloc, boxes, quantization.shift)?;
         let nodes = nodes_over(alloc, &entries)?;
-        let boxes = stored(alloc, boxes, steps)?;
+        let boxes = stored(alloc, boxes, quantization)?;
         Ok(Tree {
             boxes,
-            shift: steps.shift,
+            shift: quantization.shift,
             entries,
             nodes,
         })

@@ -17,7 +17,7 @@ use Rattle.side_terms.specs.Sides.{corner_of, corners_of, face_of}
 use Rattle.box_tree.specs.declared.bounds.Range.{Range}
 use Rattle.box_tree.specs.Coarse.{IsExact, IsWhole, bounds_around, fine, step_above, step_below}
 use Rattle.box_tree.specs.Touching.{IsBox, box_at, no_box}
-use Rattle.box_tree.proofs.Steps.{above_whole, below_whole}
+use Rattle.box_tree.proofs.Quantized.{above_whole, below_whole}
 use Rattle.lean.specs.Grid.{IsGridStep, boxes_on, face_bounds, face_box}
 use Rattle.lean.specs.Vectors.{AllSmall, AreSmall}
 use Rattle.lean.proofs.Corners.{corner_fine, corners_at}

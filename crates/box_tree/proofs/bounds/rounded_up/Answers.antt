@@ -5,7 +5,7 @@ use Rattle.std.proofs.lemmas.Bool.{cases_lt}
 use Rattle.std.proofs.lemmas.Int.{ints, to_z-of_z}
 use Rattle.std.proofs.lemmas.Nat.{mul-le, pow-add}
 use Rattle.box_tree.specs.Coarse.{fine}
-use Rattle.box_tree.proofs.Steps.{fine_shifted, fine_turned}
+use Rattle.box_tree.proofs.Quantized.{fine_shifted, fine_turned}
 use Rattle.box_tree.proofs.bounds.rounded_up.Goals as goal
 
 -- the least number of 64 bits

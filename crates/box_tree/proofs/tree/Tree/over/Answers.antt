@@ -9,22 +9,22 @@ use Rattle.box_tree.proofs.tree.Tree.over.Goals as goal
 
 pub nodes_over-requires : goal.nodes_over-requires
 nodes_over-requires g c =
-    let same = as_many c.steps_over-steps.result.shift (g.B.Boxes.boxes c.args.boxes.now) c.in_ok-entries.entries.items c.in_ok-entries.ensures in
+    let same = as_many c.quantization_of-quantization.result.shift (g.B.Boxes.boxes c.args.boxes.now) c.in_ok-entries.entries.items c.in_ok-entries.ensures in
     record { few = omega (arith, same, ap length c.deref.ensures.value, c.requires.few) }
 
 pub invariant_of-result : goal.invariant_of-result
 invariant_of-result g c =
-    let shift = c.steps_over-steps.result.shift in
+    let shift = c.quantization_of-quantization.result.shift in
     let stored = c.in_ok-boxes.boxes.items in
     let entries = c.in_ok-entries.entries.items in
     let nodes = c.in_ok-nodes.nodes.items in
     let T : List Box3 → Type 0 = λ boxes. IsTree shift stored boxes entries nodes in
     subst T (sym (boxes_there shift stored (g.B.Boxes.boxes c.args.boxes.now) entries c.in_ok-entries.ensures c.in_ok-boxes.ensures))
-    (tree_made shift stored (g.B.Boxes.boxes c.args.boxes.now) entries c.deref.result.now nodes c.steps_over-steps.ensures.small c.requires.boxes
+    (tree_made shift stored (g.B.Boxes.boxes c.args.boxes.now) entries c.deref.result.now nodes c.quantization_of-quantization.ensures.small c.requires.boxes
     c.in_ok-entries.ensures c.in_ok-boxes.ensures
     c.deref.ensures.value c.in_ok-nodes.ensures.nodes c.in_ok-nodes.ensures.short c.in_ok-nodes.ensures.root)
 
 pub returns : goal.returns
 returns g c =
-    boxes_there c.steps_over-steps.result.shift c.in_ok-boxes.boxes.items (g.B.Boxes.boxes c.args.boxes.now) c.in_ok-entries.entries.items
+    boxes_there c.quantization_of-quantization.result.shift c.in_ok-boxes.boxes.items (g.B.Boxes.boxes c.args.boxes.now) c.in_ok-entries.entries.items
     c.in_ok-entries.ensures c.in_ok-boxes.ensures

@@ -7,7 +7,7 @@ use Rattle.box_tree.specs.Coarse.{HasEnds, IsExact, IsWhole}
 use Rattle.box_tree.specs.Extents.{IsCovered}
 use Rattle.box_tree.specs.Touching.{no_box}
 use Rattle.box_tree.proofs.Exact.{box_weaker}
-use Rattle.box_tree.proofs.extent.common_steps.Goals as goal
+use Rattle.box_tree.proofs.extent.common_quantization.Goals as goal
 
 pub loop-number-preserved : goal.loop-number-preserved
 loop-number-preserved g c =
@@ -22,6 +22,6 @@ pub returns-clause-exact : goal.returns-clause-exact
 returns-clause-exact g c =
     let boxes = g.B.Boxes.boxes c.args.boxes.now in
     let covered = IsCovered c.loop-number.extent in
-    let whole = IsWhole c.steps.result.shift in
+    let whole = IsWhole c.quantization.result.shift in
     let all = All-same (HasEnds covered) boxes (take c.loop-number.number boxes) (sym (take_all c.loop-number.number boxes (omega arith))) c.loop-number.invariant in
-    λ exact. All-weaker (HasEnds covered) (IsExact c.steps.result.shift) (box_weaker covered whole (λ z h. c.steps.ensures.exact z exact h)) boxes all
+    λ exact. All-weaker (HasEnds covered) (IsExact c.quantization.result.shift) (box_weaker covered whole (λ z h. c.quantization.ensures.exact z exact h)) boxes all

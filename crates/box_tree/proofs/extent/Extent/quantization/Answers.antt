@@ -1,6 +1,6 @@
 use Rattle.std.proofs.Common.{arith}
 use Rattle.box_tree.proofs.Shared.{covered_whole}
-use Rattle.box_tree.proofs.extent.Extent.steps.Goals as goal
+use Rattle.box_tree.proofs.extent.Extent.quantization.Goals as goal
 
 pub returns-then-exact-clause-exact : goal.returns-then-exact-clause-exact
 returns-then-exact-clause-exact c =
