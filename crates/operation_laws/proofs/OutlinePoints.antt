@@ -1,6 +1,8 @@
 -- The points of crossings of outlines lie on the grid.
-use Rattle.std.proofs.Common.{ℕ, ℤ, Option, Some, None, IfSome, List, [], ◌∷◌, length, refl, arith}
+use Rattle.std.proofs.Common.{ℕ, ℤ, Bool, true, false, Option, Some, None, IfSome, List, [], ◌∷◌, length, refl, arith}
+use Rattle.std.specs.Prelude.{pos, if◌then◌else◌}
 use Rattle.std.specs.List.{All, cons_option, filter_map, flat_map}
+use Rattle.std.specs.Ordering.{int_eq}
 use Rattle.std.proofs.lemmas.Int.{ints}
 use Rattle.std.proofs.lemmas.List.Elements.{All-append, All-cons, All-nil}
 use Rattle.chain_terms.specs.Ranks.{start, finish}
@@ -38,7 +40,10 @@ module _ (test : ShadowTest) (laws : ShadowLaws 2 2 test) (settle : ℤ → ℤ)
 
   put : (i j : ℕ) (o : Option Meet) (rest : List FlatHit) → IfSome o (λ a. IsPoint (flat_point settle a.spot)) → All On rest → All On (cons_option (flat_hit settle i j o) rest)
   put i j None rest at all = all
-  put i j (Some m) rest at all = All-cons On (record { p_edge = i; q_edge = j; number = m.count; at = flat_point settle m.spot }) rest at all
+  put i j (Some m) rest at all = by (int_eq m.count (pos 0)) where
+    by : (b : Bool) → All On (cons_option (if b then None else Some (record { p_edge = i; q_edge = j; number = m.count; at = flat_point settle m.spot })) rest)
+    by true = all
+    by false = All-cons On (record { p_edge = i; q_edge = j; number = m.count; at = flat_point settle m.spot }) rest at all
 
   along : (i : ℕ) (js : List ℕ) → All On (filter_map (λ j. flat_hit settle i j (test (ends_of p (edge_at p i)) (ends_of q (edge_at q j)))) js)
   along i [] = All-nil On

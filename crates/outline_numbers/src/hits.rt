@@ -73,12 +73,17 @@ fn hit_of<K: Meets<2, 2>, R: Rounding>(
 {
     match kernels.meet(p, q) {
         None => None,
-        Some(meet) => Some(FlatHit {
-            p_edge,
-            q_edge,
-            number: meet.count,
-            at: point_of(rounding, &meet.spot),
-        }),
+        Some(meet) => {
+            if meet.count == 0 {
+                return None;
+            }
+            Some(FlatHit {
+                p_edge,
+                q_edge,
+                number: meet.count,
+                at: point_of(rounding, &meet.spot),
+            })
+        }
     }
 }
 

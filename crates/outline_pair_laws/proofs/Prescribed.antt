@@ -1,6 +1,8 @@
 -- The prescribed vertices of two outlines: what they are copies of, their signs, and that their numbers are conserved.
 use Rattle.std.proofs.Common.{◌≡◌, ℕ, zero, suc, ◌<◌, Bool, true, false, cond, ◌==◌, ℤ, pos, List, [], ◌∷◌, length, int_lt, refl, sym, ap, ◌∙◌}
-use Rattle.std.specs.Prelude.{nat_abs, replicate, Option, None, Some, IfSome}
+use Rattle.std.specs.Prelude.{nat_abs, replicate, Option, None, Some, IfSome, if◌then◌else◌}
+use Rattle.std.specs.Ordering.{int_eq}
+use Rattle.std.proofs.lemmas.Bool.Decides.{Decides-int_eq}
 use Rattle.std.specs.List.{All, cons_option, filter_map, flat_map}
 use Rattle.std.proofs.lemmas.List.Elements.{All-append, All-cons, All-head, All-nil, All-tail}
 use Rattle.chain_terms.specs.Sums.{total, upto}
@@ -11,8 +13,13 @@ use Rattle.shadow_kernels.specs.Counts.{count_of}
 use Rattle.shadow_kernels.specs.declared.Meet.{Meet}
 use Rattle.outline_pair_terms.specs.Lists.{FlatCopy, FlatIncluded, flat_copies_of}
 use Rattle.outline_pair_terms.specs.declared.FlatHit.{FlatHit}
-use Rattle.outline_pair_terms.specs.Numbers.{FlatSide, FlatTests, edge_at, ends_of, flat_hit, flat_hits, flat_hits_along, flat_number}
+use Rattle.outline_pair_terms.specs.Numbers.{FlatSide, FlatTests, edge_at, ends_of, flat_hit, flat_hits, flat_hits_along, flat_number, flat_point}
 use Rattle.outline_pair_laws.proofs.Exchange.{all_upto}
+
+-- what holds of what may be left out holds where it is not
+if_listed : {X : Type 0} (P : X → Type 0) (x : X) (b : Bool) → P x → IfSome (if b then None else Some x) P
+if_listed P x true is = tt
+if_listed P x false is = is
 
 -- what holds of a copy of each holds of all copies
 all_replicated : {X : Type 0} (P : X → Type 0) (k : ℕ) (x : X) → P x → All P (replicate k x)
@@ -60,7 +67,9 @@ module _ (t : FlatTests) (settle : ℤ → ℤ) (p q : FlatSide) where
       one : (i j : ℕ) → i < length p.edges → j < length q.edges → (o : Option Meet) →
           t.edge_edge (ends_of p (edge_at p i)) (ends_of q (edge_at q j)) ≡ o → IfSome (flat_hit settle i j o) IsHit
       one i j il jl None e = tt
-      one i j il jl (Some m) e = record { on_p = il; on_q = jl; number = sym (ap count_of e); flat = refl }
+      one i j il jl (Some m) e =
+          if_listed IsHit (record { p_edge = i; q_edge = j; number = m.count; at = flat_point settle m.spot }) (int_eq m.count (pos 0))
+          (record { on_p = il; on_q = jl; number = sym (ap count_of e); flat = refl })
 
   -- a hit's number, where it is on such an edge
   hit_value : (i j : ℕ) (test : ℕ → ℕ → Bool) (o : Option Meet) →
@@ -69,7 +78,15 @@ module _ (t : FlatTests) (settle : ℤ → ℤ) (p q : FlatSide) where
     by : (b : Bool) → pos 0 ≡ cond b (pos 0) (pos 0)
     by true = refl
     by false = refl
-  hit_value i j test (Some m) = refl
+  hit_value i j test (Some m) = by (int_eq m.count (pos 0)) refl where
+    none : (b : Bool) → pos 0 ≡ cond b (pos 0) (pos 0)
+    none true = refl
+    none false = refl
+
+    by : (b : Bool) → int_eq m.count (pos 0) ≡ b → value_or_zero (λ (h : FlatHit). cond (test h.p_edge h.q_edge) h.number (pos 0))
+        (if b then None else Some (record { p_edge = i; q_edge = j; number = m.count; at = flat_point settle m.spot })) ≡ cond (test i j) m.count (pos 0)
+    by true e = none (test i j) ∙ ap (λ z. cond (test i j) z (pos 0)) (sym ((Decides-int_eq m.count (pos 0)).0 e))
+    by false e = refl
 
   -- the hits that pass, edge by edge
   hits_sum : (test : ℕ → ℕ → Bool) → total (λ h. cond (test h.p_edge h.q_edge) h.number (pos 0)) (flat_hits t.edge_edge settle p q)

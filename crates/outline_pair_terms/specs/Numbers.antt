@@ -1,6 +1,7 @@
 -- Winding numbers and crossings of two outlines.
-use Rattle.std.specs.Prelude.{◌≡◌, ℕ, ℤ, pos, neg_ℤ, ◌+ℤ◌, ◌-ℤ◌, List, [], ◌∷◌, Option, None, Some, length, map}
+use Rattle.std.specs.Prelude.{◌≡◌, ℕ, ℤ, pos, neg_ℤ, ◌+ℤ◌, ◌-ℤ◌, List, [], ◌∷◌, Option, None, Some, if◌then◌else◌, length, map}
 use Rattle.std.specs.List.{filter_map, flat_map}
+use Rattle.std.specs.Ordering.{int_eq}
 use Rattle.chain_terms.specs.Ranks.{start, finish}
 use Rattle.chain_terms.specs.Sums.{total, upto}
 use Rattle.mb_base.specs.declared.op.Op.{Op}
@@ -55,9 +56,10 @@ flat_number t p q e f = count_of (t.edge_edge (ends_of p e) (ends_of q f))
 abbrev pub flat_point : (ℤ → ℤ) → Spot → List ℤ
 flat_point settle s = settle s.x ∷ settle s.py ∷ pos 0 ∷ []
 
+-- the hit of two edges at places i and j, by the answer of their test: none where this has no meeting, or one that counts 0
 abbrev pub flat_hit : (ℤ → ℤ) → ℕ → ℕ → Option Meet → Option FlatHit
 flat_hit settle i j None = None
-flat_hit settle i j (Some m) = Some (record { p_edge = i; q_edge = j; number = m.count; at = flat_point settle m.spot })
+flat_hit settle i j (Some m) = if int_eq m.count (pos 0) then None else Some (record { p_edge = i; q_edge = j; number = m.count; at = flat_point settle m.spot })
 
 -- the edge at a place
 abbrev pub edge_at : FlatSide → ℕ → ℕ × ℕ
