@@ -1,11 +1,12 @@
 -- The lists by number, P's edges first, then Q's, and in which of them each copy stands.
-use Rattle.std.specs.Prelude.{◌≡◌, ℕ, ◌<◌, ◌≤◌, ◌+◌, ◌*◌, ◌==◌, ℤ, pos, ◌+ℤ◌, ◌*ℤ◌, List, cond, int_lt, length, map, nat_abs, replicate}
+use Rattle.std.specs.Prelude.{◌≡◌, ℕ, ◌<◌, ◌≤◌, ◌+◌, ◌*◌, ◌==◌, ◌++◌, ℤ, pos, ◌+ℤ◌, ◌*ℤ◌, List, cond, int_lt, length, map, nat_abs, replicate}
 use Rattle.std.specs.List.{All, flat_map, position_or_len}
 use Rattle.mb_base.specs.declared.op.Op.{Op}
 use Rattle.outline_pair_terms.specs.Balance.{AreConserved}
 use Rattle.outline_pair_terms.specs.Lists.{FlatCopy, FlatOrigin, OfBoth, OfP, OfQ, constant}
 use Rattle.outline_pair_terms.specs.Numbers.{FlatNumbers}
 use Rattle.outline_terms.specs.Outlines.{Outline, most_vertices, outline_edges}
+use Rattle.cross_section.specs.declared.copies.Copies.{Copies}
 use Rattle.cross_section.specs.declared.operand.Operand.{Operand}
 use Rattle.cross_section.specs.declared.operand.Operand.TheVariants.{P, Q}
 
@@ -49,6 +50,21 @@ repeated number what xs = flat_map (λ x. replicate (nat_abs (number x)) (what x
 -- the second where a number is below 0, else the first
 abbrev pub by_sign : ℤ → ℕ → ℕ → ℕ
 by_sign number from to = cond (int_lt number (pos 0)) to from
+
+-- a small winding number for each of n vertices, and for each the places of the edges that start and end at it
+pub record FitVertices (n : ℕ) (ws : List ℤ) (leaving entering : List ℕ) : Type 0 where
+  pub windings : length ws ≡ n
+  pub small : All (λ w. nat_abs w ≤ most_vertices) ws
+  pub starts : length leaving ≡ n
+  pub ends : length entering ≡ n
+  pub starts_below : All (λ k. k ≤ most_vertices) leaving
+  pub ends_below : All (λ k. k ≤ most_vertices) entering
+
+-- copies of some things, each as often as the size of its number, were added with their points and lists
+pub record AreAdded {X : Type 0} (old new : Copies) (number : X → ℤ) (at : X → List ℤ) (from to : X → ℕ) (xs : List X) : Type 0 where
+  pub points : new.points.items ≡ old.points.items ++ repeated number at xs
+  pub starts : new.starts.items ≡ old.starts.items ++ repeated number (λ x. by_sign (number x) (from x) (to x)) xs
+  pub ends : new.ends.items ≡ old.ends.items ++ repeated number (λ x. by_sign (number x) (to x) (from x)) xs
 
 -- the points of copies, and their lists
 pub record AreCopies (p q : List (ℕ × ℕ)) (cs : List FlatCopy) (at : List (List ℤ)) (from to : List ℕ) : Type 0 where

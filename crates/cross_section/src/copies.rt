@@ -2,7 +2,7 @@
 ghost use Rattle.std.specs.Prelude.{◌≡◌, ◌≤◌, ◌<◌, ◌+◌, ◌++◌, [], pos, nat_abs, IfOk, OnOk, get_or, length, replicate};
 ghost use Rattle.std.specs.List.{All};
 ghost use Rattle.chain_terms.specs.Sums.{upto};
-ghost use Rattle.cross_section.specs.Copies.{AreCopies, AreNumbers, by_sign, hit_number, repeated, vertex_number};
+ghost use Rattle.cross_section.specs.Copies.{AreAdded, AreCopies, AreNumbers, FitVertices, by_sign, hit_number, vertex_number};
 ghost use Rattle.outline_pair_terms.specs.Lists.{flat_copies};
 ghost use Rattle.outline_terms.specs.Outlines.{most_vertices, outline_edges};
 
@@ -78,21 +78,11 @@ fn push_vertices(
     places: &Places,
     first: u32,
 ) -> Result<(), NoMemory>
-    requires windings { length windings.now ≡ length points.now }
-    requires small { All (λ w. nat_abs w ≤ most_vertices) windings.now }
-    requires leaving { length places.now.leaving.items ≡ length points.now }
-    requires entering { length places.now.entering.items ≡ length points.now }
-    requires leaving_below { All (λ k. k ≤ most_vertices) places.now.leaving.items }
-    requires entering_below { All (λ k. k ≤ most_vertices) places.now.entering.items }
+    requires fit { FitVertices (length points.now) windings.now places.now.leaving.items places.now.entering.items }
     requires few { first ≤ most_vertices }
-    ensures points { OnOk result (copies.new.points.items ≡ copies.old.points.items ++
-        repeated (λ v. vertex_number op operand (get_or windings.now v (pos 0))) (λ v. get_or points.now v []) (upto (length points.now))) }
-    ensures starts { OnOk result (copies.new.starts.items ≡ copies.old.starts.items ++
-        repeated (λ v. vertex_number op operand (get_or windings.now v (pos 0))) (λ v. by_sign (vertex_number op operand (get_or windings.now v (pos 0)))
-        (first + get_or places.now.leaving.items v 0) (first + get_or places.now.entering.items v 0)) (upto (length points.now))) }
-    ensures ends { OnOk result (copies.new.ends.items ≡ copies.old.ends.items ++
-        repeated (λ v. vertex_number op operand (get_or windings.now v (pos 0))) (λ v. by_sign (vertex_number op operand (get_or windings.now v (pos 0)))
-        (first + get_or places.now.entering.items v 0) (first + get_or places.now.leaving.items v 0)) (upto (length points.now))) }
+    ensures { OnOk result (AreAdded copies.old copies.new
+        (λ v. vertex_number op operand (get_or windings.now v (pos 0))) (λ v. get_or points.now v [])
+        (λ v. first + get_or places.now.leaving.items v 0) (λ v. first + get_or places.now.entering.items v 0) (upto (length points.now))) }
 {
     for v in 0..points.len() {
         let number = operand.number(op, windings[v]);
@@ -112,11 +102,7 @@ fn push_hits(copies: &mut Copies, op: Op, hits: &[FlatHit], first: u32) -> Resul
     requires small { All (λ h. nat_abs h.number ≤ 1) hits.now }
     requires below { All (λ h. h.q_edge < most_vertices) hits.now }
     requires few { first ≤ most_vertices }
-    ensures points { OnOk result (copies.new.points.items ≡ copies.old.points.items ++ repeated (λ h. hit_number op h.number) (λ h. h.at) hits.now) }
-    ensures starts { OnOk result (copies.new.starts.items ≡ copies.old.starts.items ++
-        repeated (λ h. hit_number op h.number) (λ h. by_sign (hit_number op h.number) h.p_edge (first + h.q_edge)) hits.now) }
-    ensures ends { OnOk result (copies.new.ends.items ≡ copies.old.ends.items ++
-        repeated (λ h. hit_number op h.number) (λ h. by_sign (hit_number op h.number) (first + h.q_edge) h.p_edge) hits.now) }
+    ensures { OnOk result (AreAdded copies.old copies.new (λ h. hit_number op h.number) (λ h. h.at) (λ h. h.p_edge) (λ h. first + h.q_edge) hits.now) }
 {
     for hit in hits {
         let number = hit_number(op, hit.number);

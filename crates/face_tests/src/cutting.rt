@@ -1,8 +1,9 @@
 // Rings against a table of hard ones.
-ghost use Rattle.std.specs.Prelude.{◌≢◌, ◌<◌, ◌≤◌, IsTrue, length};
+ghost use Rattle.std.specs.Prelude.{◌≢◌, ◌<◌, IsTrue};
 ghost use Rattle.std.specs.List.{All};
 ghost use Rattle.chain_terms.specs.Paths.{round_edges};
-ghost use Rattle.face_plane.specs.Rings.{IsRing, Three};
+ghost use Rattle.face_plane.specs.Rings.{Three};
+ghost use Rattle.ring_cutting.specs.Laws.{CanBeCut};
 
 mod table;
 
@@ -57,9 +58,7 @@ pub fn are_below(ring: &[u32], count: usize) -> bool
 
 // Whether a ring can be cut.
 fn can_be_cut(ring: &[u32], count: usize) -> bool
-    ensures ringy { IsTrue result → IsRing ring.now }
-    ensures below { IsTrue result → All (λ v. v < count) ring.now }
-    ensures few { IsTrue result → length ring.now ≤ 100000000 }
+    ensures { IsTrue result → CanBeCut count ring.now }
 {
     let some = ring.len() >= 3 && ring.len() <= 100_000_000;
     some && are_apart(ring) && has_third(ring) && are_below(ring, count)

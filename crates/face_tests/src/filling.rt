@@ -1,9 +1,9 @@
 // Fillings against two tables, and each public call with ample memory.
-ghost use Rattle.std.specs.Prelude.{◌≡◌, ◌≢◌, ◌<◌, ◌≤◌, ℕ, IfOk, IsTrue, length, get_or};
-ghost use Rattle.std.specs.List.{All, concat};
+ghost use Rattle.std.specs.Prelude.{◌≡◌, ◌≢◌, ◌<◌, ℕ, IfOk, IsTrue, length, get_or};
+ghost use Rattle.std.specs.List.{concat};
 ghost use Rattle.face_loops.specs.Segments.{AreDifferent};
-ghost use Rattle.face_plane.specs.Rings.{IsRing};
 ghost use Rattle.hole_joining.specs.Laws.{AreFillable};
+ghost use Rattle.ring_cutting.specs.Laws.{CanBeCut};
 
 pub mod joined;
 mod joined_rows;
@@ -110,9 +110,7 @@ fn random_loops_are_filled_by_the_rule(rt: HostRuntime) {
 
 // Whether a ring is cut into triangles with these corners in the plane that drops the last axis, none of them forced.
 fn is_cut(rt: &impl Abort, alloc: Global, ring: Ring, points: &[Point], wanted: &[u32]) -> bool
-    requires ringy { IsRing ring }
-    requires few { length ring ≤ 100000000 }
-    requires below { All (λ v. v < length points.now) ring }
+    requires { CanBeCut (length points.now) ring }
 {
     let plane = FacePlane { drop: 2 };
     let filled = cut_ring(alloc, plane, false, ring, points).expect(rt, "memory");

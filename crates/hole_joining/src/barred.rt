@@ -9,20 +9,27 @@ ghost use Rattle.face_plane.specs.Planes.{turn};
 use crate::flat::{BridgeLine, FlatPoints, FlatVertex};
 use face_plane::FlatPoint;
 
-// Whether the least of a and b is at most the greatest of c and d.
-fn reaches(a: i64, b: i64, c: i64, d: i64) -> bool
-    ensures { result ≡ int_le (int_min a b) (int_max c d) }
+// A closed interval, by its two ends in any order.
+#[derive(Clone, Copy, Drop)]
+struct Span {
+    from: i64,
+    to: i64,
+}
+
+// Whether an interval begins no later than another ends.
+fn begins_by_the_end(one: Span, other: Span) -> bool
+    ensures { result ≡ int_le (int_min one.from one.to) (int_max other.from other.to) }
 {
-    let low = a.min(b);
-    let high = c.max(d);
+    let low = one.from.min(one.to);
+    let high = other.from.max(other.to);
     low <= high
 }
 
 // Whether two closed intervals have a number in common.
-fn overlap(a: i64, b: i64, c: i64, d: i64) -> bool
-    ensures { result ≡ overlap a b c d }
+fn overlap(one: Span, other: Span) -> bool
+    ensures { result ≡ overlap one.from one.to other.from other.to }
 {
-    reaches(a, b, c, d) && reaches(c, d, a, b)
+    begins_by_the_end(one, other) && begins_by_the_end(other, one)
 }
 
 // Whether c and d don't both lie left of the line from a to b, nor both right of it.
@@ -37,14 +44,30 @@ fn on_both_sides(a: FlatPoint, b: FlatPoint, c: FlatPoint, d: FlatPoint) -> bool
 fn overlap_u(a: FlatPoint, b: FlatPoint, c: FlatPoint, d: FlatPoint) -> bool
     ensures { result ≡ overlap a.0 b.0 c.0 d.0 }
 {
-    overlap(a.u(), b.u(), c.u(), d.u())
+    let one = Span {
+        from: a.u(),
+        to: b.u(),
+    };
+    let other = Span {
+        from: c.u(),
+        to: d.u(),
+    };
+    overlap(one, other)
 }
 
 // Whether they have a v in common.
 fn overlap_v(a: FlatPoint, b: FlatPoint, c: FlatPoint, d: FlatPoint) -> bool
     ensures { result ≡ overlap a.1 b.1 c.1 d.1 }
 {
-    overlap(a.v(), b.v(), c.v(), d.v())
+    let one = Span {
+        from: a.v(),
+        to: b.v(),
+    };
+    let other = Span {
+        from: c.v(),
+        to: d.v(),
+    };
+    overlap(one, other)
 }
 
 // Whether the boxes of two segments have a point in common.

@@ -1,11 +1,9 @@
 // Every hole of a face joined.
-ghost use Rattle.std.specs.Prelude.{◌≡◌, ℕ, ◌<◌, IfOk, length};
-ghost use Rattle.std.specs.List.{All, flat_map};
-ghost use Rattle.chain_terms.specs.Chains.{boundary};
-ghost use Rattle.chain_terms.specs.Odd.{SameChain};
+ghost use Rattle.std.specs.Prelude.{◌≡◌, ◌<◌, IfOk, length};
+ghost use Rattle.std.specs.List.{flat_map};
 ghost use Rattle.chain_terms.specs.Paths.{round_edges};
+ghost use Rattle.face_plane.specs.Keeping.{AreRings, KeepsChain};
 ghost use Rattle.face_plane.specs.Planes.{is_turned, plane_of, point_at};
-ghost use Rattle.face_plane.specs.Rings.{IsRing};
 ghost use Rattle.hole_joining.specs.Bridges.{join_holes};
 ghost use Rattle.hole_joining.specs.Holes.{ring_count};
 ghost use Rattle.hole_joining.specs.Laws.{AreFillable, HasPlaces, KeepsAreas, settled_in};
@@ -60,14 +58,11 @@ pub fn join_holes(
     ensures places { IfOk result (λ j. HasPlaces (settled_in plane.drop points.now loops.now) loops.now j.rings.items) }
 
     // Each ring has different neighbours and three different vertices, each with a point.
-    ensures ringy { IfOk result (λ j. All IsRing j.rings.items) }
-    ensures below { IfOk result (λ j. All (λ ring. All (λ v. v < length points.now) ring) j.rings.items) }
+    ensures proper { IfOk result (λ j. AreRings (length points.now) j.rings.items) }
 
     // The rings have the boundary of the loops, and doubled areas with the same sum; and so has every odd function.
-    ensures boundary { IfOk result (λ j. (a b : ℕ) → boundary (flat_map round_edges j.rings.items) a b ≡
-        boundary (flat_map round_edges loops.now) a b) }
+    ensures keeps { IfOk result (λ j. KeepsChain (flat_map round_edges j.rings.items) (flat_map round_edges loops.now)) }
     ensures areas { IfOk result (λ j. KeepsAreas (settled_in plane.drop points.now loops.now) loops.now j.rings.items) }
-    ensures chain { IfOk result (λ j. SameChain (flat_map round_edges j.rings.items) (flat_map round_edges loops.now)) }
 {
     let straight = FlatPoints {
         plane,

@@ -2,7 +2,7 @@
 ghost use Rattle.std.specs.Prelude.{◌≡◌, ◌≤◌, ◌++◌, ◌-◌, ℕ, Some, [], length, IsOk, OnOk, OnErr};
 ghost use Rattle.std.specs.Option.{option_map};
 ghost use Rattle.run_terms.specs.Files.{Counts};
-ghost use Rattle.mb_outside.specs.Sinks.{TakesPart};
+ghost use Rattle.mb_outside.specs.Sinks.{Kept, TakesPart};
 
 use crate::shelf::Failed;
 use crate::sink::Sink;
@@ -18,11 +18,7 @@ pub fn write_all<K: Sink>(sink: &mut K, text: &[u8]) -> Result<(), Failed>
     ensures part { OnErr result (TakesPart text.now (K.told sink.old) (K.told sink.new) (K.room sink.old) (K.room sink.new)) }
     ensures count { Counts (K.faults sink.old) (K.faults sink.new) result }
     ensures idle { text.now ≡ [] → sink.new ≡ sink.old }
-    ensures other { K.other sink.new ≡ K.other sink.old }
-    ensures second { K.second sink.new ≡ K.second sink.old }
-    ensures rest { K.rest sink.new ≡ K.rest sink.old }
-    ensures loan { K.loan sink.new ≡ K.loan sink.old }
-    ensures other_spare { K.other_spare sink.new ≡ K.other_spare sink.old }
+    ensures kept { Kept K.Sink sink.old sink.new }
     ensures sure { (free : ℕ) → K.room sink.old ≡ Some free → length text.now ≤ free → IsOk result }
 {
     let mut done = 0;

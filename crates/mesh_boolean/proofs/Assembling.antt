@@ -57,7 +57,7 @@ can_be_assembled op p q windings hits l r ready placed = record {
   q_apart = ready.q_apart;
   two_lists = placed.two_lists;
   balance = placed.balance;
-  named = are_named op p q (numbers windings hits) ready.known.x12 ready.known.x21;
+  named = are_named op p q (numbers windings hits) ready.known.fit.x12 ready.known.fit.x21;
   few = omega (arith, few_halfedges l r.halfedges placed.lawful placed.within, placed.all_starts);
 }
 

@@ -43,15 +43,10 @@ as_meshes t op m k p q n r us known = (to_meshes t op m k p q n r us known, to_s
 pub given : (op : Op) (p q : Side) (windings : Windings) (hits : Hits) (r : Outcome) → IsSide p → IsSide q → AreNumbers p q windings hits → HasOrigins r →
     length r.mesh.points ≤ most_points → ArePrescribed op p q (numbers windings hits) r.prescribed → AreGiven op p q windings hits r.prescribed
 given op p q windings hits r p_side q_side known come few is = record {
-  w03 = known.w03;
-  w30 = known.w30;
-  w03_small = known.w03_small;
-  w30_small = known.w30_small;
-  x12 = known.x12;
-  x21 = known.x21;
+  fit = known.fit;
   points = is.points;
   kept = is.kept;
-  balance = balanced op p q (numbers windings hits) p_side q_side known.x12 known.x21 known.conserved;
+  balance = balanced op p q (numbers windings hits) p_side q_side known.fit.x12 known.fit.x21 known.conserved;
   few =
       let old = few_old r.mesh.points r.prescribed.points.items r.from.items come in
       omega (arith, old, few, ap length is.points, length-map (copies op p q windings hits) (λ c. c.point));

@@ -1,19 +1,18 @@
 -- What an operation on two meshes gives, from what was assembled of their sides.
-use Rattle.std.proofs.Common.{◌≡◌, ℕ, Result, Ok, Err, IfErr, IfOk, map, length, sym, ◌∙◌, ap, subst}
+use Rattle.std.proofs.Common.{◌≡◌, ℕ, Result, Ok, Err, IfErr, IfOk, length, sym, ◌∙◌, ap, subst}
 use Rattle.std.proofs.lemmas.List.{length-map}
 use Rattle.mb_base.specs.declared.op.Op.{Op}
-use Rattle.mesh_terms.specs.Meshes.{Mesh, triples_of}
+use Rattle.mesh_terms.specs.Meshes.{Mesh}
 use Rattle.side_terms.specs.Sides.{Side}
 use Rattle.assembly_terms.specs.Prescribed.{Numbers, prescribed_halfedges}
 use Rattle.assembly_terms.specs.Standing.{AreConserved}
 use Rattle.filling_terms.specs.Filled.{points_of_copies}
-use Rattle.pinch_split.specs.Back.{named_by}
 use Rattle.pinch_split.specs.Split.{split_from, split_points, split_triples}
 use Rattle.retained_verts.specs.declared.list.PrescribeFault.{PrescribeFault}
 use Rattle.retained_verts.specs.declared.list.Prescribed.{Prescribed}
 use Rattle.source_faces.specs.declared.triangles.SourceTriangles.{SourceTriangles}
 use Rattle.mesh_boolean.specs.declared.outcome.Outcome.{Outcome}
-use Rattle.mesh_boolean.specs.Assembly.{IsAssembled, IsOfMeshes}
+use Rattle.mesh_boolean.specs.Assembly.{IsAssembled, IsOfMeshes, IsSplit}
 use Rattle.mesh_boolean.specs.Faults.{IsTooLarge}
 use Rattle.mesh_boolean.specs.Operation.{Tests, first_side, numbers_of, second_side}
 use Rattle.mesh_boolean.specs.Results.{ConserveIn, IsBounded, IsFilled, IsPrescribed, copies_in, halfedges_in, numbers_in}
@@ -50,26 +49,16 @@ conserve_in t op m k p q n (Ok x) known conserved =
     (subst (λ s. AreConserved (first_side op m) s n) known.second (subst (λ s. AreConserved s q n) known.first conserved))
 conserve_in t op m k p q n (Err e) known conserved = tt
 
--- the mesh of what was assembled, with one vertex for each fan
-pub record IsOutcome (r : Prescribed) (all : SourceTriangles) (o : Outcome) : Type 0 where
-  pub points : o.mesh.points ≡ split_points r.points.items (triples_of all.triples.items)
-  pub triples : o.mesh.triples ≡ split_triples (length r.points.items) (triples_of all.triples.items)
-  pub from : o.from.items ≡ split_from (length r.points.items) (triples_of all.triples.items)
-  pub back : map (named_by o.from.items) o.mesh.triples ≡ triples_of all.triples.items
-  pub prescribed : o.prescribed ≡ r
-  pub source : o.source ≡ all.source
-  pub forced : o.forced ≡ all.forced
-
-pub is_prescribed : (t : Tests) (op : Op) (m k : Mesh) (r : Prescribed) (all : SourceTriangles) (o : Outcome) → IsOfMeshes t op m k r all → IsOutcome r all o →
+pub is_prescribed : (t : Tests) (op : Op) (m k : Mesh) (r : Prescribed) (all : SourceTriangles) (o : Outcome) → IsOfMeshes t op m k r all → IsSplit r all o →
     IsPrescribed t op m k o
 is_prescribed t op m k r all o assembled made = subst (λ s. IsPrescribed t op m k (record o { prescribed = s })) (sym made.prescribed) assembled.prescribed
 
-pub is_bounded : (t : Tests) (op : Op) (m k : Mesh) (r : Prescribed) (all : SourceTriangles) (o : Outcome) → IsOfMeshes t op m k r all → IsOutcome r all o → IsBounded t op m k o
+pub is_bounded : (t : Tests) (op : Op) (m k : Mesh) (r : Prescribed) (all : SourceTriangles) (o : Outcome) → IsOfMeshes t op m k r all → IsSplit r all o → IsBounded t op m k o
 is_bounded t op m k r all o assembled made =
     are_bounded (first_side op m) (second_side k) (copies_in t op m k) o.from.items o.source.items o.mesh.triples assembled.fillings
     (ap (λ v. v.items) made.source ∙ assembled.source) (made.back ∙ assembled.triples)
 
-pub is_filled : (t : Tests) (op : Op) (m k : Mesh) (r : Prescribed) (all : SourceTriangles) (o : Outcome) → IsOfMeshes t op m k r all → IsOutcome r all o → IsFilled t op m k o
+pub is_filled : (t : Tests) (op : Op) (m k : Mesh) (r : Prescribed) (all : SourceTriangles) (o : Outcome) → IsOfMeshes t op m k r all → IsSplit r all o → IsFilled t op m k o
 is_filled t op m k r all o assembled made = record {
   points = made.points ∙ (λ i. split_points (points i) (assembled.triples i));
   triples = made.triples ∙ (λ i. split_triples (count i) (assembled.triples i));

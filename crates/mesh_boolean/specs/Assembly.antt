@@ -1,17 +1,17 @@
 -- What the numbers of two sides are known to be, and what is assembled from them.
-use Rattle.std.specs.Prelude.{◌≡◌, ℕ, ◌*◌, ◌<◌, ◌≤◌, List, length}
-use Rattle.chain_terms.specs.Chains.{all_edges}
+use Rattle.std.specs.Prelude.{◌≡◌, ℕ, ◌*◌, ◌<◌, ◌≤◌, List, length, map}
 use Rattle.mb_base.specs.declared.op.Op.{Op}
 use Rattle.mb_base.specs.declared.results.Hits.{Hits}
 use Rattle.mb_base.specs.declared.results.Windings.{Windings}
+use Rattle.mesh_terms.specs.Labels.{no_labels}
 use Rattle.mesh_terms.specs.Meshes.{IsAccepted, Mesh, triples_of}
-use Rattle.side_terms.specs.Hits.{AreHits}
+use Rattle.pinch_split.specs.Back.{ComeFrom, named_by}
+use Rattle.pinch_split.specs.Split.{split_from, split_points, split_triples}
 use Rattle.side_terms.specs.Sides.{Side}
 use Rattle.assembly_terms.specs.Lists.{Copy}
 use Rattle.assembly_terms.specs.Prescribed.{Numbers, prescribed as copies_of_numbers}
 use Rattle.assembly_terms.specs.Standing.{AreConserved}
-use Rattle.retained_verts.specs.Handed.{numbers}
-use Rattle.retained_verts.specs.Small.{AreSmallWindings}
+use Rattle.retained_verts.specs.Handed.{FitSides, numbers}
 use Rattle.retained_verts.specs.declared.list.Prescribed.{Prescribed}
 use Rattle.segment_terms.specs.Segments.{source_count}
 use Rattle.filling_terms.specs.Assembling.{FillFace}
@@ -19,16 +19,12 @@ use Rattle.filling_terms.specs.Filled.{all_filled, all_triples, filled_face, for
 use Rattle.source_faces.specs.declared.triangles.SourceTriangles.{SourceTriangles}
 use Rattle.mesh_boolean.specs.Operation.{Tests, first_side, second_side}
 use Rattle.retained_verts.specs.Listed.{ArePrescribed}
-use Rattle.mesh_boolean.specs.Results.{numbers_in}
+use Rattle.mesh_boolean.specs.Results.{IsCleanOver, numbers_in}
+use Rattle.mesh_boolean.specs.declared.outcome.Outcome.{Outcome}
 
--- a winding number for each corner, hits of the edges of each side with the faces of the other, all conserved
+-- windings and hits that fit two sides, all conserved
 pub record AreNumbers (p q : Side) (windings : Windings) (hits : Hits) : Type 0 where
-  pub w03 : length windings.w03.items ≡ length p.corners
-  pub w30 : length windings.w30.items ≡ length q.corners
-  pub w03_small : AreSmallWindings windings.w03.items
-  pub w30_small : AreSmallWindings windings.w30.items
-  pub x12 : AreHits (all_edges p.triples) (length q.triples) hits.x12.items
-  pub x21 : AreHits (all_edges q.triples) (length p.triples) hits.x21.items
+  pub fit : FitSides p q windings hits
   pub conserved : AreConserved p q (numbers windings hits)
 
 -- each filling is one of its source face
@@ -49,3 +45,18 @@ pub record IsAssembled (op : Op) (p q : Side) (n : Numbers) (r : Prescribed) (al
 -- what is assembled of two meshes: of their sides, and of the numbers that the tests give for these
 abbrev pub IsOfMeshes : Tests → Op → Mesh → Mesh → Prescribed → SourceTriangles → Type 0
 IsOfMeshes t op m k r all = IsAssembled op (first_side op m) (second_side k) (numbers_in t op m k) r all
+
+-- the mesh of what was assembled, with one vertex for each fan and without labels: each vertex lies where the prescribed one lies
+-- that it comes from, over these the triangles are those that were assembled, and the mesh is clean
+pub record IsSplit (r : Prescribed) (all : SourceTriangles) (o : Outcome) : Type 0 where
+  pub points : o.mesh.points ≡ split_points r.points.items (triples_of all.triples.items)
+  pub triples : o.mesh.triples ≡ split_triples (length r.points.items) (triples_of all.triples.items)
+  pub from : o.from.items ≡ split_from (length r.points.items) (triples_of all.triples.items)
+  pub there : ComeFrom o.mesh.points r.points.items o.from.items
+  pub back : map (named_by o.from.items) o.mesh.triples ≡ triples_of all.triples.items
+  pub clean : IsCleanOver o.from.items o.mesh.triples
+  pub few : 2 * length o.mesh.points ≤ 3 * length o.mesh.triples
+  pub prescribed : o.prescribed ≡ r
+  pub source : o.source ≡ all.source
+  pub forced : o.forced ≡ all.forced
+  pub empty : o.mesh.labels ≡ no_labels o.mesh.triples

@@ -1,6 +1,6 @@
 // One whole operation.
-ghost use Rattle.std.specs.Prelude.{◌≡◌, ◌≤◌, ◌+◌, ◌*◌, IfErr, IfOk, length, map};
-ghost use Rattle.mesh_boolean.specs.Assembly.{IsOfMeshes};
+ghost use Rattle.std.specs.Prelude.{◌≤◌, ◌+◌, ◌*◌, IfErr, IfOk, length};
+ghost use Rattle.mesh_boolean.specs.Assembly.{IsOfMeshes, IsSplit};
 ghost use Rattle.mesh_boolean.specs.Faults.{IsTooLarge};
 ghost use Rattle.mesh_boolean.specs.Operation.{first_side, second_side};
 ghost use Rattle.mesh_boolean.specs.Results.{
@@ -13,10 +13,7 @@ ghost use Rattle.mesh_boolean.specs.Results.{
   IsPrescribed,
   halfedges_in,
 };
-ghost use Rattle.mesh_terms.specs.Labels.{no_labels};
 ghost use Rattle.mesh_terms.specs.Meshes.{IsAccepted, triples_of};
-ghost use Rattle.pinch_split.specs.Back.{ComeFrom, named_by};
-ghost use Rattle.pinch_split.specs.Split.{split_from, split_points, split_triples};
 ghost use Rattle.winding.specs.Windings.{components_of};
 
 use crate::assembly::assemble;
@@ -82,7 +79,7 @@ pub fn boolean<K: Kernels, L: Ledger>(
     let _ = limits.halfedges();
     let labels = face_labels(alloc, p, q)?;
     let (prescribed, all) = assemble_meshes(alloc, op, p, q, kernels, limits, steps)?;
-    let made = outcome(alloc, prescribed, all)?;
+    let made = split_fans(alloc, prescribed, all)?;
     Ok(labelled(alloc, made, labels)?)
 }
 
@@ -110,19 +107,13 @@ fn assemble_meshes<K: Kernels, L: Ledger>(
 }
 
 // The mesh of these vertices and triangles, one vertex for each fan, with empty labels.
-fn outcome(alloc: Global, prescribed: Prescribed, all: SourceTriangles) -> Result<Outcome, NoMemory>
+fn split_fans(
+    alloc: Global,
+    prescribed: Prescribed,
+    all: SourceTriangles,
+) -> Result<Outcome, NoMemory>
     requires { IsAccepted (length prescribed.points.items) (triples_of all.triples.items) }
-    ensures points { IfOk result (λ r. r.mesh.points ≡ split_points prescribed.points.items (triples_of all.triples.items)) }
-    ensures triples { IfOk result (λ r. r.mesh.triples ≡ split_triples (length prescribed.points.items) (triples_of all.triples.items)) }
-    ensures from { IfOk result (λ r. r.from.items ≡ split_from (length prescribed.points.items) (triples_of all.triples.items)) }
-    ensures there { IfOk result (λ r. ComeFrom r.mesh.points prescribed.points.items r.from.items) }
-    ensures back { IfOk result (λ r. map (named_by r.from.items) r.mesh.triples ≡ triples_of all.triples.items) }
-    ensures clean { IfOk result (λ r. IsCleanOver r.from.items r.mesh.triples) }
-    ensures few { IfOk result (λ r. 2 * length r.mesh.points ≤ 3 * length r.mesh.triples) }
-    ensures prescribed { IfOk result (λ r. r.prescribed ≡ prescribed) }
-    ensures source { IfOk result (λ r. r.source ≡ all.source) }
-    ensures forced { IfOk result (λ r. r.forced ≡ all.forced) }
-    ensures empty { IfOk result (λ r. r.mesh.labels ≡ no_labels r.mesh.triples) }
+    ensures { IfOk result (IsSplit prescribed all) }
 {
     let SourceTriangles {
         triples,

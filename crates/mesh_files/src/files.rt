@@ -4,7 +4,7 @@ ghost use Rattle.mesh_terms.specs.Limits.{IsLawful, Limits as Bounds};
 ghost use Rattle.run_terms.specs.Files.{text_of, Counts, Grew};
 ghost use Rattle.play_terms.specs.Commands.{ask_file};
 ghost use Rattle.mb_outside.specs.Seen.{MeetsOnShelf, on_shelf};
-ghost use Rattle.mesh_files.specs.ReadPieces.{ReadsOn, IsSized};
+ghost use Rattle.mesh_files.specs.ReadPieces.{IsLeftByRead, ReadsOn, IsSized};
 ghost use Rattle.mesh_files.specs.Reasons.{ended_by, is_reading_stop, why_of};
 
 use crate::size::size_within;
@@ -62,12 +62,8 @@ fn read_piece<S: Shelf>(
     ensures short { IfOk result (λ count. (count ≡ 0) × (have < S.stated shelf.old) → Grew (S.short_reads shelf.old) (S.short_reads shelf.new)) }
     ensures whole { IfOk result (λ count. 0 < count → S.short_reads shelf.new ≡ S.short_reads shelf.old) }
     ensures unread { OnErr result (S.short_reads shelf.new ≡ S.short_reads shelf.old) }
-    ensures stated { S.stated shelf.new ≡ S.stated shelf.old }
     ensures reads { Counts (S.read_faults shelf.old) (S.read_faults shelf.new) result }
-    ensures files { S.files shelf.new ≡ S.files shelf.old }
-    ensures told { S.tells shelf.new ≡ S.tells shelf.old }
-    ensures writes { S.write_faults shelf.new ≡ S.write_faults shelf.old }
-    ensures spare { S.spare shelf.new ≡ S.spare shelf.old }
+    ensures left { IsLeftByRead S.Shelf shelf.old shelf.new }
 {
     let count = shelf.read_at(name, have as u64, &mut bytes[have..end])?;
     Ok(count)
@@ -90,12 +86,10 @@ fn read_some<S: Shelf>(
         ReadsOn (text_of (S.files shelf.old name.now)) have count bytes.old.items bytes.new.items) }
     ensures length { vec_len bytes.new ≡ vec_len bytes.old }
     ensures same { OnOk result (on_shelf S.Shelf shelf.new ≡ on_shelf S.Shelf shelf.old) }
-    ensures stated { S.stated shelf.new ≡ S.stated shelf.old }
     ensures stop { IfErr result (λ stop. IsTrue (is_reading_stop stop)) }
     ensures meets { IfErr result (λ stop. (limits : Bounds) →
         MeetsOnShelf S.Shelf (ask_file limits name.now) shelf.old shelf.new (Err (why_of name.now stop))) }
-    ensures files { S.files shelf.new ≡ S.files shelf.old }
-    ensures spare { S.spare shelf.new ≡ S.spare shelf.old }
+    ensures left { IsLeftByRead S.Shelf shelf.old shelf.new }
 {
     let end = have + asked(have, bytes.len());
     let Ok(count) = read_piece(shelf, name, bytes, have, end) else {

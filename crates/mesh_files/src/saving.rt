@@ -6,7 +6,7 @@ ghost use Rattle.run_terms.specs.Meets.{Meets};
 ghost use Rattle.play_terms.specs.Commands.{write_mesh};
 ghost use Rattle.play_terms.specs.Formats.{mesh_text};
 ghost use Rattle.mb_outside.specs.Seen.{MeetsOnShelf};
-ghost use Rattle.mb_outside.specs.Sinks.{TakesPart};
+ghost use Rattle.mb_outside.specs.Sinks.{Kept, TakesPart};
 ghost use Rattle.mesh_writer.specs.Pages.{without};
 ghost use Rattle.mesh_files.specs.Reasons.{saved};
 ghost use Rattle.mesh_files.specs.Pieces.{HasRoom, HoldsPart, WritesPart, spare_after, text_in};
@@ -24,11 +24,7 @@ fn write_text<K: Sink>(mesh: &Mesh, name: &str, digits: u8, sink: &mut K) -> Res
     ensures less { OnOk result (K.room sink.new ≡ option_map (λ free. free - length (text_in digits name.now mesh.now)) (K.room sink.old)) }
     ensures part { OnErr result (TakesPart (text_in digits name.now mesh.now) (K.told sink.old) (K.told sink.new) (K.room sink.old) (K.room sink.new)) }
     ensures count { Counts (K.faults sink.old) (K.faults sink.new) result }
-    ensures other { K.other sink.new ≡ K.other sink.old }
-    ensures second { K.second sink.new ≡ K.second sink.old }
-    ensures rest { K.rest sink.new ≡ K.rest sink.old }
-    ensures loan { K.loan sink.new ≡ K.loan sink.old }
-    ensures other_spare { K.other_spare sink.new ≡ K.other_spare sink.old }
+    ensures kept { Kept K.Sink sink.old sink.new }
     ensures sure { (free : ℕ) → K.room sink.old ≡ Some free → length (text_in digits name.now mesh.now) ≤ free → IsOk result }
 {
     match format_of(name.as_bytes()) {

@@ -2,8 +2,9 @@
 use Rattle.std.proofs.Common.{◌≡◌, ℕ, ◌+◌, ◌<◌, List, [], ◌++◌, ◌∙◌, refl, subst, take, drop, get_or, length, Result, Ok, Err, OnOk, OnErr, rules}
 use Rattle.std.specs.List.{flat_map}
 use Rattle.run_terms.specs.Files.{Bytes, Counts}
+use Rattle.mb_outside.specs.Sinks.{Kept}
 use Rattle.mb_outside.specs.declared.sink.Sink.{Ghosts as OfSink}
-use Rattle.mesh_writer.specs.Passing.{Kept, PassedOn, StoppedOn, Wrote, Broke}
+use Rattle.mesh_writer.specs.Passing.{PassedOn, StoppedOn, Wrote, Broke}
 use Rattle.mesh_writer.proofs.Passing.{passed-none, passed-put, passed-page, stopped-page, passed-then, stopped-then, stopped-longer, flat_map-more, flat_map-split}
 
 module _ {K : Type 0} (k : OfSink K) where

@@ -2,7 +2,7 @@
 use Rattle.std.specs.Prelude.{◌≡◌, ℕ, ◌+◌, ◌-◌, ◌≤◌, ◌++◌, length, Option, Some}
 use Rattle.std.specs.Option.{option_map}
 use Rattle.run_terms.specs.Files.{Bytes, Rose}
-use Rattle.mb_outside.specs.Sinks.{TakesPart}
+use Rattle.mb_outside.specs.Sinks.{Kept, TakesPart}
 use Rattle.mb_outside.specs.declared.sink.Sink.{Ghosts as OfSink}
 
 -- the sink took what the page held and a first part of the text, and the page holds the rest
@@ -24,14 +24,6 @@ PassedOn k text held sink = Passed text held.0 held.1 (k.told sink.0) (k.told si
 -- the second, of what a page held, and of a sink of any type before and now
 abbrev pub StoppedOn : {K : Type 0} → OfSink K → Bytes → Bytes → K × K → Type 0
 StoppedOn k text held sink = Stopped text held (k.told sink.0) (k.told sink.1) (k.room sink.0) (k.room sink.1)
-
--- a sink is as it was, but for the bytes that it took, its room and its count of faults
-pub record Kept {K : Type 0} (k : OfSink K) (old new : K) : Type 0 where
-  pub other : k.other new ≡ k.other old
-  pub second : k.second new ≡ k.second old
-  pub rest : k.rest new ≡ k.rest old
-  pub loan : k.loan new ≡ k.loan old
-  pub other_spare : k.other_spare new ≡ k.other_spare old
 
 -- the text passed by a page, of what it held before and holds now, to a sink, before and now
 pub record Wrote {K : Type 0} (k : OfSink K) (text : Bytes) (held : Bytes × Bytes) (sink : K × K) : Type 0 where

@@ -7,7 +7,7 @@ ghost use Rattle.run_terms.specs.Files.{Counts};
 ghost use Rattle.mesh_terms.specs.Labels.{label_at};
 ghost use Rattle.mesh_terms.specs.Meshes.{triple_of};
 ghost use Rattle.obj_terms.specs.Written.{point_line, face_line, face_lines, obj_text};
-ghost use Rattle.mb_outside.specs.Sinks.{TakesPart};
+ghost use Rattle.mb_outside.specs.Sinks.{Kept, TakesPart};
 ghost use Rattle.mesh_writer.specs.Faces.{label_before};
 ghost use Rattle.mesh_writer.specs.Passing.{PassedOn, StoppedOn};
 
@@ -31,11 +31,7 @@ fn write_points<K: Sink>(
     ensures free { OnOk result (array_vec_len page.new ≤ 3968) }
     ensures idle { points.now ≡ [] → (sink.new ≡ sink.old) × (page.new.items ≡ page.old.items) }
     ensures count { Counts (K.faults sink.old) (K.faults sink.new) result }
-    ensures other { K.other sink.new ≡ K.other sink.old }
-    ensures second { K.second sink.new ≡ K.second sink.old }
-    ensures rest { K.rest sink.new ≡ K.rest sink.old }
-    ensures loan { K.loan sink.new ≡ K.loan sink.old }
-    ensures other_spare { K.other_spare sink.new ≡ K.other_spare sink.old }
+    ensures kept { Kept K.Sink sink.old sink.new }
 {
     for point in points {
         put_point(page, point, digits);
@@ -51,11 +47,7 @@ fn write_faces<K: Sink>(triples: &[[u32; 3]], page: &mut Page, sink: &mut K) -> 
     ensures stopped { OnErr result (StoppedOn K.Sink (flat_map (λ t. face_line (triple_of t)) triples.now) page.old.items (sink.old, sink.new)) }
     ensures idle { triples.now ≡ [] → (sink.new ≡ sink.old) × (page.new.items ≡ page.old.items) }
     ensures count { Counts (K.faults sink.old) (K.faults sink.new) result }
-    ensures other { K.other sink.new ≡ K.other sink.old }
-    ensures second { K.second sink.new ≡ K.second sink.old }
-    ensures rest { K.rest sink.new ≡ K.rest sink.old }
-    ensures loan { K.loan sink.new ≡ K.loan sink.old }
-    ensures other_spare { K.other_spare sink.new ≡ K.other_spare sink.old }
+    ensures kept { Kept K.Sink sink.old sink.new }
 {
     for triple in triples {
         put_face(page, triple);
@@ -79,11 +71,7 @@ fn write_labelled<K: Sink>(mesh: &Mesh, page: &mut Page, sink: &mut K) -> Result
     ensures stopped { OnErr result (StoppedOn K.Sink (face_lines [] mesh.now.labels mesh.now.triples) page.old.items (sink.old, sink.new)) }
     ensures idle { mesh.now.triples ≡ [] → (sink.new ≡ sink.old) × (page.new.items ≡ page.old.items) }
     ensures count { Counts (K.faults sink.old) (K.faults sink.new) result }
-    ensures other { K.other sink.new ≡ K.other sink.old }
-    ensures second { K.second sink.new ≡ K.second sink.old }
-    ensures rest { K.rest sink.new ≡ K.rest sink.old }
-    ensures loan { K.loan sink.new ≡ K.loan sink.old }
-    ensures other_spare { K.other_spare sink.new ≡ K.other_spare sink.old }
+    ensures kept { Kept K.Sink sink.old sink.new }
 {
     let triples = mesh.triples();
     let mut before: &[u8] = &[];
@@ -104,11 +92,7 @@ fn write_triangles<K: Sink>(mesh: &Mesh, page: &mut Page, sink: &mut K) -> Resul
     ensures stopped { OnErr result (StoppedOn K.Sink (face_lines [] mesh.now.labels mesh.now.triples) page.old.items (sink.old, sink.new)) }
     ensures idle { mesh.now.triples ≡ [] → (sink.new ≡ sink.old) × (page.new.items ≡ page.old.items) }
     ensures count { Counts (K.faults sink.old) (K.faults sink.new) result }
-    ensures other { K.other sink.new ≡ K.other sink.old }
-    ensures second { K.second sink.new ≡ K.second sink.old }
-    ensures rest { K.rest sink.new ≡ K.rest sink.old }
-    ensures loan { K.loan sink.new ≡ K.loan sink.old }
-    ensures other_spare { K.other_spare sink.new ≡ K.other_spare sink.old }
+    ensures kept { Kept K.Sink sink.old sink.new }
 {
     match mesh.labels() {
         Some(_) => write_labelled(mesh, page, sink),
@@ -134,11 +118,7 @@ pub fn write_obj<K: Sink>(mesh: &Mesh, digits: u8, sink: &mut K) -> Result<(), F
         (K.room sink.old) (K.room sink.new)) }
     ensures idle { obj_text digits mesh.now.points mesh.now.triples mesh.now.labels ≡ [] → sink.new ≡ sink.old }
     ensures count { Counts (K.faults sink.old) (K.faults sink.new) result }
-    ensures other { K.other sink.new ≡ K.other sink.old }
-    ensures second { K.second sink.new ≡ K.second sink.old }
-    ensures rest { K.rest sink.new ≡ K.rest sink.old }
-    ensures loan { K.loan sink.new ≡ K.loan sink.old }
-    ensures other_spare { K.other_spare sink.new ≡ K.other_spare sink.old }
+    ensures kept { Kept K.Sink sink.old sink.new }
     ensures sure { (free : ℕ) → K.room sink.old ≡ Some free → length (obj_text digits mesh.now.points mesh.now.triples mesh.now.labels) ≤ free → IsOk result }
 {
     let mut page = Page::new();

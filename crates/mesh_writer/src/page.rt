@@ -2,6 +2,7 @@
 ghost use Rattle.std.specs.Prelude.{◌≡◌, ◌≤◌, ◌<◌, ◌+◌, ◌++◌, [], length, IsOk, OnOk, OnErr};
 ghost use Rattle.arrayvec.specs.ArrayVec.{array_vec_len};
 ghost use Rattle.run_terms.specs.Files.{Counts};
+ghost use Rattle.mb_outside.specs.Sinks.{Kept};
 ghost use Rattle.mesh_writer.specs.Passing.{Passed, Stopped};
 
 use arrayvec::ArrayVec;
@@ -37,11 +38,7 @@ pub fn send_full<K: Sink>(page: &mut Page, sink: &mut K) -> Result<(), Failed>
     ensures stays { array_vec_len page.old ≤ 3968 → IsOk result × (page.new.items ≡ page.old.items) × (sink.new ≡ sink.old) }
     ensures free { OnOk result (array_vec_len page.new ≤ 3968) }
     ensures count { Counts (K.faults sink.old) (K.faults sink.new) result }
-    ensures other { K.other sink.new ≡ K.other sink.old }
-    ensures second { K.second sink.new ≡ K.second sink.old }
-    ensures rest { K.rest sink.new ≡ K.rest sink.old }
-    ensures loan { K.loan sink.new ≡ K.loan sink.old }
-    ensures other_spare { K.other_spare sink.new ≡ K.other_spare sink.old }
+    ensures kept { Kept K.Sink sink.old sink.new }
 {
     if PAGE - page.len() < LINE {
         write_all(sink, page.as_slice())?;

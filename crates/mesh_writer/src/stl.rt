@@ -6,7 +6,7 @@ ghost use Rattle.arrayvec.specs.ArrayVec.{array_vec_len};
 ghost use Rattle.run_terms.specs.Files.{Counts};
 ghost use Rattle.mesh_terms.specs.Meshes.{IsBelow, triple_of};
 ghost use Rattle.stl_terms.specs.Written.{corner_line, facet_text, stl_text};
-ghost use Rattle.mb_outside.specs.Sinks.{TakesPart};
+ghost use Rattle.mb_outside.specs.Sinks.{Kept, TakesPart};
 ghost use Rattle.mesh_writer.specs.Corners.{corner_lines};
 ghost use Rattle.mesh_writer.specs.Passing.{Broke, Wrote};
 
@@ -159,11 +159,7 @@ pub fn write_stl<K: Sink>(mesh: &Mesh, digits: u8, sink: &mut K) -> Result<(), F
     ensures part { OnErr result (TakesPart (stl_text digits mesh.now.points mesh.now.triples) (K.told sink.old) (K.told sink.new)
         (K.room sink.old) (K.room sink.new)) }
     ensures count { Counts (K.faults sink.old) (K.faults sink.new) result }
-    ensures other { K.other sink.new ≡ K.other sink.old }
-    ensures second { K.second sink.new ≡ K.second sink.old }
-    ensures rest { K.rest sink.new ≡ K.rest sink.old }
-    ensures loan { K.loan sink.new ≡ K.loan sink.old }
-    ensures other_spare { K.other_spare sink.new ≡ K.other_spare sink.old }
+    ensures kept { Kept K.Sink sink.old sink.new }
     ensures sure { (free : ℕ) → K.room sink.old ≡ Some free → length (stl_text digits mesh.now.points mesh.now.triples) ≤ free → IsOk result }
 {
     let mut page = Page::new();

@@ -1,11 +1,8 @@
 // Whether vertices are those that numbers prescribe.
-ghost use Rattle.std.specs.Prelude.{◌≡◌, ◌↔◌, ◌+◌, ◌^◌, ◌<◌, IfOk, IsTrue, length, slice_index};
-ghost use Rattle.chain_terms.specs.Chains.{all_edges};
-ghost use Rattle.side_terms.specs.Hits.{AreHits};
+ghost use Rattle.std.specs.Prelude.{◌≡◌, ◌↔◌, ◌+◌, ◌^◌, ◌<◌, IfOk, IsTrue, slice_index};
 ghost use Rattle.retained_verts.specs.Counted.{HasCounts};
-ghost use Rattle.retained_verts.specs.Handed.{numbers};
+ghost use Rattle.retained_verts.specs.Handed.{FitSides, numbers};
 ghost use Rattle.retained_verts.specs.Listed.{ArePrescribed};
-ghost use Rattle.retained_verts.specs.Small.{AreSmallWindings};
 
 use crate::counts::{Counts, count};
 use crate::list::{Prescribed, listed};
@@ -25,12 +22,7 @@ pub fn are_prescribed(
     hits: &Hits,
     prescribed: &Prescribed,
 ) -> Result<bool, NoMemory>
-    requires w03 { length windings.now.w03.items ≡ length p.now.corners }
-    requires w30 { length windings.now.w30.items ≡ length q.now.corners }
-    requires w03_small { AreSmallWindings windings.now.w03.items }
-    requires w30_small { AreSmallWindings windings.now.w30.items }
-    requires x12 { AreHits (all_edges p.now.triples) (length q.now.triples) hits.now.x12.items }
-    requires x21 { AreHits (all_edges q.now.triples) (length p.now.triples) hits.now.x21.items }
+    requires fit { FitSides p.now q.now windings.now hits.now }
     ensures { IfOk result (λ yes. IsTrue yes ↔ ArePrescribed op p.now q.now (numbers windings.now hits.now) prescribed.now) }
 {
     let counts = count(op, p, q, windings, hits);

@@ -2,13 +2,12 @@
 ghost use Rattle.std.specs.Prelude.{◌≡◌, ◌≤◌, ◌<◌, ◌+◌, ◌*◌, ◌^◌, ◌∷◌, [], length, pos, nat_abs, get_or};
 ghost use Rattle.std.specs.List.{All};
 ghost use Rattle.assembly_terms.specs.Prescribed.{crossing_count, hit_count, p_kept, q_kept, prescribed_halfedges, vertex_count, vertex_halfedges};
-ghost use Rattle.chain_terms.specs.Chains.{all_edges};
 ghost use Rattle.mesh_terms.specs.Limits.{most_points, most_triangles};
 ghost use Rattle.mesh_terms.specs.Meshes.{HasThree, IsBelow, triples_of};
-ghost use Rattle.retained_verts.specs.Handed.{numbers};
+ghost use Rattle.retained_verts.specs.Handed.{FitSides, numbers};
 ghost use Rattle.retained_verts.specs.Parts.{vertex_number};
 ghost use Rattle.retained_verts.specs.Small.{AreSmallWindings, most_hits};
-ghost use Rattle.side_terms.specs.Hits.{AreHits, IsNumber};
+ghost use Rattle.side_terms.specs.Hits.{IsNumber};
 
 use crate::operand::{Operand, hit_number};
 use lean::Side;
@@ -24,12 +23,7 @@ pub struct Counts {
 
 /// The counts of what is prescribed. It takes no memory.
 pub fn count(op: Op, p: &Side, q: &Side, windings: &Windings, hits: &Hits) -> Counts
-    requires w03 { length windings.now.w03.items ≡ length p.now.corners }
-    requires w30 { length windings.now.w30.items ≡ length q.now.corners }
-    requires w03_small { AreSmallWindings windings.now.w03.items }
-    requires w30_small { AreSmallWindings windings.now.w30.items }
-    requires x12 { AreHits (all_edges p.now.triples) (length q.now.triples) hits.now.x12.items }
-    requires x21 { AreHits (all_edges q.now.triples) (length p.now.triples) hits.now.x21.items }
+    requires fit { FitSides p.now q.now windings.now hits.now }
     ensures kept { result.kept ≡ p_kept op (numbers windings.now hits.now) ∷ q_kept op (numbers windings.now hits.now) ∷ [] }
     ensures crossings { result.crossings ≡ crossing_count op (numbers windings.now hits.now) }
     ensures halfedges { result.halfedges ≡ prescribed_halfedges op p.now q.now (numbers windings.now hits.now) }

@@ -1,14 +1,11 @@
 // The prescribed vertices of an operation.
-ghost use Rattle.std.specs.Prelude.{◌≡◌, ◌≤◌, ◌+◌, ◌∷◌, [], length, map, slice_index, IfErr, IfOk};
-ghost use Rattle.assembly_terms.specs.Prescribed.{crossing_count, p_kept, prescribed_halfedges, q_kept};
+ghost use Rattle.std.specs.Prelude.{◌≡◌, ◌≤◌, ◌+◌, length, slice_index, IfErr, IfOk};
+ghost use Rattle.assembly_terms.specs.Prescribed.{prescribed_halfedges};
 ghost use Rattle.assembly_terms.specs.Standing.{AreConserved, StandInLists, count_all_starts};
-ghost use Rattle.chain_terms.specs.Chains.{all_edges};
 ghost use Rattle.retained_verts.specs.Faults.{IsFaultAt};
 ghost use Rattle.retained_verts.specs.Counted.{AreCounts};
-ghost use Rattle.retained_verts.specs.Handed.{AreBalanced, copies, numbers};
+ghost use Rattle.retained_verts.specs.Handed.{AreBalanced, FitSides, copies, numbers};
 ghost use Rattle.retained_verts.specs.Listed.{ArePrescribed};
-ghost use Rattle.retained_verts.specs.Small.{AreSmallWindings};
-ghost use Rattle.side_terms.specs.Hits.{AreHits};
 
 use crate::copies::Copies;
 use crate::counts::{Counts, count};
@@ -66,22 +63,13 @@ pub fn prescribe(
     hits: &Hits,
     limits: &Limits,
 ) -> Result<Prescribed, PrescribeFault>
-    requires w03 { length windings.now.w03.items ≡ length p.now.corners }
-    requires w30 { length windings.now.w30.items ≡ length q.now.corners }
-    requires w03_small { AreSmallWindings windings.now.w03.items }
-    requires w30_small { AreSmallWindings windings.now.w30.items }
-    requires x12 { AreHits (all_edges p.now.triples) (length q.now.triples) hits.now.x12.items }
-    requires x21 { AreHits (all_edges q.now.triples) (length p.now.triples) hits.now.x21.items }
+    requires fit { FitSides p.now q.now windings.now hits.now }
 
-    // The vertices in order, and how many of each kind there are.
-    ensures origins { IfOk result (λ r. r.origins.items ≡ map (λ c. c.origin) (copies op p.now q.now windings.now hits.now)) }
-    ensures points { IfOk result (λ r. r.points.items ≡ map (λ c. c.point) (copies op p.now q.now windings.now hits.now)) }
-    ensures kept { IfOk result (λ r. r.kept ≡ p_kept op (numbers windings.now hits.now) ∷ q_kept op (numbers windings.now hits.now) ∷ []) }
-    ensures crossings { IfOk result (λ r. r.crossings ≡ crossing_count op (numbers windings.now hits.now)) }
+    // The vertices in order, and how many there are.
+    ensures prescribed { IfOk result (ArePrescribed op p.now q.now (numbers windings.now hits.now)) }
     ensures all { IfOk result (λ r. length r.origins.items ≡ slice_index r.kept 0 + slice_index r.kept 1 + r.crossings) }
 
-    // The half-edges, and their limit.
-    ensures halfedges { IfOk result (λ r. r.halfedges ≡ prescribed_halfedges op p.now q.now (numbers windings.now hits.now)) }
+    // The limit on half-edges.
     ensures few { IfOk result (λ r. length r.origins.items ≤ r.halfedges) }
     ensures within { IfOk result (λ r. r.halfedges ≤ limits.now.halfedges) }
     ensures too_large { IfErr result (IsFaultAt limits.now.halfedges (prescribed_halfedges op p.now q.now (numbers windings.now hits.now))) }
@@ -115,12 +103,7 @@ pub fn listed(
     hits: &Hits,
     counts: Counts,
 ) -> Result<Prescribed, NoMemory>
-    requires w03 { length windings.now.w03.items ≡ length p.now.corners }
-    requires w30 { length windings.now.w30.items ≡ length q.now.corners }
-    requires w03_small { AreSmallWindings windings.now.w03.items }
-    requires w30_small { AreSmallWindings windings.now.w30.items }
-    requires x12 { AreHits (all_edges p.now.triples) (length q.now.triples) hits.now.x12.items }
-    requires x21 { AreHits (all_edges q.now.triples) (length p.now.triples) hits.now.x21.items }
+    requires fit { FitSides p.now q.now windings.now hits.now }
     requires counts { AreCounts op p.now q.now (numbers windings.now hits.now) counts }
     ensures { IfOk result (ArePrescribed op p.now q.now (numbers windings.now hits.now)) }
 {

@@ -1,13 +1,19 @@
 -- What the cutting of every ring keeps, as statements.
-use Rattle.std.specs.Prelude.{◌≡◌, ℕ, ◌+◌, ◌≤◌, pos, ◌<ℤ◌, List, length}
+use Rattle.std.specs.Prelude.{◌≡◌, ℕ, ◌+◌, ◌<◌, ◌≤◌, pos, ◌<ℤ◌, List, length}
 use Rattle.std.specs.List.{All}
 use Rattle.chain_terms.specs.Chains.{all_edges}
 use Rattle.chain_terms.specs.Odd.{SameChain}
 use Rattle.chain_terms.specs.Paths.{round_edges}
 use Rattle.mesh_terms.specs.Meshes.{Triple, HasThree}
 use Rattle.face_plane.specs.Planes.{Plane, orient}
-use Rattle.face_plane.specs.Rings.{In}
+use Rattle.face_plane.specs.Rings.{In, IsRing}
 use Rattle.ring_cutting.specs.Cuts.{Cut}
+
+-- a ring of at most 100,000,000 places, whose vertices are below n
+pub record CanBeCut (n : ℕ) (r : List ℕ) : Type 0 where
+  pub ringy : IsRing r
+  pub few : length r ≤ 100000000
+  pub below : All (λ v. v < n) r
 
 -- the triangle turns left
 abbrev pub TurnsLeft : Plane → Triple → Type 0

@@ -1,9 +1,13 @@
 -- A ring that is cut, by its links: which of its places are left, and which of these are ears.
-use Rattle.std.specs.Prelude.{◌≡◌, ℕ, ◌<◌, List, Bool, true, false}
+use Rattle.std.specs.Prelude.{◌≡◌, ℕ, ◌<◌, ◌≤◌, List, Bool, true, false, cond, length}
+use Rattle.face_plane.specs.Planes.{Plane}
+use Rattle.face_plane.specs.Rings.{IsRing}
+use Rattle.ring_cutting.specs.declared.ears.Choice.{Choice}
 use Rattle.ring_cutting.specs.declared.place.Place.{Place}
 use Rattle.ring_cutting.specs.declared.links.Links.{Links}
 use Rattle.ring_cutting.specs.declared.doubts.Doubts.{Doubts}
-use Rattle.ring_cutting.specs.Placed.{vertices_of}
+use Rattle.ring_cutting.specs.Cuts.{cut_place, forced_here, is_allowed}
+use Rattle.ring_cutting.specs.Placed.{IsPlaced, vertices_of}
 use Rattle.ring_cutting.specs.Left.{lives, after_of, before_of, left_of, rank, goes_left, is_open, blocks_at, may_go_at}
 use Rattle.ring_cutting.specs.Left.{is_ear_at, IsLinked, HasReason, AreSettled}
 
@@ -63,3 +67,18 @@ HasReasonIn ps l waiting i =
 -- what is in doubt is left, and each other place that is left has its reason
 abbrev pub AreSettledIn : List Place → Links → Doubts → Type 0
 AreSettledIn ps l d = AreSettled ps l.after.items l.before.items l.living.items d.doubtful d.waiting.items
+
+-- the places that are left are a ring of four or more, and this is the first of them
+pub record IsFirst (ps : List Place) (l : Links) (first : ℕ) : Type 0 where
+  pub linked : AreLinks (length ps) l
+  pub ringy : IsRing (rest_ring ps l)
+  pub more : 4 ≤ length (rest_of ps l)
+  pub stays : is_left l first ≡ true
+  pub least : (m : ℕ) → is_left l m ≡ true → first ≤ m
+
+-- the place that is cut next, the least ear, and where there is none the least place that is allowed, which is forced
+pub record IsCutNext (ps : List Place) (l : Links) (c : Choice) : Type 0 where
+  pub living : is_left l c.place ≡ true
+  pub allowed : is_allowed (rest_ring ps l) (number_in l c.place) ≡ true
+  pub place : (at : Plane) → IsPlaced at (rest_of ps l) → number_in l c.place ≡ cut_place at (rest_ring ps l)
+  pub forced : (at : Plane) → IsPlaced at (rest_of ps l) → cond c.forced 1 0 ≡ forced_here at (rest_ring ps l)

@@ -1,14 +1,15 @@
 // A ring is cut into triangles.
 ghost use Rattle.std.specs.Prelude.{◌≡◌, ◌<◌, ◌≤◌, ◌+◌, ℕ, List, length, IfOk, IsTrue, pos, ◌<ℤ◌, int_lt};
 ghost use Rattle.std.specs.List.{All};
-ghost use Rattle.chain_terms.specs.Chains.{all_edges, boundary};
-ghost use Rattle.chain_terms.specs.Odd.{SameChain};
+ghost use Rattle.chain_terms.specs.Chains.{all_edges};
 ghost use Rattle.chain_terms.specs.Paths.{round_edges};
 ghost use Rattle.chain_terms.specs.Sums.{total};
-ghost use Rattle.mesh_terms.specs.Meshes.{HasThree, IsBelow, triple_of};
+ghost use Rattle.mesh_terms.specs.Meshes.{triple_of};
+ghost use Rattle.face_plane.specs.Keeping.{AreProper, KeepsChain};
 ghost use Rattle.face_plane.specs.Planes.{Plane, area, face_plane, orient};
 ghost use Rattle.face_plane.specs.Rings.{IsRing};
 ghost use Rattle.ring_cutting.specs.Cuts.{cut_ring, triple_at, is_allowed, first_allowed, turn_at};
+ghost use Rattle.ring_cutting.specs.Laws.{CanBeCut};
 ghost use Rattle.ring_cutting.specs.Placed.{vertices_of, IsPlaced};
 
 use crate::Filled;
@@ -42,20 +43,16 @@ pub fn cut_ring(
     ring: Ring,
     points: &[Point],
 ) -> Result<Filled, NoMemory>
-    requires ringy { IsRing ring }
-    requires few { length ring ≤ 100000000 }
-    requires below { All (λ v. v < length points.now) ring }
+    requires ring { CanBeCut (length points.now) ring }
     requires axis { plane.drop < 3 }
     ensures value { IfOk result (λ f. f ≡ cut_ring (face_plane plane.drop turned points.now) ring) }
     ensures count { IfOk result (λ f. length f.triples + 2 ≡ length ring) }
 
     // The triangles have the boundary of the ring, and doubled areas whose sum is the ring's; and so has every odd function.
-    ensures boundary { IfOk result (λ f. (a b : ℕ) → boundary (all_edges f.triples) a b ≡ boundary (round_edges ring) a b) }
+    ensures keeps { IfOk result (λ f. KeepsChain (all_edges f.triples) (round_edges ring)) }
     ensures areas { IfOk result (λ f. total (λ t. orient (face_plane plane.drop turned points.now) t.0 t.1 t.2) f.triples ≡
         area (face_plane plane.drop turned points.now) ring) }
-    ensures chain { IfOk result (λ f. SameChain (all_edges f.triples) (round_edges ring)) }
-    ensures three { IfOk result (λ f. All HasThree f.triples) }
-    ensures below { IfOk result (λ f. All (IsBelow (length points.now)) f.triples) }
+    ensures proper { IfOk result (λ f. AreProper (length points.now) f.triples) }
     ensures most { IfOk result (λ f. f.forced ≤ length f.triples) }
     ensures left { IfOk result (λ f. f.forced ≡ 0 → All (λ t. pos 0 <ℤ orient (face_plane plane.drop turned points.now) t.0 t.1 t.2) f.triples) }
 {
@@ -75,9 +72,7 @@ pub fn cut_ring_long_from(
     points: &[Point],
     long: usize,
 ) -> Result<Filled, NoMemory>
-    requires ringy { IsRing ring }
-    requires few { length ring ≤ 100000000 }
-    requires below { All (λ v. v < length points.now) ring }
+    requires ring { CanBeCut (length points.now) ring }
     requires axis { plane.drop < 3 }
     ensures { IfOk result (λ f. f ≡ cut_ring (face_plane plane.drop turned points.now) ring) }
 {

@@ -1,11 +1,11 @@
 // A long ring is cut into triangles.
-ghost use Rattle.std.specs.Prelude.{◌≡◌, ◌<◌, ◌≤◌, ◌==◌, ℕ, IfOk, OnOk, length, cond, true};
+ghost use Rattle.std.specs.Prelude.{◌≡◌, ◌<◌, ◌≤◌, ◌==◌, IfOk, OnOk, length, cond, true};
 ghost use Rattle.mesh_terms.specs.Meshes.{triple_of};
 ghost use Rattle.face_plane.specs.Planes.{Plane};
 ghost use Rattle.face_plane.specs.Rings.{IsRing};
-ghost use Rattle.ring_cutting.specs.Cuts.{cut_ring, triple_at, is_allowed, cut_place, forced_here, first_allowed};
+ghost use Rattle.ring_cutting.specs.Cuts.{cut_ring, triple_at, is_allowed, first_allowed};
 ghost use Rattle.ring_cutting.specs.Left.{after_of};
-ghost use Rattle.ring_cutting.specs.Linked.{is_left, rest_of, rest_ring, number_in, AreLinks, AreSettledIn};
+ghost use Rattle.ring_cutting.specs.Linked.{is_left, rest_ring, number_in, AreLinks, AreSettledIn, IsCutNext, IsFirst};
 ghost use Rattle.ring_cutting.specs.Spans.{HasHulls};
 ghost use Rattle.ring_cutting.specs.Placed.{vertices_of, IsPlaced};
 
@@ -74,19 +74,10 @@ fn choose(
 ) -> Result<Choice, NoMemory>
     requires few { length places.now ≤ 100000000 }
     requires hulls { HasHulls places.now links.now.living.items hulls.now }
-    requires linked { AreLinks (length places.now) links.now }
     requires settled { AreSettledIn places.now links.now doubts.old }
-    requires ringy { IsRing (rest_ring places.now links.now) }
-    requires more { 4 ≤ length (rest_of places.now links.now) }
-    requires first { is_left links.now first ≡ true }
-    requires least { (m : ℕ) → is_left links.now m ≡ true → first ≤ m }
+    requires first { IsFirst places.now links.now first }
     ensures settled { OnOk result (AreSettledIn places.now links.now doubts.new) }
-    ensures living { IfOk result (λ c. is_left links.now c.place ≡ true) }
-    ensures allowed { IfOk result (λ c. is_allowed (rest_ring places.now links.now) (number_in links.now c.place) ≡ true) }
-    ensures place { (at : Plane) → IsPlaced at (rest_of places.now links.now) →
-        IfOk result (λ c. number_in links.now c.place ≡ cut_place at (rest_ring places.now links.now)) }
-    ensures forced { (at : Plane) → IsPlaced at (rest_of places.now links.now) →
-        IfOk result (λ c. cond c.forced 1 0 ≡ forced_here at (rest_ring places.now links.now)) }
+    ensures next { IfOk result (IsCutNext places.now links.now) }
 {
     match least_ear(doubts, places, links, hulls)? {
         Some(place) => Ok(Choice {
@@ -102,11 +93,7 @@ fn choose(
 
 // The least place that is allowed.
 fn first_allowed(places: &[Place], links: &Links, first: usize) -> usize
-    requires linked { AreLinks (length places.now) links.now }
-    requires ringy { IsRing (rest_ring places.now links.now) }
-    requires more { 4 ≤ length (rest_of places.now links.now) }
-    requires first { is_left links.now first ≡ true }
-    requires least { (m : ℕ) → is_left links.now m ≡ true → first ≤ m }
+    requires { IsFirst places.now links.now first }
     ensures living { is_left links.now result ≡ true }
     ensures allowed { is_allowed (rest_ring places.now links.now) (number_in links.now result) ≡ true }
     ensures value { number_in links.now result ≡ first_allowed (rest_ring places.now links.now) }

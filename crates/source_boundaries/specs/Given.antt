@@ -1,11 +1,9 @@
 -- What triangles are compared with: numbers, and the vertices that these prescribe.
 use Rattle.std.specs.Prelude.{◌≡◌, ℕ, ◌+◌, ◌<◌, ◌≤◌, List, ◌∷◌, [], map, length}
-use Rattle.chain_terms.specs.Chains.{all_edges}
 use Rattle.mb_base.specs.declared.op.Op.{Op}
 use Rattle.mb_base.specs.declared.results.Hits.{Hits}
 use Rattle.mb_base.specs.declared.results.Windings.{Windings}
 use Rattle.mesh_terms.specs.Limits.{most_points}
-use Rattle.side_terms.specs.Hits.{AreHits}
 use Rattle.side_terms.specs.Sides.{Side}
 use Rattle.assembly_terms.specs.Lists.{Copy}
 use Rattle.assembly_terms.specs.Prescribed.{p_kept, q_kept}
@@ -14,8 +12,7 @@ use Rattle.face_lists.specs.declared.stands.Stand.{Stand}
 use Rattle.face_lists.specs.Agreement.{records_of}
 use Rattle.face_lists.specs.Parts.{segments_by}
 use Rattle.filling_terms.specs.Filled.{face_segments, points_of_copies}
-use Rattle.retained_verts.specs.Handed.{AreBalanced, copies, numbers}
-use Rattle.retained_verts.specs.Small.{AreSmallWindings}
+use Rattle.retained_verts.specs.Handed.{AreBalanced, FitSides, copies, numbers}
 use Rattle.retained_verts.specs.declared.list.Prescribed.{Prescribed}
 use Rattle.source_faces.specs.Given.{given_p_runs, given_q_runs, given_stands}
 use Rattle.source_boundaries.specs.Faces.{HaveSegments}
@@ -23,12 +20,7 @@ use Rattle.source_boundaries.specs.Faces.{HaveSegments}
 -- windings and hits of two sides, and the vertices that they prescribe, which balance every list and are no more than the points of
 -- a mesh
 pub record AreGiven (op : Op) (p q : Side) (windings : Windings) (hits : Hits) (r : Prescribed) : Type 0 where
-  pub w03 : length windings.w03.items ≡ length p.corners
-  pub w30 : length windings.w30.items ≡ length q.corners
-  pub w03_small : AreSmallWindings windings.w03.items
-  pub w30_small : AreSmallWindings windings.w30.items
-  pub x12 : AreHits (all_edges p.triples) (length q.triples) hits.x12.items
-  pub x21 : AreHits (all_edges q.triples) (length p.triples) hits.x21.items
+  pub fit : FitSides p q windings hits
   pub points : r.points.items ≡ map (λ c. c.point) (copies op p q windings hits)
   pub kept : r.kept ≡ p_kept op (numbers windings hits) ∷ q_kept op (numbers windings hits) ∷ []
   pub balance : AreBalanced op p q windings hits

@@ -109,7 +109,7 @@ pub few_given : (op : Op) (p q : Side) (windings : Windings) (hits : Hits) (r : 
 few_given op p q windings hits r p_side q_side h =
     let n =
     numbers windings hits in
-    omega (arith, few_copies op p q n p_side q_side h.w03 h.w30, all_starts op p q n p_side q_side h.w03 h.w30 h.x12 h.x21, h.few)
+    omega (arith, few_copies op p q n p_side q_side h.fit.w03 h.fit.w30, all_starts op p q n p_side q_side h.fit.w03 h.fit.w30 h.fit.x12 h.fit.x21, h.few)
 
 -- what is given is such
 pub given_parts : (laws : HaveLaws) (op : Op) (p q : Side) (windings : Windings) (hits : Hits) (r : Prescribed) → IsSide p → IsSide q →
@@ -117,7 +117,7 @@ pub given_parts : (laws : HaveLaws) (op : Op) (p q : Side) (windings : Windings)
 given_parts laws op p q windings hits r p_side q_side h =
     let n = numbers windings hits in
     let cs = copies op p q windings hits in
-    let lists = laws.lists op p q n p_side q_side h.w03 h.w30 h.x12 h.x21 in
+    let lists = laws.lists op p q n p_side q_side h.fit.w03 h.fit.w30 h.fit.x12 h.fit.x21 in
     let can : CanBeAssembled p q cs = record {
       p_side = p_side;
       q_side = q_side;
@@ -125,8 +125,8 @@ given_parts laws op p q windings hits r p_side q_side h =
       q_apart = h.q_apart;
       two_lists = h.two_lists;
       balance = h.balance;
-      named = laws.named op p q n h.x12 h.x21;
+      named = laws.named op p q n h.fit.x12 h.fit.x21;
       few = h.few;
     } in
-    let few : length cs ≤ most_points = omega (arith, all_copies_counted op p q n h.w03 h.w30, few_given op p q windings hits r p_side q_side h) in
+    let few : length cs ≤ most_points = omega (arith, all_copies_counted op p q n h.fit.w03 h.fit.w30, few_given op p q windings hits r p_side q_side h) in
     all_parts laws p q cs (p_kept op n + q_kept op n) (given_p_runs op n) (given_q_runs op n) (given_stands op p q n) lists can few

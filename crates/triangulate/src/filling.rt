@@ -1,12 +1,10 @@
 // Loops are filled with triangles.
-ghost use Rattle.std.specs.Prelude.{◌≡◌, ◌<◌, ◌≤◌, ℕ, pos, ◌<ℤ◌, IfOk, length};
+ghost use Rattle.std.specs.Prelude.{◌≡◌, ◌<◌, ◌≤◌, pos, ◌<ℤ◌, IfOk, length};
 ghost use Rattle.std.specs.List.{All, flat_map};
-ghost use Rattle.chain_terms.specs.Chains.{all_edges, boundary};
-ghost use Rattle.chain_terms.specs.Odd.{SameChain};
+ghost use Rattle.chain_terms.specs.Chains.{all_edges};
 ghost use Rattle.chain_terms.specs.Paths.{round_edges};
-ghost use Rattle.mesh_terms.specs.Meshes.{HasThree, IsBelow};
+ghost use Rattle.face_plane.specs.Keeping.{AreProper, AreRings, KeepsChain};
 ghost use Rattle.face_plane.specs.Planes.{face_plane, orient};
-ghost use Rattle.face_plane.specs.Rings.{IsRing};
 ghost use Rattle.hole_joining.specs.Laws.{AreFillable, settled_in};
 ghost use Rattle.triangulate.specs.Fills.{cuts, fill_of};
 ghost use Rattle.triangulate.specs.Laws.{HasCount, HasAreas};
@@ -42,11 +40,9 @@ pub fn fill(
     ensures count { IfOk result (λ f. HasCount (settled_in plane.drop points.now loops.now) loops.now f.triples) }
 
     // The triangles have the boundary of the loops, and doubled areas with the same sum; and so has every odd function.
-    ensures boundary { IfOk result (λ f. (a b : ℕ) → boundary (all_edges f.triples) a b ≡ boundary (flat_map round_edges loops.now) a b) }
+    ensures keeps { IfOk result (λ f. KeepsChain (all_edges f.triples) (flat_map round_edges loops.now)) }
     ensures areas { IfOk result (λ f. HasAreas (settled_in plane.drop points.now loops.now) loops.now f.triples) }
-    ensures chain { IfOk result (λ f. SameChain (all_edges f.triples) (flat_map round_edges loops.now)) }
-    ensures three { IfOk result (λ f. All HasThree f.triples) }
-    ensures below { IfOk result (λ f. All (IsBelow (length points.now)) f.triples) }
+    ensures proper { IfOk result (λ f. AreProper (length points.now) f.triples) }
     ensures most { IfOk result (λ f. f.forced ≤ length f.triples) }
     ensures left { IfOk result (λ f. f.forced ≡ 0 → All (λ t. pos 0 <ℤ orient (settled_in plane.drop points.now loops.now) t.0 t.1 t.2) f.triples) }
 {
@@ -62,9 +58,8 @@ fn cut_all(
     rings: Vec<Ring>,
     points: &[Point],
 ) -> Result<Filled, NoMemory>
-    requires ringy { All IsRing rings.items }
+    requires rings { AreRings (length points.now) rings.items }
     requires few { All (λ r. length r ≤ 100000000) rings.items }
-    requires below { All (λ r. All (λ v. v < length points.now) r) rings.items }
     requires axis { plane.drop < 3 }
     ensures { IfOk result (λ f. f ≡ cuts (face_plane plane.drop turned points.now) rings.items) }
 {

@@ -1,7 +1,6 @@
 // Rings after joining against two tables.
-ghost use Rattle.std.specs.Prelude.{◌<◌, length};
-ghost use Rattle.std.specs.List.{All};
-ghost use Rattle.face_plane.specs.Rings.{IsRing};
+ghost use Rattle.std.specs.Prelude.{length};
+ghost use Rattle.face_plane.specs.Keeping.{AreRings};
 
 use super::joined_rows::{MANY_HOLES, RANDOM_ROWS, ROWS};
 use super::{can_fill, loops_of};
@@ -22,8 +21,7 @@ pub(crate) fn joined(
     loops: &[Loop],
     points: &[Point],
 ) -> Joined
-    ensures ringy { All IsRing result.rings.items }
-    ensures below { All (λ ring. All (λ v. v < length points.now) ring) result.rings.items }
+    ensures { AreRings (length points.now) result.rings.items }
 {
     assert!(rt; drop < 3 && can_fill(alloc, loops, points.len()).expect(rt, "memory"));
     join_holes(alloc, FacePlane { drop: drop as u8 }, loops, points).expect(rt, "memory")

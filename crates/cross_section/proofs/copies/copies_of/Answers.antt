@@ -33,38 +33,29 @@ places_on-requires-2-clause-between c =
 pub places_on-requires-2-clause-few : goal.places_on-requires-2-clause-few
 places_on-requires-2-clause-few c = omega (arith, ap length c.requires.q_edges, edges_long c.args.q.now c.points-q_points.ensures.outline, c.points-q_points.ensures.outline.few)
 
-pub push_vertices-requires-clause-windings : goal.push_vertices-requires-clause-windings
-push_vertices-requires-clause-windings c
-    = omega (
-      arith,
-      ap length (c.deref.ensures.value ∙ ap (λ (x : FlatNumbers). x.w02) c.numbers.view_is),
-      c.requires.numbers.w02_long,
-      ap length c.points-p_points.ensures.value,
-    )
-
-pub push_vertices-requires-clause-small : goal.push_vertices-requires-clause-small
-push_vertices-requires-clause-small c
-    = subst (All (λ w. nat_abs w ≤ most_vertices)) (sym (c.deref.ensures.value ∙ ap (λ (x : FlatNumbers). x.w02) c.numbers.view_is)) c.requires.numbers.w02_small
-
-pub push_vertices-requires-clause-leaving : goal.push_vertices-requires-clause-leaving
-push_vertices-requires-clause-leaving c = ap length c.in_ok-p_places.ensures.leaving ∙ values_long (leaving c.args.p_edges.now) (length c.points-p_points.result.now)
-
-pub push_vertices-requires-clause-leaving_below : goal.push_vertices-requires-clause-leaving_below
-push_vertices-requires-clause-leaving_below c =
-    let few : length c.args.p_edges.now ≤ most_vertices
-    = omega (arith, ap length c.requires.p_edges, edges_long c.args.p.now c.points-p_points.ensures.outline, c.points-p_points.ensures.outline.few) in
-    subst (All (λ k. k ≤ most_vertices)) (sym c.in_ok-p_places.ensures.leaving)
-    (places_within (λ v (e : ℕ × ℕ). e.0 == v) c.args.p_edges.now (length c.points-p_points.result.now) most_vertices few)
-
-pub push_vertices-requires-clause-entering : goal.push_vertices-requires-clause-entering
-push_vertices-requires-clause-entering c = ap length c.in_ok-p_places.ensures.entering ∙ values_long (entering c.args.p_edges.now) (length c.points-p_points.result.now)
-
-pub push_vertices-requires-clause-entering_below : goal.push_vertices-requires-clause-entering_below
-push_vertices-requires-clause-entering_below c =
-    let few : length c.args.p_edges.now ≤ most_vertices
-    = omega (arith, ap length c.requires.p_edges, edges_long c.args.p.now c.points-p_points.ensures.outline, c.points-p_points.ensures.outline.few) in
-    subst (All (λ k. k ≤ most_vertices)) (sym c.in_ok-p_places.ensures.entering)
-    (places_within (λ v (e : ℕ × ℕ). e.1 == v) c.args.p_edges.now (length c.points-p_points.result.now) most_vertices few)
+pub push_vertices-requires-clause-fit : goal.push_vertices-requires-clause-fit
+push_vertices-requires-clause-fit c = record {
+  windings =
+      omega (
+        arith,
+        ap length (c.deref.ensures.value ∙ ap (λ (x : FlatNumbers). x.w02) c.numbers.view_is),
+        c.requires.numbers.w02_long,
+        ap length c.points-p_points.ensures.value,
+      );
+  small = subst (All (λ w. nat_abs w ≤ most_vertices)) (sym (c.deref.ensures.value ∙ ap (λ (x : FlatNumbers). x.w02) c.numbers.view_is)) c.requires.numbers.w02_small;
+  starts = ap length c.in_ok-p_places.ensures.leaving ∙ values_long (leaving c.args.p_edges.now) (length c.points-p_points.result.now);
+  ends = ap length c.in_ok-p_places.ensures.entering ∙ values_long (entering c.args.p_edges.now) (length c.points-p_points.result.now);
+  starts_below =
+      let few : length c.args.p_edges.now ≤ most_vertices
+      = omega (arith, ap length c.requires.p_edges, edges_long c.args.p.now c.points-p_points.ensures.outline, c.points-p_points.ensures.outline.few) in
+      subst (All (λ k. k ≤ most_vertices)) (sym c.in_ok-p_places.ensures.leaving)
+      (places_within (λ v (e : ℕ × ℕ). e.0 == v) c.args.p_edges.now (length c.points-p_points.result.now) most_vertices few);
+  ends_below =
+      let few : length c.args.p_edges.now ≤ most_vertices
+      = omega (arith, ap length c.requires.p_edges, edges_long c.args.p.now c.points-p_points.ensures.outline, c.points-p_points.ensures.outline.few) in
+      subst (All (λ k. k ≤ most_vertices)) (sym c.in_ok-p_places.ensures.entering)
+      (places_within (λ v (e : ℕ × ℕ). e.1 == v) c.args.p_edges.now (length c.points-p_points.result.now) most_vertices few);
+}
 
 pub overflow_cast-first : goal.overflow_cast-first
 overflow_cast-first c = omega (arith, ap length c.requires.p_edges, edges_long c.args.p.now c.points-p_points.ensures.outline, c.points-p_points.ensures.outline.few)
@@ -76,38 +67,29 @@ push_vertices-requires-2-clause-few c
 pub push_hits-requires-clause-few : goal.push_hits-requires-clause-few
 push_hits-requires-clause-few c = omega (arith, ap length c.requires.p_edges, edges_long c.args.p.now c.points-p_points.ensures.outline, c.points-p_points.ensures.outline.few)
 
-pub push_vertices-requires-2-clause-windings : goal.push_vertices-requires-2-clause-windings
-push_vertices-requires-2-clause-windings c
-    = omega (
-      arith,
-      ap length (c.deref-2.ensures.value ∙ ap (λ (x : FlatNumbers). x.w20) c.numbers.view_is),
-      c.requires.numbers.w20_long,
-      ap length c.points-q_points.ensures.value,
-    )
-
-pub push_vertices-requires-2-clause-small : goal.push_vertices-requires-2-clause-small
-push_vertices-requires-2-clause-small c
-    = subst (All (λ w. nat_abs w ≤ most_vertices)) (sym (c.deref-2.ensures.value ∙ ap (λ (x : FlatNumbers). x.w20) c.numbers.view_is)) c.requires.numbers.w20_small
-
-pub push_vertices-requires-2-clause-leaving : goal.push_vertices-requires-2-clause-leaving
-push_vertices-requires-2-clause-leaving c = ap length c.in_ok-q_places.ensures.leaving ∙ values_long (leaving c.args.q_edges.now) (length c.points-q_points.result.now)
-
-pub push_vertices-requires-2-clause-leaving_below : goal.push_vertices-requires-2-clause-leaving_below
-push_vertices-requires-2-clause-leaving_below c =
-    let few : length c.args.q_edges.now ≤ most_vertices
-    = omega (arith, ap length c.requires.q_edges, edges_long c.args.q.now c.points-q_points.ensures.outline, c.points-q_points.ensures.outline.few) in
-    subst (All (λ k. k ≤ most_vertices)) (sym c.in_ok-q_places.ensures.leaving)
-    (places_within (λ v (e : ℕ × ℕ). e.0 == v) c.args.q_edges.now (length c.points-q_points.result.now) most_vertices few)
-
-pub push_vertices-requires-2-clause-entering : goal.push_vertices-requires-2-clause-entering
-push_vertices-requires-2-clause-entering c = ap length c.in_ok-q_places.ensures.entering ∙ values_long (entering c.args.q_edges.now) (length c.points-q_points.result.now)
-
-pub push_vertices-requires-2-clause-entering_below : goal.push_vertices-requires-2-clause-entering_below
-push_vertices-requires-2-clause-entering_below c =
-    let few : length c.args.q_edges.now ≤ most_vertices
-    = omega (arith, ap length c.requires.q_edges, edges_long c.args.q.now c.points-q_points.ensures.outline, c.points-q_points.ensures.outline.few) in
-    subst (All (λ k. k ≤ most_vertices)) (sym c.in_ok-q_places.ensures.entering)
-    (places_within (λ v (e : ℕ × ℕ). e.1 == v) c.args.q_edges.now (length c.points-q_points.result.now) most_vertices few)
+pub push_vertices-requires-2-clause-fit : goal.push_vertices-requires-2-clause-fit
+push_vertices-requires-2-clause-fit c = record {
+  windings =
+      omega (
+        arith,
+        ap length (c.deref-2.ensures.value ∙ ap (λ (x : FlatNumbers). x.w20) c.numbers.view_is),
+        c.requires.numbers.w20_long,
+        ap length c.points-q_points.ensures.value,
+      );
+  small = subst (All (λ w. nat_abs w ≤ most_vertices)) (sym (c.deref-2.ensures.value ∙ ap (λ (x : FlatNumbers). x.w20) c.numbers.view_is)) c.requires.numbers.w20_small;
+  starts = ap length c.in_ok-q_places.ensures.leaving ∙ values_long (leaving c.args.q_edges.now) (length c.points-q_points.result.now);
+  ends = ap length c.in_ok-q_places.ensures.entering ∙ values_long (entering c.args.q_edges.now) (length c.points-q_points.result.now);
+  starts_below =
+      let few : length c.args.q_edges.now ≤ most_vertices
+      = omega (arith, ap length c.requires.q_edges, edges_long c.args.q.now c.points-q_points.ensures.outline, c.points-q_points.ensures.outline.few) in
+      subst (All (λ k. k ≤ most_vertices)) (sym c.in_ok-q_places.ensures.leaving)
+      (places_within (λ v (e : ℕ × ℕ). e.0 == v) c.args.q_edges.now (length c.points-q_points.result.now) most_vertices few);
+  ends_below =
+      let few : length c.args.q_edges.now ≤ most_vertices
+      = omega (arith, ap length c.requires.q_edges, edges_long c.args.q.now c.points-q_points.ensures.outline, c.points-q_points.ensures.outline.few) in
+      subst (All (λ k. k ≤ most_vertices)) (sym c.in_ok-q_places.ensures.entering)
+      (places_within (λ v (e : ℕ × ℕ). e.1 == v) c.args.q_edges.now (length c.points-q_points.result.now) most_vertices few);
+}
 
 pub push_hits-requires-clause-small : goal.push_hits-requires-clause-small
 push_hits-requires-clause-small c

@@ -16,15 +16,15 @@ loop-v-preserved c =
     let v = c.loop-v.v in
     let low = c.loop-v-test.true in
     let number : ℕ → ℤ = λ u. vertex_number op c.args.operand (get_or ws u (pos 0)) in
-    let winding = c.requires.small v (pos 0) (omega (arith, low, c.requires.windings)) in
+    let winding = c.requires.fit.small v (pos 0) (omega (arith, low, c.requires.fit.windings)) in
     let z = to_z w64 (of_z w64 c.number-number.result) in
     let is : z ≡ number v =
     kept_64 c.number-number.result c.number-number.ensures.small ∙ c.number-number.ensures.value
     ∙ ap (vertex_number op c.args.operand) (kept_64 (get_or ws v (pos 0)) (omega (arith, winding))) in
     let at : c.index-points-v.result ≡ get_or ps v [] = c.index-points-v.is ∙ get_or_default ps v c.index-points-v.result [] low in
-    let leaves : c.index.result.now ≡ get_or leaving v 0 = c.index.ensures ∙ get_or_default leaving v c.index.result.now 0 (omega (arith, low, c.requires.leaving)) in
+    let leaves : c.index.result.now ≡ get_or leaving v 0 = c.index.ensures ∙ get_or_default leaving v c.index.result.now 0 (omega (arith, low, c.requires.fit.starts)) in
     let enters : c.index-in-loop-v.result.now ≡ get_or entering v 0 = c.index-in-loop-v.ensures
-    ∙ get_or_default entering v c.index-in-loop-v.result.now 0 (omega (arith, low, c.requires.entering)) in
+    ∙ get_or_default entering v c.index-in-loop-v.result.now 0 (omega (arith, low, c.requires.fit.ends)) in
     let old = c.args.copies.now in
     let now = c.loop-v.copies in
     let new = c.push_copies.new.copies in

@@ -22,9 +22,9 @@ pub returns-clause-over : goal.returns-clause-over
 returns-clause-over c =
     let ts = c.in_ok-filled.filled.triples in
     record {
-      three = c.in_ok-filled.ensures.three;
-      below = subst (λ (ps : List (List ℤ)). All (IsBelow (length ps)) ts) c.points.ensures.value c.in_ok-filled.ensures.below;
-      chain = subst (λ (ls : List (List ℕ)). SameChain (all_edges ts) (flat_map round_edges ls)) c.loops.ensures.value c.in_ok-filled.ensures.chain;
+      three = c.in_ok-filled.ensures.proper.three;
+      below = subst (λ (ps : List (List ℤ)). All (IsBelow (length ps)) ts) c.points.ensures.value c.in_ok-filled.ensures.proper.below;
+      chain = subst (λ (ls : List (List ℕ)). SameChain (all_edges ts) (flat_map round_edges ls)) c.loops.ensures.value c.in_ok-filled.ensures.keeps.chain;
     }
 
 pub returns-clause-few : goal.returns-clause-few

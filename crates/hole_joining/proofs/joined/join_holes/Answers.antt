@@ -57,25 +57,19 @@ pub returns-clause-places : goal.returns-clause-places
 returns-clause-places c =
     (kept c.args.plane.drop c.args.points.now c.args.loops.now c.in_ok-rings-2.rings.items c.requires.loops (returns-clause-rings c)).places
 
-pub returns-clause-ringy : goal.returns-clause-ringy
-returns-clause-ringy c =
-    (kept c.args.plane.drop c.args.points.now c.args.loops.now c.in_ok-rings-2.rings.items c.requires.loops (returns-clause-rings c)).ringy
+pub returns-clause-proper : goal.returns-clause-proper
+returns-clause-proper c =
+    let all = kept c.args.plane.drop c.args.points.now c.args.loops.now c.in_ok-rings-2.rings.items c.requires.loops (returns-clause-rings c) in
+    record { ringy = all.ringy; below = all.below }
 
-pub returns-clause-below : goal.returns-clause-below
-returns-clause-below c =
-    (kept c.args.plane.drop c.args.points.now c.args.loops.now c.in_ok-rings-2.rings.items c.requires.loops (returns-clause-rings c)).below
-
-pub returns-clause-chain : goal.returns-clause-chain
-returns-clause-chain c =
-    (kept c.args.plane.drop c.args.points.now c.args.loops.now c.in_ok-rings-2.rings.items c.requires.loops (returns-clause-rings c)).chain
-
-pub returns-clause-boundary : goal.returns-clause-boundary
-returns-clause-boundary c =
-    boundary_same (flat_map round_edges c.in_ok-rings-2.rings.items) (flat_map round_edges c.args.loops.now) (returns-clause-chain c)
+pub returns-clause-keeps : goal.returns-clause-keeps
+returns-clause-keeps c =
+    let chain = (kept c.args.plane.drop c.args.points.now c.args.loops.now c.in_ok-rings-2.rings.items c.requires.loops (returns-clause-rings c)).chain in
+    record { boundary = boundary_same (flat_map round_edges c.in_ok-rings-2.rings.items) (flat_map round_edges c.args.loops.now) chain; chain = chain }
 
 pub returns-clause-areas : goal.returns-clause-areas
 returns-clause-areas c =
-    areas_kept (settled_in c.args.plane.drop c.args.points.now c.args.loops.now) c.args.loops.now c.in_ok-rings-2.rings.items (returns-clause-chain c)
+    areas_kept (settled_in c.args.plane.drop c.args.points.now c.args.loops.now) c.args.loops.now c.in_ok-rings-2.rings.items (returns-clause-keeps c).chain
 
 pub circles_of-requires : goal.circles_of-requires
 circles_of-requires c =

@@ -14,11 +14,13 @@ loop-done-preserved g c =
       idle = λ none. absurd (omega (arith, none, c.loop-done-test.true));
       told = told_on _ _ _ c.args.text.now _ c.loop-done.done c.in_ok-done.field-0 c.split_at.ensures.back inv.told e.added;
       count = e.count.ok (search rules) ∙ inv.count;
-      other = e.other ∙ inv.other;
-      second = e.second ∙ inv.second;
-      rest = e.rest ∙ inv.rest;
-      loan = e.loan ∙ inv.loan;
-      other_spare = e.other_spare ∙ inv.other_spare;
+      kept = record {
+        other = e.other ∙ inv.kept.other;
+        second = e.second ∙ inv.kept.second;
+        rest = e.rest ∙ inv.kept.rest;
+        loan = e.loan ∙ inv.kept.loan;
+        other_spare = e.other_spare ∙ inv.kept.other_spare;
+      };
       room = lowered_twice _ _ _ c.loop-done.done c.in_ok-done.field-0 inv.room e.less;
     }
 

@@ -1,5 +1,6 @@
 use Rattle.std.proofs.Common.{length, ◌-◌, ◌≡◌, ◌≤◌, ◌++◌, take}
 use Rattle.std.specs.Option.{option_map}
+use Rattle.mb_outside.specs.Sinks.{Kept}
 use Rattle.mb_outside.proofs.writing.write_all.Given as goal
 
 abbrev pub invariant-loop-done : goal.invariant-loop-done
@@ -8,11 +9,7 @@ invariant-loop-done g l = record {
   idle : length l.text ≡ 0 → l.sink ≡ l.initial.sink;
   told : g.K.Sink.told l.sink ≡ option_map (λ held. held ++ take l.done l.text) (g.K.Sink.told l.initial.sink);
   count : g.K.Sink.faults l.sink ≡ g.K.Sink.faults l.initial.sink;
-  other : g.K.Sink.other l.sink ≡ g.K.Sink.other l.initial.sink;
-  second : g.K.Sink.second l.sink ≡ g.K.Sink.second l.initial.sink;
-  rest : g.K.Sink.rest l.sink ≡ g.K.Sink.rest l.initial.sink;
-  loan : g.K.Sink.loan l.sink ≡ g.K.Sink.loan l.initial.sink;
-  other_spare : g.K.Sink.other_spare l.sink ≡ g.K.Sink.other_spare l.initial.sink;
+  kept : Kept g.K.Sink l.initial.sink l.sink;
   room : g.K.Sink.room l.sink ≡ option_map (λ free. free - l.done) (g.K.Sink.room l.initial.sink);
 }
 

@@ -1,4 +1,4 @@
-use Rattle.std.proofs.Common.{rules, ◌∙◌}
+use Rattle.std.proofs.Common.{arith, ◌∙◌}
 use Rattle.retained_verts.specs.Handed.{copies}
 use Rattle.filling_terms.specs.Filled.{all_filled, all_triples, forced_of, sources_of}
 use Rattle.source_faces.specs.Given.{AreGiven}
@@ -8,7 +8,18 @@ use Rattle.mesh_boolean.proofs.assembly.assemble.Goals as goal
 
 pub triangles_of-requires : goal.triangles_of-requires
 triangles_of-requires c =
-    let given : AreGiven c.args.op c.args.p c.args.q c.args.windings.now c.args.hits.now c.in_ok-prescribed.prescribed = search rules in
+    let r = c.in_ok-prescribed.ensures in
+    let lawful = c.halfedges.ensures.lawful in
+    let given : AreGiven c.args.op c.args.p c.args.q c.args.windings.now c.args.hits.now c.in_ok-prescribed.prescribed = record {
+      fit = c.requires.known.fit;
+      p_apart = c.requires.p_apart;
+      q_apart = c.requires.q_apart;
+      points = r.prescribed.points;
+      kept = r.prescribed.kept;
+      two_lists = r.two_lists;
+      balance = r.balance c.requires.known.conserved;
+      few = omega (arith, r.within, r.all_starts, lawful.triangles_enough, lawful.few_triangles);
+    } in
     same_sides (λ x y. AreGiven c.args.op x y c.args.windings.now c.args.hits.now c.in_ok-prescribed.prescribed) c.args.p c.args.q c.into_surface-p.result
     c.into_surface-q.result c.into_surface-p.ensures c.into_surface-q.ensures given
 
@@ -21,7 +32,7 @@ returns-clause-assembled c =
     is_assembled c.args.op c.args.p c.args.q c.args.windings.now c.args.hits.now c.args.limits.now c.in_ok-prescribed.prescribed c.in_ok-all.all
     (record { p_side = c.twins.ensures.side; q_side = c.twins-2.ensures.side; p_apart = c.requires.p_apart; q_apart = c.requires.q_apart; known = c.requires.known })
     (record {
-      prescribed = record { origins = r.origins; points = r.points; kept = r.kept; crossings = r.crossings; halfedges = r.halfedges };
+      prescribed = r.prescribed;
       few = r.few;
       within = r.within;
       lawful = c.halfedges.ensures.lawful;

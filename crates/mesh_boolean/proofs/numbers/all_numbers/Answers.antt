@@ -11,12 +11,14 @@ returns-clause-known g c =
     let few_p = c.twins.ensures.side.accepted.mesh.few_triples in
     let few_q = c.twins-2.ensures.side.accepted.mesh.few_triples in
     record {
-      w03 = ap length windings.w03 ∙ length-map p.corners _;
-      w30 = ap length windings.w30 ∙ length-map q.corners _;
-      w03_small = λ k d low. omega (arith, windings.p_size k d low, few_q);
-      w30_small = λ k d low. omega (arith, windings.q_size k d low, few_p);
-      x12 = hits.x12_listed;
-      x21 = hits.x21_listed;
+      fit = record {
+        w03 = ap length windings.w03 ∙ length-map p.corners _;
+        w30 = ap length windings.w30 ∙ length-map q.corners _;
+        w03_small = λ k d low. omega (arith, windings.p_size k d low, few_q);
+        w30_small = λ k d low. omega (arith, windings.q_size k d low, few_p);
+        x12 = hits.x12_listed;
+        x21 = hits.x21_listed;
+      };
       conserved = record { p_edges = windings.p_edge_identity; q_edges = windings.q_edge_identity; pairs = hits.pair_identity };
     }
 

@@ -27,15 +27,7 @@ returns-clause-prescribed g c =
     let made =
     is_prescribed (tests g c.args.kernels.now) c.args.op c.args.p.now c.args.q.now c.in_ok-prescribed.prescribed c.in_ok-prescribed.all
     c.in_ok-made.made c.in_ok-prescribed.ensures.assembled
-    (record {
-      points = c.in_ok-made.ensures.points;
-      triples = c.in_ok-made.ensures.triples;
-      from = c.in_ok-made.ensures.from;
-      back = c.in_ok-made.ensures.back;
-      prescribed = c.in_ok-made.ensures.prescribed;
-      source = c.in_ok-made.ensures.source;
-      forced = c.in_ok-made.ensures.forced;
-    }) in
+    c.in_ok-made.ensures in
     subst (IsPrescribed (tests g c.args.kernels.now) c.args.op c.args.p.now c.args.q.now) (sym c.in_ok-labelled.ensures) made
 
 pub returns-clause-faces : goal.returns-clause-faces
@@ -43,15 +35,7 @@ returns-clause-faces g c =
     let made =
     is_bounded (tests g c.args.kernels.now) c.args.op c.args.p.now c.args.q.now c.in_ok-prescribed.prescribed c.in_ok-prescribed.all
     c.in_ok-made.made c.in_ok-prescribed.ensures.assembled
-    (record {
-      points = c.in_ok-made.ensures.points;
-      triples = c.in_ok-made.ensures.triples;
-      from = c.in_ok-made.ensures.from;
-      back = c.in_ok-made.ensures.back;
-      prescribed = c.in_ok-made.ensures.prescribed;
-      source = c.in_ok-made.ensures.source;
-      forced = c.in_ok-made.ensures.forced;
-    }) in
+    c.in_ok-made.ensures in
     subst (IsBounded (tests g c.args.kernels.now) c.args.op c.args.p.now c.args.q.now) (sym c.in_ok-labelled.ensures) made
 
 pub returns-clause-filled : goal.returns-clause-filled
@@ -59,15 +43,7 @@ returns-clause-filled g c =
     let made =
     is_filled (tests g c.args.kernels.now) c.args.op c.args.p.now c.args.q.now c.in_ok-prescribed.prescribed c.in_ok-prescribed.all
     c.in_ok-made.made c.in_ok-prescribed.ensures.assembled
-    (record {
-      points = c.in_ok-made.ensures.points;
-      triples = c.in_ok-made.ensures.triples;
-      from = c.in_ok-made.ensures.from;
-      back = c.in_ok-made.ensures.back;
-      prescribed = c.in_ok-made.ensures.prescribed;
-      source = c.in_ok-made.ensures.source;
-      forced = c.in_ok-made.ensures.forced;
-    }) in
+    c.in_ok-made.ensures in
     subst (IsFilled (tests g c.args.kernels.now) c.args.op c.args.p.now c.args.q.now) (sym c.in_ok-labelled.ensures)
     (record { points = made.points; triples = made.triples; from = made.from; source = made.source; forced = made.forced })
 
@@ -75,15 +51,7 @@ pub labelled-requires-clause-count : goal.labelled-requires-clause-count
 labelled-requires-clause-count g c =
     (is_bounded (tests g c.args.kernels.now) c.args.op c.args.p.now c.args.q.now c.in_ok-prescribed.prescribed c.in_ok-prescribed.all
     c.in_ok-made.made c.in_ok-prescribed.ensures.assembled
-    (record {
-      points = c.in_ok-made.ensures.points;
-      triples = c.in_ok-made.ensures.triples;
-      from = c.in_ok-made.ensures.from;
-      back = c.in_ok-made.ensures.back;
-      prescribed = c.in_ok-made.ensures.prescribed;
-      source = c.in_ok-made.ensures.source;
-      forced = c.in_ok-made.ensures.forced;
-    })).each
+    c.in_ok-made.ensures).each
 
 pub returns-clause-labels : goal.returns-clause-labels
 returns-clause-labels g c =

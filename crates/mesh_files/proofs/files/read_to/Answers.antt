@@ -20,10 +20,10 @@ loop-have-preserved g c =
       within = omega (arith, e.within, inv.room);
       room = e.length ∙ inv.room;
       same = e.same ∙ inv.same;
-      files = e.files ∙ inv.files;
+      files = e.left.files ∙ inv.files;
       bytes = λ t. reads_on _ old new c.loop-have.have c.in_ok-count.count (subst Q inv.files (e.bytes (subst P (sym told) t))) (inv.bytes t);
-      stated = e.stated ∙ inv.stated;
-      spare = e.spare ∙ inv.spare;
+      stated = e.left.stated ∙ inv.stated;
+      spare = e.left.spare ∙ inv.spare;
     }
 
 pub returns-in_err-count-clause-meets : goal.returns-in_err-count-clause-meets

@@ -3,6 +3,7 @@ use Rattle.std.proofs.lemmas.Result.{err_from_is_err_and}
 use Rattle.mesh_terms.specs.Meshes.{triple_of}
 use Rattle.obj_terms.specs.Written.{face_line}
 use Rattle.mesh_writer.proofs.Passing.{passed-none, line_passed, line_stopped}
+use Rattle.mesh_writer.proofs.Written.{kept-same, kept-then}
 use Rattle.mesh_writer.proofs.obj.write_faces.Goals as goal
 
 pub loop-triple-init : goal.loop-triple-init
@@ -11,11 +12,7 @@ loop-triple-init g c = record {
   idle = λ none. (refl, refl);
   passed = passed-none c.args.page.now.items (g.K.Sink.told c.args.sink.now) (g.K.Sink.room c.args.sink.now);
   count = search rules;
-  other = search rules;
-  second = search rules;
-  rest = search rules;
-  loan = search rules;
-  other_spare = search rules;
+  kept = kept-same g.K.Sink c.args.sink.now;
 }
 
 pub loop-triple-preserved : goal.loop-triple-preserved
@@ -28,11 +25,7 @@ loop-triple-preserved g c =
       passed = line_passed (λ t. face_line (triple_of t)) c.args.triples.now c.loop-triple.triple-index []
           (get_or c.args.triples.now c.loop-triple.triple-index []) refl c.loop-triple-test.true _ _ _ _ _ _ _ _ _ _ inv.passed c.put_face.ensures e.passed;
       count = e.count.ok (search rules) ∙ inv.count;
-      other = e.other ∙ inv.other;
-      second = e.second ∙ inv.second;
-      rest = e.rest ∙ inv.rest;
-      loan = e.loan ∙ inv.loan;
-      other_spare = e.other_spare ∙ inv.other_spare;
+      kept = kept-then g.K.Sink _ _ _ inv.kept e.kept;
     }
 
 pub returns-in_err-send_full-clause-stopped : goal.returns-in_err-send_full-clause-stopped

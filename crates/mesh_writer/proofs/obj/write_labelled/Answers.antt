@@ -8,6 +8,7 @@ use Rattle.mesh_writer.specs.Faces.{lines_at}
 use Rattle.mesh_writer.specs.Passing.{PassedOn, StoppedOn}
 use Rattle.mesh_writer.proofs.LabelledFaces.{faces_at, next_before, put_both, stored_triple, as_many}
 use Rattle.mesh_writer.proofs.Passing.{passed-none, line_passed, line_stopped}
+use Rattle.mesh_writer.proofs.Written.{kept-same, kept-then}
 use Rattle.mesh_writer.proofs.obj.write_labelled.Goals as goal
 
 pub loop-place-init : goal.loop-place-init
@@ -17,11 +18,7 @@ loop-place-init g c = record {
   idle = λ none. (refl, refl);
   passed = passed-none c.args.page.now.items (g.K.Sink.told c.args.sink.now) (g.K.Sink.room c.args.sink.now);
   count = search rules;
-  other = search rules;
-  second = search rules;
-  rest = search rules;
-  loan = search rules;
-  other_spare = search rules;
+  kept = kept-same g.K.Sink c.args.sink.now;
 }
 
 pub put_change-requires-clause-same : goal.put_change-requires-clause-same
@@ -50,11 +47,7 @@ loop-place-preserved g c =
       passed = line_passed (lines_at mesh.labels mesh.triples) (upto (length mesh.triples)) place 0 place number
           (omega (arith, within, length-up_from 0 (length mesh.triples))) _ _ _ _ _ _ _ _ _ _ inv.passed both e.passed;
       count = e.count.ok (search rules) ∙ inv.count;
-      other = e.other ∙ inv.other;
-      second = e.second ∙ inv.second;
-      rest = e.rest ∙ inv.rest;
-      loan = e.loan ∙ inv.loan;
-      other_spare = e.other_spare ∙ inv.other_spare;
+      kept = kept-then g.K.Sink _ _ _ inv.kept e.kept;
     }
 
 pub returns-in_err-send_full-clause-stopped : goal.returns-in_err-send_full-clause-stopped

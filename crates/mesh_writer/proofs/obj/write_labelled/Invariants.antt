@@ -2,6 +2,7 @@ use Rattle.std.proofs.Common.{◌≡◌, ◌≤◌, length, take}
 use Rattle.std.specs.List.{flat_map}
 use Rattle.arrayvec.specs.ArrayVec.{array_vec_len}
 use Rattle.chain_terms.specs.Sums.{upto}
+use Rattle.mb_outside.specs.Sinks.{Kept}
 use Rattle.mesh_writer.specs.Faces.{label_before, lines_at}
 use Rattle.mesh_writer.specs.Passing.{Passed}
 use Rattle.mesh_writer.proofs.obj.write_labelled.Given as goal
@@ -14,9 +15,5 @@ invariant-loop-place g l = record {
   passed : Passed (flat_map (lines_at l.mesh.labels l.mesh.triples) (take l.place (upto (length l.mesh.triples)))) l.initial.page.items l.page.items
       (g.K.Sink.told l.initial.sink) (g.K.Sink.told l.sink) (g.K.Sink.room l.initial.sink) (g.K.Sink.room l.sink);
   count : g.K.Sink.faults l.sink ≡ g.K.Sink.faults l.initial.sink;
-  other : g.K.Sink.other l.sink ≡ g.K.Sink.other l.initial.sink;
-  second : g.K.Sink.second l.sink ≡ g.K.Sink.second l.initial.sink;
-  rest : g.K.Sink.rest l.sink ≡ g.K.Sink.rest l.initial.sink;
-  loan : g.K.Sink.loan l.sink ≡ g.K.Sink.loan l.initial.sink;
-  other_spare : g.K.Sink.other_spare l.sink ≡ g.K.Sink.other_spare l.initial.sink;
+  kept : Kept g.K.Sink l.initial.sink l.sink;
 }

@@ -6,6 +6,7 @@ use Rattle.obj_terms.specs.Written.{point_line, face_lines}
 use Rattle.mb_outside.specs.Sinks.{TakesPart}
 use Rattle.mesh_writer.proofs.Passing.{passed-then, stopped-then, stopped-longer, ended, ended_room, ended_in_part, last_fits, left_of}
 use Rattle.mesh_writer.proofs.LabelledFaces.{no_faces}
+use Rattle.mesh_writer.proofs.Written.{kept-then}
 use Rattle.mesh_writer.proofs.obj.write_obj.Goals as goal
 
 -- the text of a mesh by the points and the lines of its triangles
@@ -112,3 +113,10 @@ returns-clause-idle g c none =
     let points = c.in_ok-write_points.ensures.idle lists.0 in
     let triangles = c.in_ok-write_triangles.ensures.idle (no_faces [] mesh.labels mesh.triples lists.1) in
     c.write_all.ensures.idle (c.as_slice.ensures.value ∙ triangles.1 ∙ points.1 ∙ c.new-page.ensures) ∙ triangles.0 ∙ points.0
+
+pub returns-in_err-write_triangles-clause-kept : goal.returns-in_err-write_triangles-clause-kept
+returns-in_err-write_triangles-clause-kept g c = kept-then g.K.Sink _ _ _ c.in_ok-write_points.ensures.kept c.in_err-write_triangles.ensures.kept
+
+pub returns-clause-kept : goal.returns-clause-kept
+returns-clause-kept g c =
+    kept-then g.K.Sink _ _ _ (kept-then g.K.Sink _ _ _ c.in_ok-write_points.ensures.kept c.in_ok-write_triangles.ensures.kept) c.write_all.ensures.kept

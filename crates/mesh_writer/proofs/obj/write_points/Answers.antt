@@ -2,6 +2,7 @@ use Rattle.std.proofs.Common.{◌∙◌, refl, arith, rules}
 use Rattle.std.proofs.lemmas.Result.{err_from_is_err_and}
 use Rattle.obj_terms.specs.Written.{point_line}
 use Rattle.mesh_writer.proofs.Passing.{passed-none, line_passed, line_stopped}
+use Rattle.mesh_writer.proofs.Written.{kept-same, kept-then}
 use Rattle.mesh_writer.proofs.obj.write_points.Goals as goal
 
 pub loop-point-init : goal.loop-point-init
@@ -10,11 +11,7 @@ loop-point-init g c = record {
   idle = λ none. (refl, refl);
   passed = passed-none c.args.page.now.items (g.K.Sink.told c.args.sink.now) (g.K.Sink.room c.args.sink.now);
   count = search rules;
-  other = search rules;
-  second = search rules;
-  rest = search rules;
-  loan = search rules;
-  other_spare = search rules;
+  kept = kept-same g.K.Sink c.args.sink.now;
 }
 
 pub loop-point-preserved : goal.loop-point-preserved
@@ -27,11 +24,7 @@ loop-point-preserved g c =
       passed = line_passed (point_line c.args.digits) c.args.points.now c.loop-point.point-index c.point-item.result c.point-item.result c.point-item.is
           c.loop-point-test.true _ _ _ _ _ _ _ _ _ _ inv.passed c.put_point.ensures e.passed;
       count = e.count.ok (search rules) ∙ inv.count;
-      other = e.other ∙ inv.other;
-      second = e.second ∙ inv.second;
-      rest = e.rest ∙ inv.rest;
-      loan = e.loan ∙ inv.loan;
-      other_spare = e.other_spare ∙ inv.other_spare;
+      kept = kept-then g.K.Sink _ _ _ inv.kept e.kept;
     }
 
 pub returns-in_err-send_full-clause-stopped : goal.returns-in_err-send_full-clause-stopped

@@ -1,7 +1,6 @@
 use Rattle.std.proofs.Common.{◌≡◌, ◌++◌, ◌∙◌, List, [], ℤ, subst}
 use Rattle.std.proofs.lemmas.List.{get_or_default}
 use Rattle.stl_terms.specs.Written.{corner_line, corner_text}
-use Rattle.mesh_writer.specs.Passing.{Kept}
 use Rattle.mesh_writer.proofs.Written.{line-wrote, line-broke}
 use Rattle.mesh_writer.proofs.stl.write_corner.Goals as goal
 
@@ -11,15 +10,12 @@ put g c =
     let P : List ℤ → Type 0 = λ p. c.put_corner.new.page.items ≡ c.args.page.now.items ++ corner_text c.args.digits p in
     subst P (c.index-points-vertex.is ∙ get_or_default c.args.points.now c.args.vertex c.index-points-vertex.result [] c.requires.within) c.put_corner.ensures
 
-kept : (g : _) (c : goal.After-send_full g) → Kept g.K.Sink c.args.sink.now c.send_full.new.sink
-kept g c = let e = c.send_full.ensures in record { other = e.other; second = e.second; rest = e.rest; loan = e.loan; other_spare = e.other_spare }
-
 pub returns-clause-wrote : goal.returns-clause-wrote
 returns-clause-wrote g c =
     line-wrote g.K.Sink (corner_line c.args.digits c.args.points.now c.args.vertex) c.args.page.now.items c.put_corner.new.page.items c.args.sink.now c.send_full.new.sink
-    (put g c) (kept g c) c.send_full.new.page.items c.send_full.result c.send_full.ensures.passed c.send_full.ensures.count
+    (put g c) c.send_full.ensures.kept c.send_full.new.page.items c.send_full.result c.send_full.ensures.passed c.send_full.ensures.count
 
 pub returns-clause-broke : goal.returns-clause-broke
 returns-clause-broke g c =
     line-broke g.K.Sink (corner_line c.args.digits c.args.points.now c.args.vertex) c.args.page.now.items c.put_corner.new.page.items c.args.sink.now c.send_full.new.sink
-    (put g c) (kept g c) c.send_full.result c.send_full.ensures.stopped c.send_full.ensures.count
+    (put g c) c.send_full.ensures.kept c.send_full.result c.send_full.ensures.stopped c.send_full.ensures.count

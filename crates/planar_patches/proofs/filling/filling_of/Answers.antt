@@ -60,7 +60,7 @@ pub at_vertices-requires : goal.at_vertices-requires
 at_vertices-requires c =
     let points_is = c.deref-5.ensures.value ∙ c.in_ok-points.ensures in
     let many = ap length points_is ∙ length-map c.deref-2.result.now (point_at c.points.result.now) ∙ ap length (c.deref-2.ensures.value ∙ sym c.deref-6.ensures.value) in
-    subst (λ n. All (IsBelow n) c.in_ok-filled.filled.triples) many c.in_ok-filled.ensures.below
+    subst (λ n. All (IsBelow n) c.in_ok-filled.filled.triples) many c.in_ok-filled.ensures.proper.below
 
 pub returns-clause-triples : goal.returns-clause-triples
 returns-clause-triples c =

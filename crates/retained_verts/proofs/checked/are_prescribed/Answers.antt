@@ -30,7 +30,7 @@ pub returns-then-not-has_counts : goal.returns-then-not-has_counts
 returns-then-not-has_counts c =
     let n = numbers c.args.windings.now c.args.hits.now in
     let all = counted (goal.at.returns-then-not-has_counts c).After-count-counts in
-    let has = have_counts c.args.op c.args.p.now c.args.q.now n c.args.prescribed.now c.count-counts.result c.requires.w03 c.requires.w30 all in (
+    let has = have_counts c.args.op c.args.p.now c.args.q.now n c.args.prescribed.now c.count-counts.result c.requires.fit.w03 c.requires.fit.w30 all in (
       (λ e. absurd (false≢true e)),
       (λ is. absurd (false≢true (sym c.if-not-has_counts.true ∙ c.has_counts.ensures.1 (has is)))),
     )

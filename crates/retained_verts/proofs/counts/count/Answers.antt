@@ -6,10 +6,10 @@ use Rattle.retained_verts.proofs.Bounds.{few_between}
 use Rattle.retained_verts.proofs.counts.count.Goals as goal
 
 pub kept-p_kept-requires-clause-few : goal.kept-p_kept-requires-clause-few
-kept-p_kept-requires-clause-few c = omega (arith, c.deref.ensures.len, ap length c.deref.ensures.value, c.requires.w03, c.triples-p_triples.ensures.side.accepted.mesh.few_points)
+kept-p_kept-requires-clause-few c = omega (arith, c.deref.ensures.len, ap length c.deref.ensures.value, c.requires.fit.w03, c.triples-p_triples.ensures.side.accepted.mesh.few_points)
 
 pub kept-q_kept-requires-clause-few : goal.kept-q_kept-requires-clause-few
-kept-q_kept-requires-clause-few c = omega (arith, ap length c.deref-2.ensures.value, c.requires.w30, c.triples-q_triples.ensures.side.accepted.mesh.few_points)
+kept-q_kept-requires-clause-few c = omega (arith, ap length c.deref-2.ensures.value, c.requires.fit.w30, c.triples-q_triples.ensures.side.accepted.mesh.few_points)
 
 pub hit_count-requires-clause-few : goal.hit_count-requires-clause-few
 hit_count-requires-clause-few c =
@@ -17,7 +17,7 @@ hit_count-requires-clause-few c =
       arith,
       ap length c.deref-3.ensures.value,
       few_between c.args.p.now c.args.q.now c.args.hits.now.x12.items c.triples-p_triples.ensures.side
-          c.triples-q_triples.ensures.side c.requires.x12,
+          c.triples-q_triples.ensures.side c.requires.fit.x12,
     )
 
 pub hit_count-requires-2-clause-few : goal.hit_count-requires-2-clause-few
@@ -26,7 +26,7 @@ hit_count-requires-2-clause-few c =
       arith,
       ap length c.deref-4.ensures.value,
       few_between c.args.q.now c.args.p.now c.args.hits.now.x21.items c.triples-q_triples.ensures.side
-          c.triples-p_triples.ensures.side c.requires.x21,
+          c.triples-p_triples.ensures.side c.requires.fit.x21,
     )
 
 pub returns-clause-halfedges : goal.returns-clause-halfedges

@@ -21,12 +21,12 @@ listed-requires-clause-counts c =
 pub returns-clause-two_lists : goal.returns-clause-two_lists
 returns-clause-two_lists c =
     stand_in_lists c.args.op c.args.p.now c.args.q.now (numbers c.args.windings.now c.args.hits.now) c.corners.ensures.side c.corners-2.ensures.side
-    c.requires.x12 c.requires.x21
+    c.requires.fit.x12 c.requires.fit.x21
 
 pub returns-clause-balance : goal.returns-clause-balance
 returns-clause-balance c kept =
-    balanced c.args.op c.args.p.now c.args.q.now (numbers c.args.windings.now c.args.hits.now) c.corners.ensures.side c.corners-2.ensures.side c.requires.x12
-    c.requires.x21 kept
+    balanced c.args.op c.args.p.now c.args.q.now (numbers c.args.windings.now c.args.hits.now) c.corners.ensures.side c.corners-2.ensures.side c.requires.fit.x12
+    c.requires.fit.x21 kept
 
 pub returns-clause-all : goal.returns-clause-all
 returns-clause-all c =
@@ -36,7 +36,7 @@ returns-clause-all c =
       arith,
       ap length e.origins,
       length-map all (λ k. k.origin),
-      all_copies_counted c.args.op c.args.p.now c.args.q.now (numbers c.args.windings.now c.args.hits.now) c.requires.w03 c.requires.w30,
+      all_copies_counted c.args.op c.args.p.now c.args.q.now (numbers c.args.windings.now c.args.hits.now) c.requires.fit.w03 c.requires.fit.w30,
       ap (λ k. slice_index k 0) e.kept,
       ap (λ k. slice_index k 1) e.kept,
       e.crossings,
@@ -51,8 +51,8 @@ returns-clause-few c =
       arith,
       ap length e.origins,
       length-map all (λ k. k.origin),
-      all_copies_counted c.args.op c.args.p.now c.args.q.now n c.requires.w03 c.requires.w30,
-      few_copies c.args.op c.args.p.now c.args.q.now n c.corners.ensures.side c.corners-2.ensures.side c.requires.w03 c.requires.w30,
+      all_copies_counted c.args.op c.args.p.now c.args.q.now n c.requires.fit.w03 c.requires.fit.w30,
+      few_copies c.args.op c.args.p.now c.args.q.now n c.corners.ensures.side c.corners-2.ensures.side c.requires.fit.w03 c.requires.fit.w30,
       e.halfedges,
     )
 
@@ -60,4 +60,4 @@ pub returns-clause-all_starts : goal.returns-clause-all_starts
 returns-clause-all_starts c =
     c.in_ok-listed.ensures.halfedges
     ∙ all_starts c.args.op c.args.p.now c.args.q.now (numbers c.args.windings.now c.args.hits.now) c.corners.ensures.side c.corners-2.ensures.side
-    c.requires.w03 c.requires.w30 c.requires.x12 c.requires.x21
+    c.requires.fit.w03 c.requires.fit.w30 c.requires.fit.x12 c.requires.fit.x21

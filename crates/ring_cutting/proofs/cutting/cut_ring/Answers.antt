@@ -1,12 +1,11 @@
-use Rattle.std.proofs.Common.{◌≡◌, ◌+◌, ◌≤◌, ℕ, Result, Ok, Err, length, sym, subst}
+use Rattle.std.proofs.Common.{◌≡◌, ◌+◌, ◌≤◌, Result, Ok, Err, length, sym, subst}
 use Rattle.std.specs.Prelude.{IfOk}
 use Rattle.std.specs.List.{All}
-use Rattle.chain_terms.specs.Chains.{all_edges, boundary}
+use Rattle.chain_terms.specs.Chains.{all_edges}
 use Rattle.chain_laws.specs.Chains.{boundary_same}
 use Rattle.chain_terms.specs.Sums.{total}
-use Rattle.chain_terms.specs.Odd.{SameChain}
 use Rattle.chain_terms.specs.Paths.{round_edges}
-use Rattle.mesh_terms.specs.Meshes.{HasThree, IsBelow}
+use Rattle.face_plane.specs.Keeping.{AreProper, KeepsChain}
 use Rattle.face_plane.specs.Planes.{Plane, area, face_plane, orient}
 use Rattle.ring_cutting.specs.Cuts.{Cut, cut_ring}
 use Rattle.ring_cutting.specs.Laws.{TurnsLeft, IsCutting}
@@ -27,7 +26,7 @@ made : (c : goal.After-cut_ring_long_from) → IfOk c.cut_ring_long_from.result 
 made c = c.cut_ring_long_from.ensures
 
 laws : (c : goal.After-cut_ring_long_from) → IsCutting (plane_at c) c.args.ring (cut_ring (plane_at c) c.args.ring)
-laws c = cutting (plane_at c) c.args.ring c.requires.ringy
+laws c = cutting (plane_at c) c.args.ring c.requires.ring.ringy
 
 pub returns-clause-value : goal.returns-clause-value
 returns-clause-value c = made c
@@ -36,16 +35,11 @@ pub returns-clause-count : goal.returns-clause-count
 returns-clause-count c =
     of_made (cut_ring (plane_at c) c.args.ring) (λ f. length f.triples + 2 ≡ length c.args.ring) c.cut_ring_long_from.result (laws c).count (made c)
 
-pub returns-clause-chain : goal.returns-clause-chain
-returns-clause-chain c =
-    of_made (cut_ring (plane_at c) c.args.ring) (λ f. SameChain (all_edges f.triples) (round_edges c.args.ring)) c.cut_ring_long_from.result
-    (laws c).chain (made c)
-
-pub returns-clause-boundary : goal.returns-clause-boundary
-returns-clause-boundary c =
+pub returns-clause-keeps : goal.returns-clause-keeps
+returns-clause-keeps c =
     let whole = cut_ring (plane_at c) c.args.ring in
-    of_made whole (λ f. (a b : ℕ) → boundary (all_edges f.triples) a b ≡ boundary (round_edges c.args.ring) a b) c.cut_ring_long_from.result
-    (boundary_same (all_edges whole.triples) (round_edges c.args.ring) (laws c).chain) (made c)
+    of_made whole (λ f. KeepsChain (all_edges f.triples) (round_edges c.args.ring)) c.cut_ring_long_from.result
+    (record { boundary = boundary_same (all_edges whole.triples) (round_edges c.args.ring) (laws c).chain; chain = (laws c).chain }) (made c)
 
 pub returns-clause-areas : goal.returns-clause-areas
 returns-clause-areas c =
@@ -53,14 +47,11 @@ returns-clause-areas c =
     of_made whole (λ f. total (λ t. orient (plane_at c) t.0 t.1 t.2) f.triples ≡ area (plane_at c) c.args.ring) c.cut_ring_long_from.result
     (areas (plane_at c) c.args.ring whole.triples (laws c).chain) (made c)
 
-pub returns-clause-three : goal.returns-clause-three
-returns-clause-three c = of_made (cut_ring (plane_at c) c.args.ring) (λ f. All HasThree f.triples) c.cut_ring_long_from.result (laws c).three (made c)
-
-pub returns-clause-below : goal.returns-clause-below
-returns-clause-below c =
+pub returns-clause-proper : goal.returns-clause-proper
+returns-clause-proper c =
     let whole = cut_ring (plane_at c) c.args.ring in
-    of_made whole (λ f. All (IsBelow (length c.args.points.now)) f.triples) c.cut_ring_long_from.result
-    (below_of (length c.args.points.now) c.args.ring whole.triples c.requires.below (laws c).of) (made c)
+    of_made whole (λ f. AreProper (length c.args.points.now) f.triples) c.cut_ring_long_from.result
+    (record { three = (laws c).three; below = below_of (length c.args.points.now) c.args.ring whole.triples c.requires.ring.below (laws c).of }) (made c)
 
 pub returns-clause-most : goal.returns-clause-most
 returns-clause-most c =

@@ -39,7 +39,7 @@ loop-left-preserved c =
     let next = c.in_ok-next.next in
     let i = next.place in
     let four : 4 ≤ l.left = omega (arith, c.loop-left-test.true) in
-    let here = c.in_ok-next.ensures.living in
+    let here = c.in_ok-next.ensures.next.living in
     let counted : IsCounted l.forced c.if-next.forced next.forced = elim c.if-next.branch as (λ _. IsCounted l.forced c.if-next.forced next.forced) [
       | then-next w ↦ counted_true l.forced c.if-next.forced next.forced w.if-next.true w.forced-is
       | else-next w ↦ counted_false l.forced c.if-next.forced next.forced w.if-next.false w.forced-is
@@ -50,7 +50,7 @@ loop-left-preserved c =
     record {
       keeps = long_on ps l.links.after.items l.links.before.items new.after.items new.before.items bs new.living.items l.doubts.doubtful
           c.cut_out.new.doubts.doubtful l.doubts.waiting.items c.cut_out.new.doubts.waiting.items
-          l.first c.first_without-first.result l.left l.forced c.if-next.forced i next.forced h four here c.in_ok-next.ensures.allowed
+          l.first c.first_without-first.result l.left l.forced c.if-next.forced i next.forced h four here c.in_ok-next.ensures.next.allowed
           c.in_ok-cut_out.ensures.living
           (subst (λ (n : ℕ). IsLinked n new.after.items new.before.items new.living.items) c.in_ok-next.ensures.settled.many
           c.in_ok-cut_out.ensures.linked)
@@ -62,7 +62,7 @@ loop-left-preserved c =
           way_on at ps l.links.after.items l.links.before.items bs new.living.items l.doubts.doubtful l.doubts.waiting.items l.first l.left
           l.forced c.if-next.forced i next.forced l.triples.items c.push.new.self.items c.triple_at.result
           h four here c.in_ok-cut_out.ensures.living way
-          (record { place = c.in_ok-next.ensures.place at way.placed; forced = c.in_ok-next.ensures.forced at way.placed })
+          (record { place = c.in_ok-next.ensures.next.place at way.placed; forced = c.in_ok-next.ensures.next.forced at way.placed })
           c.triple_at.ensures c.in_ok-push.ensures.items counted;
     }
 
@@ -97,7 +97,7 @@ cut_out-requires-clause-apart c =
     let h = c.loop-left.invariant.keeps in
     let links = c.loop-left.links in
     let i = c.in_ok-next.next.place in
-    let here = c.in_ok-next.ensures.living in
+    let here = c.in_ok-next.ensures.next.living in
     after_apart c.args.places.now links.living.items i (after_of links.after.items i) h.linked.living_long here (h.linked.goes i here)
     (omega (arith, c.loop-left-test.true, h.count))
 
@@ -105,3 +105,8 @@ pub goes_left-requires-clause-living : goal.goes_left-requires-clause-living
 goes_left-requires-clause-living c =
     let h = c.loop-left.invariant.keeps in
     subst (λ (k : ℕ). lives c.loop-left.links.living.items k ≡ true) (sym c.after-middle.ensures) (h.linked.goes c.loop-left.first h.stays).stays
+
+pub choose-requires-clause-first : goal.choose-requires-clause-first
+choose-requires-clause-first c =
+    let h = c.loop-left.invariant.keeps in
+    record { linked = h.linked; ringy = h.ringy; more = omega (arith, c.loop-left-test.true, h.count); stays = h.stays; least = h.least }

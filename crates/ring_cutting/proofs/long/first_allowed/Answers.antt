@@ -12,7 +12,7 @@ walked c =
     c.loop-i.invariant.living c.loop-i.invariant.none (sym c.may_go.ensures ∙ c.loop-i-test.true) c.after-i.ensures
 
 pub loop-i-init : goal.loop-i-init
-loop-i-init c = record { living = c.requires.first; none = λ m l less. absurd (omega (arith, c.requires.least m l, less)) }
+loop-i-init c = record { living = c.requires.stays; none = λ m l less. absurd (omega (arith, c.requires.least m l, less)) }
 
 pub loop-i-preserved : goal.loop-i-preserved
 loop-i-preserved c = let w = walked c in record { living = w.living; none = w.none }

@@ -30,7 +30,7 @@ kept_few : (c : After-given_have_segments) →
     (numbers c.args.windings.now c.args.hits.now) ≤ most_points
 kept_few c =
     let given = c.requires.given in
-    let all = all_copies_counted c.args.op c.args.p.now c.args.q.now (numbers c.args.windings.now c.args.hits.now) given.w03 given.w30 in
+    let all = all_copies_counted c.args.op c.args.p.now c.args.q.now (numbers c.args.windings.now c.args.hits.now) given.fit.w03 given.fit.w30 in
     let p = ap (λ k. slice_index k 0) given.kept in
     let q = ap (λ k. slice_index k 1) given.kept in
     omega (arith, given.few, all, p, q)

@@ -1,11 +1,11 @@
 use Rattle.std.proofs.Common.{◌≡◌, ◌≤◌, ℕ, List, Result, Ok, Err, length, sym, ap, subst, ◌∙◌, arith}
 use Rattle.std.specs.Prelude.{IfOk}
 use Rattle.std.specs.List.{All, flat_map}
-use Rattle.chain_terms.specs.Chains.{all_edges, boundary}
+use Rattle.chain_terms.specs.Chains.{all_edges}
 use Rattle.chain_laws.specs.Chains.{boundary_same}
 use Rattle.chain_terms.specs.Odd.{SameChain}
 use Rattle.chain_terms.specs.Paths.{round_edges}
-use Rattle.mesh_terms.specs.Meshes.{HasThree, IsBelow}
+use Rattle.face_plane.specs.Keeping.{AreProper, KeepsChain}
 use Rattle.face_plane.specs.Planes.{Plane, face_plane}
 use Rattle.hole_joining.specs.Holes.{is_hole}
 use Rattle.hole_joining.specs.Laws.{settled_in}
@@ -48,7 +48,7 @@ made c =
     subst (λ (at : Plane). IfOk c.cut_all.result (λ f. f ≡ cuts at (rings_of c))) plane c.cut_all.ensures
 
 laws : (c : goal.After-cut_all) → AreCuttings (plane_at c) (length c.args.points.now) (rings_of c) (cuts (plane_at c) (rings_of c))
-laws c = cuttings (plane_at c) (length c.args.points.now) (rings_of c) c.in_ok-joined.ensures.ringy c.in_ok-joined.ensures.below
+laws c = cuttings (plane_at c) (length c.args.points.now) (rings_of c) c.in_ok-joined.ensures.proper.ringy c.in_ok-joined.ensures.proper.below
 
 pub returns-clause-value : goal.returns-clause-value
 returns-clause-value c =
@@ -68,18 +68,14 @@ returns-clause-count c =
 
 -- the triangles have the chain of the loops
 chained : (c : goal.After-cut_all) → SameChain (all_edges (cuts (plane_at c) (rings_of c)).triples) (flat_map round_edges c.args.loops.now)
-chained c = λ f odd. (laws c).chain f odd ∙ c.in_ok-joined.ensures.chain f odd
+chained c = λ f odd. (laws c).chain f odd ∙ c.in_ok-joined.ensures.keeps.chain f odd
 
-pub returns-clause-chain : goal.returns-clause-chain
-returns-clause-chain c =
-    of_made (cuts (plane_at c) (rings_of c)) (λ f. SameChain (all_edges f.triples) (flat_map round_edges c.args.loops.now)) c.cut_all.result (chained c) (made c)
-
-pub returns-clause-boundary : goal.returns-clause-boundary
-returns-clause-boundary c =
+pub returns-clause-keeps : goal.returns-clause-keeps
+returns-clause-keeps c =
     let loops = c.args.loops.now in
     let whole = cuts (plane_at c) (rings_of c) in
-    of_made whole (λ f. (a b : ℕ) → boundary (all_edges f.triples) a b ≡ boundary (flat_map round_edges loops) a b) c.cut_all.result
-    (boundary_same (all_edges whole.triples) (flat_map round_edges loops) (chained c)) (made c)
+    of_made whole (λ f. KeepsChain (all_edges f.triples) (flat_map round_edges loops)) c.cut_all.result
+    (record { boundary = boundary_same (all_edges whole.triples) (flat_map round_edges loops) (chained c); chain = chained c }) (made c)
 
 pub returns-clause-areas : goal.returns-clause-areas
 returns-clause-areas c =
@@ -87,11 +83,10 @@ returns-clause-areas c =
     let whole = cuts (plane_at c) (rings_of c) in
     of_made whole (λ f. HasAreas (plane_at c) loops f.triples) c.cut_all.result (areas (plane_at c) loops whole.triples (chained c)) (made c)
 
-pub returns-clause-three : goal.returns-clause-three
-returns-clause-three c = of_made (cuts (plane_at c) (rings_of c)) (λ f. All HasThree f.triples) c.cut_all.result (laws c).three (made c)
-
-pub returns-clause-below : goal.returns-clause-below
-returns-clause-below c = of_made (cuts (plane_at c) (rings_of c)) (λ f. All (IsBelow (length c.args.points.now)) f.triples) c.cut_all.result (laws c).below (made c)
+pub returns-clause-proper : goal.returns-clause-proper
+returns-clause-proper c =
+    of_made (cuts (plane_at c) (rings_of c)) (λ f. AreProper (length c.args.points.now) f.triples) c.cut_all.result
+    (record { three = (laws c).three; below = (laws c).below }) (made c)
 
 pub returns-clause-most : goal.returns-clause-most
 returns-clause-most c = of_made (cuts (plane_at c) (rings_of c)) (λ f. f.forced ≤ length f.triples) c.cut_all.result (laws c).most (made c)
