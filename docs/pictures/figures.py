@@ -165,6 +165,57 @@ def shadow_of_face(folder):
     f.save(folder, "shadow_face.svg")
 
 
+def apex(folder):
+    """The triangles of an apex and the edges of a loop, in a plane: those that turn left, those that turn right, and both."""
+    f = Figure(760, 330)
+    o = (60, 290)
+    loop = [(150, 130), (300, 215), (235, 60)]
+
+    def turn(a, b):
+        return (a[0] - o[0]) * (b[1] - o[1]) - (a[1] - o[1]) * (b[0] - o[0])
+
+    inside, outside = (235, 130), (165, 205)
+    for left, words, wanted in ((0, "turn left: 1", True), (240, "turns right: -1", False), (480, "together: inside 1, outside 0", None)):
+        moved = lambda at: (at[0] + left - 30, at[1])
+        for a, b in zip(loop, loop[1:] + loop[:1]):
+            left_turn = turn(a, b) < 0
+            if wanted is None or left_turn == wanted:
+                colour = GOOD if left_turn else BAD
+                if wanted is not None:
+                    f.line([moved(o), moved(a), moved(b)], colour, 1, "", "#e3f0e3" if left_turn else "#f8dddd", True)
+        outline(f, [moved(at) for at in loop], P)
+        for at in loop if wanted is None else ():
+            f.line([moved(o), moved(at)], SOFT, 1, "3 4")
+        f.dot(moved(o))
+        f.text((moved(o)[0] - 14, moved(o)[1] + 4), "o", INK, 16)
+        for at, name in ((inside, "p"), (outside, "q")):
+            f.dot(moved(at))
+            f.text((moved(at)[0] + 12, moved(at)[1] + 5), name, INK, 16)
+        f.text((moved((170, 0))[0], 24), words, INK, 15, bold=True)
+    f.text((380, 320), "In space these are tetrahedra of the apex and the faces.", SOFT, 13)
+    f.save(folder, "apex.svg")
+
+
+def hair(folder):
+    f = Figure(760, 240)
+    f.text((190, 24), "where it lies", size=15, bold=True)
+    f.text((560, 24), "where it counts", size=15, bold=True)
+    for left, shift in ((0, 0), (370, 1)):
+        a, b, c = (60 + left, 200), (330 + left, 160), (150 + left, 50)
+        f.line([a, b, c], Q, 2, "", "#f6ead9", True)
+        on = ((a[0] + c[0]) / 2, (a[1] + c[1]) / 2)
+        at = (on[0] + 58 * shift, on[1] - 16 * shift)
+        if shift:
+            f.arrow(on, (on[0] + 58, on[1]), SOFT, 1.2)
+            f.arrow((on[0] + 58, on[1]), at, SOFT, 1.2)
+            f.text((on[0] + 30, on[1] + 18), "x", SOFT, 13)
+            f.text((on[0] + 68, on[1] - 2), "y", SOFT, 13)
+        f.dot(at, P)
+        f.text((at[0] - 14 + 28 * shift, at[1] - 6), "p", P, 16)
+    f.text((380, 228), "On an edge p counts as moved by a hair in x, by a lesser one in y, and by a still lesser one in z, out of the plane.", SOFT, 13)
+    f.save(folder, "hair.svg")
+
+
 def tie(folder):
     f = Figure(760, 240)
     for left, name, out, words in (
@@ -305,6 +356,6 @@ def printer(folder, before, after):
 if __name__ == "__main__":
     if len(sys.argv) != 4:
         sys.exit(__doc__)
-    for figure in (winding, shadow_of_edge, shadow_of_face, tie, pairing, filling, pinching):
+    for figure in (winding, shadow_of_edge, shadow_of_face, apex, hair, tie, pairing, filling, pinching):
         figure(sys.argv[1])
     printer(*sys.argv[1:])

@@ -54,7 +54,7 @@ lawful_under Grid = grid_rule nearest nearest_stays
 lawful_under Exact = exact_rule nearest nearest_stays
 
 -- a mark for each point
-length-leans : (op : Op) (m : Mesh) → length (leans_of op m) ≡ length m.points
+pub length-leans : (op : Op) (m : Mesh) → length (leans_of op m) ≡ length m.points
 length-leans op m =
     length-map (normals_of m.points m.triples) (map (is_up op))
     ∙ length-map (upto (length m.points)) (vertex_normal m.points m.triples) ∙ length-up_from 0 (length m.points)

@@ -1,0 +1,2 @@
+pub mod Geometric
+pub mod Laws

@@ -1,0 +1,13 @@
+pub mod Apex
+pub mod Bounds
+pub mod Boxes
+pub mod Clear
+pub mod Faces
+pub mod Laws
+pub mod Meshes
+pub mod Mirror
+pub mod Moved
+pub mod Scaled
+pub mod Sights
+pub mod Tetrahedra
+pub mod Windings

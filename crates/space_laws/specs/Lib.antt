@@ -1,0 +1,14 @@
+pub mod Across
+pub mod Balance
+pub mod Crossed
+pub mod Edges
+pub mod Fifth
+pub mod Fives
+pub mod Hair
+pub mod Lexical
+pub mod Met
+pub mod Passes
+pub mod Places
+pub mod Space
+pub mod Unmet
+pub mod Volumes
