@@ -6,7 +6,7 @@ import os, subprocess, sys
 sys.path.insert(0, os.path.dirname(os.path.abspath(__file__)))
 import shapes
 
-PROGRAM = sys.argv[1] if len(sys.argv) > 1 else "bin/manifold_tool"
+PROGRAM = sys.argv[1] if len(sys.argv) > 1 else "bin/manifold_tool" if os.path.exists("bin/manifold_tool") else "manifold_tool"
 SPOKES = 5
 
 

@@ -7,7 +7,7 @@ Shapes, which stand on z = 0 or round the origin; SIDES is the number of sides o
   sphere RADIUS SIDES                  torus RADIUS TUBE SIDES TUBE_SIDES
   revolve SIDES R,Z R,Z ..             an outline beside the axis z, turned round it; R is 0 or more
   extrude HEIGHT X,Y X,Y ..            an outline that does not cross itself, made HEIGHT high
-  text WORDS SIZE HEIGHT               block letters, SIZE from foot to head: A to Z, 0 to 9, + - . : and blanks
+  text WORDS SIZE HEIGHT               block letters, SIZE from foot to head: A to Z, 0 to 9, + - . : and blanks; a to z are drawn as capitals
   read FILE.obj                        a mesh that is there, without its groups
 Motions, as many as wanted, each after the one before:
   shift X Y Z      turn AXIS DEGREES (x, y or z)      turn X,Y,Z DEGREES (any axis through the origin)      scale FACTOR or X,Y,Z

@@ -22,7 +22,7 @@ use Rattle.solid_laws.specs.Windings.{places_of, winding_is_solid, winding_back_
 use Rattle.assembly_terms.specs.PointLaws.{corners_points}
 use Rattle.assembly_terms.specs.Points.{points_of}
 use Rattle.assembly_terms.specs.Prescribed.{copies_of, p_number, q_number}
-use Rattle.made_laws.specs.Laws.{IsGiven}
+use Rattle.mesh_terms.specs.Given.{IsGiven}
 use Rattle.mesh_boolean.specs.Operation.{first_side, numbers_of, operation, reduced_mesh, second_side}
 use Rattle.play_laws.proofs.Readable.{within_of_readable}
 use Rattle.play_laws.proofs.ScriptsReadingBack.{steps_keep}

@@ -8,7 +8,7 @@ use Rattle.run_terms.specs.Files.{Bytes, Files}
 use Rattle.shadow_kernels.specs.Spots.{Between}
 use Rattle.edge_face.specs.Crossings.{Settle}
 use Rattle.exact_kernels.specs.Exact.{exact}
-use Rattle.made_laws.specs.Laws.{IsGiven}
+use Rattle.mesh_terms.specs.Given.{IsGiven}
 use Rattle.play_terms.specs.Plays.{State, at_first, mesh_at, steps_task}
 use Rattle.play_terms.specs.Sound.{HavePlaces}
 use Rattle.play_terms.specs.Steps.{Line}
