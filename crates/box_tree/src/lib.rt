@@ -6,6 +6,7 @@ mod boxes;
 mod common_point;
 mod extent;
 mod keys;
+mod near;
 mod nodes;
 mod order;
 #[cfg(test)]
@@ -17,6 +18,7 @@ mod walk;
 pub use bounds::{Bounds, Range};
 pub use boxes::Boxes;
 pub use common_point::touch;
+pub use near::{find_few, find_near};
 pub use touching::Touching;
 pub use tree::Tree;
 

@@ -10,7 +10,7 @@ use crate::grammar::parse;
 use crate::values::{coordinate, digits_from};
 use clap::ArgMatches;
 use mb_base::{ArgList, NoMemory, Point};
-use mesh_names::is_mesh_name;
+use play_terms::is_mesh_name;
 use std::alloc::Global;
 
 /// A command with its operands.

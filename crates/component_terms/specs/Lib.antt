@@ -1,2 +1,3 @@
 pub mod Components
 pub mod Counts
+pub mod Laws

@@ -12,9 +12,9 @@ use Rattle.mesh_terms.specs.Points.{coordinate_of}
 use Rattle.outline_pair_terms.specs.Lists.{FlatCopy, FlatIncluded, OfBoth, OfP, OfQ, constant, copy_count, flat_copies, flat_copies_of, hits_included, p_included, q_included}
 use Rattle.outline_pair_terms.specs.declared.FlatHit.{FlatHit}
 use Rattle.outline_pair_terms.specs.Numbers.{FlatNumbers}
-use Rattle.outline_pair_laws.specs.Laws.{IsOfBoth}
-use Rattle.outline_pair_laws.proofs.Exchange.{all_upto}
-use Rattle.outline_pair_laws.proofs.Prescribed.{all_copies, copy_from}
+use Rattle.outline_pair_terms.specs.Laws.{IsOfBoth}
+use Rattle.outline_pair_terms.proofs.Exchange.{all_upto}
+use Rattle.outline_pair_terms.proofs.Prescribed.{all_copies, copy_from}
 use Rattle.outline_terms.specs.Outlines.{IsOutline, Outline, outline_edges}
 use Rattle.cross_section.specs.Copies.{AreNumbers, by_sign, hit_number, repeated, vertex_number}
 use Rattle.cross_section.specs.declared.operand.Operand.{Operand}

@@ -7,10 +7,10 @@ use Rattle.chain_terms.specs.Sums.{upto}
 use Rattle.places_by_key.specs.Buckets.{places_of}
 use Rattle.mb_base.specs.declared.op.Op.{Op}
 use Rattle.outlines.proofs.Written.{values_long}
-use Rattle.standings.specs.Standings.{AreEven}
-use Rattle.outline_laws.proofs.Once.{edge_ends}
-use Rattle.outline_pair_laws.proofs.Even.{are_even}
-use Rattle.outline_pair_laws.proofs.Exchange.{all_upto}
+use Rattle.face_loops.specs.Standings.{AreEven}
+use Rattle.outline_terms.proofs.Once.{edge_ends}
+use Rattle.outline_pair_terms.proofs.Even.{are_even}
+use Rattle.outline_pair_terms.proofs.Exchange.{all_upto}
 use Rattle.outline_pair_terms.specs.Lists.{flat_copies, flat_lists, flat_segments, flat_standing}
 use Rattle.outline_pair_terms.specs.Numbers.{FlatNumbers}
 use Rattle.outline_terms.specs.Outlines.{IsOutline, Outline, outline_edges}

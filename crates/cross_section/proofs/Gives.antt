@@ -13,9 +13,9 @@ use Rattle.mb_base.specs.declared.fault.Counted.TheVariants.{Points}
 use Rattle.mb_base.specs.declared.op.Op.{Op}
 use Rattle.mesh_terms.specs.Limits.{Limits}
 use Rattle.mesh_terms.specs.Points.{coordinate_of}
-use Rattle.outline_laws.proofs.Edges.{edges_long}
-use Rattle.outline_pair_laws.proofs.Prescribed.{IsHit, all_hits}
-use Rattle.outline_pair_laws.proofs.Whole.{conserved, each_whole, loops_whole, once_whole, p_corners, q_corners}
+use Rattle.outline_terms.proofs.Edges.{edges_long}
+use Rattle.outline_pair_terms.proofs.Prescribed.{IsHit, all_hits}
+use Rattle.outline_pair_terms.proofs.Whole.{conserved, each_whole, loops_whole, once_whole, p_corners, q_corners}
 use Rattle.outline_pair_terms.specs.Lists.{copy_count, flat_copies, flat_segments, hits_included, p_included, q_included}
 use Rattle.outline_pair_terms.specs.declared.FlatHit.{FlatHit}
 use Rattle.outline_pair_terms.specs.Numbers.{FlatNumbers, FlatTests, LiftEdges, edge_at, ends_of, flat_hit, flat_hits_along, flat_numbers, flat_winding, flat_winding_back, p_flat, q_flat}

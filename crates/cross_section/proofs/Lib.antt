@@ -4,8 +4,17 @@ pub mod Given
 pub mod Gives
 pub mod Joined
 pub mod Kept
+pub mod KeptNumbers
+pub mod Level
 pub mod Listed
+pub mod NearHits
+pub mod NearSums
+pub mod Neighbours
 pub mod Placed
+pub mod Points
 pub mod Segmented
+pub mod SideNumbers
 pub mod Sizes
+pub mod Solids
 pub mod Stands
+pub mod Walking

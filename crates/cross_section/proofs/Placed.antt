@@ -9,7 +9,7 @@ use Rattle.chain_terms.specs.Ranks.{finish, start}
 use Rattle.chain_laws.specs.Counts.{count_by-cons}
 use Rattle.chain_laws.specs.Firsts.{counted}
 use Rattle.outline_terms.specs.Outlines.{IsOutline, Outline, outline_edges}
-use Rattle.outline_laws.proofs.Once.{IsOnce, ends_differ, outline_once}
+use Rattle.outline_terms.proofs.Once.{IsOnce, ends_differ, outline_once}
 use Rattle.cross_section.specs.Copies.{entering, leaving}
 
 -- the place of the only member that passes

@@ -10,8 +10,8 @@ use Rattle.places_by_key.specs.Buckets.{places_of}
 use Rattle.edge_pairing.specs.Entries.{place_in}
 use Rattle.edge_pairing.specs.Pairing.{pair_up, paired_along, scalar_product, step}
 use Rattle.outlines.proofs.Written.{value_at, values_long}
-use Rattle.standings.specs.Standings.{AreEven, ends_in, segments_in, starts_in}
-use Rattle.outline_pair_laws.specs.Laws.{IsOfBoth}
+use Rattle.face_loops.specs.Standings.{AreEven, ends_in, segments_in, starts_in}
+use Rattle.outline_pair_terms.specs.Laws.{IsOfBoth}
 use Rattle.outline_pair_terms.specs.Lists.{EdgeP, EdgeQ, FlatCopy, FlatList, flat_key, flat_lists, flat_segments, flat_standing, no_flat_copy}
 use Rattle.outline_terms.specs.Outlines.{IsOutline, Outline, outline_edges}
 use Rattle.cross_section.specs.Copies.{end_list, start_list}

@@ -8,9 +8,9 @@ use Rattle.std.proofs.lemmas.List.{get_or-map, length-map}
 use Rattle.chain_terms.specs.Sums.{upto}
 use Rattle.chain_laws.proofs.Ascending.{filter-upto_same}
 use Rattle.places_by_key.specs.Buckets.{places_of}
-use Rattle.standings.specs.Standings.{ends_in, starts_in}
+use Rattle.face_loops.specs.Standings.{ends_in, starts_in}
 use Rattle.outline_pair_terms.specs.Lists.{EdgeP, EdgeQ, FlatCopy, FlatList, FlatOrigin, OfBoth, OfP, OfQ, at_same, flat_incidence, flat_standing, no_flat_copy}
-use Rattle.outline_pair_laws.specs.Laws.{IsOfBoth}
+use Rattle.outline_pair_terms.specs.Laws.{IsOfBoth}
 use Rattle.cross_section.specs.Copies.{end_list, entering, leaving, list_from, list_to, start_list}
 use Rattle.cross_section.proofs.Placed.{IsAt, same_test}
 

@@ -6,10 +6,10 @@ ghost use Rattle.cross_section.specs.Copies.{AreAdded, AreCopies, AreNumbers, Fi
 ghost use Rattle.outline_pair_terms.specs.Lists.{flat_copies};
 ghost use Rattle.outline_terms.specs.Outlines.{most_vertices, outline_edges};
 
+use crate::Numbers;
 use crate::operand::{Operand, hit_number};
 use crate::places::{Places, places_on};
 use mb_base::{NoMemory, Op, Point};
-use outline_numbers::Numbers;
 use outline_pair_terms::FlatHit;
 use outlines::Outline;
 use std::alloc::Global;

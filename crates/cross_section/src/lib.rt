@@ -6,7 +6,9 @@
 mod combine;
 mod copies;
 mod counts;
+mod extrusion;
 mod fault;
+mod numbers;
 mod operand;
 mod places;
 mod segments;
@@ -14,5 +16,5 @@ mod segments;
 pub use combine::{Flat, combine_outlines};
 pub use extrusion::{ExtrudeFault, Extruded, extrude};
 pub use fault::OutlineFault;
-pub use outline_numbers::{FlatHit, Numbers, outline_numbers};
+pub use numbers::{FlatHit, Numbers, outline_numbers};
 pub use outlines::{MOST_VERTICES, Outline};

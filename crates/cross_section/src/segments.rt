@@ -11,10 +11,10 @@ ghost use Rattle.face_loops.specs.Segments.{edges_of};
 ghost use Rattle.outline_pair_terms.specs.Lists.{flat_copies, flat_segments};
 ghost use Rattle.outline_terms.specs.Outlines.{IsBetween, most_vertices, outline_edges};
 
+use crate::Numbers;
 use crate::copies::Copies;
 use edge_pairing::segments_of_edge;
 use mb_base::{Entry, NoMemory, Op, Point, Segment};
-use outline_numbers::Numbers;
 use outlines::Outline;
 use places_by_key::Buckets;
 use std::alloc::Global;

@@ -15,8 +15,8 @@ use Rattle.side_terms.specs.Sides.{Side, IsSide, edge_at, face_at, face_boxes, f
 use Rattle.box_tree.specs.Touching.{box_at, no_box, touches, touching_numbers}
 use Rattle.lean.proofs.Apart.{boxes_apart}
 use Rattle.lean.proofs.Corners.{face_fine}
-use Rattle.near_boxes.proofs.Near as near
-use Rattle.near_boxes.proofs.Near.{filter_map-filter}
+use Rattle.box_tree.proofs.NearNumbers as near
+use Rattle.box_tree.proofs.NearNumbers.{filter_map-filter}
 use Rattle.crossings.specs.Apart.{apart_back}
 use Rattle.crossings.specs.Hits.{CrossTest, hit_of, hits_along}
 use Rattle.crossings.specs.Near.{hits_with}

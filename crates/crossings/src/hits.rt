@@ -11,10 +11,9 @@ ghost use Rattle.crossings.specs.Near.{AreNear, hits_with};
 use crate::near::{Near, find_boxes};
 use crate::pairs::EdgeFace;
 use crate::runs::box_round;
-use box_tree::touch;
+use box_tree::{find_few, find_near, touch};
 use lean::Side;
 use mb_base::{Corner, Hit, NoMemory, box_of};
-use near_boxes::{find_few, find_near};
 use std::alloc::Global;
 
 // The triangles of a run.

@@ -1,6 +1,10 @@
+pub mod Counting
 pub mod Following
 pub mod Listing
+pub mod LongLoops
 pub mod Marks
+pub mod Members
+pub mod OneToOne
 pub mod Reading
 pub mod Rounds
 pub mod Tested

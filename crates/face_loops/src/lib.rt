@@ -9,6 +9,7 @@ ghost use Rattle.chain_terms.specs.Cycles.{cycles};
 ghost use Rattle.chain_terms.specs.Paths.{round_edges};
 ghost use Rattle.face_loops.specs.Segments.{edges_of, IsOneToOne, AreDifferent, BeginInOrder};
 ghost use Rattle.face_loops.specs.Starts.{IsIndex};
+ghost use Rattle.face_loops.specs.StandingLaws.{LoopsAreLong, SegmentsAreOneToOne};
 
 mod starts;
 mod trail;
@@ -60,3 +61,11 @@ fn all_loops(
     }
     Ok(loops)
 }
+
+/// Where each list has as many starts as ends, and each number is a start of as many lists as it is an end of, one at most, the
+/// segments fall into loops. Where no two numbers stand in two lists the one as the other does not, no loop has fewer than three
+/// vertices.
+pub fn segments_form_loops()
+    ensures once { SegmentsAreOneToOne }
+    ensures long { LoopsAreLong }
+{}

@@ -1,5 +1,5 @@
 // Rings against a table of hard ones.
-ghost use Rattle.std.specs.Prelude.{◌≢◌, ◌<◌, IsTrue};
+ghost use Rattle.std.specs.Prelude.{◌≢◌, ◌<◌, ◌≤◌, IsTrue, length};
 ghost use Rattle.std.specs.List.{All};
 ghost use Rattle.chain_terms.specs.Paths.{round_edges};
 ghost use Rattle.face_plane.specs.Rings.{Three};

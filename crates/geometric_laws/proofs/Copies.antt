@@ -10,9 +10,9 @@ use Rattle.chain_terms.specs.Sums.{up_from, upto}
 use Rattle.mb_base.specs.declared.op.Op.{Op}
 use Rattle.mb_base.specs.declared.results.Origin.TheVariants.{PVertex, QVertex, PEdge, QEdge}
 use Rattle.side_terms.specs.Sides.{Side}
-use Rattle.assembly_terms.specs.Lists.{Copy}
-use Rattle.assembly_terms.specs.Points.{points_of}
-use Rattle.assembly_terms.specs.Prescribed.{Included, Numbers, copies_of, copy_of, hit_number_of, p_hits, p_number, p_vertices, prescribed, q_hits, q_number, q_vertices}
+use Rattle.side_terms.specs.Lists.{Copy}
+use Rattle.side_terms.specs.Points.{points_of}
+use Rattle.side_terms.specs.Prescribed.{Included, Numbers, copies_of, copy_of, hit_number_of, p_hits, p_number, p_vertices, prescribed, q_hits, q_number, q_vertices}
 use Rattle.geometric_laws.specs.Geometric.{is_of_p, is_of_q}
 
 module _ (test : Copy → Bool) where

@@ -19,9 +19,9 @@ use Rattle.exact_kernels.specs.Exact.{exact, position}
 use Rattle.solid_laws.specs.Laws.{winding_in, winding_back_in}
 use Rattle.solid_laws.specs.Scaled.{all_clear_scaled, scaled_place, solid_scaled}
 use Rattle.solid_laws.specs.Windings.{places_of, winding_is_solid, winding_back_is_solid}
-use Rattle.assembly_terms.specs.PointLaws.{corners_points}
-use Rattle.assembly_terms.specs.Points.{points_of}
-use Rattle.assembly_terms.specs.Prescribed.{copies_of, p_number, q_number}
+use Rattle.side_terms.specs.PointLaws.{corners_points}
+use Rattle.side_terms.specs.Points.{points_of}
+use Rattle.side_terms.specs.Prescribed.{copies_of, p_number, q_number}
 use Rattle.mesh_terms.specs.Given.{IsGiven}
 use Rattle.mesh_boolean.specs.Operation.{first_side, numbers_of, operation, reduced_mesh, second_side}
 use Rattle.play_laws.proofs.Readable.{within_of_readable}

@@ -7,8 +7,8 @@ use Rattle.mesh_terms.specs.Meshes.{Mesh}
 use Rattle.mesh_terms.specs.Points.{coordinate_of}
 use Rattle.plane_laws.specs.Decisions.{Vector}
 use Rattle.solid_terms.specs.Solids.{IsClearOfAll, IsOffFaces, solid_winding}
-use Rattle.assembly_terms.specs.Lists.{Copy}
-use Rattle.assembly_terms.specs.Prescribed.{copies_of, p_number, q_number}
+use Rattle.side_terms.specs.Lists.{Copy}
+use Rattle.side_terms.specs.Prescribed.{copies_of, p_number, q_number}
 use Rattle.mesh_boolean.specs.Operation.{reduced_mesh}
 
 -- where a point is

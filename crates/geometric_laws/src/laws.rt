@@ -2,8 +2,8 @@
 
 ghost use Rattle.geometric_laws.specs.Laws.{OperationsAreGeometric, ScriptsAreGeometric};
 
-use filling_laws::laws::fillings_close;
 use remesh_laws::laws::remeshing_remeshes;
+use source_face_laws::of_fillings::fillings_close;
 
 /// Under exact kernels, with whatever rounding, an operation on two accepted meshes prescribes each vertex of one, reduced, that lies in no
 /// closed triangle of the other as often as the operation on the geometric winding number says: the number of tetrahedra, from an apex to

@@ -5,7 +5,7 @@ use Rattle.std.proofs.lemmas.List.Elements.{All-append, All-nil, All-cons}
 use Rattle.std.proofs.Math.Nat.{div-le_self}
 use Rattle.std.proofs.lemmas.Bool.Decides.{nat_tests}
 use Rattle.std.proofs.lemmas.Nat.{mod_below, div_below, pow-add}
-use Rattle.text_laws.proofs.Digits.{both, left, right, all_digits-append}
+use Rattle.text_terms.proofs.Digits.{both, left, right, all_digits-append}
 use Rattle.text_terms.specs.Numbers.{is_digit, all_digits, is_on_grid}
 use Rattle.text_terms.specs.Written.{last_digits, without_zeros, is_empty, written_rest, written_size, written}
 use Rattle.grid_number.specs.Bytes.{is_number_byte}

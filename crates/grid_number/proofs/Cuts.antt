@@ -3,7 +3,7 @@ use Rattle.std.proofs.Common.{◌≡◌, ℕ, ◌<◌, ◌&&◌, ◌==◌, cond,
 use Rattle.std.proofs.lemmas.Bool.Decides.{nat_tests}
 use Rattle.text_terms.specs.Numbers.{is_digit, all_digits, cut_at, signed, is_e, is_digits}
 use Rattle.grid_number.specs.Reading.{begins_digit}
-use Rattle.text_laws.proofs.Digits.{left, right}
+use Rattle.text_terms.proofs.Digits.{left, right}
 
 -- a digit is no sign, no `e` and no point
 pub digit_is_no_e : (d : ℕ) → is_digit d ≡ true → is_e d ≡ false

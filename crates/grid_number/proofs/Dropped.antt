@@ -6,7 +6,7 @@ use Rattle.std.proofs.lemmas.Bool.Decides.{nat_tests}
 use Rattle.text_terms.specs.Numbers.{is_digit, all_digits, value_from, digits_value, scaled}
 use Rattle.grid_number.specs.Reading.{saturated}
 use Rattle.grid_number.proofs.Saturated.{saturated-add}
-use Rattle.text_laws.proofs.Digits.{left, right, value_from-append}
+use Rattle.text_terms.proofs.Digits.{left, right, value_from-append}
 
 -- digits below 5 are dropped
 pub drop_low : (a b r k : ℕ) → b ≤ 4 → r < k → (a * (10 * k) + (b * k + r) + 5 * k) / (10 * k) ≡ a

@@ -5,7 +5,7 @@ use Rattle.std.proofs.lemmas.Bool.{cases_lt}
 use Rattle.std.proofs.lemmas.Bool.Decides.{nat_tests}
 use Rattle.text_terms.specs.Numbers.{Parts, all_digits, digits_value, scaled, size_of, value_of, is_on_grid}
 use Rattle.grid_number.specs.Reading.{parts_with, saturated, saturated_size, saturated_parts, with_sign}
-use Rattle.text_laws.proofs.Digits.{all_digits-append}
+use Rattle.text_terms.proofs.Digits.{all_digits-append}
 use Rattle.grid_number.proofs.Dropped.{scaled-nothing}
 use Rattle.grid_number.proofs.ReadBack.{scaled-pos}
 use Rattle.grid_number.proofs.Saturated.{saturated-high, nat_abs-neg}

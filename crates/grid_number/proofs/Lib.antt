@@ -3,7 +3,10 @@ pub mod Cuts
 pub mod Dropped
 pub mod KeptDigits
 pub mod Known
+pub mod LineSteps
 pub mod Parts
+pub mod Positions
 pub mod ReadBack
 pub mod Saturated
 pub mod Values
+pub mod WordSteps

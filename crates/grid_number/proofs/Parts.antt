@@ -1,7 +1,7 @@
 -- The parts of a text whose runs of digits are known.
 use Rattle.std.proofs.Common.{◌≡◌, ℕ, ◌+◌, ◌<◌, ◌&&◌, cond, if◌then◌else◌, nat_lt, Bool, List, [], ◌∷◌, ◌++◌, true, false, length, refl, sym, ap, ◌∙◌, arith, append-nil, Option, Some, None, option_map, ℤ, nat_abs, MatchBool, suc, ◌≤◌, ◌*◌, ◌^◌, length-append}
 use Rattle.std.proofs.lemmas.Bool.Decides.{nat_tests}
-use Rattle.text_laws.proofs.Cuts.{cut_at-here, cut_at-past}
+use Rattle.text_terms.proofs.Cuts.{cut_at-here, cut_at-past}
 use Rattle.text_terms.specs.Numbers.{Parts, is_digit, all_digits, cut_at, is_e, mantissa_ok, exponent_ok, exponent_of, or_empty, signed, number_parts}
 use Rattle.grid_number.specs.Reading.{parts_with, parts_from, parts_after, is_point, begins_digit, exponent_after, AfterPoint, saturated_size, saturated_parts}
 use Rattle.grid_number.proofs.Saturated.{saturated_size-within}

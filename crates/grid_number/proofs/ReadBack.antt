@@ -11,7 +11,7 @@ use Rattle.grid_number.specs.Reading.{parts_from, parts_after, is_point}
 use Rattle.grid_number.proofs.Bytes.{all_digits-decimal, all_digits-kept_digits}
 use Rattle.grid_number.proofs.Cuts.{cut_at-digits, cut_at-only_digits, is_digits-some, signed-digits, digit_is_no_e, digit_is_no_point}
 use Rattle.grid_number.proofs.KeptDigits.{kept_digits, length-last_digits}
-use Rattle.text_laws.proofs.Digits.{value_from-append}
+use Rattle.text_terms.proofs.Digits.{value_from-append}
 use Rattle.grid_number.proofs.Values.{digits_value-decimal, value_from-last_digits, IsTrimmed-without_zeros}
 
 -- a value that is raised

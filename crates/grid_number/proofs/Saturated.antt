@@ -5,7 +5,7 @@ use Rattle.std.proofs.lemmas.Bool.{cases_lt}
 use Rattle.std.proofs.lemmas.List.{take_more, take-append-drop}
 use Rattle.text_terms.specs.Numbers.{is_digit, all_digits, value_from}
 use Rattle.grid_number.specs.Reading.{saturated, saturated_size}
-use Rattle.text_laws.proofs.Digits.{both, left, right, all_digits-append, value_from-append}
+use Rattle.text_terms.proofs.Digits.{both, left, right, all_digits-append, value_from-append}
 
 -- a digit behind what is known of a size
 pub saturated-digit : (v d : ℕ) → saturated (saturated v * 10 + d) ≡ saturated (v * 10 + d)

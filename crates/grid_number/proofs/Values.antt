@@ -3,7 +3,7 @@ use Rattle.std.proofs.Common.{◌≡◌, ℕ, zero, suc, ◌+◌, ◌*◌, ◌/�
 use Rattle.std.proofs.Math.Nat.{pow-suc, pow-succ', mod-one, mul_assoc}
 use Rattle.std.proofs.Math.Arith.{mod-mul}
 use Rattle.std.proofs.lemmas.Fmt.{decimal_by_steps}
-use Rattle.text_laws.proofs.Digits.{value_from-append}
+use Rattle.text_terms.proofs.Digits.{value_from-append}
 use Rattle.text_terms.specs.Numbers.{value_from, digits_value}
 use Rattle.text_terms.specs.Written.{last_digits, without_zeros, is_empty}
 use Rattle.grid_number.proofs.KeptDigits.{ten_pow_pos}

@@ -3,8 +3,7 @@ use lean::Side;
 use mesh_check::Mesh;
 use std::alloc::Global;
 use std::test::Fail;
-use test_soups::{BOX, box_points, soup_of};
-use test_tables::plain_side;
+use test_tables::{BOX, box_points, plain_side, soup_of};
 
 // The lowest and the highest corner of a box.
 pub(crate) type Span = [[i32; 3]; 2];

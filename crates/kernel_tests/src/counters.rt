@@ -1,9 +1,9 @@
 // A counter of steps that a caller makes and hands on.
 ghost use Rattle.std.specs.Prelude.{◌≡◌, ◌+◌, ◌<◌};
 
+use mb_base::Steps;
 use std::marker::Brand;
 use std::sync::ledger::{Blank, Ledger};
-use steps::Steps;
 
 // A caller that counts through another one's counter.
 fn tick_twice<L: Ledger>(steps: &mut Steps<L>)

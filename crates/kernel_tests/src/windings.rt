@@ -8,7 +8,7 @@ mod table;
 
 use crate::boxes::{Span, boxes_of, mesh_of, plain_boxes};
 use lean::{Side, corner_of};
-use mb_base::Point;
+use mb_base::{Point, Steps};
 use mesh_check::Mesh;
 use rounding::Nearest;
 use shadow_kernels::Grid;
@@ -16,8 +16,7 @@ use std::alloc::Global;
 use std::marker::Brand;
 use std::sync::ledger::{Blank, Ledger};
 use std::test::Fail;
-use steps::Steps;
-use test_soups::{BOX, box_points};
+use test_tables::{BOX, box_points};
 use winding::{winding_at, winding_sum};
 
 const CUBE: Span = [[0; 3], [100_000; 3]];

@@ -1,5 +1,5 @@
 //! The plain types that the crates share: points of the grid, corners, limits, points with triangles
-//! as a file gives them with their labels, faults of a text, and lists of words. Nothing here takes memory
+//! as a file gives them with their labels, faults of a text, lists of words, and a counter of steps. Nothing here takes memory
 //! but `ArgList::push`, `copied` and, of `Labels`, `push`, `copy` and `of_faces`.
 #![tactic(auto)]
 
@@ -14,6 +14,7 @@ mod op;
 mod point;
 mod results;
 mod soup;
+mod steps;
 mod triples;
 
 pub use arg_list::ArgList;
@@ -28,6 +29,7 @@ pub use point::{Box3, Corner, Point};
 pub use results::{Entry, Hit, Hits, Origin, Segment, Windings};
 pub use soup::Soup;
 use std::alloc::{AllocError, AllocFailed};
+pub use steps::Steps;
 pub use triples::copied;
 
 /// Fine steps per grid step. A coordinate of a corner is a point's times this.

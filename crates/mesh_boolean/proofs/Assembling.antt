@@ -8,14 +8,14 @@ use Rattle.mesh_check.specs.Reduced.{NoOpposite}
 use Rattle.mesh_terms.specs.Limits.{IsLawful, Limits}
 use Rattle.mesh_terms.specs.Meshes.{IsAccepted, triple_of, triples_of}
 use Rattle.side_terms.specs.Sides.{IsSide, Side}
-use Rattle.assembly_terms.specs.Lists.{Copy}
-use Rattle.assembly_terms.specs.Standing.{StandInLists, count_all_starts}
+use Rattle.side_terms.specs.Lists.{Copy}
+use Rattle.side_terms.specs.Standing.{StandInLists, count_all_starts}
 use Rattle.retained_verts.specs.Handed.{AreBalanced, copies, numbers}
 use Rattle.retained_verts.specs.declared.list.Prescribed.{Prescribed}
-use Rattle.segment_laws.proofs.Named.{are_named}
-use Rattle.filling_terms.specs.Assembling.{CanBeAssembled}
-use Rattle.filling_terms.specs.Filled.{all_filled, all_triples, forced_of, sources_of}
-use Rattle.filling_laws.specs.Laws.{FacesAreFilled, FillingsAreAccepted, FillingsAreFew}
+use Rattle.source_face_laws.proofs.Named.{are_named}
+use Rattle.source_face_terms.specs.Assembling.{CanBeAssembled}
+use Rattle.source_face_terms.specs.Filled.{all_filled, all_triples, forced_of, sources_of}
+use Rattle.source_face_laws.specs.FillingLaws.{FacesAreFilled, FillingsAreAccepted, FillingsAreFew}
 use Rattle.source_faces.specs.declared.triangles.SourceTriangles.{SourceTriangles}
 use Rattle.mesh_boolean.specs.Assembly.{AreNumbers, IsAssembled}
 use Rattle.retained_verts.specs.Listed.{ArePrescribed}

@@ -14,7 +14,7 @@ use Rattle.mesh_terms.specs.Meshes.{HasThree, Mesh, Triple}
 use Rattle.pinch_split.specs.Back.{ComeFrom, named_by}
 use Rattle.mesh_boolean.specs.Audited.{AgreesWithMeshes, IsSound}
 use Rattle.mesh_boolean.specs.Operation.{Tests}
-use Rattle.source_boundaries.specs.Picked.{triples_of_face}
+use Rattle.mesh_boolean.specs.Picked.{triples_of_face}
 use Rattle.mesh_boolean.specs.Results.{HasOrigins, IsCleanOver, IsLabelled, face_triples}
 use Rattle.mesh_boolean.specs.declared.outcome.Outcome.{Outcome}
 use Rattle.mesh_boolean.proofs.Parts.{named_at}

@@ -7,11 +7,11 @@ use Rattle.mb_base.specs.declared.results.Windings.{Windings}
 use Rattle.mesh_terms.specs.Limits.{most_points}
 use Rattle.mesh_terms.specs.Meshes.{Mesh, Triple}
 use Rattle.side_terms.specs.Sides.{IsSide, Side}
-use Rattle.assembly_terms.specs.Prescribed.{Numbers}
+use Rattle.side_terms.specs.Prescribed.{Numbers}
 use Rattle.retained_verts.specs.Handed.{copies, numbers}
 use Rattle.retained_verts.specs.Listed.{ArePrescribed}
 use Rattle.retained_verts.proofs.Balance.{balanced}
-use Rattle.source_boundaries.specs.Given.{AreGiven}
+use Rattle.mesh_boolean.specs.GivenSegments.{AreGiven}
 use Rattle.mesh_boolean.specs.Assembly.{AreNumbers}
 use Rattle.mesh_boolean.specs.Audited.{AgreesWithMeshes, AgreesWithSides}
 use Rattle.mesh_boolean.specs.Operation.{Tests, first_side, second_side}

@@ -10,12 +10,12 @@ use Rattle.chain_laws.specs.Chains.{boundary_same}
 use Rattle.chain_laws.proofs.Places.{get_or-up_from, length-up_from}
 use Rattle.mesh_terms.specs.Meshes.{HasThree, Triple}
 use Rattle.side_terms.specs.Sides.{Side}
-use Rattle.assembly_terms.specs.Lists.{Copy}
-use Rattle.segment_terms.specs.Segments.{source_count}
-use Rattle.filling_terms.specs.Filled.{all_filled, all_triples, face_segments, filled_face, sources_of}
+use Rattle.side_terms.specs.Lists.{Copy}
+use Rattle.source_face_terms.specs.Segments.{source_count}
+use Rattle.source_face_terms.specs.Filled.{all_filled, all_triples, face_segments, filled_face, sources_of}
 use Rattle.pinch_split.specs.Back.{named_by}
 use Rattle.mesh_boolean.specs.Assembly.{AreFillings}
-use Rattle.source_boundaries.specs.Picked.{triples_of_face}
+use Rattle.mesh_boolean.specs.Picked.{triples_of_face}
 use Rattle.mesh_boolean.specs.Results.{AreBounded, face_triples}
 use Rattle.mesh_boolean.proofs.Parts.{length-sources, named_at, no_part, part_at, sources_below}
 

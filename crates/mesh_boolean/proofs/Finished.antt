@@ -4,9 +4,9 @@ use Rattle.std.proofs.lemmas.List.{length-map}
 use Rattle.mb_base.specs.declared.op.Op.{Op}
 use Rattle.mesh_terms.specs.Meshes.{Mesh}
 use Rattle.side_terms.specs.Sides.{Side}
-use Rattle.assembly_terms.specs.Prescribed.{Numbers, prescribed_halfedges}
-use Rattle.assembly_terms.specs.Standing.{AreConserved}
-use Rattle.filling_terms.specs.Filled.{points_of_copies}
+use Rattle.side_terms.specs.Prescribed.{Numbers, prescribed_halfedges}
+use Rattle.side_terms.specs.Standing.{AreConserved}
+use Rattle.source_face_terms.specs.Filled.{points_of_copies}
 use Rattle.pinch_split.specs.Split.{split_from, split_points, split_triples}
 use Rattle.retained_verts.specs.declared.list.PrescribeFault.{PrescribeFault}
 use Rattle.retained_verts.specs.declared.list.Prescribed.{Prescribed}

@@ -1,12 +1,17 @@
 pub mod Assembling
 pub mod Audited
 pub mod AuditedSides
+pub mod BoundedFaces
+pub mod Chosen
+pub mod Copied
 pub mod Costs
 pub mod Faces
 pub mod Finished
+pub mod GivenSegments
 pub mod Labelled
 pub mod Marks
 pub mod Pairs
 pub mod Parts
 pub mod Reduced
 pub mod SameSides
+pub mod SortedSegments

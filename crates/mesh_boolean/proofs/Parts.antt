@@ -7,8 +7,8 @@ use Rattle.std.proofs.lemmas.List.Elements.{All-append, All-replicate, All-weake
 use Rattle.mesh_terms.specs.Meshes.{Triple}
 use Rattle.pinch_split.specs.Back.{named_by}
 use Rattle.ring_cutting.specs.Cuts.{Cut}
-use Rattle.filling_terms.specs.Filled.{all_triples, sources_of}
-use Rattle.source_boundaries.specs.Picked.{triples_of_face}
+use Rattle.source_face_terms.specs.Filled.{all_triples, sources_of}
+use Rattle.mesh_boolean.specs.Picked.{triples_of_face}
 
 -- the filling of no face
 abbrev pub no_part : Cut

@@ -8,14 +8,14 @@ use Rattle.mesh_terms.specs.Meshes.{IsAccepted, Mesh, triples_of}
 use Rattle.pinch_split.specs.Back.{ComeFrom, named_by}
 use Rattle.pinch_split.specs.Split.{split_from, split_points, split_triples}
 use Rattle.side_terms.specs.Sides.{Side}
-use Rattle.assembly_terms.specs.Lists.{Copy}
-use Rattle.assembly_terms.specs.Prescribed.{Numbers, prescribed as copies_of_numbers}
-use Rattle.assembly_terms.specs.Standing.{AreConserved}
+use Rattle.side_terms.specs.Lists.{Copy}
+use Rattle.side_terms.specs.Prescribed.{Numbers, prescribed as copies_of_numbers}
+use Rattle.side_terms.specs.Standing.{AreConserved}
 use Rattle.retained_verts.specs.Handed.{FitSides, numbers}
 use Rattle.retained_verts.specs.declared.list.Prescribed.{Prescribed}
-use Rattle.segment_terms.specs.Segments.{source_count}
-use Rattle.filling_terms.specs.Assembling.{FillFace}
-use Rattle.filling_terms.specs.Filled.{all_filled, all_triples, filled_face, forced_of, sources_of}
+use Rattle.source_face_terms.specs.Segments.{source_count}
+use Rattle.source_face_terms.specs.Assembling.{FillFace}
+use Rattle.source_face_terms.specs.Filled.{all_filled, all_triples, filled_face, forced_of, sources_of}
 use Rattle.source_faces.specs.declared.triangles.SourceTriangles.{SourceTriangles}
 use Rattle.mesh_boolean.specs.Operation.{Tests, first_side, second_side}
 use Rattle.retained_verts.specs.Listed.{ArePrescribed}

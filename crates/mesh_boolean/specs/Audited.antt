@@ -4,10 +4,10 @@ use Rattle.std.specs.List.{All}
 use Rattle.mb_base.specs.declared.op.Op.{Op}
 use Rattle.mesh_terms.specs.Meshes.{Mesh, Triple}
 use Rattle.side_terms.specs.Sides.{Side}
-use Rattle.assembly_terms.specs.Prescribed.{Numbers, prescribed as copies_of_numbers}
+use Rattle.side_terms.specs.Prescribed.{Numbers, prescribed as copies_of_numbers}
 use Rattle.retained_verts.specs.Listed.{ArePrescribed}
-use Rattle.segment_terms.specs.Segments.{source_count}
-use Rattle.source_boundaries.specs.Bounded.{HaveBoundaries}
+use Rattle.source_face_terms.specs.Segments.{source_count}
+use Rattle.mesh_boolean.specs.Bounded.{HaveBoundaries}
 use Rattle.mesh_boolean.specs.Operation.{Tests, first_side, second_side}
 use Rattle.mesh_boolean.specs.Results.{HasOrigins, IsBounded, IsCleanOver, IsLabelled, IsPrescribed, numbers_in}
 use Rattle.mesh_boolean.specs.declared.outcome.Outcome.{Outcome}

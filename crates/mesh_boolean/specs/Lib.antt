@@ -1,6 +1,11 @@
 pub mod Assembly
 pub mod Audited
+pub mod Boundaries
+pub mod Bounded
+pub mod BoundedFaces
 pub mod Faults
+pub mod GivenSegments
 pub mod Labels
 pub mod Operation
+pub mod Picked
 pub mod Results

@@ -9,10 +9,10 @@ use Rattle.lean.specs.Leans.{leans_of}
 use Rattle.shadow_kernels.specs.ShadowLaws.{ShadowTest}
 use Rattle.crossings.specs.Hits.{CrossTest, hits_of}
 use Rattle.winding.specs.Windings.{winding, winding_back}
-use Rattle.assembly_terms.specs.Lists.{Copy}
-use Rattle.assembly_terms.specs.Prescribed.{Numbers, crossing_count, p_kept, prescribed, prescribed_halfedges, q_kept}
+use Rattle.side_terms.specs.Lists.{Copy}
+use Rattle.side_terms.specs.Prescribed.{Numbers, crossing_count, p_kept, prescribed, prescribed_halfedges, q_kept}
 use Rattle.pinch_split.specs.Split.{split_from, split_points, split_triples}
-use Rattle.filling_terms.specs.Filled.{all_filled, all_triples, forced_of, points_of_copies, sources_of}
+use Rattle.source_face_terms.specs.Filled.{all_filled, all_triples, forced_of, points_of_copies, sources_of}
 
 -- what an operation asks of its kernels: the tests of a vertex of P and a face of Q, of a face and a vertex, of an edge and a
 -- face, and of a face and an edge

@@ -9,16 +9,16 @@ use Rattle.mesh_terms.specs.Meshes.{HasThree, Mesh, Triple}
 use Rattle.mesh_terms.specs.Twins.{twins_of}
 use Rattle.halfedge.specs.Clean.{IsClean}
 use Rattle.side_terms.specs.Sides.{Side}
-use Rattle.assembly_terms.specs.Lists.{Copy}
+use Rattle.side_terms.specs.Lists.{Copy}
 use Rattle.mb_base.specs.declared.op.Op.{Op}
-use Rattle.assembly_terms.specs.Prescribed.{Numbers, prescribed as copies_of_numbers, prescribed_halfedges}
-use Rattle.assembly_terms.specs.Standing.{AreConserved}
-use Rattle.segment_terms.specs.Segments.{source_count}
-use Rattle.filling_terms.specs.Filled.{all_filled, all_triples, face_segments, forced_of, points_of_copies, sources_of}
+use Rattle.side_terms.specs.Prescribed.{Numbers, prescribed as copies_of_numbers, prescribed_halfedges}
+use Rattle.side_terms.specs.Standing.{AreConserved}
+use Rattle.source_face_terms.specs.Segments.{source_count}
+use Rattle.source_face_terms.specs.Filled.{all_filled, all_triples, face_segments, forced_of, points_of_copies, sources_of}
 use Rattle.pinch_split.specs.Back.{ComeFrom, named_by}
 use Rattle.pinch_split.specs.Split.{split_from, split_points, split_triples}
 use Rattle.retained_verts.specs.Listed.{ArePrescribed}
-use Rattle.source_boundaries.specs.Picked.{triples_of_face}
+use Rattle.mesh_boolean.specs.Picked.{triples_of_face}
 use Rattle.mesh_boolean.specs.Operation.{Tests, face_labels, first_side, numbers_of, second_side}
 use Rattle.mesh_boolean.specs.declared.outcome.Outcome.{Outcome}
 

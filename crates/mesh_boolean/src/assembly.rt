@@ -1,15 +1,15 @@
 // The vertices that numbers prescribe, and the triangles between them.
 ghost use Rattle.std.specs.Prelude.{◌≤◌, IfErr, IfOk};
-ghost use Rattle.assembly_terms.specs.Prescribed.{prescribed_halfedges};
+ghost use Rattle.side_terms.specs.Prescribed.{prescribed_halfedges};
 ghost use Rattle.mesh_boolean.specs.Assembly.{AreNumbers, IsAssembled};
 ghost use Rattle.mesh_boolean.specs.Faults.{IsTooLarge};
 ghost use Rattle.mesh_check.specs.Reduced.{NoOpposite};
 ghost use Rattle.retained_verts.specs.Handed.{numbers};
 
-use filling_laws::laws::{faces_are_filled, fillings_close};
 use lean::Side;
 use mb_base::{Hits, Limits, Op, Windings};
 use retained_verts::{PrescribeFault, Prescribed, prescribe};
+use source_face_laws::of_fillings::{faces_are_filled, fillings_close};
 use source_faces::{SourceTriangles, triangles_of};
 use std::alloc::Global;
 

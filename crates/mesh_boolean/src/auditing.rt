@@ -12,6 +12,7 @@ ghost use Rattle.retained_verts.specs.Handed.{numbers};
 mod clean;
 mod origins;
 
+use crate::bounded::are_bounded;
 use crate::labels::is_labelled;
 use crate::numbers::all_numbers;
 use crate::outcome::Outcome;
@@ -20,15 +21,13 @@ use crate::tested::Tested;
 use clean::is_clean_over;
 use edge_face::Kernels;
 use lean::Side;
-use mb_base::{Hits, NoMemory, Op, Windings};
+use mb_base::{Hits, NoMemory, Op, Steps, Windings};
 use mesh_check::Mesh;
 use origins::{has_origins, have_three, named_triples};
 use retained_verts::are_prescribed;
-use source_boundaries::are_bounded;
 use std::alloc::Global;
 use std::marker::Brand;
 use std::sync::ledger::{Blank, Ledger};
-use steps::Steps;
 
 /// Whether an outcome is a result of an operation on two meshes under these kernels, whatever made it.
 ///

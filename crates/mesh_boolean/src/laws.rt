@@ -5,12 +5,11 @@ ghost use Rattle.mesh_boolean.specs.Audited.{ResultsAreSound};
 use crate::auditing::audit;
 use crate::operate::boolean;
 use edge_face::Kernels;
-use mb_base::{Limits, Op};
+use mb_base::{Limits, Op, Steps};
 use mesh_check::Mesh;
 use retained_verts::PrescribeFault;
 use std::alloc::Global;
 use std::sync::ledger::Ledger;
-use steps::Steps;
 
 /// What an audit says of what an operation gives, on the same meshes and kernels: yes, whenever it answers.
 pub fn audit_of_result<K: Kernels, L: Ledger>(

@@ -5,6 +5,8 @@
 
 mod assembly;
 mod auditing;
+mod boundary;
+mod bounded;
 mod labels;
 pub mod laws;
 mod numbers;

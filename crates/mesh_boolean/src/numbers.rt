@@ -9,10 +9,9 @@ use crate::tested::Tested;
 use crossings::crossings;
 use edge_face::Kernels;
 use lean::Side;
-use mb_base::{Hits, NoMemory, Windings};
+use mb_base::{Hits, NoMemory, Steps, Windings};
 use std::alloc::Global;
 use std::sync::ledger::Ledger;
-use steps::Steps;
 use winding::windings;
 
 /// The winding numbers of all corners of two sides and the crossings of their edges and faces. The winding numbers change

@@ -23,14 +23,13 @@ use crate::outcome::Outcome;
 use crate::sides::{first_side, second_side};
 use crate::tested::Tested;
 use edge_face::Kernels;
-use mb_base::{Limits, NoMemory, Op};
+use mb_base::{Limits, NoMemory, Op, Steps};
 use mesh_check::Mesh;
 use pinch_split::split_over;
 use retained_verts::{PrescribeFault, Prescribed};
 use source_faces::SourceTriangles;
 use std::alloc::Global;
 use std::sync::ledger::Ledger;
-use steps::Steps;
 
 /// The union, intersection or difference of two meshes, under any lawful kernels.
 ///

@@ -6,7 +6,7 @@ ghost use Rattle.run_terms.specs.Tasks.{give};
 ghost use Rattle.play_terms.specs.Commands.{ask_mesh, checked};
 ghost use Rattle.play_terms.specs.Formats.{mesh_soup};
 ghost use Rattle.mb_outside.specs.Seen.{MeetsOnShelf};
-ghost use Rattle.text_lines.specs.Faults.{IsFaultOf};
+ghost use Rattle.grid_number.specs.TextFaults.{IsFaultOf};
 ghost use Rattle.mesh_files.specs.Reads.{soup_with};
 ghost use Rattle.mesh_files.specs.Reasons.{ended_by, is_reading_stop};
 
@@ -15,8 +15,8 @@ use crate::stop::Stop;
 use mb_base::{Limits, Soup, TextFault};
 use mb_outside::Shelf;
 use mesh_check::Mesh;
-use mesh_names::{Format, format_of};
 use obj_text::read_obj;
+use play_terms::{Format, format_of};
 use std::alloc::Global;
 use stl_text::read_stl;
 

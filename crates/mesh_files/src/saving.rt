@@ -14,8 +14,8 @@ ghost use Rattle.mesh_files.specs.Pieces.{HasRoom, HoldsPart, WritesPart, spare_
 use crate::stop::Stop;
 use mb_outside::{Failed, Shelf, Sink};
 use mesh_check::Mesh;
-use mesh_names::{Format, format_of};
 use mesh_writer::{PageSink, write_obj, write_stl};
+use play_terms::{Format, format_of};
 
 // Writes the text of a mesh for a file of this name.
 fn write_text<K: Sink>(mesh: &Mesh, name: &str, digits: u8, sink: &mut K) -> Result<(), Failed>

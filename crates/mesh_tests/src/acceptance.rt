@@ -6,8 +6,7 @@ use mesh_check::{Mesh, MeshFault, is_plainly_reduced, kept_places, reduce};
 use std::alloc::Global;
 use std::process::Abort;
 use table::{ROWS, SHEET_AND_BOX};
-use test_soups::{BOX, TETRAHEDRON, line_soup};
-use test_tables::read_meshes;
+use test_tables::{BOX, TETRAHEDRON, line_soup, read_meshes};
 
 #[test]
 fn a_closed_mesh_keeps_its_lists(rt: HostRuntime) {

@@ -3,7 +3,7 @@ use mb_base::{Point, Soup};
 use mesh_check::Mesh;
 use std::alloc::Global;
 use std::process::Abort;
-use test_soups::line_soup;
+use test_tables::line_soup;
 
 // A tetrahedron whose triangles come twice: two half-edges run the same way along each edge.
 pub(crate) const DOUBLED: [[u32; 3]; 8] = [

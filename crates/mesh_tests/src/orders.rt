@@ -4,7 +4,7 @@ use mesh_check::Mesh;
 use spanning_forest::{Entrance, forest};
 use std::alloc::Global;
 use std::process::Abort;
-use test_soups::{TETRAHEDRON, two_boxes};
+use test_tables::{TETRAHEDRON, two_boxes};
 
 // The roots of a mesh's forest.
 fn roots_of(rt: &impl Abort, alloc: Global, mesh: &Mesh) -> Vec<u32> {

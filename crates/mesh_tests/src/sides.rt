@@ -5,7 +5,7 @@ use mb_base::{Box3, Corner, Op, UNIT};
 use mesh_check::Mesh;
 use std::alloc::Global;
 use std::process::Abort;
-use test_soups::{box_soup, soup_of};
+use test_tables::{box_soup, soup_of};
 
 // The box from the origin to (10, 10, 10).
 fn box_mesh(rt: &impl Abort, alloc: Global) -> Mesh {

@@ -8,7 +8,7 @@ use mesh_make::{
 };
 use std::alloc::Global;
 use std::process::Abort;
-use test_soups::{BOX, soup_of, two_boxes};
+use test_tables::{BOX, soup_of, two_boxes};
 
 const GRID_END: i32 = 1 << 30;
 

@@ -3,7 +3,7 @@ use crate::lines::DOUBLED;
 use halfedge::{Fans, TwinFault, Twins};
 use std::alloc::Global;
 use std::process::Abort;
-use test_soups::{TETRAHEDRON, line_soup, two_boxes};
+use test_tables::{TETRAHEDRON, line_soup, two_boxes};
 
 // The twins of triangles over so many points on a line.
 fn line_twins(rt: &impl Abort, alloc: Global, count: u8, triples: &[[u32; 3]]) -> Twins {

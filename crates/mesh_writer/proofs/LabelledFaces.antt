@@ -7,8 +7,8 @@ use Rattle.chain_terms.specs.Sums.{up_from, upto}
 use Rattle.mesh_terms.specs.Labels.{label_at, no_labels}
 use Rattle.std.proofs.lemmas.List.{length-map, get_or-map}
 use Rattle.mesh_terms.specs.Meshes.{Triple, triple_of, triples_of}
-use Rattle.obj_terms.specs.Labels.{label_change}
-use Rattle.obj_terms.specs.Written.{face_line, face_lines}
+use Rattle.format_terms.specs.ObjLabels.{label_change}
+use Rattle.format_terms.specs.ObjWritten.{face_line, face_lines}
 use Rattle.mesh_writer.specs.Faces.{label_before, lines_at}
 
 some_line : (t : Triple) → 0 < length (face_line t)

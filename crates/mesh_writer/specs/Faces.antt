@@ -2,8 +2,8 @@
 use Rattle.std.specs.Prelude.{ℕ, zero, suc, List, [], ◌++◌, get_or}
 use Rattle.mesh_terms.specs.Labels.{label_at}
 use Rattle.mesh_terms.specs.Meshes.{Triple}
-use Rattle.obj_terms.specs.Labels.{label_change}
-use Rattle.obj_terms.specs.Written.{face_line}
+use Rattle.format_terms.specs.ObjLabels.{label_change}
+use Rattle.format_terms.specs.ObjWritten.{face_line}
 
 -- the label of the triangle before; before the first it is empty
 abbrev pub label_before : List (List ℕ) → ℕ → List ℕ

@@ -4,9 +4,9 @@ ghost use Rattle.arrayvec.specs.ArrayVec.{array_vec_len};
 ghost use Rattle.text_terms.specs.Written.{line_of, three_numbers};
 ghost use Rattle.mesh_terms.specs.Labels.{IsLabel};
 ghost use Rattle.mesh_terms.specs.Meshes.{triple_of};
-ghost use Rattle.obj_terms.specs.Labels.{label_change, label_line};
-ghost use Rattle.obj_terms.specs.Written.{point_line, face_line};
-ghost use Rattle.stl_terms.specs.Written.{corner_text};
+ghost use Rattle.format_terms.specs.ObjLabels.{label_change, label_line};
+ghost use Rattle.format_terms.specs.ObjWritten.{point_line, face_line};
+ghost use Rattle.format_terms.specs.StlWritten.{corner_text};
 
 use crate::page::{LINE, Page, put_text};
 use grid_number::write_grid_before;

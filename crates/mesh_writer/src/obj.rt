@@ -6,7 +6,7 @@ ghost use Rattle.arrayvec.specs.ArrayVec.{array_vec_len};
 ghost use Rattle.run_terms.specs.Files.{Counts};
 ghost use Rattle.mesh_terms.specs.Labels.{label_at};
 ghost use Rattle.mesh_terms.specs.Meshes.{triple_of};
-ghost use Rattle.obj_terms.specs.Written.{point_line, face_line, face_lines, obj_text};
+ghost use Rattle.format_terms.specs.ObjWritten.{point_line, face_line, face_lines, obj_text};
 ghost use Rattle.mb_outside.specs.Sinks.{Kept, TakesPart};
 ghost use Rattle.mesh_writer.specs.Faces.{label_before};
 ghost use Rattle.mesh_writer.specs.Passing.{PassedOn, StoppedOn};

@@ -5,7 +5,7 @@ ghost use Rattle.std.specs.List.{All, flat_map};
 ghost use Rattle.arrayvec.specs.ArrayVec.{array_vec_len};
 ghost use Rattle.run_terms.specs.Files.{Counts};
 ghost use Rattle.mesh_terms.specs.Meshes.{IsBelow, triple_of};
-ghost use Rattle.stl_terms.specs.Written.{corner_line, facet_text, stl_text};
+ghost use Rattle.format_terms.specs.StlWritten.{corner_line, facet_text, stl_text};
 ghost use Rattle.mb_outside.specs.Sinks.{Kept, TakesPart};
 ghost use Rattle.mesh_writer.specs.Corners.{corner_lines};
 ghost use Rattle.mesh_writer.specs.Passing.{Broke, Wrote};

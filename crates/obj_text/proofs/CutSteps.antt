@@ -3,9 +3,9 @@ use Rattle.std.proofs.Common.{◌≡◌, ℕ, zero, suc, ◌<◌, ◌≤◌, Boo
 use Rattle.std.specs.Prelude.{nat_lt, position}
 use Rattle.std.specs.List.{position_or_len}
 use Rattle.std.proofs.lemmas.Bool.Decides.{nat_tests}
-use Rattle.text_laws.proofs.Cuts.{cut_at-here, cut_at-past}
+use Rattle.text_terms.proofs.Cuts.{cut_at-here, cut_at-past}
 use Rattle.text_terms.specs.Numbers.{cut_at}
-use Rattle.text_lines.proofs.Positions.{position_or_len-here, position_or_len-past}
+use Rattle.grid_number.proofs.Positions.{position_or_len-here, position_or_len-past}
 
 -- where no byte passes all of the text stands before the cut
 cut_at-none : (p : ℕ → Bool) (xs : List ℕ) → length xs ≤ position_or_len p xs → cut_at p xs ≡ (xs, None)

@@ -4,7 +4,7 @@ use Rattle.std.proofs.lemmas.Bool.{cases_lt}
 use Rattle.std.proofs.lemmas.List.{take_more}
 use Rattle.std.proofs.Math.Seq.{drop-cons}
 use Rattle.std.specs.Prelude.{Bool, true, ◌&&◌}
-use Rattle.text_laws.proofs.Digits.{value_from-append}
+use Rattle.text_terms.proofs.Digits.{value_from-append}
 use Rattle.std.proofs.Math.Nat.{pow-suc}
 use Rattle.text_terms.specs.Numbers.{is_digit, all_digits, value_from}
 

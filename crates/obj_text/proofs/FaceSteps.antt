@@ -10,9 +10,9 @@ use Rattle.mesh_terms.specs.Faults.{Points, Triangles, Over}
 use Rattle.mesh_terms.specs.Limits.{Limits}
 use Rattle.mesh_terms.specs.Meshes.{Triple, HasThree, IsBelow, triple_of, triples_of}
 use Rattle.unused_points.specs.Used.{IsSound}
-use Rattle.obj_terms.specs.Faces.{face_fan, has_repeat}
-use Rattle.obj_terms.specs.Obj.{Gathered, with_point, with_triples}
-use Rattle.obj_terms.proofs.Fans.{length-face_fan, face_three, face_below}
+use Rattle.format_terms.specs.ObjFaces.{face_fan, has_repeat}
+use Rattle.format_terms.specs.Obj.{Gathered, with_point, with_triples}
+use Rattle.format_terms.proofs.Fans.{length-face_fan, face_three, face_below}
 
 -- as many triangles as are stored
 pub length-triples_of : (triples : List (List ℕ)) → length (triples_of triples) ≡ length triples

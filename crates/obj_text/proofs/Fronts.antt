@@ -2,8 +2,8 @@
 use Rattle.std.proofs.Common.{◌≡◌, ℕ, Bool, true, false, not, List, [], ◌∷◌, take, refl, ap, ◌∙◌}
 use Rattle.std.specs.Prelude.{◌&&◌}
 use Rattle.std.specs.List.{position_or_len}
-use Rattle.text_lines.proofs.Positions.{position_or_len-here, position_or_len-past}
-use Rattle.text_laws.proofs.Digits.{both}
+use Rattle.grid_number.proofs.Positions.{position_or_len-here, position_or_len-past}
+use Rattle.text_terms.proofs.Digits.{both}
 
 -- all of it passes
 pub all-front : (test : ℕ → Bool) (all : List ℕ → Bool) → all [] ≡ true → ((c : ℕ) (cs : List ℕ) → all (c ∷ cs) ≡ (test c && all cs)) →

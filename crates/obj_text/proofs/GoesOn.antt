@@ -4,11 +4,11 @@ use Rattle.std.specs.Prelude.{◌==◌, ◌&&◌}
 use Rattle.std.specs.List.{position_or_len}
 use borrow.Author.Tests.{not-true}
 use Rattle.text_terms.specs.Lines.{is_blank, begins_word, words_of, add_first, last_is, blank_last, is_continued, lines_of, is_comment, begins_comment, before_comment, with_next, joined_from}
-use Rattle.obj_terms.specs.Obj.{word_lines}
+use Rattle.format_terms.specs.Obj.{word_lines}
 use Rattle.obj_text.specs.Lines.{first_words, words_left, lines_past}
-use Rattle.text_lines.proofs.Positions.{position_or_len-past}
-use Rattle.text_lines.proofs.WordSteps.{words_of-blank, words_of-first}
-use Rattle.text_laws.proofs.Words.{words_of-last, words_of-more}
+use Rattle.grid_number.proofs.Positions.{position_or_len-past}
+use Rattle.grid_number.proofs.WordSteps.{words_of-blank, words_of-first}
+use Rattle.text_terms.proofs.Words.{words_of-last, words_of-more}
 
 -- the last byte
 pub last_is-end : (b c : ℕ) (front : List ℕ) → last_is b (front ++ c ∷ []) ≡ (c == b)

@@ -6,9 +6,9 @@ use Rattle.mesh_terms.specs.Faults.{Fault, Bad}
 use Rattle.mb_base.specs.Faults.{fault_of}
 use Rattle.mb_base.specs.declared.fault.TextFault.{TextFault}
 use Rattle.text_terms.specs.FirstFault.{put_read, each_read, on_line}
-use Rattle.obj_terms.specs.Obj.{face_vertices}
-use Rattle.obj_terms.specs.Faces.{item_vertex}
-use Rattle.text_lines.specs.Faults.{IsFaultOf}
+use Rattle.format_terms.specs.Obj.{face_vertices}
+use Rattle.format_terms.specs.ObjFaces.{item_vertex}
+use Rattle.grid_number.specs.TextFaults.{IsFaultOf}
 use Rattle.obj_text.specs.Items.{IsRead, read_after}
 
 -- nothing was read so far

@@ -9,9 +9,9 @@ use Rattle.std.proofs.Math.Seq.{take-suc}
 use Rattle.text_terms.specs.Lines.{is_continued, blank_last, words_of, before_comment, lines_of}
 use Rattle.mesh_terms.specs.Labels.{with_blanks, labels_for}
 use Rattle.mesh_terms.specs.Meshes.{Triple}
-use Rattle.obj_terms.specs.Labels.{label_byte, label_of, without_blank}
-use Rattle.obj_laws.specs.ReadWords.{IsReadWord}
-use Rattle.obj_laws.proofs.ReadWords.{HasBytes, words_some, before}
+use Rattle.format_terms.specs.ObjLabels.{label_byte, label_of, without_blank}
+use Rattle.format_laws.specs.ReadWords.{IsReadWord}
+use Rattle.format_laws.proofs.ReadWords.{HasBytes, words_some, before}
 use Rattle.obj_text.specs.Groups.{joined_on, padded, put_behind}
 use Rattle.obj_text.specs.Lines.{first_words, words_left}
 

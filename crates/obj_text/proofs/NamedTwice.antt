@@ -5,7 +5,7 @@ use Rattle.std.specs.List.{list_any}
 use Rattle.std.proofs.lemmas.Bool.Decides.{nat_tests}
 use Rattle.std.proofs.lemmas.List.Sorted.{sum_by-IsPermutation}
 use Rattle.std.proofs.lemmas.List.Sums.{sum_by-cons}
-use Rattle.obj_terms.specs.Faces.{has_repeat}
+use Rattle.format_terms.specs.ObjFaces.{has_repeat}
 
 -- one of two tests passed
 or_first : (a b : Bool) → a ≡ true → (a || b) ≡ true

@@ -2,14 +2,14 @@
 use Rattle.std.proofs.Common.{◌≡◌, ℕ, suc, ◌<◌, ◌+◌, Bool, true, false, cond, not, List, [], ◌∷◌, ◌++◌, map, refl, ap, ◌∙◌, sym, arith, append_assoc}
 use Rattle.std.specs.Prelude.{◌&&◌, ◌==◌}
 use Rattle.std.proofs.lemmas.Bool.Decides.{nat_tests}
-use Rattle.text_laws.proofs.Digits.{left, right}
-use Rattle.text_lines.proofs.LineSteps.{without_cr-drops}
+use Rattle.text_terms.proofs.Digits.{left, right}
+use Rattle.grid_number.proofs.LineSteps.{without_cr-drops}
 use Rattle.text_terms.specs.Lines.{add_first, raw_lines, without_cr, words_of, lines_of, last_is, is_comment, is_continued, begins_comment, before_comment, joined_from}
-use Rattle.obj_terms.specs.Obj.{word_lines}
-use Rattle.obj_laws.proofs.Bytes.{Above, Above-lower}
-use Rattle.obj_laws.proofs.Words.{spaced, words_of-spaced, Above-spaced}
-use Rattle.obj_laws.proofs.Lines.{lines_of-line}
-use Rattle.obj_laws.proofs.Plain.{IsPlain, IsPlain-letter, last_is-word}
+use Rattle.format_terms.specs.Obj.{word_lines}
+use Rattle.format_laws.proofs.Bytes.{Above, Above-lower}
+use Rattle.format_laws.proofs.Words.{spaced, words_of-spaced, Above-spaced}
+use Rattle.format_laws.proofs.Lines.{lines_of-line}
+use Rattle.format_laws.proofs.Plain.{IsPlain, IsPlain-letter, last_is-word}
 use Rattle.obj_text.specs.Plain.{is_plain, all_plain, IsPlainWord, line_end, with_line}
 
 -- plain bytes are above a space

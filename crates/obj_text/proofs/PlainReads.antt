@@ -8,11 +8,11 @@ use Rattle.mesh_terms.specs.Meshes.{HasThree, IsBelow}
 use Rattle.text_terms.specs.Lines.{lines_of, joined_from}
 use Rattle.text_terms.specs.Coordinates.{coordinate}
 use Rattle.text_terms.specs.FirstFault.{then_read, put_read, each_read, on_line}
-use Rattle.obj_terms.specs.Faces.{item_vertex, has_repeat, face_fan}
-use Rattle.obj_terms.specs.Obj.{Gathered, with_point, with_triples, obj_triples, obj_line, obj_lines, word_lines}
-use Rattle.obj_laws.proofs.Decimals.{IsSpelled}
-use Rattle.obj_laws.proofs.Plain.{IsPlain, IsPlain-digits}
-use Rattle.obj_laws.proofs.WrittenWords.{item_vertex-spelled}
+use Rattle.format_terms.specs.ObjFaces.{item_vertex, has_repeat, face_fan}
+use Rattle.format_terms.specs.Obj.{Gathered, with_point, with_triples, obj_triples, obj_line, obj_lines, word_lines}
+use Rattle.format_laws.proofs.Decimals.{IsSpelled}
+use Rattle.format_laws.proofs.Plain.{IsPlain, IsPlain-digits}
+use Rattle.format_laws.proofs.WrittenWords.{item_vertex-spelled}
 use Rattle.obj_text.specs.Plain.{IsIndexOf, BeginsCoordinate, line_end, EndsLine, with_line, BeginsFace, BeginsPoint, IsFaceFirst, IsPointFirst}
 use Rattle.obj_text.proofs.FaceSteps.{with_point-within, with_triples-within}
 use Rattle.obj_text.proofs.PlainLines.{IsPlain-word, words-first}

@@ -5,10 +5,10 @@ use Rattle.std.specs.List.{position_or_len}
 use Rattle.std.proofs.lemmas.Int.{ints}
 use Rattle.std.proofs.lemmas.Bool.Decides.{nat_tests}
 use Rattle.std.proofs.lemmas.List.{take-append-drop, length-take-le}
-use Rattle.text_laws.proofs.Digits.{both, left, right, all_digits-append, value_from-append}
+use Rattle.text_terms.proofs.Digits.{both, left, right, all_digits-append, value_from-append}
 use Rattle.text_terms.specs.Numbers.{Parts, is_digit, all_digits, value_from, digits_value, scaled, size_of, value_of, signed, number_parts, or_empty}
 use Rattle.text_terms.specs.Coordinates.{on_grid, coordinate}
-use Rattle.obj_terms.specs.Faces.{minus_first}
+use Rattle.format_terms.specs.ObjFaces.{minus_first}
 use Rattle.grid_number.specs.Reading.{carry_of, with_sign, parts_with}
 use Rattle.grid_number.proofs.Cuts.{signed-digits}
 use Rattle.grid_number.proofs.Dropped.{scaled-dropped}

@@ -1,7 +1,7 @@
 -- Numbers that count no further than some greatest one, and words read one after the other.
 use Rattle.std.specs.Prelude.{◌≡◌, ℕ, ◌^◌, Bool, List, [], ◌∷◌, ◌++◌, Option, Some, None, Result, Ok, Err, if◌then◌else◌, min}
 use Rattle.text_terms.specs.Numbers.{is_digits, digits_value}
-use Rattle.obj_terms.specs.Faces.{minus_first}
+use Rattle.format_terms.specs.ObjFaces.{minus_first}
 
 -- above the number of points of any file
 abbrev pub most : ℕ

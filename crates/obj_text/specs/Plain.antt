@@ -5,7 +5,7 @@ use Rattle.text_terms.specs.Numbers.{all_digits, value_from, digits_value, or_em
 use Rattle.text_terms.specs.Coordinates.{coordinate}
 use Rattle.grid_number.specs.Reading.{carry_of}
 use Rattle.text_terms.specs.FirstFault.{each_read}
-use Rattle.obj_terms.specs.Obj.{Gathered, obj_lines}
+use Rattle.format_terms.specs.Obj.{Gathered, obj_lines}
 
 -- a byte above a space that is neither # nor \
 abbrev pub is_plain : ℕ → Bool

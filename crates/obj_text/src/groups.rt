@@ -2,7 +2,7 @@
 ghost use Rattle.std.specs.Prelude.{◌≡◌, ◌≤◌, ◌+◌, ◌++◌, ◌∷◌, ◌-◌, [], length, replicate, take, map, OnOk};
 ghost use Rattle.text_terms.specs.Lines.{last_is};
 ghost use Rattle.mesh_terms.specs.Labels.{IsLabel};
-ghost use Rattle.obj_terms.specs.Labels.{label_byte, label_of, without_blank};
+ghost use Rattle.format_terms.specs.ObjLabels.{label_byte, label_of, without_blank};
 ghost use Rattle.obj_text.specs.Groups.{no_groups, padded, put_behind};
 
 use crate::words::Words;

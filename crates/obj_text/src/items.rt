@@ -4,14 +4,14 @@ ghost use Rattle.text_terms.specs.Numbers.{cut_at};
 ghost use Rattle.mb_base.specs.Faults.{kind_number};
 ghost use Rattle.text_terms.specs.FirstFault.{each_read, on_line};
 ghost use Rattle.text_terms.specs.Coordinates.{coordinate};
-ghost use Rattle.obj_terms.specs.Obj.{point_coordinates, face_vertices};
-ghost use Rattle.obj_terms.specs.Faces.{minus_first, is_whole, is_slash, item_tail, named_vertex, item_vertex};
-ghost use Rattle.text_lines.specs.Faults.{IsFaultOf};
+ghost use Rattle.format_terms.specs.Obj.{point_coordinates, face_vertices};
+ghost use Rattle.format_terms.specs.ObjFaces.{minus_first, is_whole, is_slash, item_tail, named_vertex, item_vertex};
+ghost use Rattle.grid_number.specs.TextFaults.{IsFaultOf};
 ghost use Rattle.obj_text.specs.Items.{digits_up_to, whole_up_to, most, IsRead};
 
 use crate::words::Words;
+use grid_number::{bad, coordinate};
 use mb_base::{Point, TextFault, TextKind};
-use text_lines::{bad, coordinate};
 
 // A number of a vertex counts no further than this. There are fewer points.
 const MOST: u64 = 1 << 32;

@@ -20,8 +20,8 @@
 
 ghost use Rattle.std.specs.Prelude.{◌≡◌, ◌≤◌, Ok, IfOk, IfErr};
 ghost use Rattle.text_terms.specs.Lines.{without_mark};
-ghost use Rattle.obj_terms.specs.Obj.{obj};
-ghost use Rattle.text_lines.specs.Faults.{IsFaultOf};
+ghost use Rattle.format_terms.specs.Obj.{obj};
+ghost use Rattle.grid_number.specs.TextFaults.{IsFaultOf};
 
 mod decimals;
 mod groups;
@@ -32,10 +32,10 @@ mod reading;
 mod repeats;
 mod words;
 
+use grid_number::without_mark;
 use mb_base::{Limits, Soup, TextFault};
 use reading::Reading;
 use std::alloc::Global;
-use text_lines::without_mark;
 
 /// The points and triangles of a Wavefront OBJ file in the order of the file, each triangle with its label: points in grid steps, 10 to
 /// the power of `digits` a unit, rounded to the nearest, and vertices from 0. Points that no triangle uses

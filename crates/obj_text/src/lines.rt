@@ -1,14 +1,14 @@
 // The lines of a text, joined where they go on.
 ghost use Rattle.std.specs.Prelude.{◌≡◌, ◌<◌, ◌≤◌, ◌+◌, [], ◌∷◌, ◌^◌, length, IfSome};
 ghost use Rattle.text_terms.specs.Lines.{lines_of, joined_lines};
-ghost use Rattle.obj_terms.specs.Obj.{word_lines};
+ghost use Rattle.format_terms.specs.Obj.{word_lines};
 ghost use Rattle.obj_text.specs.Lines.{lines_past};
 ghost use Rattle.obj_text.specs.Plain.{IsFaceFirst, IsPointFirst};
 
 use crate::plain::{face_line, point_line};
 use crate::words::{Words, is_continued};
+use grid_number::first_line;
 use std::marker::Model;
-use text_lines::first_line;
 
 /// The lines of a text from the first to the last, each with its number, from 1, and its words. A line
 /// ends at its LF or at the end of the text, and one CR at its end is dropped. Where it goes on in the
@@ -22,7 +22,7 @@ pub struct Lines<'t> {
 impl<'t> Model for Lines<'t> {
     ghost use Rattle.std.specs.Prelude.{◌+◌, ◌≤◌, ◌^◌, ℕ, List, length};
     ghost use Rattle.text_terms.specs.Lines.{lines_of, joined_from};
-    ghost use Rattle.obj_terms.specs.Obj.{word_lines};
+    ghost use Rattle.format_terms.specs.Obj.{word_lines};
 
     ghost Value = { List (ℕ × List (List ℕ)) };
 

@@ -6,7 +6,7 @@ ghost use Rattle.std.specs.List.{position_or_len};
 ghost use Rattle.obj_text.specs.Plain.{is_plain, ends_plain, BeginsIndex, BeginsWord, BeginsCoordinate, EndsLine, BeginsFace, BeginsPoint};
 
 use crate::decimals::{leading_digits, short_coordinate};
-use text_lines::coordinate;
+use grid_number::coordinate;
 
 /// The vertices, from 0, that the line of a face at the front of a text names, and the text after it.
 pub fn face_line(text: &[u8]) -> Option<(u64, u64, u64, &[u8])>

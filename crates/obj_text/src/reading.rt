@@ -5,9 +5,9 @@ ghost use Rattle.text_terms.specs.Lines.{joined_lines};
 ghost use Rattle.mesh_terms.specs.Labels.{labels_for, no_labels};
 ghost use Rattle.mesh_terms.specs.Limits.{most_points, most_triangles};
 ghost use Rattle.mesh_terms.specs.Meshes.{HasThree, IsBelow, triples_of, soup_of};
-ghost use Rattle.obj_terms.specs.Faces.{face_fan, has_repeat};
-ghost use Rattle.obj_terms.specs.Obj.{nothing_gathered, with_point, with_triples, obj_point, obj_face, obj_line, obj_lines, passed_over, word_lines};
-ghost use Rattle.text_lines.specs.Faults.{IsFaultOf};
+ghost use Rattle.format_terms.specs.ObjFaces.{face_fan, has_repeat};
+ghost use Rattle.format_terms.specs.Obj.{nothing_gathered, with_point, with_triples, obj_point, obj_face, obj_line, obj_lines, passed_over, word_lines};
+ghost use Rattle.grid_number.specs.TextFaults.{IsFaultOf};
 ghost use Rattle.obj_text.specs.Plain.{ReadsLine};
 
 use crate::groups::Groups;
@@ -15,10 +15,10 @@ use crate::items::{point_of, read_vertices};
 use crate::lines::Lines;
 use crate::repeats::has_repeat;
 use crate::words::Words;
+use grid_number::bad;
 use mb_base::{Counted, Labels, Limits, NoMemory, Point, Soup, TextFault, TextKind};
 use std::alloc::{AllocError, Global};
 use std::marker::Model;
-use text_lines::bad;
 use unused_points::without_unused;
 
 /// The points and the triangles that the lines so far gave, and their groups.
@@ -33,7 +33,7 @@ impl Model for Gathered {
     ghost use Rattle.std.specs.Prelude.{length};
     ghost use Rattle.mesh_terms.specs.Labels.{labels_for};
     ghost use Rattle.mesh_terms.specs.Meshes.{triples_of};
-    ghost use Rattle.obj_terms.specs.Obj.{Gathered as TheGathered};
+    ghost use Rattle.format_terms.specs.Obj.{Gathered as TheGathered};
     ghost use Rattle.obj_text.specs.Groups.{IsGathering};
 
     ghost Value = { TheGathered };

@@ -2,7 +2,7 @@
 ghost use Rattle.std.specs.Prelude.{◌≡◌, ◌==◌, IfOk};
 ghost use Rattle.std.specs.List.{list_any};
 ghost use Rattle.std.specs.List.Sorted.{IsNonDecreasing};
-ghost use Rattle.obj_terms.specs.Faces.{has_repeat};
+ghost use Rattle.format_terms.specs.ObjFaces.{has_repeat};
 
 use std::alloc::AllocError;
 

@@ -2,11 +2,11 @@
 ghost use Rattle.std.specs.Prelude.{◌≡◌, ◌<◌, ◌≤◌, ◌⊎◌, [], ◌∷◌, length, take, IsTrue, IfSome, IfNone};
 ghost use Rattle.text_terms.specs.Lines.{is_continued, begins_word, before_comment, words_of, lines_of, begins_comment};
 ghost use Rattle.std.specs.List.{All};
-ghost use Rattle.obj_laws.specs.ReadWords.{IsReadWord};
+ghost use Rattle.format_laws.specs.ReadWords.{IsReadWord};
 ghost use Rattle.obj_text.specs.Lines.{first_words, words_left};
 
+use grid_number::{after_blanks, first_blank, first_line, is_comment};
 use std::marker::Model;
-use text_lines::{after_blanks, first_blank, first_line, is_comment};
 
 /// The words of a line from the first to the last: longest runs of bytes that are neither a space nor a
 /// tab. A word that begins with `#` ends the line.

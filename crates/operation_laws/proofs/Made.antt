@@ -15,20 +15,20 @@ use Rattle.mesh_terms.specs.Meshes.{IsAccepted, Triple}
 use Rattle.mesh_terms.specs.Points.{IsPoint}
 use Rattle.side_terms.specs.Hits.{AreHits}
 use Rattle.side_terms.specs.Sides.{Side}
-use Rattle.assembly_terms.specs.Lists.{Copy}
-use Rattle.assembly_terms.specs.Points.{point_of, points_of}
-use Rattle.assembly_terms.specs.Prescribed.{Included, Numbers, copies_of, copy_of, hit_number_of, included_hits}
-use Rattle.assembly_terms.specs.Prescribed.{included_vertices, p_hits, p_number, p_vertices, prescribed}
-use Rattle.assembly_terms.specs.Prescribed.{prescribed_halfedges, q_hits, q_number, q_vertices}
-use Rattle.assembly_terms.specs.Standing.{AreConserved}
+use Rattle.side_terms.specs.Lists.{Copy}
+use Rattle.side_terms.specs.Points.{point_of, points_of}
+use Rattle.side_terms.specs.Prescribed.{Included, Numbers, copies_of, copy_of, hit_number_of, included_hits}
+use Rattle.side_terms.specs.Prescribed.{included_vertices, p_hits, p_number, p_vertices, prescribed}
+use Rattle.side_terms.specs.Prescribed.{prescribed_halfedges, q_hits, q_number, q_vertices}
+use Rattle.side_terms.specs.Standing.{AreConserved}
 use Rattle.retained_verts.proofs.AllStarts.{all_starts}
 use Rattle.retained_verts.proofs.Balance.{balanced}
 use Rattle.retained_verts.proofs.TwoLists.{stand_in_lists}
-use Rattle.segment_laws.proofs.FaceLists.{all_upto}
-use Rattle.segment_laws.proofs.Named.{are_named}
-use Rattle.filling_terms.specs.Assembling.{CanBeAssembled}
-use Rattle.filling_terms.specs.Filled.{all_filled, all_triples, points_of_copies, sources_of}
-use Rattle.filling_laws.specs.Laws.{FillingsAreAccepted, FillingsAreFew}
+use Rattle.source_face_laws.proofs.FaceLists.{all_upto}
+use Rattle.source_face_laws.proofs.Named.{are_named}
+use Rattle.source_face_terms.specs.Assembling.{CanBeAssembled}
+use Rattle.source_face_terms.specs.Filled.{all_filled, all_triples, points_of_copies, sources_of}
+use Rattle.source_face_laws.specs.FillingLaws.{FillingsAreAccepted, FillingsAreFew}
 use Rattle.mesh_boolean.specs.Operation.{Outcome, outcome_of}
 use Rattle.mesh_boolean.proofs.Parts.{length-sources}
 use Rattle.pinch_split.specs.Split.{split_points, split_triples}

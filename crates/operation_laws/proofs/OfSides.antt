@@ -8,10 +8,10 @@ use Rattle.mesh_terms.specs.Limits.{most_halfedges}
 use Rattle.mesh_terms.specs.Meshes.{IsAccepted, Triple}
 use Rattle.mesh_terms.specs.Twins.{twins_of}
 use Rattle.side_terms.specs.Sides.{Side}
-use Rattle.assembly_terms.specs.Lists.{Copy}
-use Rattle.assembly_terms.specs.Prescribed.{Numbers, prescribed, prescribed_halfedges}
-use Rattle.filling_terms.specs.Filled.{all_filled, all_triples, points_of_copies, sources_of}
-use Rattle.filling_laws.specs.Laws.{FacesAreFilled}
+use Rattle.side_terms.specs.Lists.{Copy}
+use Rattle.side_terms.specs.Prescribed.{Numbers, prescribed, prescribed_halfedges}
+use Rattle.source_face_terms.specs.Filled.{all_filled, all_triples, points_of_copies, sources_of}
+use Rattle.source_face_laws.specs.FillingLaws.{FacesAreFilled}
 use Rattle.pinch_split.specs.Back.{ComeFrom, named_by}
 use Rattle.pinch_split.specs.Split.{split_from, split_points, split_triples}
 use Rattle.mesh_boolean.specs.Operation.{Outcome, outcome_of}

@@ -14,7 +14,7 @@ use Rattle.lean.proofs.Corners.{edge_fine}
 use Rattle.shadow_kernels.specs.Bounds.{hull_fine}
 use Rattle.shadow_kernels.specs.ShadowLaws.{IsInHull, ShadowLaws, ShadowTest}
 use Rattle.shadow_kernels.specs.declared.Meet.{Meet}
-use Rattle.outline_numbers.proofs.Points.{IsSettling, settled_grid}
+use Rattle.cross_section.proofs.Points.{IsSettling, settled_grid}
 use Rattle.outline_pair_terms.specs.declared.FlatHit.{FlatHit}
 use Rattle.outline_pair_terms.specs.Numbers.{FlatSide, edge_at, ends_of, flat_hit, flat_hits, flat_hits_along, flat_point}
 

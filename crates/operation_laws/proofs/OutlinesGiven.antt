@@ -26,14 +26,14 @@ use Rattle.hole_joining.proofs.Keeps.{is_joining}
 use Rattle.triangulate.proofs.CutRings.{cuttings}
 use Rattle.outline_terms.specs.Extrusion.{at_height}
 use Rattle.outline_terms.specs.Outlines.{IsOutline, Outline, most_vertices, outline_edges, p_marks, q_marks}
-use Rattle.outline_laws.proofs.Edges.{edges_long}
+use Rattle.outline_terms.proofs.Edges.{edges_long}
 use Rattle.outline_pair_terms.specs.Lists.{flat_copies}
 use Rattle.outline_pair_terms.specs.Numbers.{FlatNumbers, LiftEdges, p_flat, q_flat}
-use Rattle.outline_numbers.proofs.Points.{IsSettling}
-use Rattle.outline_numbers.proofs.Walking.{lift_edges}
-use Rattle.extrusion.specs.Extruded.{AreOver, extruded, filling_of}
-use Rattle.extrusion.proofs.Solids.{outline_fillable, solid_accepted, solid_volume, triples_long}
-use Rattle.outline_pair_laws.proofs.Whole.{conserved}
+use Rattle.cross_section.proofs.Points.{IsSettling}
+use Rattle.cross_section.proofs.Walking.{lift_edges}
+use Rattle.cross_section.specs.Extruded.{AreOver, extruded, filling_of}
+use Rattle.cross_section.proofs.Solids.{outline_fillable, solid_accepted, solid_volume, triples_long}
+use Rattle.outline_pair_terms.proofs.Whole.{conserved}
 use Rattle.cross_section.proofs.Copied.{count_copies, each_copy}
 use Rattle.cross_section.proofs.Gives.{gives_outline}
 use Rattle.play_laws.specs.ScriptsReadingBack.{IsGivenOutline}

@@ -17,8 +17,8 @@ use Rattle.side_terms.specs.Corners.{AllFine, IsFineCorner}
 use Rattle.side_terms.specs.Fine.{IsFine}
 use Rattle.side_terms.specs.Sides.{IsSide, Side, corner_of, corners_of, side_of}
 use Rattle.lean.proofs.Corners.{corners_long, corners_whole}
-use Rattle.assembly_terms.specs.PointLaws.{corners_points}
-use Rattle.assembly_terms.specs.Points.{points_of}
+use Rattle.side_terms.specs.PointLaws.{corners_points}
+use Rattle.side_terms.specs.Points.{points_of}
 use Rattle.mesh_boolean.specs.Operation.{reduced_mesh}
 use Rattle.remesh_laws.proofs.Making.{reduced_given}
 

@@ -19,12 +19,12 @@ use Rattle.rounding.specs.Nearest.{nearest, settle_nearest}
 use Rattle.shadow_kernels.specs.Hulls.{StaysBetween}
 use Rattle.shadow_kernels.specs.Lawful.{IsRule, grid_rule}
 use Rattle.edge_face.specs.CrossLaws.{IsSettling}
-use Rattle.filling_laws.specs.Laws.{FacesAreFilled}
+use Rattle.source_face_laws.specs.FillingLaws.{FacesAreFilled}
 use Rattle.play_laws.specs.ScriptsReadingBack.{MeshReadable, MeshesReadable}
 use Rattle.play_laws.proofs.Readable.{readable_within, within_of_readable}
 use Rattle.play_laws.proofs.ScriptsReadingBack.{steps_keep}
 use Rattle.play_terms.specs.Plays.{mesh_at, outline_at, vertex_count}
-use Rattle.extrusion.specs.Extruded.{extruded}
+use Rattle.cross_section.specs.Extruded.{extruded}
 use Rattle.outline_terms.specs.Outlines.{most_vertices}
 use Rattle.operation_laws.proofs.OutlinesGiven.{outline_made, outline_result, solid_given, solid_result}
 use Rattle.mesh_boolean.specs.Operation.{Outcome, face_labels, first_side, numbers_of, operation, reduced_mesh, second_side}

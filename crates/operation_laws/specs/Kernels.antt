@@ -6,7 +6,7 @@ use Rattle.mb_base.specs.declared.kernel_kind.KernelKind.TheVariants.{Exact, Gri
 use Rattle.mesh_boolean.specs.Operation.{Outcome, Tests, operation}
 use Rattle.rounding.specs.Nearest.{nearest, settle_nearest}
 use Rattle.cross_section.specs.Outcome.{Outcome as Flat, outcome_of}
-use Rattle.extrusion.specs.Extruded.{extruded, filling_of}
+use Rattle.cross_section.specs.Extruded.{extruded, filling_of}
 use Rattle.outline_pair_terms.specs.Numbers.{FlatNumbers, FlatTests, flat_numbers, p_flat, q_flat}
 use Rattle.outline_terms.specs.Outlines.{Outline}
 use Rattle.mb_base.specs.declared.op.Op.{Op}

@@ -9,12 +9,12 @@ use Rattle.mesh_terms.specs.Limits.{IsLawful, Limits, most_halfedges}
 use Rattle.mesh_terms.specs.Meshes.{IsAccepted, Mesh}
 use Rattle.mesh_terms.specs.Points.{IsOnGrid}
 use Rattle.mesh_terms.specs.Volume.{volume6_of}
-use Rattle.extrusion.specs.Extruded.{doubled_area, extruded}
+use Rattle.cross_section.specs.Extruded.{doubled_area, extruded}
 use Rattle.outline_pair_terms.specs.Balance.{AreConserved}
 use Rattle.outline_pair_terms.specs.Lists.{flat_copies}
 use Rattle.outline_terms.specs.Outlines.{IsOutline, Outline, most_vertices, outline_edges}
 use Rattle.run_terms.specs.Files.{Bytes, Files}
-use Rattle.filling_terms.specs.Filled.{points_of_copies}
+use Rattle.source_face_terms.specs.Filled.{points_of_copies}
 use Rattle.pinch_split.specs.Back.{ComeFrom}
 use Rattle.play_terms.specs.Plays.{State, at_first, extrusion_fault, mesh_at, outline_at, steps_task, vertex_count}
 use Rattle.play_terms.specs.Sound.{HavePlaces}

@@ -3,8 +3,8 @@
 ghost use Rattle.operation_laws.specs.Laws.{OperationsAreAccepted, OperationsAreReadable};
 ghost use Rattle.operation_laws.specs.Results.{OperationsAreResults, ScriptsGiveResults, ScriptsRemesh};
 
-use filling_laws::laws::{faces_are_filled, fillings_close};
 use remesh_laws::laws::{patches_are_kept, patches_are_patches, remeshing_remeshes, welding_keeps};
+use source_face_laws::of_fillings::{faces_are_filled, fillings_close};
 
 /// Under the kernels of the grid and under exact ones an operation on two accepted meshes makes an accepted mesh, within lawful
 /// limits where its half-edges are, and what a script makes so is read of its text.

@@ -7,7 +7,7 @@ mod volume;
 
 use crate::rows::{Kind, expect_rows};
 use edge_face::Kernels;
-use mb_base::{Limits, Op};
+use mb_base::{Limits, Op, Steps};
 use mesh_boolean::{Outcome, boolean};
 use mesh_check::Mesh;
 use retained_verts::PrescribeFault;
@@ -17,7 +17,6 @@ use std::alloc::Global;
 use std::marker::Brand;
 use std::process::Abort;
 use std::sync::ledger::{Blank, Ledger};
-use steps::Steps;
 use table::{FARTHEST, WORKED};
 pub use table::{LOOSE, SOLIDS};
 use test_tables::{POST_IN_BOX, read_meshes, read_pair};

@@ -5,19 +5,17 @@ ghost use Rattle.component_terms.specs.Counts.{component_count};
 ghost use Rattle.mesh_boolean.specs.Operation.{first_side, reduced_mesh, second_side};
 ghost use Rattle.winding.specs.Windings.{components_of};
 
-use mb_base::{Limits, NoMemory, Op, Point};
+use mb_base::{Limits, NoMemory, Op, Point, Steps};
 use mesh_boolean::boolean;
 use mesh_check::{Mesh, reduce};
-use mesh_make::{make_box, make_lattice};
-use mesh_measures::measure;
+use mesh_make::{make_box, make_lattice, measure};
 use rounding::Nearest;
 use shadow_kernels::Grid;
 use std::alloc::Global;
 use std::marker::Brand;
 use std::sync::ledger::{Blank, Ledger};
 use std::test::Fail;
-use steps::Steps;
-use test_soups::{box_points, soup_of, two_boxes};
+use test_tables::{box_points, soup_of, two_boxes};
 
 // How many components a mesh has once it is reduced.
 fn reduced_components(alloc: Global, mesh: &Mesh) -> Result<u64, NoMemory>

@@ -7,7 +7,7 @@ use Rattle.chain_terms.specs.Sums.{upto}
 use Rattle.mb_base.specs.Op.{constants_of}
 use Rattle.mb_base.specs.declared.op.Op.{Op}
 use Rattle.edge_pairing.specs.Pairing.{scalar_product, step}
-use Rattle.standings.specs.Standings.{segments_of}
+use Rattle.face_loops.specs.Standings.{segments_of}
 use Rattle.outline_pair_terms.specs.declared.FlatHit.{FlatHit}
 use Rattle.outline_pair_terms.specs.Numbers.{FlatNumbers}
 use Rattle.outline_terms.specs.Outlines.{Outline, outline_edges}

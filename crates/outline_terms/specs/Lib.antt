@@ -1,2 +1,3 @@
 pub mod Extrusion
+pub mod Laws
 pub mod Outlines

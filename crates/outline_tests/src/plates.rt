@@ -7,7 +7,7 @@ use cross_section::{
     extrude, outline_numbers,
 };
 use mb_base::{Counted, Limits, Op, Point};
-use mesh_measures::measure;
+use mesh_make::measure;
 use rounding::Nearest;
 use shadow_kernels::Grid;
 use std::alloc::Global;

@@ -6,7 +6,7 @@ use Rattle.mesh_terms.specs.Faults.{FileBytes}
 use Rattle.mesh_terms.specs.Given.{IsGivenWithin}
 use Rattle.mesh_terms.specs.Limits.{IsLawful, Limits}
 use Rattle.mesh_terms.specs.Meshes.{Mesh, Soup}
-use Rattle.obj_terms.specs.Written.{obj_text}
+use Rattle.format_terms.specs.ObjWritten.{obj_text}
 use Rattle.run_terms.specs.Files.{Bytes}
 use Rattle.run_terms.specs.Runs.{Ask}
 use Rattle.run_terms.specs.Tasks.{PastLimit, Refusal, give, joined}

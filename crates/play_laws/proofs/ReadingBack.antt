@@ -10,13 +10,13 @@ use Rattle.mesh_terms.specs.Labels.{AreLabels}
 use Rattle.mesh_terms.specs.Meshes.{Soup}
 use Rattle.mesh_terms.proofs.Labels.{no_labels-are}
 use Rattle.mesh_terms.specs.OpenEdges.{open_pair}
-use Rattle.obj_terms.specs.Written.{obj_text}
-use Rattle.obj_laws.specs.ReadingBack.{ReadsBack}
-use Rattle.obj_laws.specs.Within.{IsWithin}
-use Rattle.obj_laws.proofs.ReadMeshes.{files_give_meshes as obj_gives_meshes}
-use Rattle.obj_laws.proofs.SavedMeshes.{meshes_read_back}
-use Rattle.stl_laws.proofs.ReadMeshes.{files_give_meshes as stl_gives_meshes}
-use Rattle.stl_terms.specs.Written.{is_stl}
+use Rattle.format_terms.specs.ObjWritten.{obj_text}
+use Rattle.format_laws.specs.ReadingBack.{ReadsBack}
+use Rattle.format_laws.specs.Within.{IsWithin}
+use Rattle.format_laws.proofs.ObjReadMeshes.{files_give_meshes as obj_gives_meshes}
+use Rattle.format_laws.proofs.ObjSavedMeshes.{meshes_read_back}
+use Rattle.format_laws.proofs.StlReadMeshes.{files_give_meshes as stl_gives_meshes}
+use Rattle.format_terms.specs.StlWritten.{is_stl}
 use Rattle.run_terms.specs.Files.{Bytes}
 use Rattle.run_terms.specs.Runs.{Ask, Write, Say}
 use Rattle.run_terms.specs.Tasks.{PastLimit, Refusal, give, joined}

@@ -36,8 +36,8 @@ use Rattle.play_laws.proofs.Outlined.{empty_outline, ring_given}
 use Rattle.tidy_terms.specs.Tidy.{tidied, tidy_mesh}
 use Rattle.made_laws.proofs.Motions.{moved_within}
 use Rattle.made_laws.proofs.Solids.{solid_given}
-use Rattle.obj_laws.specs.Within.{IsWithin}
-use Rattle.stl_laws.proofs.SavedMeshes.{meshes_read_welded}
+use Rattle.format_laws.specs.Within.{IsWithin}
+use Rattle.format_laws.proofs.StlSavedMeshes.{meshes_read_welded}
 use Rattle.play_laws.specs.ScriptsReadingBack.{IsGivenOutline, IsReadOfTexts, KeepsMeshes, MeshReadable, NamesReadable, ResultsReadable, soup_of_mesh}
 use Rattle.play_laws.proofs.KeepingInOrder.{keeps_value, keeps_in_order}
 use Rattle.play_laws.proofs.Readable.{readable_within, within_of_readable}

@@ -6,7 +6,7 @@ use Rattle.mesh_terms.specs.Given.{IsGivenWithin}
 use Rattle.mesh_terms.specs.Limits.{Limits}
 use Rattle.mesh_terms.specs.Meshes.{Mesh}
 use Rattle.mesh_terms.specs.Points.{IsPoint}
-use Rattle.obj_laws.proofs.ReadMeshes.{used_from-all}
+use Rattle.format_laws.proofs.ObjReadMeshes.{used_from-all}
 use Rattle.tidy_terms.specs.Tidy.{tidied, tidy_mesh}
 use Rattle.tidy_laws.specs.Laws.{IsTidyMesh}
 use Rattle.tidy_laws.proofs.KeptAll.{no_more_points, no_more_triples, tidied_labels}

@@ -17,9 +17,9 @@ use Rattle.play_terms.specs.Plays.{Meanings, Named, State, at_first, extrusion_f
 use Rattle.play_terms.specs.Scripts as scripts
 use Rattle.play_terms.specs.Sound.{HavePlaces}
 use Rattle.play_terms.specs.Steps.{Line, Save}
-use Rattle.stl_laws.specs.Welding.{welded_mesh}
-use Rattle.stl_terms.specs.Stl.{stl}
-use Rattle.stl_terms.specs.Written.{stl_text}
+use Rattle.format_laws.specs.Welding.{welded_mesh}
+use Rattle.format_terms.specs.Stl.{stl}
+use Rattle.format_terms.specs.StlWritten.{stl_text}
 use Rattle.tidy_terms.specs.Tidy.{tidy_mesh}
 use Rattle.tidy_laws.specs.Laws.{IsTidyMesh}
 

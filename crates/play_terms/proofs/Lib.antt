@@ -5,4 +5,5 @@ mod ProgramRows
 mod Rows
 mod ScriptRows
 pub mod Soundness
+pub mod Suffix
 mod Taken

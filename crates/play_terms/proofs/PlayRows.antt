@@ -6,7 +6,7 @@ use Rattle.std.specs.Char.{encode_utf8}
 use Rattle.std.specs.Str.{chars, is_utf8}
 use Rattle.mesh_terms.specs.Limits.{Limits}
 use Rattle.mesh_terms.specs.Meshes.{Mesh}
-use Rattle.obj_terms.specs.Written.{obj_text}
+use Rattle.format_terms.specs.ObjWritten.{obj_text}
 use Rattle.text_terms.specs.Written.{line_of}
 use Rattle.outline_terms.specs.Extrusion.{extruded_points}
 use Rattle.run_terms.specs.Files.{Bytes, Files, put}

@@ -3,10 +3,10 @@ use Rattle.std.specs.Prelude.{ℕ, ℤ, List, Bool, ◌||◌, if◌then◌else�
 use Rattle.mesh_terms.specs.Faults.{Fault}
 use Rattle.mesh_terms.specs.Limits.{Limits}
 use Rattle.mesh_terms.specs.Meshes.{Triple, Soup}
-use Rattle.obj_terms.specs.Obj.{obj}
-use Rattle.obj_terms.specs.Written.{is_obj, obj_text}
-use Rattle.stl_terms.specs.Stl.{stl}
-use Rattle.stl_terms.specs.Written.{is_stl, stl_text}
+use Rattle.format_terms.specs.Obj.{obj}
+use Rattle.format_terms.specs.ObjWritten.{is_obj, obj_text}
+use Rattle.format_terms.specs.Stl.{stl}
+use Rattle.format_terms.specs.StlWritten.{is_stl, stl_text}
 use Rattle.run_terms.specs.Files.{Bytes}
 use Rattle.play_terms.specs.declared.format.Format.{Format}
 use Rattle.play_terms.specs.declared.format.Format.TheVariants.{Obj, Stl}

@@ -2,8 +2,8 @@
 use Rattle.std.specs.Prelude.{◌≡◌, ℕ, false, Option, Some, None, Ok}
 use Rattle.mesh_terms.specs.Limits.{Limits}
 use Rattle.mesh_terms.specs.Meshes.{Soup}
-use Rattle.obj_terms.specs.Written.{obj_text}
-use Rattle.stl_terms.specs.Written.{is_stl}
+use Rattle.format_terms.specs.ObjWritten.{obj_text}
+use Rattle.format_terms.specs.StlWritten.{is_stl}
 use Rattle.run_terms.specs.Files.{Bytes, Files}
 use Rattle.run_terms.specs.Runs.{Action, Ask, Write, Say}
 use Rattle.play_terms.specs.Commands.{ask_mesh}

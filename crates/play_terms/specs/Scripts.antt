@@ -3,7 +3,7 @@ use Rattle.std.specs.Prelude.{ℕ, List, [], ◌∷◌, ◌++◌, ◌==◌, if�
 use Rattle.text_terms.specs.Lines.{lines_of, numbered, without_mark}
 use Rattle.mesh_terms.specs.Faults.{Fault}
 use Rattle.text_terms.specs.FirstFault.{then_read, read_each, on_line}
-use Rattle.obj_terms.specs.Obj.{word_lines}
+use Rattle.format_terms.specs.Obj.{word_lines}
 use Rattle.run_terms.specs.Files.{Bytes}
 use Rattle.play_terms.specs.ScriptCommands.{Command, command_named}
 use Rattle.play_terms.specs.Operands.{operands_fault}

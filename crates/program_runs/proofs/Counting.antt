@@ -3,9 +3,9 @@ use Rattle.std.proofs.Common.{◌≡◌, ◌≤◌, ◌+◌, ◌∙◌, ℕ, ℤ
 use Rattle.mesh_terms.specs.Limits.{Limits}
 use Rattle.run_terms.specs.Files.{Bytes, Files}
 use Rattle.play_terms.specs.Words.{Command, InsideFile, IsInside, RunScript}
-use Rattle.mesh_commands.specs.Points.{steps_of_point}
-use Rattle.mesh_commands.specs.declared.status.Status.{Status}
-use Rattle.mesh_commands.specs.declared.status.Status.TheVariants as statuses
+use Rattle.program_runs.specs.Points.{steps_of_point}
+use Rattle.program_runs.specs.declared.status.Status.{Status}
+use Rattle.program_runs.specs.declared.status.Status.TheVariants as statuses
 use Rattle.script_runs.specs.Costs.{script_cost}
 use Rattle.script_runs.specs.Operations as operations
 use Rattle.program_runs.specs.Running.{IsCounted}

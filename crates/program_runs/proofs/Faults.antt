@@ -10,9 +10,9 @@ use Rattle.run_terms.specs.Files.{Bytes, Grew}
 use Rattle.run_terms.specs.Meets.{Faults, Meets, ReadRose, Refused, Rises, Seen, Starved, Unread, Unsaid, Unwritten, Why}
 use Rattle.run_terms.specs.Tasks.{Refusal, NoCommand, FaultyScript, NoFile, FaultyText, OpenEdge, FaultyStep, PastLimit, Task}
 use Rattle.play_terms.specs.Ends.{ReadFailed, RiseWith, refusal_status, ended_status}
-use Rattle.mesh_commands.specs.Statuses.{IsDoneOrStarved, status_number}
-use Rattle.mesh_commands.specs.declared.status.Status.{Status}
-use Rattle.mesh_commands.specs.declared.status.Status.TheVariants as statuses
+use Rattle.program_runs.specs.Statuses.{IsDoneOrStarved, status_number}
+use Rattle.program_runs.specs.declared.status.Status.{Status}
+use Rattle.program_runs.specs.declared.status.Status.TheVariants as statuses
 use Rattle.program_runs.specs.Playing.{IsUntroubled, MeetsAs, RiseOn, RunMeets, meanings}
 
 -- a count below its last value rose

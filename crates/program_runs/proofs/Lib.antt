@@ -1,4 +1,7 @@
 pub mod Counting
+pub mod Ends
 pub mod Faults
+pub mod Halts
 pub mod Running
+pub mod Stages
 pub mod WritesBack

@@ -19,13 +19,13 @@ use Rattle.mesh_files.specs.Halts.{IsHaltOfCopy, IsHaltOfInside, halted}
 use Rattle.report_lines.specs.Reports.{IsReported}
 use Rattle.mesh_files.specs.declared.halt.Halt.{Halt}
 use Rattle.mesh_files.specs.declared.halt.Halt.TheVariants as halt
-use Rattle.mesh_commands.proofs.Halts.{copy_worded, inside_worded}
-use Rattle.mesh_commands.specs.Commands.{IsEnded}
-use Rattle.mesh_commands.specs.Points.{steps_of_point}
-use Rattle.mesh_commands.specs.Statuses.{status_number}
-use Rattle.mesh_commands.specs.Windings.{windings}
-use Rattle.mesh_commands.specs.declared.status.Status.{Status}
-use Rattle.mesh_commands.specs.declared.status.Status.TheVariants as statuses
+use Rattle.program_runs.proofs.Halts.{copy_worded, inside_worded}
+use Rattle.program_runs.specs.Commands.{IsEnded}
+use Rattle.program_runs.specs.Points.{steps_of_point}
+use Rattle.program_runs.specs.Statuses.{status_number}
+use Rattle.program_runs.specs.Windings.{windings}
+use Rattle.program_runs.specs.declared.status.Status.{Status}
+use Rattle.program_runs.specs.declared.status.Status.TheVariants as statuses
 use Rattle.script_runs.specs.Costs.{script_cost}
 use Rattle.script_runs.specs.Halts.{IsHaltOfScript}
 use Rattle.script_runs.specs.Operations as operations

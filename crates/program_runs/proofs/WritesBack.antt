@@ -14,7 +14,7 @@ use Rattle.operation_laws.specs.Laws.{OperationsAreReadable}
 use Rattle.operation_laws.specs.Results.{ScriptsGiveResults, ScriptsRemesh}
 use Rattle.play_terms.specs.Program.{command_task}
 use Rattle.play_laws.proofs.ScriptsReadingBack.{meshes_kept, script_keeps}
-use Rattle.mesh_commands.specs.Windings.{windings}
+use Rattle.program_runs.specs.Windings.{windings}
 use Rattle.program_runs.specs.Playing.{meanings}
 use Rattle.program_runs.specs.Results.{CommandGivesResults, CommandKeepsMeshes, CommandRemeshes}
 

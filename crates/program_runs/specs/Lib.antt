@@ -1,5 +1,10 @@
+pub mod Commands
 pub mod Counting
+pub mod Endings
 pub mod Playing
+pub mod Points
 pub mod Promises
 pub mod Results
 pub mod Running
+pub mod Statuses
+pub mod Windings

@@ -8,8 +8,8 @@ use Rattle.play_terms.specs.Ends.{RiseWith}
 use Rattle.mb_outside.specs.Seen.{MeetsOn, on_output, seen_of}
 use Rattle.mb_outside.specs.declared.shelf.Shelf.{Ghosts as OfShelf}
 use Rattle.mb_outside.specs.declared.sink.Sink.{Ghosts as OfSink}
-use Rattle.mesh_commands.specs.Endings.{TellsAs}
-use Rattle.mesh_commands.specs.Windings.{windings}
+use Rattle.program_runs.specs.Endings.{TellsAs}
+use Rattle.program_runs.specs.Windings.{windings}
 use Rattle.play_terms.specs.Program.{Meanings, play}
 use Rattle.script_runs.specs.Operations as operations
 

@@ -10,9 +10,9 @@ use Rattle.mb_outside.specs.Seen.{on_output}
 use Rattle.mb_outside.specs.declared.shelf.Shelf.{Ghosts as OfShelf}
 use Rattle.mb_outside.specs.declared.sink.Sink.{Ghosts as OfSink}
 use Rattle.report_lines.specs.Reports.{IsReported}
-use Rattle.mesh_commands.specs.Statuses.{IsDoneOrStarved, IsUsageOrStarved, status_number}
-use Rattle.mesh_commands.specs.declared.status.Status.{Status}
-use Rattle.mesh_commands.specs.declared.status.Status.TheVariants.{Done, Usage, WriteFault}
+use Rattle.program_runs.specs.Statuses.{IsDoneOrStarved, IsUsageOrStarved, status_number}
+use Rattle.program_runs.specs.declared.status.Status.{Status}
+use Rattle.program_runs.specs.declared.status.Status.TheVariants.{Done, Usage, WriteFault}
 use Rattle.program_runs.specs.Playing.{IsUntroubled, RiseOn, TellsEnd, meanings}
 use Rattle.program_runs.specs.Results.{CommandGivesResults, CommandKeepsMeshes, CommandRemeshes}
 use Rattle.program_runs.specs.Running.{IsRunOf}

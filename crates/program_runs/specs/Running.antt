@@ -9,9 +9,9 @@ use Rattle.mb_outside.specs.declared.shelf.Shelf.{Ghosts as OfShelf}
 use Rattle.mb_outside.specs.declared.sink.Sink.{Ghosts as OfSink}
 use Rattle.play_terms.specs.Program.{command_task}
 use Rattle.report_lines.specs.Reports.{IsReported}
-use Rattle.mesh_commands.specs.Statuses.{IsUsageOrStarved, status_number}
-use Rattle.mesh_commands.specs.declared.status.Status.{Status}
-use Rattle.mesh_commands.specs.declared.status.Status.TheVariants.{Done, Usage, WriteFault}
+use Rattle.program_runs.specs.Statuses.{IsUsageOrStarved, status_number}
+use Rattle.program_runs.specs.declared.status.Status.{Status}
+use Rattle.program_runs.specs.declared.status.Status.TheVariants.{Done, Usage, WriteFault}
 use Rattle.program_runs.specs.Counting.{command_cost}
 use Rattle.program_runs.specs.Playing.{MeetsAs, meanings}
 

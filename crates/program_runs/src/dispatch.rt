@@ -4,15 +4,14 @@ ghost use Rattle.play_terms.specs.Words.{command};
 ghost use Rattle.program_runs.specs.Running.{IsRunOf};
 
 use crate::scripted::scripted;
+use crate::{Status, copy, inside};
 use command_words::{Command, read_command};
-use mb_base::{ArgList, Limits, NoMemory};
+use mb_base::{ArgList, Limits, NoMemory, Steps};
 use mb_outside::{Shelf, Sink};
-use mesh_commands::{Status, copy, inside};
 use mesh_files::Stop;
 use report_lines::tell_stop;
 use std::alloc::Global;
 use std::sync::ledger::Ledger;
-use steps::Steps;
 
 /// Does the command that the words ask for, or tells on `err` why none is done: the words are of no command, or there was no memory to read them.
 pub fn dispatch<S: Shelf, O: Sink, E: Sink, L: Ledger>(

@@ -4,19 +4,18 @@ ghost use Rattle.play_terms.specs.Ends.{why_line, why_status};
 ghost use Rattle.mb_outside.specs.Seen.{on_output};
 ghost use Rattle.mesh_files.specs.Reasons.{why_of};
 ghost use Rattle.report_lines.specs.Reports.{IsReported};
-ghost use Rattle.mesh_commands.specs.Statuses.{status_number};
+ghost use Rattle.program_runs.specs.Statuses.{status_number};
 ghost use Rattle.program_runs.specs.Playing.{program_limits};
 ghost use Rattle.program_runs.specs.Promises.{IsHeard, IsSoundPlay};
 
+use crate::Status;
 use crate::starting::start;
-use mb_base::ArgList;
+use mb_base::{ArgList, Steps};
 use mb_outside::{FolderShelf, Sink};
-use mesh_commands::Status;
 use mesh_files::Stop;
 use std::alloc::{AllocError, Global};
 use std::rt::Files;
 use std::sync::ledger::{Blank, Ledger};
-use steps::Steps;
 
 /// The program over the current folder, which counts its steps for nobody. What the folder holds can't be told. So of a run it says what needs no told
 /// files: the status with its line on `err`; that the faults of `out` rise with status 7 alone; and of the play of the words, whatever the files, how

@@ -3,15 +3,22 @@
 #![tactic(auto)]
 
 mod back;
+mod copying;
 mod dispatch;
+mod ending;
 mod here;
+mod locating;
 mod scripted;
 mod starting;
+mod status;
 mod top_call;
 mod words;
 
+pub use copying::copy;
+pub use ending::concluded;
 pub use here::start_here;
-pub use mesh_commands::Status;
+pub use locating::inside;
 pub use starting::start;
+pub use status::{Status, status_at};
 pub use top_call::run;
 pub use words::given_words;

@@ -1,18 +1,17 @@
 // The command run.
 ghost use Rattle.std.specs.Prelude.{◌≤◌, ◌<◌, ◌+◌, ◌^◌, ◌-◌, IsTrue};
-ghost use Rattle.mesh_commands.specs.Commands.{IsEnded};
+ghost use Rattle.program_runs.specs.Commands.{IsEnded};
 ghost use Rattle.script_runs.specs.Costs.{script_cost};
 ghost use Rattle.script_runs.specs.Halts.{IsHaltOfScript};
 ghost use Rattle.script_runs.specs.Operations.{meanings};
 ghost use Rattle.play_terms.specs.Plays.{script_task};
 
-use mb_base::Limits;
+use crate::{Status, concluded};
+use mb_base::{Limits, Steps};
 use mb_outside::{Shelf, Sink};
-use mesh_commands::{Status, concluded};
 use script_runs::run_script;
 use std::alloc::Global;
 use std::sync::ledger::Ledger;
-use steps::Steps;
 
 /// Runs the script of a file, as `run_script` does; one line on `err` tells where it stopped.
 pub fn scripted<S: Shelf, O: Sink, E: Sink, L: Ledger>(

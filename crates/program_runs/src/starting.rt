@@ -4,19 +4,18 @@ ghost use Rattle.play_terms.specs.Ends.{why_line, why_status};
 ghost use Rattle.mb_outside.specs.Seen.{on_output};
 ghost use Rattle.mesh_files.specs.Reasons.{why_of};
 ghost use Rattle.report_lines.specs.Reports.{IsReported};
-ghost use Rattle.mesh_commands.specs.Statuses.{status_number};
+ghost use Rattle.program_runs.specs.Statuses.{status_number};
 ghost use Rattle.program_runs.specs.Playing.{program_limits};
 ghost use Rattle.program_runs.specs.Promises.{IsSoundRun};
 
 use crate::top_call::run;
-use mb_base::{ArgList, Limits};
+use crate::{Status, status_at};
+use mb_base::{ArgList, Limits, Steps};
 use mb_outside::{Shelf, Sink};
-use mesh_commands::{Status, status_at};
 use mesh_files::Stop;
 use report_lines::tell_stop;
 use std::alloc::Global;
 use std::sync::ledger::Ledger;
-use steps::Steps;
 
 /// Runs the program on its words, under its limits, as `run` does. Where the words could not be had, it tells why on `err`, and does
 /// nothing else: they are no text, which is `Usage`, or there was no memory for them.

@@ -2,14 +2,13 @@
 ghost use Rattle.std.specs.Prelude.{◌<◌, ◌^◌, ◌-◌};
 ghost use Rattle.program_runs.specs.Promises.{IsSoundRun};
 
+use crate::Status;
 use crate::back::{plays_are_readable, plays_give_results};
 use crate::dispatch::dispatch;
-use mb_base::{ArgList, Limits};
+use mb_base::{ArgList, Limits, Steps};
 use mb_outside::{Shelf, Sink};
-use mesh_commands::Status;
 use std::alloc::Global;
 use std::sync::ledger::Ledger;
-use steps::Steps;
 
 /// Runs the program on the words after its name.
 ///

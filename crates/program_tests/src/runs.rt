@@ -16,7 +16,7 @@ use files::{
     CUBE, CUBE_AND_FLAT, CUBES_AT_A_CORNER, GROUPED_COPIED, GROUPED_TETRAHEDRON, MODELLED_CUBE,
     MODELLED_CUBE_COPIED, NESTED_CUBES, OPEN_CUBE, PRISM, TETRAHEDRON, TURNED_CUBE,
 };
-use mb_base::{ArgList, Limits, NoMemory};
+use mb_base::{ArgList, Limits, NoMemory, Steps};
 use mb_outside::{MemoryShelf, MemorySink, Shelf, SureShelf};
 use program_runs::run;
 use std::alloc::Global;
@@ -24,7 +24,6 @@ use std::marker::Brand;
 use std::process::Abort;
 use std::sync::ledger::{Blank, Ledger};
 use std::test::Fail;
-use steps::Steps;
 
 const ROOM: usize = 65_536;
 

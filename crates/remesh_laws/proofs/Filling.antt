@@ -16,7 +16,7 @@ use Rattle.chain_laws.specs.Sums.{total-flat_map, total-map, total-same_all}
 use Rattle.chain_laws.specs.Triples.{all_edges-renamed}
 use Rattle.face_plane.specs.Planes.{Plane, across, area, face_plane, flat_at, flat_point, is_turned, orient, plane_of, point_at, turn, wedge}
 use Rattle.face_plane.specs.Rings.{IsRing, vertex_at, without_place}
-use Rattle.filling_laws.proofs.Fillings.{Fills, fills}
+use Rattle.source_face_laws.proofs.Fillings.{Fills, fills}
 use Rattle.hole_joining.specs.Bridges.{join_holes}
 use Rattle.hole_joining.specs.Laws.{AreFillable, settled_in}
 use Rattle.hole_joining.proofs.Keeps.{is_joining}

@@ -23,13 +23,13 @@ use Rattle.chain_laws.proofs.Cycles.{cycles_edges}
 use Rattle.chain_laws.proofs.Places.{one_hit, total-upto_same, where_same, where_same-apart, where_same-at}
 use Rattle.face_loops.specs.Segments.{AreDifferent, IsOneToOne}
 use Rattle.face_loops.proofs.Vertices.{different_vertices}
-use Rattle.filling_laws.proofs.Fillings.{cycles_chain}
-use Rattle.filling_laws.proofs.Loops.{cycles_counted}
+use Rattle.source_face_laws.proofs.Fillings.{cycles_chain}
+use Rattle.source_face_laws.proofs.Loops.{cycles_counted}
 use Rattle.halfedge.proofs.Edges.{length-all_edges}
 use Rattle.hole_joining.proofs.Loops.{often_once}
 use Rattle.hole_joining.proofs.Turning.{often, often-append, often-cons}
 use Rattle.mesh_terms.specs.Meshes.{Triple}
-use Rattle.standings.proofs.Counting.{passing_none, passing_times}
+use Rattle.face_loops.proofs.Counting.{passing_none, passing_times}
 use Rattle.remesh_laws.proofs.FirstReturns.{IsReturn, one_return, return_back, returned_once, some_return}
 use Rattle.remesh_laws.proofs.Rims.{AreTriangles, next_starts, step, step_off, step_on, steps_inverse}
 use Rattle.remesh_terms.specs.Rims.{is_rim, rim, rim_loops, rim_next, rim_steps}

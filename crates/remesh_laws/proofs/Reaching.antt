@@ -22,9 +22,9 @@ use Rattle.chain_laws.specs.Sums.{total-add, total-same_all, total-swap}
 use Rattle.chain_laws.proofs.Ascending.{filter-ascends, filter-upto_same, kept, kept_at, total-filter}
 use Rattle.chain_laws.proofs.Places.{total-upto_same}
 use Rattle.chain_laws.proofs.Twins.{twins_inverse}
-use Rattle.component_laws.specs.Laws.{AreBelow}
-use Rattle.component_laws.proofs.Joined.{joined_back, joined_on}
-use Rattle.component_laws.proofs.Labels.{are_labels, joined_same, label}
+use Rattle.component_terms.specs.Laws.{AreBelow}
+use Rattle.component_terms.proofs.Joined.{joined_back, joined_on}
+use Rattle.component_terms.proofs.Labels.{are_labels, joined_same, label}
 use Rattle.component_terms.specs.Components.{Along, Here as Still, IsJoined}
 use Rattle.component_terms.specs.Counts.{labels as classes}
 use Rattle.face_loops.specs.Segments.{AreDifferent}

@@ -19,7 +19,7 @@ use Rattle.face_loops.specs.Segments.{AreDifferent}
 use Rattle.face_plane.specs.Rings.{in_list}
 use Rattle.halfedge.proofs.Edges.{length-all_edges}
 use Rattle.mesh_terms.specs.Meshes.{Triple}
-use Rattle.segment_laws.proofs.Cancelling.{threes, turned_sum}
+use Rattle.source_face_laws.proofs.Cancelling.{threes, turned_sum}
 use Rattle.remesh_laws.proofs.Loops.{ends_of}
 use Rattle.remesh_laws.proofs.Rims.{AreTriangles}
 use Rattle.remesh_terms.specs.Rims.{is_rim, rim}

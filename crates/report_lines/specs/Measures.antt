@@ -5,7 +5,7 @@ use Rattle.component_terms.specs.Counts.{component_count}
 use Rattle.mesh_terms.specs.Euler.{euler_of}
 use Rattle.mesh_terms.specs.Meshes.{Mesh}
 use Rattle.mesh_terms.specs.Volume.{volume6_of}
-use Rattle.mesh_measures.specs.declared.figures.Measure.{Measure}
+use Rattle.mesh_make.specs.declared.figures.Measure.{Measure}
 
 -- each number is that of the mesh
 pub record IsMeasureOf (m : Mesh) (measure : Measure) : Type 0 where

@@ -21,7 +21,7 @@ use crate::tail::copied_tail;
 use mb_base::Op;
 use mb_outside::{Failed, Sink};
 use mesh_check::Mesh;
-use mesh_measures::Measure;
+use mesh_make::Measure;
 
 /// The numbers of an operation: how many vertices of each mesh were kept, how many crossings there are, and how many cuts were forced.
 #[derive(Clone, Copy, Debug, PartialEq, Eq, Drop)]

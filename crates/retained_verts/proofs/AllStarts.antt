@@ -18,9 +18,9 @@ use Rattle.mb_base.specs.declared.results.Origin.{Origin}
 use Rattle.mb_base.specs.declared.results.Origin.TheVariants.{PVertex, QVertex, PEdge, QEdge}
 use Rattle.side_terms.specs.Hits.{AreHits}
 use Rattle.side_terms.specs.Sides.{Side, IsSide}
-use Rattle.assembly_terms.specs.Lists.{Copy, ListName, lists_of_p, lists_of_q, no_copy, standing, starts}
-use Rattle.assembly_terms.specs.Prescribed.{Included, Numbers, copies_of, copy_of, hit_count, hit_number_of, included_hits, included_vertices, p_hits, p_number, p_vertices, prescribed, prescribed_halfedges, q_hits, q_number, q_vertices, triples_at, vertex_halfedges}
-use Rattle.assembly_terms.specs.Standing.{count_all_starts, count_starts, start_count}
+use Rattle.side_terms.specs.Lists.{Copy, ListName, lists_of_p, lists_of_q, no_copy, standing, starts}
+use Rattle.side_terms.specs.Prescribed.{Included, Numbers, copies_of, copy_of, hit_count, hit_number_of, included_hits, included_vertices, p_hits, p_number, p_vertices, prescribed, prescribed_halfedges, q_hits, q_number, q_vertices, triples_at, vertex_halfedges}
+use Rattle.side_terms.specs.Standing.{count_all_starts, count_starts, start_count}
 use Rattle.retained_verts.proofs.Corners.{total_pos}
 use Rattle.retained_verts.proofs.Origins.{IsFrom, all_from}
 use Rattle.retained_verts.proofs.TwoLists.{corner_count, no_corner, p_count, p_starts, q_count, q_starts, two_faces}

@@ -15,10 +15,10 @@ use Rattle.mb_base.specs.declared.results.Origin.TheVariants.{PVertex, QVertex, 
 use Rattle.mesh_terms.specs.Halves.{next_half}
 use Rattle.side_terms.specs.Hits.{AreHits}
 use Rattle.side_terms.specs.Sides.{Side, IsSide}
-use Rattle.assembly_terms.specs.Lists.{Copy, ListName, HalfP, HalfQ, IsListOf, PairP, PairQ, incidence, standing, way, way_round}
-use Rattle.assembly_terms.specs.Points.{points_of}
-use Rattle.assembly_terms.specs.Prescribed.{Numbers, constant, hit_number_of, p_hits, p_number, p_vertices, prescribed, q_hits, q_number, q_vertices}
-use Rattle.assembly_terms.specs.Standing.{AreConserved, IsBalanced}
+use Rattle.side_terms.specs.Lists.{Copy, ListName, HalfP, HalfQ, IsListOf, PairP, PairQ, incidence, standing, way, way_round}
+use Rattle.side_terms.specs.Points.{points_of}
+use Rattle.side_terms.specs.Prescribed.{Numbers, constant, hit_number_of, p_hits, p_number, p_vertices, prescribed, q_hits, q_number, q_vertices}
+use Rattle.side_terms.specs.Standing.{AreConserved, IsBalanced}
 use Rattle.retained_verts.proofs.Halves.{GoBack, along_all, along_round}
 use Rattle.retained_verts.proofs.Weights.{even_from_sum, no_weight, total-against, total-copies, total-ends, total-factor, total-hits, total-vertices, weight}
 

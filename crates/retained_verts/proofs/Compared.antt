@@ -4,7 +4,7 @@ use Rattle.std.specs.Prelude.{slice_index}
 use Rattle.std.proofs.lemmas.List.{length-map}
 use Rattle.mb_base.specs.declared.op.Op.{Op}
 use Rattle.side_terms.specs.Sides.{Side}
-use Rattle.assembly_terms.specs.Prescribed.{Numbers, prescribed}
+use Rattle.side_terms.specs.Prescribed.{Numbers, prescribed}
 use Rattle.retained_verts.specs.Counted.{AreCounts, HasCounts}
 use Rattle.retained_verts.specs.Listed.{ArePrescribed}
 use Rattle.retained_verts.specs.declared.counts.Counts.{Counts}

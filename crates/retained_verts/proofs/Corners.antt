@@ -8,7 +8,7 @@ use Rattle.chain_terms.specs.Sums.{total, upto}
 use Rattle.chain_laws.specs.Sums.{total-add, total-same}
 use Rattle.chain_laws.proofs.Places.{where_same, where_same-at, where_same-apart, one_hit_of}
 use Rattle.mesh_terms.specs.Meshes.{Triple, HasThree, IsBelow, has}
-use Rattle.assembly_terms.specs.Prescribed.{triples_at}
+use Rattle.side_terms.specs.Prescribed.{triples_at}
 
 -- a sum of natural numbers is one of whole numbers
 pub total_pos : {X : Type 0} (f : X → ℕ) (xs : List X) → total (λ x. pos (f x)) xs ≡ pos (sum_by f xs)

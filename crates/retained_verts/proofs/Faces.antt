@@ -8,7 +8,7 @@ use Rattle.chain_terms.specs.Sums.{upto}
 use Rattle.chain_laws.specs.Sums.{IsWithin}
 use Rattle.lean.proofs.Triangles.{half_of_face}
 use Rattle.mesh_terms.specs.Meshes.{Triple, HasThree}
-use Rattle.assembly_terms.specs.Lists.{ListName, at_same, at_end, way, way_round}
+use Rattle.side_terms.specs.Lists.{ListName, at_same, at_end, way, way_round}
 use Rattle.retained_verts.proofs.Units.{above, above_neg, below, below_neg, count_lists, count_none, count_one, unit_parts}
 use Rattle.retained_verts.proofs.Ways.{at_same_is, not_both, one_of_three, same, same_few, same_no, same_yes, way_is, way_round_is}
 

@@ -11,7 +11,7 @@ use Rattle.chain_laws.proofs.Places.{one_hit, total-upto_same, where_same, where
 use Rattle.mb_base.specs.declared.results.Hit.{Hit}
 use Rattle.side_terms.specs.Conservation.{half_number, hit_number}
 use Rattle.side_terms.specs.Hits.{AreHits}
-use Rattle.assembly_terms.specs.Lists.{way, way_round}
+use Rattle.side_terms.specs.Lists.{way, way_round}
 use Rattle.retained_verts.proofs.Ways.{same_no, same_yes, way_is}
 
 -- a value where two are the same, named the other way round

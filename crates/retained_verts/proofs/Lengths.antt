@@ -13,7 +13,7 @@ use Rattle.mb_base.specs.declared.results.Hit.{Hit}
 use Rattle.mb_base.specs.declared.results.Origin.{Origin}
 use Rattle.mesh_terms.specs.Meshes.{Triple, has, is_used}
 use Rattle.side_terms.specs.Sides.{Side, IsSide}
-use Rattle.assembly_terms.specs.Prescribed.{Included, Numbers, copies_of, copy_of, crossing_count, hit_count, hit_number_of, included_hits, included_vertices, p_hits, p_kept, p_number, p_vertices, prescribed, prescribed_halfedges, q_hits, q_kept, q_number, q_vertices, triples_at, vertex_count, vertex_halfedges}
+use Rattle.side_terms.specs.Prescribed.{Included, Numbers, copies_of, copy_of, crossing_count, hit_count, hit_number_of, included_hits, included_vertices, p_hits, p_kept, p_number, p_vertices, prescribed, prescribed_halfedges, q_hits, q_kept, q_number, q_vertices, triples_at, vertex_count, vertex_halfedges}
 use Rattle.retained_verts.proofs.Corners.{total_pos}
 use Rattle.retained_verts.proofs.Origins.{passes}
 

@@ -12,8 +12,8 @@ use Rattle.mb_base.specs.declared.results.Origin.{Origin}
 use Rattle.mb_base.specs.declared.results.Origin.TheVariants.{PVertex, QVertex, PEdge, QEdge}
 use Rattle.side_terms.specs.Hits.{AreHits}
 use Rattle.side_terms.specs.Sides.{Side}
-use Rattle.assembly_terms.specs.Points.{points_of}
-use Rattle.assembly_terms.specs.Prescribed.{Included, Numbers, copies_of, hit_number_of, included_hits, included_vertices, p_hits, p_number, p_vertices, prescribed, q_hits, q_number, q_vertices}
+use Rattle.side_terms.specs.Points.{points_of}
+use Rattle.side_terms.specs.Prescribed.{Included, Numbers, copies_of, hit_number_of, included_hits, included_vertices, p_hits, p_number, p_vertices, prescribed, q_hits, q_number, q_vertices}
 
 -- a vertex of a side, or an edge of one and a face of the other
 abbrev pub IsFrom : Side → Side → Origin → Type 0

@@ -15,9 +15,9 @@ use Rattle.mb_base.specs.declared.results.Origin.{Origin}
 use Rattle.mb_base.specs.declared.results.Origin.TheVariants.{PVertex, QVertex, PEdge, QEdge}
 use Rattle.side_terms.specs.Hits.{AreHits}
 use Rattle.side_terms.specs.Sides.{Side, IsSide}
-use Rattle.assembly_terms.specs.Lists.{Copy, ListName, HalfP, HalfQ, PairP, PairQ, incidence, lists_of_p, lists_of_q, way_round}
-use Rattle.assembly_terms.specs.Prescribed.{Numbers, prescribed}
-use Rattle.assembly_terms.specs.Standing.{StandInLists, StandsInNone, StandsInTwo, StandsSomewhere, start_count}
+use Rattle.side_terms.specs.Lists.{Copy, ListName, HalfP, HalfQ, PairP, PairQ, incidence, lists_of_p, lists_of_q, way_round}
+use Rattle.side_terms.specs.Prescribed.{Numbers, prescribed}
+use Rattle.side_terms.specs.Standing.{StandInLists, StandsInNone, StandsInTwo, StandsSomewhere, start_count}
 use Rattle.retained_verts.proofs.Faces.{CountsTo, at_most_one, counted_none, edge_counts, face_counts, vertex_counts}
 use Rattle.retained_verts.proofs.Origins.{IsFrom, all_from, passes}
 use Rattle.retained_verts.proofs.Units.{above_neg, below_neg}

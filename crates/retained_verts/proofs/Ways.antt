@@ -5,7 +5,7 @@ use Rattle.std.proofs.lemmas.Bool.{cases_eq, eq-eqb, ne_eqb}
 use Rattle.chain_terms.specs.Chains.{one_if}
 use Rattle.chain_terms.specs.Ranks.{twin}
 use Rattle.chain_laws.specs.Sums.{IsWithin}
-use Rattle.assembly_terms.specs.Lists.{at_same, way, way_round}
+use Rattle.side_terms.specs.Lists.{at_same, way, way_round}
 
 -- 1 where the two are the same
 abbrev pub same : ℕ → ℕ → ℕ

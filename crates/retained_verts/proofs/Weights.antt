@@ -14,8 +14,8 @@ use Rattle.chain_laws.proofs.Places.{one_hit_of, total-places, where_same, where
 use Rattle.mb_base.specs.declared.results.Hit.{Hit}
 use Rattle.mb_base.specs.declared.results.Origin.{Origin}
 use Rattle.mb_base.specs.declared.results.Origin.TheVariants.{PVertex, QVertex, PEdge, QEdge}
-use Rattle.assembly_terms.specs.Lists.{Copy, ListName, HalfP, HalfQ, PairP, PairQ, at_end, at_same, ends, in_half_p, in_half_q, in_pair, incidence, no_copy, standing, starts, way, way_round}
-use Rattle.assembly_terms.specs.Prescribed.{Included, copies_of, copy_of, included_hits, included_vertices}
+use Rattle.side_terms.specs.Lists.{Copy, ListName, HalfP, HalfQ, PairP, PairQ, at_end, at_same, ends, in_half_p, in_half_q, in_pair, incidence, no_copy, standing, starts, way, way_round}
+use Rattle.side_terms.specs.Prescribed.{Included, copies_of, copy_of, included_hits, included_vertices}
 use Rattle.retained_verts.proofs.Units.{unit_parts}
 use Rattle.retained_verts.proofs.Ways.{at_same_is, same_few, way_round_within, way_within}
 

@@ -1,8 +1,8 @@
 -- Winding numbers and hits as they are handed over, and the copies that they prescribe.
 use Rattle.std.specs.Prelude.{◌≡◌, List, length}
-use Rattle.assembly_terms.specs.Lists.{Copy}
-use Rattle.assembly_terms.specs.Prescribed.{Numbers, prescribed}
-use Rattle.assembly_terms.specs.Standing.{IsBalanced}
+use Rattle.side_terms.specs.Lists.{Copy}
+use Rattle.side_terms.specs.Prescribed.{Numbers, prescribed}
+use Rattle.side_terms.specs.Standing.{IsBalanced}
 use Rattle.chain_terms.specs.Chains.{all_edges}
 use Rattle.mb_base.specs.declared.op.Op.{Op}
 use Rattle.mb_base.specs.declared.results.Hits.{Hits}

@@ -2,7 +2,7 @@
 use Rattle.std.specs.Prelude.{◌≡◌, [], ◌∷◌, map}
 use Rattle.mb_base.specs.declared.op.Op.{Op}
 use Rattle.side_terms.specs.Sides.{Side}
-use Rattle.assembly_terms.specs.Prescribed.{Numbers, crossing_count, p_kept, prescribed as copies_of_numbers, prescribed_halfedges, q_kept}
+use Rattle.side_terms.specs.Prescribed.{Numbers, crossing_count, p_kept, prescribed as copies_of_numbers, prescribed_halfedges, q_kept}
 use Rattle.retained_verts.specs.declared.list.Prescribed.{Prescribed}
 
 -- the prescribed vertices and their counts are those of the numbers

@@ -1,8 +1,8 @@
 -- What each of the two meshes gives: how its vertices and edges are named, how often each is included, and the copies.
 use Rattle.std.specs.Prelude.{ℕ, ℤ, List, length, map}
 use Rattle.std.specs.List.{flat_map}
-use Rattle.assembly_terms.specs.Points.{points_of}
-use Rattle.assembly_terms.specs.Prescribed.{Included, copies_of, hit_number_of, included_hits, included_vertices, p_number, q_number}
+use Rattle.side_terms.specs.Points.{points_of}
+use Rattle.side_terms.specs.Prescribed.{Included, copies_of, hit_number_of, included_hits, included_vertices, p_number, q_number}
 use Rattle.mb_base.specs.declared.op.Op.{Op}
 use Rattle.mb_base.specs.declared.point.Corner.{Corner}
 use Rattle.mb_base.specs.declared.results.Hit.{Hit}

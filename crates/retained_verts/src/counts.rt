@@ -1,7 +1,7 @@
 // How many vertices, crossings and half-edges are prescribed.
 ghost use Rattle.std.specs.Prelude.{◌≡◌, ◌≤◌, ◌<◌, ◌+◌, ◌*◌, ◌^◌, ◌∷◌, [], length, pos, nat_abs, get_or};
 ghost use Rattle.std.specs.List.{All};
-ghost use Rattle.assembly_terms.specs.Prescribed.{crossing_count, hit_count, p_kept, q_kept, prescribed_halfedges, vertex_count, vertex_halfedges};
+ghost use Rattle.side_terms.specs.Prescribed.{crossing_count, hit_count, p_kept, q_kept, prescribed_halfedges, vertex_count, vertex_halfedges};
 ghost use Rattle.mesh_terms.specs.Limits.{most_points, most_triangles};
 ghost use Rattle.mesh_terms.specs.Meshes.{HasThree, IsBelow, triples_of};
 ghost use Rattle.retained_verts.specs.Handed.{FitSides, numbers};

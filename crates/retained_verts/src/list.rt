@@ -1,7 +1,7 @@
 // The prescribed vertices of an operation.
 ghost use Rattle.std.specs.Prelude.{◌≡◌, ◌≤◌, ◌+◌, length, slice_index, IfErr, IfOk};
-ghost use Rattle.assembly_terms.specs.Prescribed.{prescribed_halfedges};
-ghost use Rattle.assembly_terms.specs.Standing.{AreConserved, StandInLists, count_all_starts};
+ghost use Rattle.side_terms.specs.Prescribed.{prescribed_halfedges};
+ghost use Rattle.side_terms.specs.Standing.{AreConserved, StandInLists, count_all_starts};
 ghost use Rattle.retained_verts.specs.Faults.{IsFaultAt};
 ghost use Rattle.retained_verts.specs.Counted.{AreCounts};
 ghost use Rattle.retained_verts.specs.Handed.{AreBalanced, FitSides, copies, numbers};

@@ -1,7 +1,7 @@
 // Which of the two meshes: how its vertices and edges are named and counted.
 ghost use Rattle.std.specs.Prelude.{◌≡◌, ◌≤◌, nat_abs};
 ghost use Rattle.mesh_terms.specs.Limits.{most_triangles};
-ghost use Rattle.assembly_terms.specs.Prescribed.{hit_number_of};
+ghost use Rattle.side_terms.specs.Prescribed.{hit_number_of};
 ghost use Rattle.side_terms.specs.Hits.{IsNumber};
 ghost use Rattle.retained_verts.specs.Parts.{edge_origin, vertex_number, vertex_origin};
 

@@ -1,7 +1,7 @@
 // The points of corners.
 ghost use Rattle.std.specs.Prelude.{◌≡◌};
 ghost use Rattle.std.specs.Int.{int_div_euclid};
-ghost use Rattle.assembly_terms.specs.Points.{point_of};
+ghost use Rattle.side_terms.specs.Points.{point_of};
 ghost use Rattle.mb_base.specs.declared.TheConstants.{UNIT};
 ghost use Rattle.mesh_terms.specs.Points.{IsOnGrid};
 ghost use Rattle.side_terms.specs.Corners.{IsFineCorner};

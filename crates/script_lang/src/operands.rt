@@ -22,7 +22,7 @@ use crate::words::Words;
 use arrayvec::ArrayVec;
 use grid_number::read_grid;
 use mb_base::Point;
-use mesh_names::is_mesh_name;
+use play_terms::is_mesh_name;
 
 // No command has more operands: a polygon has a name and up to 64 pairs.
 const MOST: usize = 129;

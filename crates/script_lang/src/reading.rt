@@ -17,11 +17,11 @@ use crate::polygons::polygon_step;
 use crate::solids::solid_step;
 use crate::steps::{Line, Script, Step, Word};
 use crate::words::Words;
+use grid_number::{Lines, without_mark};
 use mb_base::Op;
 use play_terms::HeldKind;
 use std::alloc::Global;
 use std::marker::Model;
-use text_lines::{Lines, without_mark};
 
 /// The lines so far, and the names that they give meshes or outlines.
 #[derive(Drop)]

@@ -2,8 +2,8 @@
 ghost use Rattle.std.specs.Prelude.{◌≡◌};
 ghost use Rattle.text_terms.specs.Lines.{before_comment, words_of};
 
+use grid_number::{first_word, is_comment};
 use std::marker::Model;
-use text_lines::{first_word, is_comment};
 
 /// The words of a line from the first to the last: longest runs of bytes that are neither a space nor a tab. A
 /// word that begins with `#` ends the line.

@@ -2,9 +2,9 @@
 use Rattle.std.proofs.Common.{◌≡◌, ℕ, ℤ, Bool, true, false, Option, Some, None, Result, Ok, Err, inl, inr, refl, sym, subst}
 use Rattle.std.specs.Prelude.{int_le, nat_lt, length, if◌then◌else◌}
 use Rattle.std.specs.Option.{option_map}
-use Rattle.extrusion.specs.Extruded as extrusion
-use Rattle.extrusion.specs.declared.fault.ExtrudeFault.{ExtrudeFault}
-use Rattle.extrusion.specs.declared.fault.ExtrudeFault.TheVariants.{FlatSolid, NoMemory, Over}
+use Rattle.cross_section.specs.Extruded as extrusion
+use Rattle.cross_section.specs.declared.extrusion.fault.ExtrudeFault.{ExtrudeFault}
+use Rattle.cross_section.specs.declared.extrusion.fault.ExtrudeFault.TheVariants.{FlatSolid, NoMemory, Over}
 use Rattle.made_terms.specs.Refusals.{MadeFault, Exceeds, Flat}
 use Rattle.mb_base.specs.Faults.{counted_of}
 use Rattle.mb_base.specs.declared.op.Op.{Op}

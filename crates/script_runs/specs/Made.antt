@@ -1,7 +1,7 @@
 -- Why a script stops that makes no solid or moves no mesh, and what it makes of an outline.
 use Rattle.std.specs.Prelude.{ℕ, ℤ, Result}
 use Rattle.mb_base.specs.Faults.{counted_of}
-use Rattle.extrusion.specs.Extruded.{extruded, filling_of}
+use Rattle.cross_section.specs.Extruded.{extruded, filling_of}
 use Rattle.mesh_make.specs.declared.fault.MakeFault.{MakeFault}
 use Rattle.mesh_make.specs.declared.fault.MakeFault.TheVariants.{OutOfGrid, FlatSolid, Over, NoMemory}
 use Rattle.mesh_terms.specs.Limits.{Limits}

@@ -16,7 +16,7 @@ ghost use Rattle.play_terms.specs.Plays.{combine_task, mesh_at, mesh_held, withi
 use crate::names::Names;
 use edge_face::Kernels;
 use exact_kernels::Exact;
-use mb_base::{Counted, KernelKind, Limits, Op};
+use mb_base::{Counted, KernelKind, Limits, Op, Steps};
 use mb_outside::Sink;
 use mesh_boolean::{Outcome, Tested, boolean};
 use mesh_check::Mesh;
@@ -27,7 +27,6 @@ use rounding::Nearest;
 use shadow_kernels::Grid;
 use std::alloc::Global;
 use std::sync::ledger::Ledger;
-use steps::Steps;
 
 // What an operation on two meshes gives under the chosen kernels, with rounding to the nearest.
 fn operate<'a, L: Ledger>(

@@ -22,13 +22,12 @@ use crate::outlining::{combine2, extrude_outline, polygon};
 use crate::remeshing::remesh_mesh;
 use crate::saving::save;
 use crate::tidying::tidy_mesh;
-use mb_base::{KernelKind, Limits};
+use mb_base::{KernelKind, Limits, Steps};
 use mb_outside::{Shelf, Sink};
 use mesh_files::Halt;
 use script_lang::{Job, Line, Step};
 use std::alloc::Global;
 use std::sync::ledger::Ledger;
-use steps::Steps;
 
 // Does the step of a line of the script, an operation under the chosen kernels. Each name that it takes has a mesh or an outline, as it takes it.
 fn do_step<'a, S: Shelf, O: Sink, L: Ledger>(

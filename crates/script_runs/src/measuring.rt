@@ -9,7 +9,7 @@ ghost use Rattle.play_terms.specs.Plays.{measure_task, mesh_at, mesh_held};
 use crate::names::Names;
 use mb_outside::Sink;
 use mesh_files::Halt;
-use mesh_measures::measure;
+use mesh_make::measure;
 use report_lines::say_measured;
 use std::alloc::Global;
 

@@ -20,9 +20,8 @@ ghost use Rattle.rounding.specs.Nearest.{settle_nearest};
 ghost use Rattle.script_runs.specs.Outcomes.{IsOutcome2};
 
 use crate::names::Names;
-use cross_section::{Flat, OutlineFault, combine_outlines};
+use cross_section::{ExtrudeFault, Extruded, Flat, OutlineFault, combine_outlines, extrude};
 use exact_kernels::Exact;
-use extrusion::{ExtrudeFault, Extruded, extrude};
 use mb_base::{KernelKind, Limits, Op};
 use mb_outside::Sink;
 use mesh_files::{Halt, Stop};

@@ -13,14 +13,13 @@ ghost use Rattle.play_terms.specs.Plays.{script_task};
 
 use crate::doing::do_lines;
 use crate::names::Names;
-use mb_base::Limits;
+use mb_base::{Limits, Steps};
 use mb_outside::{Shelf, Sink};
 use mesh_files::{Halt, Stop, ask_bytes};
 use operation_laws::laws::operations_are_readable;
 use script_lang::{ScriptFault, read_script};
 use std::alloc::Global;
 use std::sync::ledger::Ledger;
-use steps::Steps;
 
 /// Runs the script of a file: its lines in order, once the whole script was read. It stops at the first thing that goes wrong, and what was saved before stays.
 /// Whatever the files, each file that the script writes holds the text of a mesh, which is read of its OBJ text.

@@ -3,4 +3,9 @@ pub mod Conservation
 pub mod Corners
 pub mod Fine
 pub mod Hits
+pub mod Lists
+pub mod PointLaws
+pub mod Points
+pub mod Prescribed
 pub mod Sides
+pub mod Standing

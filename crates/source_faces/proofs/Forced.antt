@@ -3,8 +3,8 @@ use Rattle.std.proofs.Common.{◌≡◌, ℕ, ◌+◌, ◌≤◌, List, Bool, tr
 use Rattle.std.proofs.lemmas.List.{length-append, length-map}
 use Rattle.chain_terms.specs.Sums.{upto}
 use Rattle.chain_laws.proofs.Places.{length-up_from}
-use Rattle.face_lists.specs.Parts.{no_run}
-use Rattle.face_lists.specs.declared.runs.CopyRange.{CopyRange}
+use Rattle.source_faces.specs.ListParts.{no_run}
+use Rattle.source_faces.specs.declared.lists.runs.CopyRange.{CopyRange}
 use Rattle.face_plane.specs.Planes.{Plane}
 use Rattle.hole_joining.specs.Holes.{is_hole}
 use Rattle.hole_joining.specs.Laws.{AreFillable}

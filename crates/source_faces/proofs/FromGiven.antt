@@ -3,11 +3,11 @@ use Rattle.std.proofs.Common.{◌≡◌, ℕ, ◌+◌, ℤ, List, ◌∷◌, [],
 use Rattle.std.specs.Prelude.{slice_index}
 use Rattle.mb_base.specs.declared.op.Op.{Op}
 use Rattle.side_terms.specs.Sides.{Side}
-use Rattle.assembly_terms.specs.Prescribed.{Numbers, p_kept, p_number, q_kept, q_number}
-use Rattle.face_lists.specs.declared.runs.CopyRange.{CopyRange}
-use Rattle.face_lists.specs.declared.stands.Stand.{Stand}
-use Rattle.face_lists.specs.Runs.{runs_from}
-use Rattle.face_lists.specs.Stands.{sorted_stands}
+use Rattle.side_terms.specs.Prescribed.{Numbers, p_kept, p_number, q_kept, q_number}
+use Rattle.source_faces.specs.declared.lists.runs.CopyRange.{CopyRange}
+use Rattle.source_faces.specs.declared.lists.stands.Stand.{Stand}
+use Rattle.source_faces.specs.Runs.{runs_from}
+use Rattle.source_faces.specs.Stands.{sorted_stands}
 use Rattle.source_faces.specs.Given.{given_p_runs, given_q_runs, given_stands}
 use Rattle.source_faces.specs.Parts.{HaveParts, both_parts}
 

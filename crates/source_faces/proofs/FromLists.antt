@@ -7,15 +7,15 @@ use Rattle.face_loops.specs.Segments.{IsOneToOne}
 use Rattle.hole_joining.specs.Laws.{AreFillable}
 use Rattle.mesh_terms.specs.Limits.{most_points}
 use Rattle.side_terms.specs.Sides.{Side}
-use Rattle.assembly_terms.specs.Lists.{Copy, no_copy}
-use Rattle.segment_terms.specs.Planes.{plane_drop_of}
+use Rattle.side_terms.specs.Lists.{Copy, no_copy}
+use Rattle.source_face_terms.specs.Planes.{plane_drop_of}
 use Rattle.triangulate.specs.Fills.{fill_of}
-use Rattle.face_lists.specs.declared.runs.CopyRange.{CopyRange}
-use Rattle.face_lists.specs.declared.stands.Stand.{Stand}
-use Rattle.face_lists.specs.Agreement.{AreInOrder, AreRunsOf}
-use Rattle.face_lists.specs.Parts.{AreRuns, CanBeSegments, no_run, segments_by}
-use Rattle.filling_terms.specs.Assembling.{FormLoops}
-use Rattle.filling_terms.specs.Filled.{face_segments, filled_face, points_of_copies, source_drop}
+use Rattle.source_faces.specs.declared.lists.runs.CopyRange.{CopyRange}
+use Rattle.source_faces.specs.declared.lists.stands.Stand.{Stand}
+use Rattle.source_faces.specs.Agreement.{AreInOrder, AreRunsOf}
+use Rattle.source_faces.specs.ListParts.{AreRuns, CanBeSegments, no_run, segments_by}
+use Rattle.source_face_terms.specs.Assembling.{FormLoops}
+use Rattle.source_face_terms.specs.Filled.{face_segments, filled_face, points_of_copies, source_drop}
 use Rattle.source_faces.specs.Adding.{filled_by}
 use Rattle.source_faces.specs.Parts.{CanBePart, HaveCopies}
 use Rattle.source_faces.specs.Plain.{LieAtVertices}

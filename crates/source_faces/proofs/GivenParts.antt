@@ -11,21 +11,21 @@ use Rattle.mb_base.specs.declared.results.Windings.{Windings}
 use Rattle.mb_base.specs.declared.results.Origin.TheVariants.{PVertex, QVertex}
 use Rattle.mesh_terms.specs.Limits.{most_points}
 use Rattle.side_terms.specs.Sides.{IsSide, Side}
-use Rattle.assembly_terms.specs.Lists.{Copy}
-use Rattle.assembly_terms.specs.Prescribed.{p_kept, q_kept}
+use Rattle.side_terms.specs.Lists.{Copy}
+use Rattle.side_terms.specs.Prescribed.{p_kept, q_kept}
 use Rattle.retained_verts.proofs.AllStarts.{all_starts}
 use Rattle.retained_verts.proofs.Lengths.{all_copies_counted, few_copies}
 use Rattle.retained_verts.specs.Handed.{copies, numbers}
 use Rattle.retained_verts.specs.declared.list.Prescribed.{Prescribed}
-use Rattle.segment_laws.specs.Laws.{PrescribedAreNamed}
-use Rattle.segment_terms.specs.Planes.{plane_drop_of}
-use Rattle.face_lists.specs.declared.runs.CopyRange.{CopyRange}
-use Rattle.face_lists.specs.declared.stands.Stand.{Stand}
-use Rattle.face_lists.specs.Agreement.{HaveLists, records_of}
-use Rattle.face_lists.specs.Laws.{ListsCanBeSegments, ListsGiveSegments, PrescribedHaveLists}
-use Rattle.filling_laws.specs.Laws.{FacesFormLoops}
-use Rattle.filling_terms.specs.Assembling.{CanBeAssembled}
-use Rattle.filling_terms.specs.Filled.{filled_face, points_of_copies, source_drop}
+use Rattle.source_face_laws.specs.SegmentLaws.{PrescribedAreNamed}
+use Rattle.source_face_terms.specs.Planes.{plane_drop_of}
+use Rattle.source_faces.specs.declared.lists.runs.CopyRange.{CopyRange}
+use Rattle.source_faces.specs.declared.lists.stands.Stand.{Stand}
+use Rattle.source_faces.specs.Agreement.{HaveLists, records_of}
+use Rattle.source_faces.specs.Laws.{ListsCanBeSegments, ListsGiveSegments, PrescribedHaveLists}
+use Rattle.source_face_laws.specs.FillingLaws.{FacesFormLoops}
+use Rattle.source_face_terms.specs.Assembling.{CanBeAssembled}
+use Rattle.source_face_terms.specs.Filled.{filled_face, points_of_copies, source_drop}
 use Rattle.source_faces.specs.Adding.{filled_by}
 use Rattle.source_faces.specs.Given.{AreFewGiven, AreGiven, GivenHaveParts, HaveAllParts, given_p_runs, given_q_runs, given_stands}
 use Rattle.source_faces.specs.Parts.{CanBePart}

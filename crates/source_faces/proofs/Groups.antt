@@ -1,10 +1,10 @@
 -- The records of a face, as they are found one face after the other.
 use Rattle.std.proofs.Common.{◌≡◌, ℕ, ◌+◌, ◌-◌, ◌≤◌, List, drop, take, length, arith, ap, subst, sym, ◌∙◌}
-use Rattle.face_lists.specs.Agreement.{Ascend, records_of}
-use Rattle.face_lists.specs.Groups.{earlier}
-use Rattle.face_lists.specs.Stands.{group_end}
-use Rattle.face_lists.specs.declared.stands.Stand.{Stand}
-use Rattle.face_lists.proofs.Groups.{ascend_faces, earlier_none, group_ends, group_slice, group_within}
+use Rattle.source_faces.specs.Agreement.{Ascend, records_of}
+use Rattle.source_faces.specs.Groups.{earlier}
+use Rattle.source_faces.specs.Stands.{group_end}
+use Rattle.source_faces.specs.declared.lists.stands.Stand.{Stand}
+use Rattle.source_faces.proofs.RecordGroups.{ascend_faces, earlier_none, group_ends, group_slice, group_within}
 
 -- none is of a face before the first
 pub none_first : (ss : List Stand) → earlier ss 0 ≡ 0

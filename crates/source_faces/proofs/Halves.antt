@@ -16,10 +16,10 @@ use Rattle.mb_base.specs.declared.results.Entry.{Entry}
 use Rattle.side_terms.specs.Sides.{Side}
 use Rattle.edge_pairing.specs.Entries.{chosen, ends_of, is_chosen, place_in, starts_of}
 use Rattle.edge_pairing.specs.Pairing.{comes_before, pair_up, scalar_product, step}
-use Rattle.segment_terms.specs.Segments.{lower_half, vertex_point}
-use Rattle.face_lists.specs.declared.runs.CopyRange.{CopyRange}
-use Rattle.face_lists.specs.Entries.{run_entries}
-use Rattle.face_lists.specs.Parts.{half_entries, half_segments, no_run}
+use Rattle.source_face_terms.specs.Segments.{lower_half, vertex_point}
+use Rattle.source_faces.specs.declared.lists.runs.CopyRange.{CopyRange}
+use Rattle.source_faces.specs.Entries.{run_entries}
+use Rattle.source_faces.specs.ListParts.{half_entries, half_segments, no_run}
 use Rattle.source_faces.proofs.Copies.{block}
 
 -- vertices as entries of one kind

@@ -7,7 +7,7 @@ use Rattle.chain_terms.specs.Sums.{upto}
 use Rattle.chain_laws.proofs.Places.{length-up_from, upto_more}
 use Rattle.mesh_terms.specs.Meshes.{triples_of}
 use Rattle.ring_cutting.specs.Cuts.{Cut}
-use Rattle.filling_terms.specs.Filled.{all_triples, sources_of}
+use Rattle.source_face_terms.specs.Filled.{all_triples, sources_of}
 use Rattle.source_faces.specs.Adding.{IsAdded}
 use Rattle.source_faces.specs.Parts.{AreAdded, AreAll}
 use Rattle.source_faces.specs.declared.triangles.SourceTriangles.{SourceTriangles}

@@ -10,12 +10,12 @@ use Rattle.side_terms.specs.Sides.{IsSide, Side}
 use Rattle.lean.proofs.Triangles.{half_of_face}
 use Rattle.face_plane.specs.Planes.{flat_point, plane_of, point_at, turn}
 use Rattle.ring_cutting.specs.Cuts.{Cut}
-use Rattle.segment_terms.specs.Planes.{plane_drop_of}
-use Rattle.segment_terms.specs.Segments.{vertex_point}
+use Rattle.source_face_terms.specs.Planes.{plane_drop_of}
+use Rattle.source_face_terms.specs.Segments.{vertex_point}
 use Rattle.triangulate.specs.Fills.{fill_of}
-use Rattle.face_lists.specs.declared.runs.CopyRange.{CopyRange}
-use Rattle.face_lists.specs.Agreement.{AreInOrder}
-use Rattle.face_lists.specs.Parts.{AreRuns, half_segments, segments_by}
+use Rattle.source_faces.specs.declared.lists.runs.CopyRange.{CopyRange}
+use Rattle.source_faces.specs.Agreement.{AreInOrder}
+use Rattle.source_faces.specs.ListParts.{AreRuns, half_segments, segments_by}
 use Rattle.source_faces.specs.Adding.{are_equal_runs, copy_triple, face_copies, filled_by, is_flat, same_run, same_sign}
 use Rattle.source_faces.specs.Plain.{LieAtVertices, PlainFacesAreCopied}
 use Rattle.source_faces.proofs.Copies.{AreApart, apart-sym, cycles-blocks, cycles-exchanged_blocks}

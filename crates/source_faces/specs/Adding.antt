@@ -6,11 +6,11 @@ use Rattle.mesh_terms.specs.Meshes.{Triple, triples_of}
 use Rattle.std.specs.Ordering.{int_eq}
 use Rattle.mesh_terms.specs.Points.{coordinate_of, cross_product}
 use Rattle.side_terms.specs.Sides.{Side}
-use Rattle.segment_terms.specs.Segments.{vertex_point}
-use Rattle.face_lists.specs.declared.runs.CopyRange.{CopyRange}
-use Rattle.face_lists.specs.declared.stands.Stand.{Stand}
-use Rattle.face_lists.specs.Parts.{no_run, segments_by}
-use Rattle.segment_terms.specs.Planes.{plane_drop_of}
+use Rattle.source_face_terms.specs.Segments.{vertex_point}
+use Rattle.source_faces.specs.declared.lists.runs.CopyRange.{CopyRange}
+use Rattle.source_faces.specs.declared.lists.stands.Stand.{Stand}
+use Rattle.source_faces.specs.ListParts.{no_run, segments_by}
+use Rattle.source_face_terms.specs.Planes.{plane_drop_of}
 use Rattle.face_loops.specs.Segments.{IsOneToOne}
 use Rattle.hole_joining.specs.Laws.{AreFillable}
 use Rattle.ring_cutting.specs.Cuts.{Cut}

@@ -5,14 +5,14 @@ use Rattle.mb_base.specs.declared.results.Hits.{Hits}
 use Rattle.mb_base.specs.declared.results.Windings.{Windings}
 use Rattle.mesh_check.specs.Reduced.{NoOpposite}
 use Rattle.side_terms.specs.Sides.{Side}
-use Rattle.assembly_terms.specs.Lists.{Copy}
-use Rattle.assembly_terms.specs.Prescribed.{Numbers, crossing_count, p_kept, p_number, q_kept, q_number}
-use Rattle.assembly_terms.specs.Standing.{StandInLists, count_all_starts}
-use Rattle.face_lists.specs.declared.runs.CopyRange.{CopyRange}
-use Rattle.face_lists.specs.declared.stands.Stand.{Stand}
-use Rattle.face_lists.specs.Runs.{runs_from}
-use Rattle.face_lists.specs.Stands.{sorted_stands}
-use Rattle.filling_terms.specs.Filled.{all_filled, points_of_copies}
+use Rattle.side_terms.specs.Lists.{Copy}
+use Rattle.side_terms.specs.Prescribed.{Numbers, crossing_count, p_kept, p_number, q_kept, q_number}
+use Rattle.side_terms.specs.Standing.{StandInLists, count_all_starts}
+use Rattle.source_faces.specs.declared.lists.runs.CopyRange.{CopyRange}
+use Rattle.source_faces.specs.declared.lists.stands.Stand.{Stand}
+use Rattle.source_faces.specs.Runs.{runs_from}
+use Rattle.source_faces.specs.Stands.{sorted_stands}
+use Rattle.source_face_terms.specs.Filled.{all_filled, points_of_copies}
 use Rattle.retained_verts.specs.Handed.{AreBalanced, FitSides, copies, numbers}
 use Rattle.retained_verts.specs.declared.list.Prescribed.{Prescribed}
 use Rattle.source_faces.specs.Parts.{HaveParts, both_parts}

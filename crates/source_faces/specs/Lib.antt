@@ -1,4 +1,11 @@
 pub mod Adding
+pub mod Agreement
+pub mod Entries
 pub mod Given
+pub mod Groups
+pub mod Laws
+pub mod ListParts
 pub mod Parts
 pub mod Plain
+pub mod Runs
+pub mod Stands

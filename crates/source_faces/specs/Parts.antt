@@ -4,11 +4,11 @@ use Rattle.chain_terms.specs.Sums.{upto}
 use Rattle.mesh_terms.specs.Meshes.{triples_of}
 use Rattle.ring_cutting.specs.Cuts.{Cut}
 use Rattle.side_terms.specs.Sides.{Side}
-use Rattle.face_lists.specs.declared.runs.CopyRange.{CopyRange}
-use Rattle.face_lists.specs.declared.stands.Stand.{Stand}
-use Rattle.face_lists.specs.Agreement.{AreInOrder, Ascend, records_of}
-use Rattle.face_lists.specs.Parts.{AreRuns, CanBeSegments}
-use Rattle.filling_terms.specs.Filled.{all_triples, forced_of, sources_of}
+use Rattle.source_faces.specs.declared.lists.runs.CopyRange.{CopyRange}
+use Rattle.source_faces.specs.declared.lists.stands.Stand.{Stand}
+use Rattle.source_faces.specs.Agreement.{AreInOrder, Ascend, records_of}
+use Rattle.source_faces.specs.ListParts.{AreRuns, CanBeSegments}
+use Rattle.source_face_terms.specs.Filled.{all_triples, forced_of, sources_of}
 use Rattle.source_faces.specs.Adding.{CanBeFilled, filled_by}
 use Rattle.source_faces.specs.Plain.{LieAtVertices}
 use Rattle.source_faces.specs.declared.triangles.SourceTriangles.{SourceTriangles}

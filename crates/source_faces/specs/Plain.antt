@@ -1,10 +1,10 @@
 -- Faces in no lists but those of their vertices: their filling is copies of them.
 use Rattle.std.specs.Prelude.{◌≡◌, ℕ, ◌+◌, ◌<◌, ℤ, List, [], true, length, get_or}
 use Rattle.side_terms.specs.Sides.{IsSide, Side}
-use Rattle.segment_terms.specs.Segments.{vertex_point}
-use Rattle.face_lists.specs.declared.runs.CopyRange.{CopyRange}
-use Rattle.face_lists.specs.Agreement.{AreInOrder}
-use Rattle.face_lists.specs.Parts.{AreRuns, no_run}
+use Rattle.source_face_terms.specs.Segments.{vertex_point}
+use Rattle.source_faces.specs.declared.lists.runs.CopyRange.{CopyRange}
+use Rattle.source_faces.specs.Agreement.{AreInOrder}
+use Rattle.source_faces.specs.ListParts.{AreRuns, no_run}
 use Rattle.source_faces.specs.Adding.{are_equal_runs, face_copies, filled_by}
 
 -- the copies of a side's vertices lie where these do

@@ -2,15 +2,15 @@
 ghost use Rattle.std.specs.Prelude.{◌≡◌, ◌+◌, ◌≤◌, IfOk, OnOk, length};
 ghost use Rattle.mesh_terms.specs.Meshes.{triples_of};
 ghost use Rattle.retained_verts.specs.Handed.{copies};
-ghost use Rattle.filling_terms.specs.Filled.{all_filled, all_triples, forced_of, sources_of};
-ghost use Rattle.face_lists.specs.Groups.{earlier};
+ghost use Rattle.source_face_terms.specs.Filled.{all_filled, all_triples, forced_of, sources_of};
+ghost use Rattle.source_faces.specs.Groups.{earlier};
 ghost use Rattle.source_faces.specs.Given.{AreGiven};
 ghost use Rattle.source_faces.specs.Parts.{AreAdded, AreAll, HaveParts, both_parts, parts_of};
 
 use crate::face::push_face;
 use crate::given::given_have_parts;
 use crate::triangles::SourceTriangles;
-use face_lists::{CopyRange, Stand, group_end, runs_of, stands_of};
+use crate::{CopyRange, Stand, group_end, runs_of, stands_of};
 use lean::Surface;
 use mb_base::{Hits, NoMemory, Op, Point, Windings};
 use retained_verts::{Operand, Prescribed};

@@ -1,12 +1,12 @@
 // The triangles of one source face.
 ghost use Rattle.std.specs.Prelude.{◌≡◌, ◌<◌, ◌≤◌, IfOk, OnOk, length};
-ghost use Rattle.face_lists.specs.Parts.{AreRuns};
+ghost use Rattle.source_faces.specs.ListParts.{AreRuns};
 ghost use Rattle.source_faces.specs.Adding.{IsAdded, filled_by};
 ghost use Rattle.source_faces.specs.Parts.{CanBePart, HaveCopies};
 
 use crate::plain::{are_equal, push_copies};
 use crate::triangles::SourceTriangles;
-use face_lists::{CopyRange, Stand, plane_of, segments_of_face};
+use crate::{CopyRange, Stand, plane_of, segments_of_face};
 use face_loops::loops;
 use lean::Surface;
 use mb_base::{NoMemory, Point};

@@ -1,12 +1,12 @@
 // What given numbers and prescribed vertices say of runs and records.
 ghost use Rattle.source_faces.specs.Given.{AreFewGiven, AreGiven, GivenHaveParts};
 
-use face_lists::laws::{copies_have_lists, lists_give_segments};
-use filling_laws::laws::faces_form_loops;
+use crate::lists::laws::{copies_have_lists, lists_give_segments};
 use lean::Surface;
 use mb_base::{Hits, Op, Windings};
 use retained_verts::Prescribed;
-use segment_laws::laws::loops_are_long;
+use source_face_laws::of_fillings::faces_form_loops;
+use source_face_laws::of_segments::loops_are_long;
 
 /// The faces of both sides are filled from the runs and the records of what is given, and there are few copies. It does
 /// nothing.

@@ -2,12 +2,12 @@
 ghost use Rattle.std.specs.Prelude.{◌≡◌, ◌+◌, ◌<◌, ◌^◌, true, cond, OnOk, length, get_or};
 ghost use Rattle.mesh_terms.specs.Limits.{most_points};
 ghost use Rattle.mesh_terms.specs.Meshes.{IsBelow, triple_of};
-ghost use Rattle.face_lists.specs.Parts.{AreRuns};
+ghost use Rattle.source_faces.specs.ListParts.{AreRuns};
 ghost use Rattle.side_terms.specs.Sides.{IsSide};
 ghost use Rattle.source_faces.specs.Adding.{IsAdded, are_equal_runs, copy_triple, face_copies, is_flat, same_run};
 
+use crate::CopyRange;
 use crate::triangles::SourceTriangles;
-use face_lists::CopyRange;
 use lean::Surface;
 use mb_base::{NoMemory, cross};
 use retained_verts::point_of;

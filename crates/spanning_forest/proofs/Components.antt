@@ -10,8 +10,8 @@ use Rattle.chain_laws.specs.Ascending.{Ascends}
 use Rattle.chain_laws.proofs.Ascending.{contains_later}
 use Rattle.chain_laws.specs.Chains.{dir_contains, dir_some}
 use Rattle.chain_laws.specs.Counts.{one_if-true}
-use Rattle.component_laws.specs.Laws.{AreBelow}
-use Rattle.component_laws.proofs.Counted.{only}
+use Rattle.component_terms.specs.Laws.{AreBelow}
+use Rattle.component_terms.proofs.Counted.{only}
 use Rattle.component_terms.specs.Components.{IsJoined, Here, Along as Joins, IsLeast, HasComponents}
 use Rattle.spanning_forest.specs.declared.entrance.Entrance.{Entrance}
 use Rattle.spanning_forest.specs.declared.entrance.Entrance.TheVariants.{Root, Along}

@@ -9,7 +9,7 @@ use Rattle.chain_terms.specs.Ranks.{start, finish}
 use Rattle.chain_terms.specs.Sums.{upto}
 use Rattle.chain_laws.specs.Chains.{dir_contains}
 use Rattle.chain_laws.proofs.Ascending.{IsKept, kept_at, kept}
-use Rattle.component_laws.specs.Laws.{AreBelow}
+use Rattle.component_terms.specs.Laws.{AreBelow}
 use Rattle.places_by_key.specs.Buckets.{places_of}
 use Rattle.places_by_key.proofs.Upto.{get_or-map-upto}
 use Rattle.mesh_terms.specs.Meshes.{Triple, IsBelow, triple_of, triples_of}

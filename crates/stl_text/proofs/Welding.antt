@@ -4,8 +4,8 @@ use Rattle.std.specs.List.{list_any, position_or_len}
 use Rattle.std.proofs.lemmas.Bool.Decides.{nat_tests}
 use Rattle.indexmap.specs.IndexSet.{insert_key}
 use Rattle.mesh_terms.specs.Limits.{Limits}
-use Rattle.stl_terms.specs.Stl.{same_point, welded}
-use Rattle.text_lines.proofs.Positions.{position_or_len-here, position_or_len-past, position_or_len-le}
+use Rattle.format_terms.specs.Stl.{same_point, welded}
+use Rattle.grid_number.proofs.Positions.{position_or_len-here, position_or_len-past, position_or_len-le}
 
 -- no place is no element
 pub none_there : {X : Type 0} (p : X → Bool) (xs : List X) → position_or_len p xs ≡ length xs → list_any p xs ≡ false

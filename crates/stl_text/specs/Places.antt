@@ -1,6 +1,6 @@
 -- Places in the grammar of STL as the definitions have them, and what is known of a facet there.
 use Rattle.std.specs.Prelude.{◌≡◌, ℕ, ◌<◌}
-use Rattle.stl_terms.specs.Grammar as terms
+use Rattle.format_terms.specs.StlGrammar as terms
 use Rattle.stl_text.specs.declared.grammar.Place.{Place}
 use Rattle.stl_text.specs.declared.grammar.Place.TheVariants.{BeforeSolid, InSolid, Normal, NormalX, NormalY, NormalZ, Outer, Loop, Vertex, Number, EndLoop, EndFacet, AfterSolid}
 

@@ -1,7 +1,7 @@
 // What each word of a file may be, and what comes after it.
 ghost use Rattle.std.specs.Prelude.{◌≡◌};
 ghost use Rattle.std.specs.Option.{option_map};
-ghost use Rattle.stl_terms.specs.Grammar.{after_key, after_turn, after_word};
+ghost use Rattle.format_terms.specs.StlGrammar.{after_key, after_turn, after_word};
 ghost use Rattle.stl_text.specs.Places.{place_of};
 
 /// What the next word of a file has to be.

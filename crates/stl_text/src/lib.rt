@@ -14,8 +14,8 @@
 #![tactic(auto)]
 
 ghost use Rattle.std.specs.Prelude.{◌≡◌, ◌≤◌, Ok, IfOk, IfErr};
-ghost use Rattle.stl_terms.specs.Stl.{stl};
-ghost use Rattle.text_lines.specs.Faults.{IsFaultOf};
+ghost use Rattle.format_terms.specs.Stl.{stl};
+ghost use Rattle.grid_number.specs.TextFaults.{IsFaultOf};
 
 mod grammar;
 mod lines;

@@ -1,10 +1,10 @@
 // The words of a line, and the number of the last line.
 ghost use Rattle.std.specs.Prelude.{◌≡◌, ◌+◌};
 ghost use Rattle.text_terms.specs.Lines.{words_of};
-ghost use Rattle.stl_terms.specs.Stl.{last_line};
+ghost use Rattle.format_terms.specs.Stl.{last_line};
 
+use grid_number::first_word;
 use std::marker::Model;
-use text_lines::first_word;
 
 /// The words of a line from the first to the last.
 #[derive(Drop)]

@@ -5,18 +5,18 @@ ghost use Rattle.text_terms.specs.FirstFault.{then_read, on_line};
 ghost use Rattle.text_terms.specs.Lines.{without_mark, lines_of, numbered};
 ghost use Rattle.mesh_terms.specs.Meshes.{triple_of, soup_of};
 ghost use Rattle.mesh_terms.specs.Points.{IsOnGrid};
-ghost use Rattle.stl_terms.specs.Grammar as terms;
-ghost use Rattle.stl_terms.specs.Stl.{at_end, end_facet, last_line, nothing_gathered, repeats, stl_line, stl_lines, stl_word, welded, with_corner_at, with_number, word_lines};
-ghost use Rattle.text_lines.specs.Faults.{IsFaultOf};
+ghost use Rattle.format_terms.specs.StlGrammar as terms;
+ghost use Rattle.format_terms.specs.Stl.{at_end, end_facet, last_line, nothing_gathered, repeats, stl_line, stl_lines, stl_word, welded, with_corner_at, with_number, word_lines};
+ghost use Rattle.grid_number.specs.TextFaults.{IsFaultOf};
 
 use crate::grammar::{Place, after_turn, after_word};
 use crate::lines::{Words, last_line};
 use crate::welded::Welded;
 use arrayvec::ArrayVec;
+use grid_number::{Lines, bad, coordinate, without_mark};
 use mb_base::{Counted, Limits, NoMemory, Point, Soup, TextFault, TextKind};
 use std::alloc::Global;
 use std::marker::Model;
-use text_lines::{Lines, bad, coordinate, without_mark};
 use unused_points::without_unused;
 
 /// The points and the triangles that the words so far gave, and of the present facet the corners so far and
@@ -35,7 +35,7 @@ impl Model for Reading {
     ghost use Rattle.std.specs.List.{All};
     ghost use Rattle.mesh_terms.specs.Meshes.{triples_of};
     ghost use Rattle.mesh_terms.specs.Points.{IsOnGrid};
-    ghost use Rattle.stl_terms.specs.Stl.{Gathered};
+    ghost use Rattle.format_terms.specs.Stl.{Gathered};
     ghost use Rattle.unused_points.specs.Used.{IsSound};
     ghost use Rattle.stl_text.specs.Places.{HasCorners, place_of};
 

@@ -2,8 +2,8 @@
 ghost use Rattle.std.specs.Prelude.{◌≡◌, ◌<◌, ◌≤◌, [], Ok, IfOk, IfErr, OnOk, OnErr, length};
 ghost use Rattle.mesh_terms.specs.Limits.{most_points};
 ghost use Rattle.mesh_terms.specs.Points.{IsPoint};
-ghost use Rattle.stl_terms.specs.Stl.{welded};
-ghost use Rattle.text_lines.specs.Faults.{IsFaultOf};
+ghost use Rattle.format_terms.specs.Stl.{welded};
+ghost use Rattle.grid_number.specs.TextFaults.{IsFaultOf};
 
 use indexmap::IndexSet;
 use mb_base::{Counted, Limits, Point, TextFault};

@@ -9,11 +9,10 @@ use crate::walk::corner_windings;
 use crossings::{PEdges, QEdges};
 use edge_face::{Crosses, Kernels};
 use lean::Side;
-use mb_base::{Hits, NoMemory, Windings};
+use mb_base::{Hits, NoMemory, Steps, Windings};
 use shadow_kernels::Meets;
 use std::alloc::Global;
 use std::sync::ledger::Ledger;
-use steps::Steps;
 
 /// The winding numbers of all corners of P in Q, and of Q in P. The hits are those of `crossings` for the same sides and
 /// kernels: along every edge the winding number changes by minus the edge's numbers with all faces. At most one step

@@ -9,9 +9,8 @@ use crate::shadows::VertexFace;
 use crate::sum::{minus_few_shadows, minus_shadows};
 use crossings::EdgeFace;
 use lean::Side;
-use mb_base::{Box3, Corner, box_of};
+use mb_base::{Box3, Corner, Steps, box_of};
 use std::sync::ledger::Ledger;
-use steps::Steps;
 
 // A sum over no more faces than this is made at once.
 const FEW: usize = 16;

@@ -10,13 +10,12 @@ ghost use Rattle.winding.specs.Windings.{winding_at};
 
 use crate::shadows::{PVertices, VertexFace};
 use lean::{corner_of, corners_of, face_of};
-use mb_base::{Corner, NoMemory, Point};
+use mb_base::{Corner, NoMemory, Point, Steps};
 use mesh_check::Mesh;
 use rounding::Nearest;
 use shadow_kernels::Grid;
 use std::alloc::Global;
 use std::sync::ledger::Ledger;
-use steps::Steps;
 
 /// The winding number of a point in a mesh, over all its triangles as they stand, with spots placed to the nearest fine
 /// step. The point and the mesh's vertices are up on no axis, so where two coordinates are equal the point is not

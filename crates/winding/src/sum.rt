@@ -6,10 +6,9 @@ ghost use Rattle.winding.specs.Windings.{minus_shadows, winding, winding_back};
 use crate::shadows::{PVertices, QVertices, VertexFace};
 use edge_face::Kernels;
 use lean::Side;
-use mb_base::Corner;
+use mb_base::{Corner, Steps};
 use shadow_kernels::Meets;
 use std::sync::ledger::Ledger;
-use steps::Steps;
 
 /// The winding number of a corner of P in Q: minus the sum of its shadows on all faces of Q. The corner's coordinates
 /// lie within `UNIT * 2^30` fine steps of 0. It counts one step and takes no memory.

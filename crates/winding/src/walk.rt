@@ -13,11 +13,10 @@ use crate::jump::{Known, number_from};
 use crate::shadows::VertexFace;
 use crossings::EdgeFace;
 use lean::Side;
-use mb_base::{Hit, NoMemory};
+use mb_base::{Hit, NoMemory, Steps};
 use spanning_forest::{Entrance, forest};
 use std::alloc::Global;
 use std::sync::ledger::Ledger;
-use steps::Steps;
 
 /// The winding numbers of the corners of one side in the other: at most one sum for the first corner of each connected
 /// component, or the crossings of the segment from the first corner of the component before. From there, along

@@ -12,11 +12,10 @@ ghost use Rattle.winding_laws.specs.Solid.{AreSolid, IsSolid};
 use edge_face::Crosses;
 use exact_kernels::Exact;
 use lean::Side;
-use mb_base::{Corner, Hits, NoMemory, Windings};
+use mb_base::{Corner, Hits, NoMemory, Steps, Windings};
 use rounding::Rounding;
 use std::alloc::Global;
 use std::sync::ledger::Ledger;
-use steps::Steps;
 
 /// The winding number of a corner of P in Q, as `winding_sum` gives it, under exact kernels.
 pub fn exact_winding_sum<R: Rounding, L: Ledger>(

@@ -6,11 +6,10 @@ ghost use Rattle.winding.specs.Windings.{EdgesConserve};
 use crossings::crossings;
 use edge_face::Kernels;
 use lean::Side;
-use mb_base::{Hits, Windings};
+use mb_base::{Hits, Steps, Windings};
 use std::alloc::Global;
 use std::sync::ledger::{Blank, Ledger};
 use std::test::Fail;
-use steps::Steps;
 use winding::windings;
 
 /// The hits and winding numbers of two sides. For any lawful kernels they agree: a face of each side has one sum of

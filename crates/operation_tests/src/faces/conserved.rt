@@ -5,7 +5,7 @@ ghost use Rattle.chain_terms.specs.Chains.{all_edges};
 ghost use Rattle.chain_terms.specs.Ranks.{finish, start};
 ghost use Rattle.chain_terms.specs.Sums.{total, upto};
 ghost use Rattle.retained_verts.specs.Handed.{numbers};
-ghost use Rattle.assembly_terms.specs.Standing.{AreConserved};
+ghost use Rattle.side_terms.specs.Standing.{AreConserved};
 ghost use Rattle.side_terms.specs.Conservation.{EdgeIdentity, PairIdentity, half_number, hit_number};
 
 use lean::Side;

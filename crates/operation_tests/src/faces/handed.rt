@@ -1,6 +1,6 @@
 // Numbers that are handed in: whether they meet what the source faces ask for.
 ghost use Rattle.std.specs.Prelude.{IsTrue};
-ghost use Rattle.assembly_terms.specs.Standing.{AreConserved};
+ghost use Rattle.side_terms.specs.Standing.{AreConserved};
 ghost use Rattle.retained_verts.specs.Handed.{FitSides, numbers};
 
 use crate::faces::conserved::are_conserved;

@@ -1,16 +1,16 @@
 // The segments and the loops of all source faces, as the table writes them.
 ghost use Rattle.std.specs.Prelude.{◌≡◌, ◌+◌, ◌<◌, ◌≤◌, IfOk, length};
-ghost use Rattle.face_lists.specs.Groups.{earlier};
-ghost use Rattle.face_lists.specs.Parts.{AreRuns};
+ghost use Rattle.source_faces.specs.Groups.{earlier};
+ghost use Rattle.source_faces.specs.ListParts.{AreRuns};
 ghost use Rattle.source_faces.specs.Given.{AreGiven};
 ghost use Rattle.source_faces.specs.Parts.{CanBePart, HaveParts};
 
-use face_lists::{CopyRange, Stand, group_end, runs_of, segments_of_face, stands_of};
 use face_loops::loops;
 use lean::Surface;
 use mb_base::{Hits, Op, Point, Windings};
 use retained_verts::{Operand, Prescribed};
 use source_faces::given::given_have_parts;
+use source_faces::{CopyRange, Stand, group_end, runs_of, segments_of_face, stands_of};
 use std::alloc::Global;
 use test_tables::{NoRow, push_digit};
 

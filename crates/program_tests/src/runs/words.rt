@@ -3,7 +3,7 @@ ghost use Rattle.std.specs.Prelude.{◌≡◌, ◌<◌, ◌^◌, ◌-◌};
 
 use super::files::{CUBE, FINE_TETRAHEDRON};
 use super::{ROOM, USAGE, copied, judge, plain, sink};
-use mb_base::NoMemory;
+use mb_base::{NoMemory, Steps};
 use mb_outside::{MemoryShelf, MemorySink};
 use mesh_files::Stop;
 use program_runs::start;
@@ -11,7 +11,6 @@ use std::alloc::Global;
 use std::marker::Brand;
 use std::sync::ledger::{Blank, Ledger};
 use std::test::Fail;
-use steps::Steps;
 
 #[test]
 fn other_words_are_usage(rt: HostRuntime) -> Result<(), Fail> {

@@ -2,7 +2,7 @@ use Rattle.std.proofs.Common.{◌≡◌, ◌<◌, ◌≤◌, ◌+◌, ◌++◌, 
 use Rattle.std.specs.List.{All}
 use Rattle.std.proofs.lemmas.List.Elements.{All-weaker}
 use Rattle.chain_terms.specs.Sums.{upto}
-use Rattle.outline_laws.proofs.Edges.{edges_between, edges_long}
+use Rattle.outline_terms.proofs.Edges.{edges_between, edges_long}
 use Rattle.outline_pair_terms.specs.Numbers.{FlatNumbers}
 use Rattle.outline_pair_terms.specs.declared.FlatHit.{FlatHit}
 use Rattle.outline_terms.specs.Outlines.{IsBetween, most_vertices, outline_edges}

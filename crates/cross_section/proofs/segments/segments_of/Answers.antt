@@ -2,7 +2,7 @@ use Rattle.std.proofs.Common.{◌≡◌, ◌<◌, ◌+◌, ◌++◌, ℕ, ℤ, L
 use Rattle.std.specs.List.{All, flat_map}
 use Rattle.chain_terms.specs.Sums.{upto}
 use Rattle.face_loops.specs.Segments.{edges_of}
-use Rattle.outline_laws.proofs.Edges.{edges_between, edges_long}
+use Rattle.outline_terms.proofs.Edges.{edges_between, edges_long}
 use Rattle.outline_terms.specs.Outlines.{IsBetween, outline_edges}
 use Rattle.cross_section.proofs.Given.{buckets_long, ends_long, given_ends, given_segments, given_starts, p_balanced, places_below, q_balanced, starts_long}
 use Rattle.cross_section.proofs.Segmented.{edges_segments}

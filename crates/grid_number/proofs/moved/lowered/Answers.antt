@@ -5,7 +5,7 @@ use Rattle.text_terms.specs.Numbers.{all_digits, digits_value, value_from, scale
 use Rattle.grid_number.specs.Reading.{saturated}
 use Rattle.grid_number.proofs.Dropped.{rounded-is, scaled-nothing}
 use Rattle.grid_number.proofs.Saturated.{all_digits-take, all_digits-drop, saturated-value_from}
-use Rattle.text_laws.proofs.Digits.{all_digits-append, value_from-append}
+use Rattle.text_terms.proofs.Digits.{all_digits-append, value_from-append}
 use Rattle.grid_number.proofs.moved.lowered.Goals as goal
 
 -- the digits of both parts

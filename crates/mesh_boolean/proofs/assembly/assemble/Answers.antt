@@ -1,6 +1,6 @@
 use Rattle.std.proofs.Common.{arith, ◌∙◌}
 use Rattle.retained_verts.specs.Handed.{copies}
-use Rattle.filling_terms.specs.Filled.{all_filled, all_triples, forced_of, sources_of}
+use Rattle.source_face_terms.specs.Filled.{all_filled, all_triples, forced_of, sources_of}
 use Rattle.source_faces.specs.Given.{AreGiven}
 use Rattle.mesh_boolean.proofs.Assembling.{is_assembled}
 use Rattle.mesh_boolean.proofs.SameSides.{same_sides}

@@ -7,9 +7,9 @@ use Rattle.std.proofs.lemmas.Result.{IfOk-weaker}
 use Rattle.mesh_terms.specs.Meshes.{triple_of, triples_of}
 use Rattle.side_terms.specs.Sides.{Side}
 use Rattle.retained_verts.specs.Handed.{copies, numbers}
-use Rattle.segment_terms.specs.Segments.{source_count}
-use Rattle.source_boundaries.specs.Bounded.{HaveBoundaries}
-use Rattle.source_boundaries.specs.Given.{AreGiven}
+use Rattle.source_face_terms.specs.Segments.{source_count}
+use Rattle.mesh_boolean.specs.Bounded.{HaveBoundaries}
+use Rattle.mesh_boolean.specs.GivenSegments.{AreGiven}
 use Rattle.mesh_boolean.specs.Audited.{AgreesWithSides}
 use Rattle.mesh_boolean.proofs.Audited.{no}
 use Rattle.mesh_boolean.proofs.AuditedSides.{given}

@@ -1,7 +1,7 @@
 use Rattle.std.proofs.Common.{get_or, refl, ◌∙◌, arith, rules, []}
 use Rattle.std.proofs.lemmas.Result.{err_from_is_err_and}
 use Rattle.mesh_terms.specs.Meshes.{triple_of}
-use Rattle.obj_terms.specs.Written.{face_line}
+use Rattle.format_terms.specs.ObjWritten.{face_line}
 use Rattle.mesh_writer.proofs.Passing.{passed-none, line_passed, line_stopped}
 use Rattle.mesh_writer.proofs.Written.{kept-same, kept-then}
 use Rattle.mesh_writer.proofs.obj.write_faces.Goals as goal

@@ -2,7 +2,7 @@ use Rattle.std.proofs.Common.{◌≡◌, ◌≤◌, ◌++◌, ◌-◌, arith, �
 use Rattle.std.specs.List.{flat_map}
 use Rattle.std.specs.Option.{option_map}
 use Rattle.std.proofs.lemmas.Result.{err_from_is_err_and, on_ok_weaker, on_err_weaker}
-use Rattle.obj_terms.specs.Written.{point_line, face_lines}
+use Rattle.format_terms.specs.ObjWritten.{point_line, face_lines}
 use Rattle.mb_outside.specs.Sinks.{TakesPart}
 use Rattle.mesh_writer.proofs.Passing.{passed-then, stopped-then, stopped-longer, ended, ended_room, ended_in_part, last_fits, left_of}
 use Rattle.mesh_writer.proofs.LabelledFaces.{no_faces}

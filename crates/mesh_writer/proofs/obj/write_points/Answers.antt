@@ -1,6 +1,6 @@
 use Rattle.std.proofs.Common.{◌∙◌, refl, arith, rules}
 use Rattle.std.proofs.lemmas.Result.{err_from_is_err_and}
-use Rattle.obj_terms.specs.Written.{point_line}
+use Rattle.format_terms.specs.ObjWritten.{point_line}
 use Rattle.mesh_writer.proofs.Passing.{passed-none, line_passed, line_stopped}
 use Rattle.mesh_writer.proofs.Written.{kept-same, kept-then}
 use Rattle.mesh_writer.proofs.obj.write_points.Goals as goal

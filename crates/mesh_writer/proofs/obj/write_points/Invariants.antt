@@ -1,7 +1,7 @@
 use Rattle.std.proofs.Common.{◌≡◌, ◌≤◌, length, take}
 use Rattle.std.specs.List.{flat_map}
 use Rattle.arrayvec.specs.ArrayVec.{array_vec_len}
-use Rattle.obj_terms.specs.Written.{point_line}
+use Rattle.format_terms.specs.ObjWritten.{point_line}
 use Rattle.mb_outside.specs.Sinks.{Kept}
 use Rattle.mesh_writer.specs.Passing.{Passed}
 use Rattle.mesh_writer.proofs.obj.write_points.Given as goal

@@ -4,7 +4,7 @@ use Rattle.std.proofs.lemmas.List.Folds.{flat_map-map}
 use Rattle.std.proofs.lemmas.Result.{on_ok_weaker, on_err_weaker}
 use Rattle.mesh_terms.specs.Labels.{no_labels}
 use Rattle.mesh_terms.specs.Meshes.{Triple, triple_of, triples_of}
-use Rattle.obj_terms.specs.Written.{face_line, face_lines}
+use Rattle.format_terms.specs.ObjWritten.{face_line, face_lines}
 use Rattle.mesh_writer.specs.Passing.{PassedOn, StoppedOn}
 use Rattle.mesh_writer.proofs.LabelledFaces.{faces_plain}
 use Rattle.mesh_writer.proofs.obj.write_triangles.Goals as goal

@@ -1,6 +1,6 @@
 use Rattle.std.proofs.Common.{◌≡◌, ◌++◌, ◌∙◌, List, [], ℤ, subst}
 use Rattle.std.proofs.lemmas.List.{get_or_default}
-use Rattle.stl_terms.specs.Written.{corner_line, corner_text}
+use Rattle.format_terms.specs.StlWritten.{corner_line, corner_text}
 use Rattle.mesh_writer.proofs.Written.{line-wrote, line-broke}
 use Rattle.mesh_writer.proofs.stl.write_corner.Goals as goal
 

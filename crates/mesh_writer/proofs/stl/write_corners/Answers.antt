@@ -1,7 +1,7 @@
 use Rattle.std.proofs.Common.{ℕ, List, ◌++◌}
 use Rattle.std.proofs.lemmas.Result.{err_from_is_err_and, on_ok_weaker, on_err_weaker}
 use Rattle.mesh_terms.specs.Meshes.{triple_of}
-use Rattle.stl_terms.specs.Written.{corner_line}
+use Rattle.format_terms.specs.StlWritten.{corner_line}
 use Rattle.mesh_writer.specs.Passing.{Wrote}
 use Rattle.mesh_writer.proofs.Written.{wrote-then, broke-then, broke-longer}
 use Rattle.mesh_writer.proofs.stl.write_corners.Goals as goal

@@ -1,7 +1,7 @@
 use Rattle.std.proofs.Common.{◌≡◌, ◌++◌, ◌∙◌, ℕ, ℤ, List, codes, append_assoc, ap, sym, subst}
 use Rattle.std.proofs.lemmas.Result.{err_from_is_err_and, on_ok_weaker, on_err_weaker}
 use Rattle.mesh_terms.specs.Meshes.{Triple, triple_of}
-use Rattle.stl_terms.specs.Written.{corner_line, facet_text}
+use Rattle.format_terms.specs.StlWritten.{corner_line, facet_text}
 use Rattle.mesh_writer.specs.Corners.{corner_lines}
 use Rattle.mesh_writer.specs.Passing.{Wrote, Broke}
 use Rattle.mesh_writer.proofs.Written.{wrote-then, broke-then, broke-longer}

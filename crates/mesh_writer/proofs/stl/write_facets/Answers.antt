@@ -2,7 +2,7 @@ use Rattle.std.proofs.Common.{ℕ, List, get_or, refl, [], arith, subst, take_al
 use Rattle.std.specs.List.{flat_map}
 use Rattle.std.proofs.lemmas.Result.{err_from_is_err_and}
 use Rattle.mesh_terms.specs.Meshes.{triple_of}
-use Rattle.stl_terms.specs.Written.{facet_text}
+use Rattle.format_terms.specs.StlWritten.{facet_text}
 use Rattle.mesh_writer.specs.Passing.{Wrote}
 use Rattle.mesh_writer.proofs.Written.{wrote-none, element-wrote, element-broke}
 use Rattle.mesh_writer.proofs.stl.write_facets.Goals as goal

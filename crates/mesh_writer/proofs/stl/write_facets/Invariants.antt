@@ -2,7 +2,7 @@ use Rattle.std.proofs.Common.{◌≤◌, take}
 use Rattle.std.specs.List.{flat_map}
 use Rattle.arrayvec.specs.ArrayVec.{array_vec_len}
 use Rattle.mesh_terms.specs.Meshes.{triple_of}
-use Rattle.stl_terms.specs.Written.{facet_text}
+use Rattle.format_terms.specs.StlWritten.{facet_text}
 use Rattle.mesh_writer.specs.Passing.{Wrote}
 use Rattle.mesh_writer.proofs.stl.write_facets.Given as goal
 

@@ -4,7 +4,7 @@ use Rattle.std.proofs.lemmas.List.Folds.{flat_map-map}
 use Rattle.std.proofs.lemmas.List.{get_or-map, length-map}
 use Rattle.std.proofs.lemmas.Result.{err_from_is_err_and, on_ok_weaker, on_err_weaker}
 use Rattle.mesh_terms.specs.Meshes.{Triple, IsBelow, triple_of, triples_of}
-use Rattle.stl_terms.specs.Written.{facet_text}
+use Rattle.format_terms.specs.StlWritten.{facet_text}
 use Rattle.mesh_writer.specs.Passing.{Wrote, Broke}
 use Rattle.mesh_writer.proofs.Written.{wrote-then, broke-then, broke-longer}
 use Rattle.mesh_writer.proofs.stl.write_solid.Goals as goal

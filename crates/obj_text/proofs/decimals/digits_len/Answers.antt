@@ -2,7 +2,7 @@ use Rattle.std.proofs.Common.{◌∙◌, not, rules, tests, ap, length, unwrap_o
 use Rattle.std.proofs.lemmas.Iterator.{YieldsList-from_slice}
 use Rattle.std.proofs.lemmas.Iterator.Search.{position_from_yields_List}
 use Rattle.text_terms.specs.Numbers.{is_digit}
-use Rattle.text_lines.proofs.Positions.{unwrap_or-position}
+use Rattle.grid_number.proofs.Positions.{unwrap_or-position}
 use Rattle.obj_text.proofs.decimals.digits_len.Goals as goal
 
 pub returns : goal.returns

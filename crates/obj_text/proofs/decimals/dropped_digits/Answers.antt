@@ -1,6 +1,6 @@
 use Rattle.std.proofs.Common.{not}
 use Rattle.text_terms.specs.Numbers.{is_digit}
-use Rattle.text_lines.proofs.Positions.{position_or_len-le}
+use Rattle.grid_number.proofs.Positions.{position_or_len-le}
 use Rattle.obj_text.proofs.ShortNumbers.{drops_front}
 use Rattle.obj_text.proofs.decimals.dropped_digits.Goals as goal
 

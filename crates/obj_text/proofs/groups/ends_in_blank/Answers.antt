@@ -1,6 +1,6 @@
 use Rattle.std.proofs.Common.{[], ◌∙◌, sym, ap}
 use Rattle.text_terms.specs.Lines.{last_is}
-use Rattle.obj_laws.proofs.Plain.{last_is-append}
+use Rattle.format_laws.proofs.Plain.{last_is-append}
 use Rattle.obj_text.proofs.groups.ends_in_blank.Goals as goal
 
 pub returns-in-Some : goal.returns-in-Some

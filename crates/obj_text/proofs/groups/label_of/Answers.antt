@@ -1,5 +1,5 @@
 use Rattle.std.proofs.Common.{◌≡◌, ◌≤◌, ◌++◌, ◌∷◌, [], false, ℕ, List, length, map, take, sym, ap, ◌∙◌, arith, length-take}
-use Rattle.obj_terms.specs.Labels.{label_byte, without_blank}
+use Rattle.format_terms.specs.ObjLabels.{label_byte, without_blank}
 use Rattle.obj_text.specs.Groups.{joined_on, put_behind}
 use Rattle.obj_text.proofs.LabelSteps.{one_word, no_word}
 use Rattle.obj_text.proofs.groups.label_of.Goals as goal

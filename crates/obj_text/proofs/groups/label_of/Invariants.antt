@@ -1,6 +1,6 @@
 use Rattle.std.proofs.Common.{◌≡◌, ◌≤◌, ◌++◌, length, map, take}
 use Rattle.mesh_terms.specs.Labels.{with_blanks}
-use Rattle.obj_terms.specs.Labels.{label_byte}
+use Rattle.format_terms.specs.ObjLabels.{label_byte}
 use Rattle.obj_text.specs.Groups.{joined_on}
 use Rattle.obj_text.proofs.groups.label_of.Given as goal
 

@@ -1,5 +1,5 @@
 use Rattle.std.proofs.Common.{ℕ, List, ◌++◌, map, take, ap, ◌∙◌, sym}
-use Rattle.obj_terms.specs.Labels.{label_byte}
+use Rattle.format_terms.specs.ObjLabels.{label_byte}
 use Rattle.obj_text.specs.Groups.{put_behind}
 use Rattle.obj_text.proofs.LabelSteps.{after_blank}
 use Rattle.obj_text.proofs.groups.push_next.Goals as goal

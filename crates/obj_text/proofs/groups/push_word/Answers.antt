@@ -1,6 +1,6 @@
 use Rattle.std.proofs.Common.{◌≡◌, ◌++◌, ◌∷◌, [], take, map, sym, ap, ◌∙◌, append-nil, arith}
 use Rattle.std.proofs.lemmas.List.{take_all}
-use Rattle.obj_terms.specs.Labels.{label_byte}
+use Rattle.format_terms.specs.ObjLabels.{label_byte}
 use Rattle.obj_text.proofs.LabelSteps.{one_byte}
 use Rattle.obj_text.proofs.groups.push_word.Goals as goal
 

@@ -1,5 +1,5 @@
 use Rattle.std.proofs.Common.{◌≡◌, ◌++◌, map, take}
-use Rattle.obj_terms.specs.Labels.{label_byte}
+use Rattle.format_terms.specs.ObjLabels.{label_byte}
 use Rattle.obj_text.proofs.groups.push_word.Given as goal
 
 -- the bytes so far are added

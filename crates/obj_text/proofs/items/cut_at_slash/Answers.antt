@@ -1,5 +1,5 @@
 use Rattle.std.proofs.Common.{ℕ, ◌∙◌, sym, ap, List, Option, Some, add-one}
-use Rattle.obj_terms.specs.Faces.{is_slash}
+use Rattle.format_terms.specs.ObjFaces.{is_slash}
 use Rattle.obj_text.proofs.CutSteps.{cut_at-no_position, cut_at-position}
 use Rattle.obj_text.proofs.items.cut_at_slash.Goals as goal
 

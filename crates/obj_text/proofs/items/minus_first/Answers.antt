@@ -1,5 +1,5 @@
 use Rattle.std.proofs.Common.{◌≡◌, ℕ, Bool, true, List, ◌∷◌, refl, sym, ap, ◌∙◌}
-use Rattle.obj_terms.specs.Faces.{minus_first}
+use Rattle.format_terms.specs.ObjFaces.{minus_first}
 use Rattle.obj_text.proofs.items.minus_first.Goals as goal
 
 -- a word that begins with -

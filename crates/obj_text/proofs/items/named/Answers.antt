@@ -1,7 +1,7 @@
 use Rattle.std.proofs.Common.{◌≡◌, ℕ, ◌-◌, ◌<◌, ◌≤◌, Bool, true, Some, Ok, Err, ap, ◌∙◌, arith}
 use Rattle.std.specs.Prelude.{nat_lt, nat_le, ◌&&◌, if◌then◌else◌}
 use Rattle.std.proofs.lemmas.Bool.Decides.{nat_tests}
-use Rattle.obj_terms.specs.Faces.{named_vertex}
+use Rattle.format_terms.specs.ObjFaces.{named_vertex}
 use Rattle.obj_text.proofs.items.named.Goals as goal
 
 -- a number of a vertex that is there

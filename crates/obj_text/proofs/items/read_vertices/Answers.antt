@@ -1,8 +1,8 @@
 use Rattle.std.proofs.Common.{ℕ, ◌∷◌, List, [], ap, ◌∙◌, arith}
 use Rattle.std.proofs.lemmas.Result.{err_from_is_err_and}
 use Rattle.text_terms.specs.FirstFault.{each_read}
-use Rattle.obj_terms.specs.Faces.{item_vertex}
-use Rattle.obj_terms.specs.Obj.{face_vertices}
+use Rattle.format_terms.specs.ObjFaces.{item_vertex}
+use Rattle.format_terms.specs.Obj.{face_vertices}
 use Rattle.obj_text.specs.Items.{read_after}
 use Rattle.obj_text.proofs.ItemSteps.{IsFaultOf-all, face_vertices-three, read_after-next, length-more, fault_at, three_given, left_after_three, fault_of_three}
 use Rattle.obj_text.proofs.items.read_vertices.Goals as goal

@@ -1,7 +1,7 @@
 use Rattle.std.proofs.Common.{◌≡◌, ◌<◌, ◌≤◌, length}
 use Rattle.std.specs.List.{All}
 use Rattle.text_terms.specs.FirstFault.{each_read}
-use Rattle.obj_terms.specs.Faces.{item_vertex}
+use Rattle.format_terms.specs.ObjFaces.{item_vertex}
 use Rattle.obj_text.specs.Items.{read_after}
 use Rattle.obj_text.proofs.items.read_vertices.Given as goal
 

@@ -1,7 +1,7 @@
 use Rattle.std.proofs.Common.{ℕ, [], ◌∷◌, Result, ap}
 use Rattle.std.proofs.lemmas.Result.{err_from_is_err_and}
 use Rattle.text_terms.specs.FirstFault.{each_read, put_read}
-use Rattle.obj_terms.specs.Faces.{item_vertex}
+use Rattle.format_terms.specs.ObjFaces.{item_vertex}
 use Rattle.obj_text.proofs.items.three_vertices.Goals as goal
 
 pub returns-in_err-vertex-clause-fault : goal.returns-in_err-vertex-clause-fault

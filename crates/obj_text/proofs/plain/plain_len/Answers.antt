@@ -1,7 +1,7 @@
 use Rattle.std.proofs.Common.{◌∙◌, not, rules, tests, ap, length, unwrap_or}
 use Rattle.std.proofs.lemmas.Iterator.{YieldsList-from_slice}
 use Rattle.std.proofs.lemmas.Iterator.Search.{position_from_yields_List}
-use Rattle.text_lines.proofs.Positions.{unwrap_or-position}
+use Rattle.grid_number.proofs.Positions.{unwrap_or-position}
 use Rattle.obj_text.specs.Plain.{is_plain}
 use Rattle.obj_text.proofs.plain.plain_len.Goals as goal
 

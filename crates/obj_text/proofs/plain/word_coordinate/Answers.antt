@@ -3,7 +3,7 @@ use Rattle.std.specs.Int.{w32}
 use Rattle.std.specs.List.{position_or_len}
 use Rattle.std.proofs.lemmas.List.{take-append-drop}
 use Rattle.text_terms.specs.Coordinates.{coordinate}
-use Rattle.text_lines.proofs.Positions.{position_or_len-le}
+use Rattle.grid_number.proofs.Positions.{position_or_len-le}
 use Rattle.obj_text.specs.Plain.{is_plain, all_plain, BeginsWord}
 use Rattle.obj_text.proofs.Fronts.{all-front}
 use Rattle.obj_text.proofs.plain.word_coordinate.Goals as goal

@@ -1,7 +1,7 @@
 use Rattle.std.proofs.Common.{◌≡◌, ℕ, ◌+◌, ◌<◌, ◌≤◌, List, [], ◌∷◌, ◌++◌, length, drop, get_or, refl, rules, arith, sym, ap, ◌∙◌, append-nil, append_assoc, add-one, drop-cons}
 use Rattle.std.proofs.Common.{length-drop}
 use Rattle.mesh_terms.specs.Meshes.{Triple, triples_of}
-use Rattle.obj_terms.specs.Faces.{fan_from, face_fan}
+use Rattle.format_terms.specs.ObjFaces.{fan_from, face_fan}
 use Rattle.obj_text.proofs.FaceSteps.{triples_of-push}
 use Rattle.obj_text.proofs.reading.push_fan.Goals as goal
 

@@ -1,6 +1,6 @@
 use Rattle.std.proofs.Common.{◌≡◌, ◌≤◌, ◌+◌, ◌-◌, ◌++◌, get_or, drop, vec_len, vec_capacity}
 use Rattle.mesh_terms.specs.Meshes.{triples_of}
-use Rattle.obj_terms.specs.Faces.{fan_from, face_fan}
+use Rattle.format_terms.specs.ObjFaces.{fan_from, face_fan}
 use Rattle.obj_text.proofs.reading.push_fan.Given as goal
 
 -- the triangles so far and those of the vertices that are left are all, and there is room for them

@@ -1,6 +1,6 @@
 use Rattle.std.proofs.Common.{ℕ, List, ◌++◌, ◌∙◌, ap}
 use Rattle.std.proofs.lemmas.List.Sorted.{IsNonDecreasingBy-from_sort}
-use Rattle.obj_terms.specs.Faces.{has_repeat}
+use Rattle.format_terms.specs.ObjFaces.{has_repeat}
 use Rattle.obj_text.proofs.NamedTwice.{has_repeat-permutation}
 use Rattle.obj_text.proofs.repeats.has_repeat.Goals as goal
 

@@ -1,5 +1,5 @@
 use Rattle.std.proofs.Common.{◌≡◌, length}
-use Rattle.obj_terms.specs.Faces.{has_repeat}
+use Rattle.format_terms.specs.ObjFaces.{has_repeat}
 use Rattle.obj_text.proofs.repeats.has_repeat_of_few.Given as goal
 
 -- the vertices so far are not among the later ones

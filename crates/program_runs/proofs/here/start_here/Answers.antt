@@ -1,5 +1,5 @@
 use Rattle.std.proofs.lemmas.Result.{IfOk-weaker}
-use Rattle.mesh_commands.specs.Statuses.{status_number}
+use Rattle.program_runs.specs.Statuses.{status_number}
 use Rattle.program_runs.proofs.Faults.{failed_write, outs_stay}
 use Rattle.program_runs.proofs.here.start_here.Goals as goal
 

@@ -1,6 +1,6 @@
 use Rattle.std.proofs.Common.{◌≡◌, length, arith, ap, ◌∙◌}
 use Rattle.mesh_terms.specs.Meshes.{triples_of}
-use Rattle.assembly_terms.specs.Prescribed.{hit_count, p_number, q_number, vertex_halfedges}
+use Rattle.side_terms.specs.Prescribed.{hit_count, p_number, q_number, vertex_halfedges}
 use Rattle.retained_verts.specs.Handed.{numbers}
 use Rattle.retained_verts.proofs.Bounds.{few_between}
 use Rattle.retained_verts.proofs.counts.count.Goals as goal

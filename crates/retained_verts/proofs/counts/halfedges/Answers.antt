@@ -3,7 +3,7 @@ use Rattle.std.proofs.lemmas.List.{take_all}
 use Rattle.chain_terms.specs.Sums.{upto}
 use Rattle.lean.proofs.Triangles.{triple_at, triples_more}
 use Rattle.mesh_terms.specs.Meshes.{HasThree, IsBelow, triple_of, triples_of}
-use Rattle.assembly_terms.specs.Prescribed.{vertex_halfedges}
+use Rattle.side_terms.specs.Prescribed.{vertex_halfedges}
 use Rattle.retained_verts.specs.Parts.{vertex_number}
 use Rattle.retained_verts.proofs.Corners.{corners_more, corners_none}
 use Rattle.retained_verts.proofs.counts.halfedges.Goals as goal

@@ -1,5 +1,5 @@
 use Rattle.std.proofs.Common.{◌≡◌, ◌≤◌, ◌*◌, take}
-use Rattle.assembly_terms.specs.Prescribed.{vertex_halfedges}
+use Rattle.side_terms.specs.Prescribed.{vertex_halfedges}
 use Rattle.mesh_terms.specs.Meshes.{triples_of}
 use Rattle.retained_verts.specs.Parts.{vertex_number}
 use Rattle.retained_verts.proofs.counts.halfedges.Given as goal

@@ -1,5 +1,5 @@
 use Rattle.std.proofs.Common.{◌≡◌, ◌≤◌, ◌*◌, take}
-use Rattle.assembly_terms.specs.Prescribed.{hit_count}
+use Rattle.side_terms.specs.Prescribed.{hit_count}
 use Rattle.retained_verts.proofs.counts.hit_count.Given as goal
 
 abbrev pub invariant-loop-hit : goal.invariant-loop-hit

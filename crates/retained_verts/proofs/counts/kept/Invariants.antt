@@ -1,5 +1,5 @@
 use Rattle.std.proofs.Common.{◌≡◌, ◌≤◌, ◌*◌, take}
-use Rattle.assembly_terms.specs.Prescribed.{vertex_count}
+use Rattle.side_terms.specs.Prescribed.{vertex_count}
 use Rattle.retained_verts.specs.Parts.{vertex_number}
 use Rattle.retained_verts.proofs.counts.kept.Given as goal
 

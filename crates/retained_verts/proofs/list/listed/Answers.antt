@@ -5,9 +5,9 @@ use Rattle.mb_base.specs.declared.point.Corner.{Corner}
 use Rattle.mb_base.specs.declared.results.Hit.{Hit}
 use Rattle.mb_base.specs.declared.results.Origin.TheVariants.{PEdge, PVertex, QEdge, QVertex}
 use Rattle.side_terms.specs.Sides.{Side}
-use Rattle.assembly_terms.specs.Lists.{Copy}
-use Rattle.assembly_terms.specs.Points.{points_of}
-use Rattle.assembly_terms.specs.Prescribed.{Included, Numbers, copies_of, hit_number_of, included_hits, included_vertices, p_hits, p_number, p_vertices, prescribed, q_hits, q_number, q_vertices}
+use Rattle.side_terms.specs.Lists.{Copy}
+use Rattle.side_terms.specs.Points.{points_of}
+use Rattle.side_terms.specs.Prescribed.{Included, Numbers, copies_of, hit_number_of, included_hits, included_vertices, p_hits, p_number, p_vertices, prescribed, q_hits, q_number, q_vertices}
 use Rattle.retained_verts.specs.Handed.{numbers}
 use Rattle.retained_verts.proofs.Growth.{in_order}
 use Rattle.retained_verts.proofs.list.listed.Goals as goal

@@ -1,5 +1,5 @@
 use Rattle.std.proofs.Common.{◌∙◌, Ok, ap, refl, subst, sym}
-use Rattle.extrusion.proofs.Solids.{kept_32}
+use Rattle.cross_section.proofs.Solids.{kept_32}
 use Rattle.mb_outside.specs.Seen.{on_shelf, seen_of}
 use Rattle.play_laws.proofs.Tasks.{meets_given}
 use Rattle.script_lang.specs.Jobs.{job_step}

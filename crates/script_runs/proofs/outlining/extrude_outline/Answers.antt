@@ -1,6 +1,6 @@
 use Rattle.std.proofs.Common.{◌≡◌, ◌∙◌, ap, sym}
 use Rattle.std.proofs.lemmas.Result.{err_from_is_err_and}
-use Rattle.extrusion.proofs.Solids.{kept_32}
+use Rattle.cross_section.proofs.Solids.{kept_32}
 use Rattle.mb_outside.specs.Seen.{on_output}
 use Rattle.play_terms.specs.Plays.{with_name}
 use Rattle.script_runs.specs.Names.{named_in}

@@ -1,6 +1,6 @@
 use Rattle.std.proofs.Common.{Ok, ℤ, subst}
-use Rattle.extrusion.proofs.Solids.{kept_32}
-use Rattle.extrusion.specs.Extruded.{IsRefusedFor, extrusion_fault}
+use Rattle.cross_section.proofs.Solids.{kept_32}
+use Rattle.cross_section.specs.Extruded.{IsRefusedFor, extrusion_fault}
 use Rattle.script_runs.proofs.OutlineStages.{is_extruded}
 use Rattle.script_runs.proofs.outlining.solid_between.Goals as goal
 

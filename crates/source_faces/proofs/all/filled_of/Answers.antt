@@ -2,7 +2,7 @@ use Rattle.std.proofs.Common.{◌≡◌, ◌+◌, length, arith, sym, ap, subst,
 use Rattle.std.proofs.lemmas.List.{length-map}
 use Rattle.chain_terms.specs.Sums.{upto}
 use Rattle.chain_laws.proofs.Places.{length-up_from}
-use Rattle.face_lists.specs.Agreement.{records_of}
+use Rattle.source_faces.specs.Agreement.{records_of}
 use Rattle.mesh_terms.specs.Meshes.{triple_of}
 use Rattle.source_faces.specs.Adding.{filled_by}
 use Rattle.source_faces.specs.Parts.{AreAdded, HaveParts, both_parts, parts_of}

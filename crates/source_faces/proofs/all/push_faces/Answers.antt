@@ -1,8 +1,8 @@
 use Rattle.std.proofs.Common.{◌≡◌, ◌+◌, ◌-◌, List, take, drop, length, arith, sym, ap, subst, ◌∙◌}
 use Rattle.std.proofs.lemmas.List.{length-map}
-use Rattle.face_lists.specs.Agreement.{records_of}
-use Rattle.face_lists.specs.Groups.{earlier}
-use Rattle.face_lists.specs.declared.stands.Stand.{Stand}
+use Rattle.source_faces.specs.Agreement.{records_of}
+use Rattle.source_faces.specs.Groups.{earlier}
+use Rattle.source_faces.specs.declared.lists.stands.Stand.{Stand}
 use Rattle.mesh_terms.specs.Meshes.{triple_of}
 use Rattle.source_faces.specs.Adding.{filled_by}
 use Rattle.source_faces.specs.Parts.{AreAdded, CanBePart, parts_of}

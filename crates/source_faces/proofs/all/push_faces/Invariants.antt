@@ -1,5 +1,5 @@
 use Rattle.std.proofs.Common.{◌≡◌, ◌≤◌, ◌+◌, length}
-use Rattle.face_lists.specs.Groups.{earlier}
+use Rattle.source_faces.specs.Groups.{earlier}
 use Rattle.source_faces.specs.Parts.{AreAdded, parts_of}
 use Rattle.source_faces.proofs.all.push_faces.Given as goal
 

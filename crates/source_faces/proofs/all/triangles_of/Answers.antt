@@ -1,7 +1,7 @@
 use Rattle.std.proofs.Common.{◌≡◌, ◌+◌, ◌≤◌, List, length, arith, ap, subst, ◌∙◌}
 use Rattle.std.specs.Prelude.{IfOk, slice_index}
-use Rattle.assembly_terms.specs.Prescribed.{crossing_count, p_kept, p_number, q_kept, q_number, vertex_count}
-use Rattle.filling_terms.specs.Filled.{all_filled, all_triples, forced_of, points_of_copies, sources_of}
+use Rattle.side_terms.specs.Prescribed.{crossing_count, p_kept, p_number, q_kept, q_number, vertex_count}
+use Rattle.source_face_terms.specs.Filled.{all_filled, all_triples, forced_of, points_of_copies, sources_of}
 use Rattle.mesh_terms.specs.Meshes.{triples_of}
 use Rattle.retained_verts.specs.Handed.{copies, numbers}
 use Rattle.ring_cutting.specs.Cuts.{Cut}

@@ -1,9 +1,9 @@
 use Rattle.std.proofs.Common.{◌≡◌, ◌≤◌, ℕ, List, length, ap, sym, subst, ◌∙◌}
 use Rattle.chain_terms.specs.Cycles.{cycles}
 use Rattle.face_loops.specs.Segments.{edges_of}
-use Rattle.face_lists.specs.Parts.{segments_by}
+use Rattle.source_faces.specs.ListParts.{segments_by}
 use Rattle.hole_joining.specs.Laws.{AreFillable, settled_in}
-use Rattle.segment_terms.specs.Planes.{plane_drop_of}
+use Rattle.source_face_terms.specs.Planes.{plane_drop_of}
 use Rattle.triangulate.specs.Fills.{fill_of}
 use Rattle.triangulate.specs.Laws.{HasCount}
 use Rattle.source_faces.specs.Adding.{filled_by}

@@ -1,7 +1,7 @@
 use Rattle.std.proofs.Common.{◌≡◌, ◌≤◌, List, [], ◌∷◌, true, get_or, length, refl, arith, ap, sym, subst, ◌∙◌}
 use Rattle.std.specs.Prelude.{OnOk, ◌==◌}
 use Rattle.std.proofs.lemmas.Bool.{eqb-true}
-use Rattle.face_lists.specs.declared.stands.Stand.{Stand}
+use Rattle.source_faces.specs.declared.lists.stands.Stand.{Stand}
 use Rattle.lean.proofs.Triangles.{face_below}
 use Rattle.mesh_terms.specs.Meshes.{IsBelow, triple_of}
 use Rattle.ring_cutting.specs.Cuts.{Cut}

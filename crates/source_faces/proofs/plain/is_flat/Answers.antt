@@ -2,12 +2,12 @@ use Rattle.std.proofs.Common.{◌≡◌, ℕ, ◌<◌, ℤ, pos, List, [], ◌�
 use Rattle.std.specs.Ordering.{int_eq}
 use Rattle.std.specs.Cmp.Lexicographic.{pointwise}
 use Rattle.std.proofs.lemmas.List.{get_or-map}
-use Rattle.assembly_terms.specs.Points.{point_of}
+use Rattle.side_terms.specs.Points.{point_of}
 use Rattle.mesh_terms.specs.Meshes.{IsBelow}
 use Rattle.mesh_terms.specs.Points.{coordinate_of, cross_product}
 use Rattle.side_terms.specs.Corners.{blank_corner, corner_at}
 use Rattle.side_terms.specs.Sides.{Side}
-use Rattle.segment_terms.specs.Segments.{vertex_point}
+use Rattle.source_face_terms.specs.Segments.{vertex_point}
 use Rattle.source_faces.proofs.plain.is_flat.Goals as goal
 
 -- the coordinates of a product are 0, one after the other

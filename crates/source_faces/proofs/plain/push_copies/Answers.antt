@@ -2,8 +2,8 @@ use Rattle.std.proofs.Common.{◌≡◌, ℕ, ◌+◌, List, [], ◌∷◌, ◌+
 use Rattle.std.proofs.lemmas.List.{map_push}
 use Rattle.chain_terms.specs.Sums.{upto}
 use Rattle.chain_laws.proofs.Places.{upto_more}
-use Rattle.face_lists.specs.Parts.{no_run}
-use Rattle.face_lists.specs.declared.runs.CopyRange.{CopyRange}
+use Rattle.source_faces.specs.ListParts.{no_run}
+use Rattle.source_faces.specs.declared.lists.runs.CopyRange.{CopyRange}
 use Rattle.mesh_terms.specs.Meshes.{Triple, triple_of, triples_of}
 use Rattle.ring_cutting.specs.Cuts.{Cut}
 use Rattle.side_terms.specs.Sides.{Side}

@@ -4,7 +4,7 @@ use Rattle.text_terms.specs.Numbers.{number_parts, digits_value, value_from}
 use Rattle.grid_number.specs.Reading.{parts_with, saturated, saturated_parts, exponent_after}
 use Rattle.grid_number.proofs.Parts.{number_parts-runs, length-runs, no_exponent, parts-none, exponent-within, parts-known}
 use Rattle.grid_number.proofs.Saturated.{saturated-value_from}
-use Rattle.text_laws.proofs.Digits.{value_from-append}
+use Rattle.text_terms.proofs.Digits.{value_from-append}
 use Rattle.grid_number.specs.declared.number.Number.{Number}
 use Rattle.grid_number.proofs.number.Number.of.Goals as goal
 

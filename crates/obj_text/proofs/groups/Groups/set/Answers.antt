@@ -1,6 +1,6 @@
 use Rattle.std.proofs.Common.{sym, subst}
 use Rattle.mesh_terms.specs.Labels.{IsLabel}
-use Rattle.obj_laws.proofs.LabelWords.{IsLabel-read}
+use Rattle.format_laws.proofs.LabelWords.{IsLabel-read}
 use Rattle.obj_text.proofs.groups.Groups.set.Goals as goal
 
 pub invariant_of-self : goal.invariant_of-self

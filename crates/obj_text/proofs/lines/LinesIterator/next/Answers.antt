@@ -1,6 +1,6 @@
 use Rattle.std.proofs.Common.{◌≡◌, ℕ, rules, List, ◌∷◌, sym, ◌∙◌, ap}
 use Rattle.text_terms.specs.Lines.{lines_of, joined_from, before_comment}
-use Rattle.obj_terms.specs.Obj.{word_lines}
+use Rattle.format_terms.specs.Obj.{word_lines}
 use Rattle.obj_text.specs.Lines.{first_words, lines_past}
 use Rattle.obj_text.proofs.GoesOn.{word_lines-cut}
 use Rattle.obj_text.proofs.lines.LinesIterator.next.Goals as goal

@@ -1,9 +1,9 @@
 use Rattle.std.proofs.Common.{◌≡◌, ◌+◌, ◌-◌, ◌++◌, List, length, replicate, Ok, refl, ap, sym, ◌∙◌, arith, length-append}
 use Rattle.mesh_terms.specs.Labels.{labels_for}
 use Rattle.mesh_terms.specs.Meshes.{Triple, triples_of}
-use Rattle.obj_terms.specs.Faces.{face_fan}
-use Rattle.obj_terms.specs.Obj.{Gathered}
-use Rattle.obj_terms.proofs.Fans.{length-face_fan}
+use Rattle.format_terms.specs.ObjFaces.{face_fan}
+use Rattle.format_terms.specs.Obj.{Gathered}
+use Rattle.format_terms.proofs.Fans.{length-face_fan}
 use Rattle.obj_text.proofs.FaceSteps.{IsSound-face, length-triples_of, with_triples-over, with_triples-within}
 use Rattle.obj_text.proofs.LabelSteps.{labels_more}
 use Rattle.obj_text.proofs.reading.Gathered.add_face.Goals as goal

@@ -1,7 +1,7 @@
 use Rattle.std.proofs.Common.{◌≡◌, ◌+◌, ℤ, List, [], ◌∷◌, length, refl, ap, arith, length-append}
 use Rattle.mesh_terms.specs.Labels.{labels_for}
 use Rattle.mesh_terms.specs.Meshes.{triples_of}
-use Rattle.obj_terms.specs.Obj.{Gathered}
+use Rattle.format_terms.specs.Obj.{Gathered}
 use Rattle.obj_text.proofs.FaceSteps.{IsSound-point}
 use Rattle.obj_text.proofs.reading.Gathered.push_point.Goals as goal
 

@@ -1,6 +1,6 @@
 use Rattle.std.proofs.Common.{◌≡◌, ◌<◌, [], ◌∷◌, ◌++◌, List, ℤ, length, rules, arith, ap, ◌∙◌, to_z, of_z}
 use Rattle.std.specs.Int.{w32}
-use Rattle.obj_terms.specs.Obj.{Gathered}
+use Rattle.format_terms.specs.Obj.{Gathered}
 use Rattle.obj_text.proofs.PlainReads.{point-read, point-fewer}
 use Rattle.obj_text.proofs.reading.Gathered.read_plain_point.Goals as goal
 

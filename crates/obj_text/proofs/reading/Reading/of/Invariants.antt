@@ -1,6 +1,6 @@
 use Rattle.std.proofs.Common.{◌≡◌, length}
 use Rattle.text_terms.specs.Lines.{joined_lines}
-use Rattle.obj_terms.specs.Obj.{nothing_gathered, obj_lines, word_lines}
+use Rattle.format_terms.specs.Obj.{nothing_gathered, obj_lines, word_lines}
 use Rattle.obj_text.proofs.reading.Reading.of.Given as goal
 
 -- the lines that are left decide

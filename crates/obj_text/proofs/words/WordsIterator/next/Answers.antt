@@ -3,7 +3,7 @@ use Rattle.std.specs.Prelude.{◌==◌}
 use Rattle.std.specs.List.{position_or_len}
 use Rattle.text_terms.specs.Lines.{is_blank, begins_word, before_comment}
 use Rattle.obj_text.specs.Lines.{words_left}
-use Rattle.text_lines.proofs.Positions.{position_or_len-le}
+use Rattle.grid_number.proofs.Positions.{position_or_len-le}
 use Rattle.obj_text.proofs.GoesOn.{before_comment-first}
 use Rattle.obj_text.proofs.words.WordsIterator.next.Goals as goal
 

@@ -1,7 +1,7 @@
 use Rattle.std.proofs.Common.{◌≡◌, length, arith, ap, ◌∙◌}
 use Rattle.std.specs.Prelude.{slice_index}
-use Rattle.assembly_terms.specs.Prescribed.{p_kept, p_number, q_kept, q_number, vertex_count}
-use Rattle.filling_terms.specs.Filled.{points_of_copies}
+use Rattle.side_terms.specs.Prescribed.{p_kept, p_number, q_kept, q_number, vertex_count}
+use Rattle.source_face_terms.specs.Filled.{points_of_copies}
 use Rattle.retained_verts.specs.Handed.{copies, numbers}
 use Rattle.source_faces.specs.Given.{given_p_runs, given_q_runs, given_stands}
 use Rattle.source_faces.proofs.FromGiven.{p_runs_given, parts_same, q_runs_given, stands_given}

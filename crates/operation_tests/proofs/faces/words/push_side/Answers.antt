@@ -1,7 +1,7 @@
 use Rattle.std.proofs.Common.{◌≡◌, ◌+◌, List, length, arith, sym, ap, subst, ◌∙◌}
 use Rattle.std.proofs.lemmas.List.{length-map}
-use Rattle.face_lists.specs.Groups.{earlier}
-use Rattle.face_lists.specs.declared.stands.Stand.{Stand}
+use Rattle.source_faces.specs.Groups.{earlier}
+use Rattle.source_faces.specs.declared.lists.stands.Stand.{Stand}
 use Rattle.mesh_terms.specs.Meshes.{triple_of}
 use Rattle.source_faces.specs.Parts.{CanBePart}
 use Rattle.source_faces.proofs.Groups.{end_there, group_there, next_there}

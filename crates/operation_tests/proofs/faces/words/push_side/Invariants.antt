@@ -1,5 +1,5 @@
 use Rattle.std.proofs.Common.{◌≡◌, ◌+◌}
-use Rattle.face_lists.specs.Groups.{earlier}
+use Rattle.source_faces.specs.Groups.{earlier}
 use Rattle.operation_tests.proofs.faces.words.push_side.Given as goal
 
 -- the records of the next face come next

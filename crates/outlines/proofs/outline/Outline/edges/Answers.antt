@@ -2,7 +2,7 @@ use Rattle.std.proofs.Common.{length, ap, sym, subst, ◌∙◌}
 use Rattle.std.specs.List.{All, flat_map}
 use Rattle.chain_terms.specs.Paths.{round_edges}
 use Rattle.outline_terms.specs.Outlines.{IsBetween}
-use Rattle.outline_laws.proofs.Edges.{edges_between, edges_long}
+use Rattle.outline_terms.proofs.Edges.{edges_between, edges_long}
 use Rattle.outlines.proofs.outline.Outline.edges.Goals as goal
 
 pub returns-clause-value : goal.returns-clause-value

@@ -1,6 +1,6 @@
 use Rattle.std.proofs.Common.{◌≡◌, ◌+◌, ◌++◌, [], ◌∷◌, take, get_or, nat_abs, arith, ap, refl, ◌∙◌}
 use Rattle.mb_base.specs.declared.results.Hit.{Hit}
-use Rattle.assembly_terms.specs.Prescribed.{Included, hit_number_of, included_hits}
+use Rattle.side_terms.specs.Prescribed.{Included, hit_number_of, included_hits}
 use Rattle.retained_verts.specs.Parts.{edge_origin}
 use Rattle.side_terms.specs.Hits.{IsNumber}
 use Rattle.retained_verts.proofs.Fits.{kept_8, kept_64}

@@ -1,6 +1,6 @@
 use Rattle.std.proofs.Common.{◌≡◌, ◌++◌, map, take}
 use Rattle.std.specs.List.{flat_map}
-use Rattle.assembly_terms.specs.Prescribed.{copies_of, hit_number_of, included_hits}
+use Rattle.side_terms.specs.Prescribed.{copies_of, hit_number_of, included_hits}
 use Rattle.retained_verts.specs.Parts.{edge_origin}
 use Rattle.retained_verts.proofs.copies.Copies.push_hits.Given as goal
 

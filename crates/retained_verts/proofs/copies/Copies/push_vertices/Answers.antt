@@ -1,8 +1,8 @@
 use Rattle.std.proofs.Common.{◌≡◌, ◌+◌, [], pos, get_or, nat_abs, arith, ap, sym, ◌∙◌}
 use Rattle.std.proofs.lemmas.List.{get_or-map}
 use Rattle.side_terms.specs.Corners.{blank_corner}
-use Rattle.assembly_terms.specs.Points.{point_of, points_of}
-use Rattle.assembly_terms.specs.Prescribed.{Included, included_vertices}
+use Rattle.side_terms.specs.Points.{point_of, points_of}
+use Rattle.side_terms.specs.Prescribed.{Included, included_vertices}
 use Rattle.retained_verts.specs.Parts.{vertex_number, vertex_origin}
 use Rattle.retained_verts.proofs.Fits.{kept_64}
 use Rattle.retained_verts.proofs.Growth.{grown, vertices_more}

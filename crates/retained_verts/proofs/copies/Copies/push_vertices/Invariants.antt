@@ -1,7 +1,7 @@
 use Rattle.std.proofs.Common.{◌≡◌, ◌++◌, map}
 use Rattle.std.specs.List.{flat_map}
-use Rattle.assembly_terms.specs.Points.{points_of}
-use Rattle.assembly_terms.specs.Prescribed.{copies_of, included_vertices}
+use Rattle.side_terms.specs.Points.{points_of}
+use Rattle.side_terms.specs.Prescribed.{copies_of, included_vertices}
 use Rattle.retained_verts.specs.Parts.{vertex_number, vertex_origin}
 use Rattle.retained_verts.proofs.copies.Copies.push_vertices.Given as goal
 

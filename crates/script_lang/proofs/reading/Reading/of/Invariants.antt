@@ -1,5 +1,5 @@
 use Rattle.std.proofs.Common.{◌≡◌, []}
-use Rattle.obj_terms.specs.Obj.{word_lines}
+use Rattle.format_terms.specs.Obj.{word_lines}
 use Rattle.play_terms.specs.Scripts.{numbered_words, script_lines}
 use Rattle.script_lang.proofs.reading.Reading.of.Given as goal
 

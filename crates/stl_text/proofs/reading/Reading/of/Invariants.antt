@@ -1,6 +1,6 @@
 use Rattle.std.proofs.Common.{◌≡◌}
 use Rattle.text_terms.specs.Lines.{without_mark, lines_of, numbered}
-use Rattle.stl_terms.specs.Stl.{nothing_gathered, stl_lines, word_lines}
+use Rattle.format_terms.specs.Stl.{nothing_gathered, stl_lines, word_lines}
 use Rattle.stl_text.proofs.reading.Reading.of.Given as goal
 
 -- the lines that are left decide

@@ -1,5 +1,5 @@
 use Rattle.std.proofs.Common.{◌≡◌}
-use Rattle.stl_terms.specs.Stl.{stl_line}
+use Rattle.format_terms.specs.Stl.{stl_line}
 use Rattle.stl_text.proofs.reading.Reading.read_line.Given as goal
 
 -- the words that are left decide

@@ -1,8 +1,0 @@
-use Rattle.component_laws.proofs.Counted.{reached, only}
-use Rattle.component_laws.proofs.laws.components_are_counted.Goals as goal
-
-pub returns-clause-reached : goal.returns-clause-reached
-returns-clause-reached c = reached
-
-pub returns-clause-only : goal.returns-clause-only
-returns-clause-only c = only

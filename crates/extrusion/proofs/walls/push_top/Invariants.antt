@@ -1,7 +1,0 @@
-use Rattle.std.proofs.Common.{◌≡◌, ◌+◌, ◌++◌, map, take}
-use Rattle.chain_laws.specs.Triples.{renamed_triple}
-use Rattle.mesh_terms.specs.Meshes.{triples_of}
-use Rattle.extrusion.proofs.walls.push_top.Given as goal
-
-abbrev pub invariant-loop-a : goal.invariant-loop-a
-invariant-loop-a l = triples_of l.triples.items ≡ triples_of l.fn.triples.items ++ map (renamed_triple (λ v. v + l.count)) (triples_of (take l.a-index l.fill))

@@ -1,6 +1,0 @@
-use Rattle.std.proofs.Common.{◌≡◌, ◌++◌, map, take}
-use Rattle.face_lists.specs.Entries.{entry_of}
-use Rattle.face_lists.proofs.entries.push_stands.Given as goal
-
-abbrev pub invariant-loop-stand : goal.invariant-loop-stand
-invariant-loop-stand l = l.entries.items ≡ l.fn.entries.items ++ map entry_of (take l.stand-index l.stands)

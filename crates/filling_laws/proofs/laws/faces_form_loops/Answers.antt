@@ -1,9 +1,0 @@
-use Rattle.filling_laws.proofs.Counted.{all_counted}
-use Rattle.filling_laws.proofs.Loops.{form_loops}
-use Rattle.filling_laws.proofs.laws.faces_form_loops.Goals as goal
-
-pub returns-clause-counted : goal.returns-clause-counted
-returns-clause-counted c = all_counted
-
-pub returns-clause-loops : goal.returns-clause-loops
-returns-clause-loops c = form_loops

@@ -1,9 +1,0 @@
-use Rattle.filling_laws.proofs.Few.{few_triples, forced_within}
-use Rattle.filling_laws.proofs.Together.{all_accepted}
-use Rattle.filling_laws.proofs.laws.fillings_close.Goals as goal
-
-pub returns-clause-accepted : goal.returns-clause-accepted
-returns-clause-accepted c = all_accepted
-
-pub returns-clause-few : goal.returns-clause-few
-returns-clause-few c = λ p q cs can. (few_triples p q cs can, forced_within p q cs can)

@@ -1,2 +1,0 @@
-pub mod Assembling
-pub mod Filled

@@ -1,2 +1,0 @@
-//! Definitions: the fillings of source faces, and what copies they can be made from.
-#![tactic(auto)]

@@ -1,6 +1,0 @@
-use Rattle.std.proofs.Common.{codes}
-use Rattle.mesh_names.proofs.Suffix.{by_its_end}
-use Rattle.mesh_names.proofs.is_obj_name.Goals as goal
-
-pub returns : goal.returns
-returns c = by_its_end (codes ".obj") c.args.name.now c.saturating_sub-start.result c.eq_ignore_ascii_case.result c.saturating_sub-start.ensures c.eq_ignore_ascii_case.ensures.test

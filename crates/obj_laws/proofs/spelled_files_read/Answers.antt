@@ -1,5 +1,0 @@
-use Rattle.obj_laws.proofs.Files as files
-use Rattle.obj_laws.proofs.spelled_files_read.Goals as goal
-
-pub returns : goal.returns
-returns c = files.files_read

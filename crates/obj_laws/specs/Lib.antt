@@ -1,4 +1,0 @@
-pub mod Files
-pub mod Within
-pub mod ReadingBack
-pub mod ReadWords

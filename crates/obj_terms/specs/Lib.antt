@@ -1,4 +1,0 @@
-pub mod Faces
-pub mod Labels
-pub mod Obj
-pub mod Written

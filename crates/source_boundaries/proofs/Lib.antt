@@ -1,4 +1,0 @@
-pub mod Chosen
-pub mod Copied
-pub mod Faces
-pub mod GivenSegments

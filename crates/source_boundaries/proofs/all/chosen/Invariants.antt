@@ -1,7 +1,0 @@
-use Rattle.std.proofs.Common.{◌≡◌, take}
-use Rattle.mesh_terms.specs.Meshes.{triples_of}
-use Rattle.source_boundaries.specs.Faces.{chosen}
-use Rattle.source_boundaries.proofs.all.chosen.Given as goal
-
-abbrev pub invariant-loop-place : goal.invariant-loop-place
-invariant-loop-place l = triples_of l.part.items ≡ chosen (triples_of l.triples) (take l.place-index l.places)

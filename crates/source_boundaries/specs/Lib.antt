@@ -1,4 +1,0 @@
-pub mod Bounded
-pub mod Faces
-pub mod Given
-pub mod Picked

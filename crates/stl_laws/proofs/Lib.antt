@@ -1,3 +1,0 @@
-mod Files
-pub mod ReadMeshes
-pub mod SavedMeshes

@@ -1,2 +1,0 @@
-//! Definitions of ASCII STL: what a file gives, word by word, and the text of a mesh.
-#![tactic(auto)]
