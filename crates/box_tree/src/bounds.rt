@@ -1,4 +1,10 @@
 // Boxes in coarse steps, which take half the room of boxes in fine steps.
+//
+// A tree holds coordinates in coarse steps, of 32 bits: without the zero bits with which all of them end. Those of a
+// side are whole steps of the grid, and `UNIT` is a power of two: so its boxes are told in steps of the grid, read
+// from the points of the mesh, and none is looked at to find steps. A box is rounded outwards, and an area inwards:
+// what touches meets, and where a box is a whole number of steps, what meets touches. Only where some coordinate
+// without those bits is no i32, or one of the last, are the boxes rounded; then the tree keeps a copy of them too.
 ghost use Rattle.std.specs.Prelude.{◌≡◌, ◌<◌, ◌^◌, ◌≤ℤ◌, ℤ, neg_ℤ};
 ghost use Rattle.std.specs.Int.{int_shr};
 ghost use Rattle.box_tree.specs.Coarse.{step_below, step_above, range_around, range_inside, bounds_around, bounds_inside, ranges_meet, bounds_meet, IsRangeIn, IsBoundsIn};

@@ -1,4 +1,9 @@
 // Boxes that are told one by one.
+//
+// A tree is built over boxes that are told one by one, so a side lists no boxes of its faces: each is made anew when
+// it is asked for. A tree asks for each box at most four times, at most five times where it keeps a copy of them, and
+// at most three times where whole steps are known of them. That they are boxes, and not too many, are conditions of
+// `Tree::over`.
 ghost use Rattle.std.specs.Prelude.{◌≡◌, ◌<◌, IfSome, List, length};
 ghost use Rattle.std.specs.List.{All};
 ghost use Rattle.mb_base.specs.declared.point.Box3.{Box3};

@@ -1,5 +1,16 @@
 // Keys, by which boxes are put in order. A mesh lists triangles that are near each other one after the other as a rule. So a key may stand
 // for a run of boxes whose numbers follow each other; where such a run reaches far, each of its boxes has a key of its own.
+//
+// Files list triangles that are near each other one after the other as a rule. So a tree puts runs of 16 boxes in
+// order, whose numbers follow each other, in place of single boxes, where they keep together: all but four of the
+// boxes have each a sixty-fourth of the surface of the box round the run, or more. A surface counts steps, so that a
+// box that is flat on two axes has one. Each run is judged by itself, and so is each of its boxes. Two weaker rules
+// were tried. By a sum over all runs long thin boxes in one part of a mesh make up for runs elsewhere that reach
+// through all of it, and each question meets those. By the sum of a run's own boxes slivers that lie over one another
+// make up for a run that is almost empty: so in the caps of cylinders with very many sides, where each segment is
+// listed with its two slivers. The boxes of the other runs, and of a last one that is not whole, are put in order one
+// by one, behind the runs, so that each run is a block of the tree. No clause says which keys there are, since any
+// order of the entries is right.
 ghost use Rattle.std.specs.Prelude.{◌≡◌, ◌+◌, ◌-◌, ◌++◌, ◌<◌, ◌≤◌, ◌^◌, IfOk, IfSome, OnOk, length};
 ghost use Rattle.std.specs.List.Sorted.{IsPermutation};
 ghost use Rattle.chain_terms.specs.Sums.{up_from, upto};

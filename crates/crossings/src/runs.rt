@@ -1,4 +1,11 @@
 // Boxes round runs of triangles.
+//
+// `crossings` asks the other side's tree for the faces whose boxes touch that of an edge, sorts their numbers and
+// asks the kernels once for each; the law `apart` says that the others have no answer. Most edges are near no face,
+// and the edges of a run of 16 triangles are near each other as a rule: so it asks first with the box round the run.
+// Where that box touches none, the run is passed over; where it touches at most 192 faces, each edge of the run is
+// compared with the boxes of these; else the tree is asked for each edge. Its contract names all pairs, so how they
+// are found is its own affair.
 ghost use Rattle.std.specs.Prelude.{ℕ, ◌<◌, ◌≤◌, length};
 ghost use Rattle.std.specs.List.{All};
 ghost use Rattle.mb_base.specs.declared.point.Corner.{Corner};

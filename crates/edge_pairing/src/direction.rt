@@ -1,4 +1,7 @@
 // Directions, and how far along one a point lies.
+//
+// Keys of a pairing are 64 bits wide: three products of a coordinate (at most 2^30) and a step (at most 2^31) add up
+// to at most 3 * 2^61. Along an axis and along an edge are one code.
 ghost use Rattle.std.specs.Prelude.{◌≡◌, ◌<◌, ◌≤◌, ◌^◌, ◌-ℤ◌, ◌*ℤ◌, unsigned_abs};
 ghost use Rattle.edge_pairing.specs.Directions.{IsShort, axis_step};
 ghost use Rattle.edge_pairing.specs.Pairing.{scalar_product, step};

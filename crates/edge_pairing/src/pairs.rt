@@ -1,4 +1,7 @@
 // Starts and ends in their order, and the segments from the ones to the others.
+//
+// The pairing does not ask that the vertices of the entries differ: the definition and the proof need only as many
+// starts as ends and a point for each entry. One start and one end are paired without a sort and without memory.
 ghost use Rattle.std.specs.Prelude.{◌≡◌, ◌<◌, Bool, IfOk, IsOk, length, map};
 ghost use Rattle.std.specs.List.{All, zip};
 ghost use Rattle.std.specs.List.Sorted.{IsPermutation};

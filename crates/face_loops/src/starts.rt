@@ -1,4 +1,7 @@
 // Where the segment from a vertex stands: by looking at each of a few, by halving a sorted list of many.
+//
+// `loops` looks at each of up to twelve segments; above that it halves a sorted list of vertices. A loop of one
+// vertex is given as such: whether loops have three vertices is the caller's matter.
 ghost use Rattle.std.specs.Prelude.{◌≡◌, ◌==◌, IfOk, position};
 ghost use Rattle.face_loops.specs.Segments.{edges_of};
 ghost use Rattle.face_loops.specs.Starts.{IsIndex, IsListed, IsStartOf, RiseByStart, starts_of};

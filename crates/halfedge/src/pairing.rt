@@ -1,4 +1,14 @@
 // Twins, bucket by bucket.
+//
+// A mesh is checked by its half-edges in buckets: by the lesser end of each, modulo one more than the number of
+// triangles, so that there always is a bucket and the memory does not depend on the vertex numbers. A half-edge runs
+// up where it ends at a greater vertex than it starts from, else down. In each bucket those that run up are sorted,
+// and those that run down are turned and sorted. Where the two lists run the same way place by place, the half-edges
+// at one place are twins. Where in some bucket they do not, the mesh is open: then all half-edges are sorted, and all
+// turned ones, and one walk along both finds the least open edge. Each point of a soup is in a triangle, so at most
+// three points share a bucket, and the time is linear where each vertex has few triangles; where one vertex is the
+// lesser end of very many half-edges, sorting these takes longer. Short lists have no way of their own: all are
+// sorted by comparing.
 ghost use Rattle.std.specs.Prelude.{◌≡◌, ◌<◌, ◌≤◌, ◌↔◌, ◌+◌, ◌%◌, ℕ, List, IfOk, IsNone, IfSome, IsSorted, IsTrue, length, map};
 ghost use Rattle.std.specs.List.{All};
 ghost use Rattle.chain_terms.specs.Chains.{all_edges, IsClosed};

@@ -1,4 +1,11 @@
 // What bars bridges.
+//
+// What bars a bridge never goes away: the edges after a join are those before it and the bridge both ways, in another
+// order. So the clear test asks a tree over the boxes of all edges of the rings and the holes, a smaller tree over
+// those of bridges, and a list of the last bridges. Where that list is longer than 32 and than a sixteenth of what
+// the smaller tree has, it is put there; where this is more than a quarter of the edges, it is put behind them.
+// Either way that tree is made anew. That two lists have the same edges in any order is said by sums: every function
+// adds up to the same over both (`SameEdges`), so either both have an edge that bars or neither has.
 ghost use Rattle.std.specs.Prelude.{◌≡◌, ◌+◌, ◌≤◌, ◌∷◌, ◌++◌, [], map, length, IfOk, OnOk};
 ghost use Rattle.std.specs.List.{concat, list_any};
 ghost use Rattle.box_tree.specs.Touching.{IsBox};

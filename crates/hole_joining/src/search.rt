@@ -1,4 +1,13 @@
 // The search for the bridge of a hole.
+//
+// A bridge is found by passes over the places: the shortest that comes after the last refused one in the order of
+// length, ring and place, until one is clear; after 16 refusals one pass asks all the rest. Nearly always one of the
+// first two is clear. A pass goes over runs of places, of 64 places when they are made, and leaves out each run whose
+// box is no nearer than the best bridge so far is long. It begins with a bridge that is longer by one than the best
+// one to the run whose middle place is nearest: that finds the same as a pass that begins with none, and leaves out
+// far runs from the first one on, where a ring's first runs are not near. A join makes the run wider into which it
+// falls, and a ring's runs are made anew once it is longer by a third. A tree over the places would have to be told
+// which of two places comes first, and each join moves the numbers of all places behind it.
 ghost use Rattle.std.specs.Prelude.{◌≡◌, ◌<◌, ◌≤◌, ◌&&◌, length, get_or, []};
 ghost use Rattle.hole_joining.specs.Seen.{clear_of, bridges_from, bridges_in, bridges_of, IsReady, KnowsObstacles};
 ghost use Rattle.hole_joining.specs.Bridges.{chosen};

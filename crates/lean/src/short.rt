@@ -1,4 +1,7 @@
 // The marks of a mesh's vertices by sums of 64 bits, where these hold them.
+//
+// The marks of `leans` are the signs of sums of cross products. These are added up in 64 bits where these hold each
+// product and each sum, and else anew in 128 bits.
 ghost use Rattle.std.specs.Prelude.{◌≡◌, ◌<◌, [], IfOk, IfSome, length, map};
 ghost use Rattle.mesh_terms.specs.Meshes.{IsBelow, triple_of};
 ghost use Rattle.lean.specs.Leans.{is_up, normals_of};

@@ -1,4 +1,9 @@
 // A mesh with its corners and twins, but without a tree.
+//
+// `Side` keeps its tree over the boxes of its faces as a part that its view does not show: the type keeps that it is
+// over just these boxes. Without the tree it is a `Surface`, which is all that is needed once the crossings, the
+// winding numbers and the vertices are known: an operation then lets both trees go (`into_surface`), before it lists
+// triangles.
 ghost use Rattle.std.specs.Prelude.{◌≡◌, ◌<◌, ◌*◌, IfOk, length, map};
 ghost use Rattle.chain_terms.specs.Chains.{all_edges};
 ghost use Rattle.chain_terms.specs.Ranks.{start};

@@ -1,4 +1,7 @@
 // The labels of triangles.
+//
+// `Labels` takes no memory for an empty list, and else four bytes for each label besides the bytes of each run. Its
+// bytes are counted in 32 bits: past 4 GB, which no file of the program has, it answers that there is no memory.
 ghost use Rattle.std.specs.Prelude.{◌≡◌, ◌++◌, ◌∷◌, [], length, map, IfOk, IsTrue, OnOk, OnErr};
 ghost use Rattle.std.specs.List.{All};
 ghost use Rattle.mesh_terms.specs.Labels.{IsLabel, label_at};

@@ -1,4 +1,13 @@
 // Whether an outcome is a result of an operation, whatever made it.
+//
+// An audit takes the numbers of two meshes as an operation does, and asks the rest of the outcome itself: its
+// prescribed vertices are counted before a list of those that should be there is made, so that a list of another
+// length takes no memory, and no limit is asked, since a face can be covered by fewer triangles than a filling has.
+// Triangles are gathered by their source faces in linear time, and each face is compared by a sort of its edges and
+// segments; a face that nothing crosses takes the short way of fillings, where its triangles are copies of it. Every
+// vertex that is prescribed occurs among the vertices of a mesh, so there are no more of them than points of a mesh,
+// and their numbers fit. That it says yes of what an operation gives is the contract of a function that puts the two
+// together (`audit_of_result`): the clauses of both give it, and no code of either is opened.
 ghost use Rattle.std.specs.Prelude.{◌≡◌, ◌↔◌, ◌<◌, ◌≤◌, IfOk, IsTrue, length};
 ghost use Rattle.std.specs.List.{All};
 ghost use Rattle.mesh_boolean.specs.Assembly.{AreNumbers};

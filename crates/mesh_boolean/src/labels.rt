@@ -1,4 +1,9 @@
 // The labels of source faces, and of the mesh that is made of these.
+//
+// An operation on meshes with labels writes four bytes for each triangle, by its source face, and the bytes of a run
+// once; it compares no labels. Where neither mesh has any, nothing is done for them. Else `boolean` reduces each of
+// the two that is not plainly reduced once more, for its labels: that is the time and the memory of one more
+// reduction.
 ghost use Rattle.std.specs.Prelude.{◌≡◌, ◌↔◌, ℕ, IfOk, IsTrue, length, map};
 ghost use Rattle.mesh_boolean.specs.Labels.{any_face_label, face_label, with_labels};
 ghost use Rattle.mesh_boolean.specs.Operation.{face_labels, reduced_mesh};

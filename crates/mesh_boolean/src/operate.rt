@@ -1,4 +1,8 @@
 // One whole operation.
+//
+// An operation on two meshes makes their sides in a function of its own (`assemble_meshes`), so that they and their
+// numbers are let go before the vertices are split: a clause tells what was assembled of the meshes, and no more is
+// needed of the sides.
 ghost use Rattle.std.specs.Prelude.{◌≤◌, ◌+◌, ◌*◌, IfErr, IfOk, length};
 ghost use Rattle.mesh_boolean.specs.Assembly.{IsOfMeshes, IsSplit};
 ghost use Rattle.mesh_boolean.specs.Faults.{IsTooLarge};

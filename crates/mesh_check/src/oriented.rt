@@ -1,4 +1,8 @@
 // Triangles by their vertices, which say the orientation.
+//
+// To pair opposite triangles, one of them is seen as an edge from a number that holds its least and its second vertex
+// to its third, so that the proof of pairing half-edges serves for triangles too; only the definitions of that proof
+// do so.
 ghost use Rattle.std.specs.Prelude.{◌≡◌};
 ghost use Rattle.mesh_terms.specs.Meshes.{triple_of};
 ghost use Rattle.mesh_check.specs.Orientations.{least_first, IsNarrow};

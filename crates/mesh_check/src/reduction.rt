@@ -1,4 +1,12 @@
 // Reduced meshes.
+//
+// `reduce` looks for opposite triangles only where two half-edges run the same way or a half-edge's twin has the same
+// third vertex; else there is nothing to remove, and the mesh is cloned. The triangles lie in buckets by their least
+// vertices, as half-edges do by their lesser ends. Read from the least vertex on, those of a bucket whose second
+// vertex is below the third make one list, and the rest, turned over, another. Both are sorted, and one walk along
+// both takes away opposite triangles pair by pair. An operation asks by itself whether a mesh is plainly reduced
+// (`is_plainly_reduced`), and then takes it as it is, without a copy. That test may say no of a mesh from which
+// nothing goes, which costs time and a copy; so no clause says when it says yes.
 ghost use Rattle.std.specs.Prelude.{◌≡◌, ◌≤◌, [], IfOk, IsTrue, length};
 ghost use Rattle.mesh_terms.specs.Labels.{no_labels};
 ghost use Rattle.mesh_terms.specs.Limits.{most_triangles};

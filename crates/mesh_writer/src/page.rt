@@ -1,4 +1,6 @@
 // The page that lines are put on before they go to a sink.
+//
+// A writer's page is asked for free room after each line, and goes to the sink where fewer than 128 bytes are free.
 ghost use Rattle.std.specs.Prelude.{◌≡◌, ◌≤◌, ◌<◌, ◌+◌, ◌++◌, [], length, IsOk, OnOk, OnErr};
 ghost use Rattle.arrayvec.specs.ArrayVec.{array_vec_len};
 ghost use Rattle.run_terms.specs.Files.{Counts};

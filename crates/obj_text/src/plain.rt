@@ -1,6 +1,17 @@
 // Plain lines, as this program writes them: `f` and three numbers of digits, or `v` and three coordinates,
 // with one space before each and an LF behind, or a CR and an LF. Where the answer is None nothing is said,
 // and the line is read by its words.
+//
+// Nearly every line of a large OBJ file is `f a b c` or `v x y z` with one space before each word, and an LF or a CR
+// and an LF behind. Such a plain line is read in one pass from the text, without a list of words and without
+// division: indices of one to nine digits, and numbers of one to nine digits before the point with any digits behind
+// it, rounded by the first that is dropped. Other words of plain bytes, as those with an exponent, are cut and given
+// to `coordinate`. This way only adds a point or a triangle, or declines and leaves all as it was. Any fault, any
+// limit that is passed and any other line is then read in the general way from the same place, so faults have one
+// source. Its contract is that the lines from here give the same as those after it do to what was gathered
+// (`obj_lines`), so the definitions know nothing of it. A sphere of a million triangles is read with a third of the
+// instructions. `obj_text` stands on `format_laws` for the lemmas on words and lines that the round trip of written
+// files needed already.
 ghost use Rattle.std.specs.Prelude.{◌≡◌, ◌≤◌, [], ◌∷◌, not, IfSome};
 ghost use Rattle.std.specs.List.{position_or_len};
 ghost use Rattle.obj_text.specs.Plain.{is_plain, ends_plain, BeginsIndex, BeginsWord, BeginsCoordinate, EndsLine, BeginsFace, BeginsPoint};

@@ -1,4 +1,8 @@
 // A mesh with one vertex for each fan.
+//
+// The definition of fans in `split` is a function of the triangles, the half-edges that going around meets; that the
+// lists of `fans` are those is a law. Twins are handed over to the split mesh; only where two half-edges run the same
+// way are they found once more, to know whether some still do.
 ghost use Rattle.std.specs.Prelude.{◌≡◌, ◌≤◌, ◌*◌, IfOk, length, map};
 ghost use Rattle.std.specs.List.{All};
 ghost use Rattle.chain_terms.specs.Chains.{all_edges, IsClosed};

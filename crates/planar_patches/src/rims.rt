@@ -1,4 +1,8 @@
 // The rim of a patch.
+//
+// A rim is a permutation: go across to the twin where that is inside, then next round the triangle; what follows a
+// half-edge of the rim is its first return to the rim under that. So the loops are cycles, and the code that follows
+// the segments of a source face follows them too.
 ghost use Rattle.std.specs.Prelude.{◌≡◌, ◌<◌, ◌*◌, ◌/◌, ◌++◌, IfOk, OnOk, length, true};
 ghost use Rattle.chain_terms.specs.Chains.{all_edges};
 ghost use Rattle.chain_terms.specs.Ranks.{twin};

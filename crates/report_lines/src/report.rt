@@ -1,4 +1,8 @@
 // Lines on the output and on standard error.
+//
+// A line is said of a list of texts, one after the other (`say`), and its clause tells the room too, which the calls
+// that say the lines of the program pass on (`Takes`). References that stand in one array have one lifetime for the
+// prover, so the names of an operation's line, and the word between them, are given one.
 ghost use Rattle.std.specs.Prelude.{◌<◌, ◌^◌, ◌-◌, ◌++◌};
 ghost use Rattle.std.specs.List.{flat_map};
 ghost use Rattle.mb_outside.specs.Seen.{MeetsOnOutput, on_output};

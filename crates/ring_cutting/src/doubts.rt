@@ -1,4 +1,9 @@
 // Which places may be ears.
+//
+// A long ring keeps what it was told. A place that turned out to be no ear is asked again only once a neighbour of it
+// or the place that was found in its triangle is cut; all others that are left are in doubt. Nothing is claimed of a
+// place in doubt, so an ear that ceases to be one, and one that is asked for nothing, do no harm. That a place in
+// doubt is *asked* at most some two or three times was seen on all rings that were tried, and is not proved.
 ghost use Rattle.std.specs.Prelude.{◌≡◌, ◌≢◌, ◌+◌, ◌<◌, ◌≤◌, [], ℕ, List, length, get_or, set, IfOk, OnOk, IfSome, IfNone, true, false};
 ghost use Rattle.std.specs.Ordering.{nat_cmp};
 ghost use Rattle.std.specs.BTreeSet.{contains, btree_set_len};

@@ -1,4 +1,12 @@
 // Rectangles round the places that are left, in a tree: no place is asked whose rectangle misses the triangle.
+//
+// What blocks a triangle of a long ring is looked for in a tree of rectangles, each round the places below it that
+// are left. They shrink as places are cut; without that, a spiral takes as long as with no tree. A rectangle is
+// passed over that lies beyond a side of the triangle, or beside, below or above all of it: the first tells circles
+// apart, the second two rows of teeth. The places stand in the tree in the order of the bits of their two coordinates
+// in turn. That order and the sizes of the rectangles decide how long the search takes and nothing else: all that the
+// proof uses is that each place that is left is in its own rectangle, and what is in a rectangle is in the one above.
+// The tree has two nodes for each place, and needs no power of two.
 ghost use Rattle.std.specs.Prelude.{◌≡◌, ◌≢◌, ◌*◌, ◌%◌, ◌<◌, ◌≤◌, ℕ, pos, int_lt, IfOk, IfSome, IfNone};
 ghost use Rattle.std.specs.Prelude.{List, Bool, map, length, get_or, set, true, false};
 ghost use Rattle.std.specs.List.Sorted.{IsPermutation};

@@ -1,4 +1,9 @@
 //! What decides which of two simplices is beyond the other: the shadow tests count and place alike under every rule.
+//!
+//! What decides what is beyond what is a value (`Rule`), and the definitions and laws of shadow tests and crossings
+//! are said once, under any lawful rule. On the grid it looks at the spot alone, under exact kernels at the corners
+//! alone. Code has it as two traits, `Rules` at a spot and `Sights` without one: the tests of the grid call the sums
+//! of shadows, which call the rule, and in one trait that would be a circle.
 
 ghost use Rattle.std.specs.Prelude.{◌≡◌, IfSome};
 ghost use Rattle.side_terms.specs.Corners.{axis, corner_at, IsFineCorner, AllFine};

@@ -1,4 +1,8 @@
 // Faces that no edge crosses, and that cross none: their triangles are copies of them.
+//
+// A face whose vertices are included one number of times, and which has no records, takes a short way: its triangles
+// are n copies of it, where n is that number. That this is what loops and filling would give is a law
+// (`plain_faces_are_copied`); nearly all faces of a large mesh are such.
 ghost use Rattle.std.specs.Prelude.{◌≡◌, ◌+◌, ◌<◌, ◌^◌, true, cond, OnOk, length, get_or};
 ghost use Rattle.mesh_terms.specs.Limits.{most_points};
 ghost use Rattle.mesh_terms.specs.Meshes.{IsBelow, triple_of};

@@ -1,4 +1,12 @@
 // Passes over the triangles in their order.
+//
+// The order in which that walk goes comes from a spanning forest (`spanning_forest`), which knows only triples. First
+// the triangles are read in their order, there and back, at most four times, and the vertices of each that has one
+// which was entered are entered along its edges. So memory is read in order, and as a rule all of a first component
+// is entered before any half-edges are gathered; a pass that finds few for many triangles ends. What is left is
+// entered breadth first: the entrances that the forest lists are its queue, so it needs no other. Triangles that meet
+// only at a vertex are joined, so it goes along the half-edges that start at a vertex, gathered by it, and not round
+// fans. The roots of such a forest are the components that `mesh_make` counts.
 ghost use Rattle.std.specs.Prelude.{◌≡◌, ◌<◌, ◌≤◌, ◌-◌, ◌∷◌, ◌++◌, [], OnOk, cond, get_or, length, set, true};
 ghost use Rattle.std.specs.List.{All};
 ghost use Rattle.chain_terms.specs.Chains.{all_edges};

@@ -1,4 +1,14 @@
 // The winding number of a corner, by a sum or from that of another one.
+//
+// From the first corner of one component the number is carried to that of the next along the segment between the two,
+// which is no edge: the proof asks no more of the two ends than that their coordinates are fine. A sum that meets at
+// most 16 faces is made at once, as ever. Else the faces on the line of the sum and those that the segment's box
+// touches are counted side by side, three of the line for one of the segment, since a crossing takes about as long as
+// three shadows; and the way is taken whose faces come to their end first. So of two stacks of plates, those of one
+// between those of the other, a plate asks a few faces and not all that lie under it. A mesh of one component pays
+// nothing. The components come in the order of their first corners' numbers: where neighbours in that order lie far
+// apart, sums are made as before. A step is counted for a sum alone, so fewer may be counted than there are
+// components.
 ghost use Rattle.std.specs.Prelude.{◌≡◌, ◌≤◌, ◌+◌, IfSome, length};
 ghost use Rattle.side_terms.specs.Corners.{IsFineCorner};
 ghost use Rattle.winding.specs.Segments.{IsKnown, SegmentIdentity, crossings_to};

@@ -1,4 +1,9 @@
 // The winding number of a corner of one side in the other.
+//
+// A sum of `winding` asks for the faces whose boxes touch half of the vertical line at the corner: downwards for a
+// corner of P, upwards for one of Q. The faces on the other half may have answers, but by the law `side` these are
+// not above, so their shadows are 0. `winding_at`, which makes one sum, looks at all faces: a tree would cost more
+// than it saves.
 ghost use Rattle.std.specs.Prelude.{◌≡◌, ◌≤◌, ◌<◌, ◌+◌, nat_abs, length, IfSome, IsNone};
 ghost use Rattle.side_terms.specs.Corners.{IsFineCorner};
 ghost use Rattle.winding.specs.Windings.{minus_shadows, winding, winding_back};

@@ -1,4 +1,9 @@
 // The winding numbers of the corners of one side, carried along its edges.
+//
+// Winding numbers are carried along half-edges from one sum for each connected component. Two ways to a vertex are
+// not compared: both give the sum there, since along every half-edge the sums change by its crossings. The hits of an
+// edge are a run of the list, found by halving it twice, and only where a mark says that the triangle has a hit on
+// one of its edges.
 ghost use Rattle.std.specs.Prelude.{◌≡◌, ◌≤◌, ◌+◌, ◌^◌, ℕ, ◌<◌, nat_abs, IfOk, length, map};
 ghost use Rattle.std.specs.List.{All};
 ghost use Rattle.chain_terms.specs.Chains.{all_edges};

@@ -1,4 +1,10 @@
 // The winding numbers of all vertices of a side.
+//
+// Winding numbers of an outline's points are found by a walk round each loop, and from loop to loop. The way to
+// another loop leads from the nearest point of the loop before: a way from its last point may lie across all loops
+// between, as the way from corner to corner of nested squares does, and asks each of them. Loops are taken by where
+// they begin on a curve that fills the plane square after square, so that the next is near whatever their order in
+// the outline is: any order is right, but a way to a loop far away asks all edges that its box touches.
 ghost use Rattle.std.specs.Prelude.{◌≡◌, ◌≤◌, ◌<◌, ℕ, nat_abs, IfOk, length, map};
 ghost use Rattle.std.specs.List.{All};
 ghost use Rattle.std.specs.List.Sorted.{IsPermutation};

@@ -1,4 +1,9 @@
 // The lists in which the copies of hits stand.
+//
+// The copies of a vertex have numbers one after the other, so a run of numbers tells them all. Those of hits are told
+// by records, six for each copy: its edge's two half-edges and the pairs of its two faces with the crossed face, seen
+// from both. The records are sorted once, by face, list and number, and read along with the faces, so no face looks
+// for its crossings among all.
 ghost use Rattle.std.specs.Prelude.{◌≡◌, ◌+◌, ◌*◌, ◌<◌, ◌≤◌, ◌^◌, ◌++◌, IfOk, OnOk, length};
 ghost use Rattle.side_terms.specs.Prescribed.{hit_count};
 ghost use Rattle.chain_terms.specs.Chains.{all_edges};
