@@ -33,7 +33,7 @@ fn at(x: u8, y: u8, z: u8, up: [bool; 3]) -> Corner
 }
 
 /// The byte at a place of a line, or a blank beyond its end.
-fn byte_at(line: &[u8], place: usize) -> u8 {
+pub(crate) fn byte_at(line: &[u8], place: usize) -> u8 {
     match line.get(place) {
         Some(byte) => *byte,
         None => b' ',
@@ -41,7 +41,7 @@ fn byte_at(line: &[u8], place: usize) -> u8 {
 }
 
 /// The word of a line with this number. Each has six signs, and there is a blank between them.
-fn word(line: &[u8], number: usize) -> [u8; 6] {
+pub(crate) fn word(line: &[u8], number: usize) -> [u8; 6] {
     let first = number.wrapping_mul(7);
     [
         byte_at(line, first),
@@ -54,7 +54,7 @@ fn word(line: &[u8], number: usize) -> [u8; 6] {
 }
 
 /// The number of a digit.
-fn digit(byte: u8) -> u8 {
+pub(crate) fn digit(byte: u8) -> u8 {
     byte.wrapping_sub(b'0')
 }
 

@@ -13,8 +13,13 @@ use shadow_kernels::{Grid, Meet, Meets};
 #[test]
 fn agrees_with_the_tables(rt: HostRuntime) {
     let exact = Exact { rounding: Nearest };
-    assert!(rt; shadows::all_agree(&exact, &ANSWERS));
     let mut count = 0u8;
+    for line in ANSWERS.lines() {
+        assert!(rt; shadows::agrees(&exact, line), "{line}");
+        count = count.saturating_add(1);
+    }
+    assert!(rt; count == 50);
+    count = 0;
     for line in CROSSINGS.lines() {
         assert!(rt; edges_and_faces::agrees(&exact, line), "{line}");
         assert!(rt; edges_and_faces::turns(&exact, line), "{line} turned");

@@ -6,11 +6,12 @@ ghost use Rattle.shadow_kernels.specs.Counts.{count_of, shadow_of};
 mod more_rows;
 mod rows;
 
+use crate::edges_and_faces::{byte_at, digit, word};
 use edge_face::Kernels;
 use mb_base::Corner;
-use more_rows::{ROWS_5, ROWS_6, ROWS_7, ROWS_8, ROWS_9};
+use more_rows::MORE_ROWS;
 use rounding::Nearest;
-use rows::{ROWS_0, ROWS_1, ROWS_2, ROWS_3, ROWS_4};
+use rows::ROWS;
 use shadow_kernels::{Flats, Grid, Meet, Meets, Spot};
 
 /// The count of the edges from a to b and from c to d, with Q's edge taken the other way round where it meets a vertex:
@@ -45,112 +46,161 @@ fn shadow<const M: usize, const N: usize, K: Meets<M, N>>(
     }
 }
 
-/// A corner from its nine bits.
-fn corner(code: u64) -> Corner
+/// The number of corners and of answers of a line, and the columns of each, with the blank after it.
+const CORNERS: usize = 6;
+
+const CORNER_COLUMNS: usize = 7;
+
+const ANSWER_COLUMNS: usize = 12;
+
+/// A corner from a word as `210x-z`, in fine steps.
+fn corner(word: [u8; 6]) -> Corner
     ensures { IsFineCorner result }
 {
+    let [x, y, z, up_x, up_y, up_z] = word;
     Corner {
-        at: [
-            (code % 4) as i64,
-            (code / 4 % 4) as i64,
-            (code / 16 % 4) as i64,
-        ],
-        up: [code / 64 % 2 == 1, code / 128 % 2 == 1, code / 256 % 2 == 1],
+        at: [digit(x) as i64, digit(y) as i64, digit(z) as i64],
+        up: [up_x == b'x', up_y == b'y', up_z == b'z'],
     }
 }
 
-/// An answer from its sixteen bits.
-fn answer(code: u128) -> Option<Meet> {
-    if code % 4 == 0 {
+/// Three corners from the word with this number on.
+fn three(line: &[u8], first: usize) -> [Corner; 3]
+    ensures { AllFine result }
+{
+    [
+        corner(word(line, first)),
+        corner(word(line, first.wrapping_add(1))),
+        corner(word(line, first.wrapping_add(2))),
+    ]
+}
+
+/// The column at which the answer with this number begins.
+fn answer_column(number: usize) -> usize {
+    CORNERS * CORNER_COLUMNS + number.wrapping_mul(ANSWER_COLUMNS)
+}
+
+/// The digit of a line in the column so many after another.
+fn digit_at(line: &[u8], column: usize, after: usize) -> i64 {
+    digit(byte_at(line, column.wrapping_add(after))) as i64
+}
+
+/// Whether a line has this sign in the column so many after another.
+fn has(line: &[u8], column: usize, after: usize, sign: u8) -> bool {
+    byte_at(line, column.wrapping_add(after)) == sign
+}
+
+/// The answer of a line with this number, as `+1^21220x-z`, or none from dots.
+fn answer(line: &[u8], number: usize) -> Option<Meet> {
+    let column = answer_column(number);
+    if has(line, column, 0, b'.') {
         return None;
     }
     let spot = Spot {
-        x: (code / 8 % 4) as i64,
-        py: (code / 32 % 4) as i64,
-        qy: (code / 128 % 4) as i64,
-        pz: (code / 512 % 4) as i64,
-        qz: (code / 2048 % 4) as i64,
+        x: digit_at(line, column, 3),
+        py: digit_at(line, column, 4),
+        qy: digit_at(line, column, 5),
+        pz: digit_at(line, column, 6),
+        qz: digit_at(line, column, 7),
         up: [
-            code / 8192 % 2 == 1,
-            code / 16384 % 2 == 1,
-            code / 32768 % 2 == 1,
+            has(line, column, 8, b'x'),
+            has(line, column, 9, b'y'),
+            has(line, column, 10, b'z'),
         ],
     };
-    let count = if code % 4 == 1 { 1 } else { -1 };
+    let count = if has(line, column, 0, b'+') { 1 } else { -1 };
     Some(Meet {
         count,
-        above: code / 4 % 2 == 1,
+        above: has(line, column, 2, b'^'),
         spot,
     })
 }
 
-/// Whether the answers of vertices and edges are those that are wanted.
-fn flats_agree<K: Kernels>(
-    kernels: &K,
-    a: &Corner,
-    b: &Corner,
-    u: &Corner,
-    v: &Corner,
-    answers: u128,
-) -> bool
-    requires a_fine { IsFineCorner a.now }
-    requires b_fine { IsFineCorner b.now }
-    requires u_fine { IsFineCorner u.now }
-    requires v_fine { IsFineCorner v.now }
-{
-    kernels.meet(&[*a], &[*u]) == answer(answers)
-        && kernels.meet(&[*a], &[*u, *v]) == answer(answers >> 16)
-        && kernels.meet(&[*a, *b], &[*u]) == answer(answers >> 32)
-        && kernels.meet(&[*a, *b], &[*u, *v]) == answer(answers >> 48)
+/// Whether a sign may stand in a column of a corner: digits and marks, then a blank.
+fn may_stand_in_corner(column: usize, sign: u8) -> bool {
+    match column {
+        0..=2 => digit(sign) <= 9,
+        3 => sign == b'-' || sign == b'x',
+        4 => sign == b'-' || sign == b'y',
+        5 => sign == b'-' || sign == b'z',
+        _ => sign == b' ',
+    }
 }
 
-/// Whether the answers of vertices with faces are those that are wanted.
-fn faces_agree<K: Kernels>(kernels: &K, p: &[Corner; 3], q: &[Corner; 3], answers: u128) -> bool
-    requires p_fine { AllFine p.now }
-    requires q_fine { AllFine q.now }
-{
-    kernels.meet(&[p[0]], q) == answer(answers >> 64)
-        && kernels.meet(p, &[q[0]]) == answer(answers >> 80)
+/// Whether a sign may stand in a column of an answer: the count, the side, digits and marks, then a blank.
+fn may_stand_in_answer(column: usize, sign: u8) -> bool {
+    match column {
+        0 => sign == b'+' || sign == b'-',
+        1 => sign == b'1',
+        2 => sign == b'^' || sign == b'_',
+        3..=7 => digit(sign) <= 9,
+        8 => sign == b'-' || sign == b'x',
+        9 => sign == b'-' || sign == b'y',
+        10 => sign == b'-' || sign == b'z',
+        _ => sign == b' ',
+    }
 }
 
-/// Three corners from their bits.
-fn three(codes: u64) -> [Corner; 3]
-    ensures { AllFine result }
-{
-    [corner(codes), corner(codes >> 9), corner(codes >> 18)]
+/// Whether a sign may stand in a column of an answer; in one that is none, dots, and the blank after them.
+fn may_stand(line: &[u8], place: usize, sign: u8) -> bool {
+    if place < CORNERS * CORNER_COLUMNS {
+        return may_stand_in_corner(place % CORNER_COLUMNS, sign);
+    }
+    let column = place.wrapping_sub(CORNERS * CORNER_COLUMNS) % ANSWER_COLUMNS;
+    if byte_at(line, place.wrapping_sub(column)) == b'.' && column < 11 {
+        return sign == b'.';
+    }
+    may_stand_in_answer(column, sign)
 }
 
-/// Whether the answers of a row are those of its corners.
-fn agrees<K: Kernels>(kernels: &K, corners: u64, answers: u128) -> bool {
-    let p = three(corners);
-    let q = three(corners >> 27);
-    flats_agree(kernels, &p[0], &p[1], &q[0], &q[1], answers)
-        && faces_agree(kernels, &p, &q, answers)
-}
-
-/// Whether the answers of kernels to all rows are those of their corners.
-pub(crate) fn all_agree<K: Kernels>(kernels: &K, rows: &[(u64, u128)]) -> bool {
-    for (corners, answers) in rows {
-        if !agrees(kernels, *corners, *answers) {
+/// Whether a line has six corners and six answers.
+fn is_row(line: &[u8]) -> bool {
+    for (place, sign) in line.iter().enumerate() {
+        if !may_stand(line, place, *sign) {
             return false;
         }
     }
-    true
+    line.len() == 113
+}
+
+/// Whether the answers of vertices and edges are those of a line.
+fn flats_agree<K: Kernels>(kernels: &K, p: &[Corner; 3], q: &[Corner; 3], line: &[u8]) -> bool
+    requires p_fine { AllFine p.now }
+    requires q_fine { AllFine q.now }
+{
+    kernels.meet(&[p[0]], &[q[0]]) == answer(line, 0)
+        && kernels.meet(&[p[0]], &[q[0], q[1]]) == answer(line, 1)
+        && kernels.meet(&[p[0], p[1]], &[q[0]]) == answer(line, 2)
+        && kernels.meet(&[p[0], p[1]], &[q[0], q[1]]) == answer(line, 3)
+}
+
+/// Whether the answers of vertices with faces are those of a line.
+fn faces_agree<K: Kernels>(kernels: &K, p: &[Corner; 3], q: &[Corner; 3], line: &[u8]) -> bool
+    requires p_fine { AllFine p.now }
+    requires q_fine { AllFine q.now }
+{
+    kernels.meet(&[p[0]], q) == answer(line, 4) && kernels.meet(p, &[q[0]]) == answer(line, 5)
+}
+
+/// Whether the answers of kernels to the corners of a line are those of the line.
+pub(crate) fn agrees<K: Kernels>(kernels: &K, line: &str) -> bool {
+    let line = line.as_bytes();
+    let p = three(line, 0);
+    let q = three(line, 3);
+    is_row(line) && flats_agree(kernels, &p, &q, line) && faces_agree(kernels, &p, &q, line)
 }
 
 #[test]
 fn agrees_with_the_table(rt: HostRuntime) {
     let grid = Grid { rounding: Nearest };
-    assert!(rt; all_agree(&grid, &ROWS_0));
-    assert!(rt; all_agree(&grid, &ROWS_1));
-    assert!(rt; all_agree(&grid, &ROWS_2));
-    assert!(rt; all_agree(&grid, &ROWS_3));
-    assert!(rt; all_agree(&grid, &ROWS_4));
-    assert!(rt; all_agree(&grid, &ROWS_5));
-    assert!(rt; all_agree(&grid, &ROWS_6));
-    assert!(rt; all_agree(&grid, &ROWS_7));
-    assert!(rt; all_agree(&grid, &ROWS_8));
-    assert!(rt; all_agree(&grid, &ROWS_9));
+    let mut count = 0u16;
+    for rows in [ROWS, MORE_ROWS] {
+        for line in rows.lines() {
+            assert!(rt; agrees(&grid, line), "{line}");
+            count = count.saturating_add(1);
+        }
+    }
+    assert!(rt; count == 500);
 }
 
 // A corner near the origin, moved up on x or on no axis.
