@@ -12,6 +12,7 @@ pub mod NearSums
 pub mod Neighbours
 pub mod Placed
 pub mod Points
+mod Rows
 pub mod Segmented
 pub mod SideNumbers
 pub mod Sizes

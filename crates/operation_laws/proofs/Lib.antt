@@ -7,3 +7,4 @@ mod OutlinePoints
 mod OutlinesGiven
 pub mod ReducedSides
 pub mod Results
+mod Rows

@@ -4,6 +4,7 @@ use Rattle.std.specs.Prelude.{int_le, if◌then◌else◌}
 use Rattle.std.specs.List.{All}
 use Rattle.std.proofs.lemmas.Bool.{ltb-false}
 use Rattle.std.proofs.lemmas.List.Elements.{All-append, All-map}
+use Rattle.chain_laws.proofs.Cycles.{cycles_edges}
 use Rattle.mb_base.specs.declared.kernel_kind.KernelKind.{KernelKind}
 use Rattle.mb_base.specs.declared.op.Op.{Op}
 use Rattle.made_terms.specs.Refusals.{Exceeds, Flat}
@@ -27,13 +28,13 @@ use Rattle.triangulate.proofs.CutRings.{cuttings}
 use Rattle.outline_terms.specs.Extrusion.{at_height}
 use Rattle.outline_terms.specs.Outlines.{IsOutline, Outline, most_vertices, outline_edges, p_marks, q_marks}
 use Rattle.outline_terms.proofs.Edges.{edges_long}
-use Rattle.outline_pair_terms.specs.Lists.{flat_copies}
+use Rattle.outline_pair_terms.specs.Lists.{flat_copies, flat_segments}
 use Rattle.outline_pair_terms.specs.Numbers.{FlatNumbers, LiftEdges, p_flat, q_flat}
 use Rattle.cross_section.proofs.Points.{IsSettling}
 use Rattle.cross_section.proofs.Walking.{lift_edges}
 use Rattle.cross_section.specs.Extruded.{AreOver, extruded, filling_of}
 use Rattle.cross_section.proofs.Solids.{outline_fillable, solid_accepted, solid_volume, triples_long}
-use Rattle.outline_pair_terms.proofs.Whole.{conserved}
+use Rattle.outline_pair_terms.proofs.Whole.{conserved, once_whole}
 use Rattle.cross_section.proofs.Copied.{count_copies, each_copy}
 use Rattle.cross_section.proofs.Gives.{gives_outline}
 use Rattle.play_laws.specs.ScriptsReadingBack.{IsGivenOutline}
@@ -78,6 +79,10 @@ module _ (kernels : KernelKind) (rule : IsRule (rule_under kernels) nearest) (op
   outline_result few = record {
     conserved = conserved (flat_tests_of (rule_under kernels) nearest) settle_nearest op p q p_given.outline q_given.outline lift;
     prescribed = refl;
+    segments =
+        let es = flat_segments p q (flat_copies op p q n) in
+        cycles_edges (length es) es (omega arith)
+        (once_whole (flat_tests_of (rule_under kernels) nearest) settle_nearest op p q p_given.outline q_given.outline lift).balanced;
     outline = (outline_made few).outline;
   }
 

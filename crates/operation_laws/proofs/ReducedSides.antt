@@ -1,18 +1,14 @@
 -- The sides of reduced meshes: what every side keeps, without opposite triples, at points of the grid.
-use Rattle.std.proofs.Common.{◌≡◌, ℕ, suc, ℤ, ◌*ℤ◌, Bool, List, [], ◌∷◌, ◌++◌, length, sym, subst, arith, refl}
+use Rattle.std.proofs.Common.{◌≡◌, ℤ, ◌*ℤ◌, Bool, List, [], ◌∷◌, length, sym, subst, arith, refl}
 use Rattle.std.specs.List.{All}
-use Rattle.std.proofs.lemmas.Bool.{cond_both}
 use Rattle.std.proofs.lemmas.Int.{ints}
-use Rattle.std.proofs.lemmas.List.{length-map}
 use Rattle.std.proofs.lemmas.List.Elements.{All-cons, All-head, All-nil, All-tail}
 use Rattle.mb_base.specs.declared.TheConstants.{UNIT}
 use Rattle.mesh_terms.specs.Given.{IsGiven}
-use Rattle.mesh_terms.specs.Labels.{AreLabels}
-use Rattle.mesh_terms.specs.Meshes.{IsAccepted, Mesh, Triple, is_used, new_number, renumbered, used_from}
+use Rattle.mesh_terms.specs.Meshes.{IsAccepted, Mesh}
 use Rattle.mesh_terms.specs.Points.{IsOnGrid, IsPoint, coordinate_of}
-use Rattle.unused_points.proofs.KeptMesh.{kept_mesh}
-use Rattle.mesh_check.specs.Reduced.{NoOpposite, kept_triples}
-use Rattle.mesh_check.proofs.ReducedMesh.{kept_sound, reduced_closed, reduced_no_opposite}
+use Rattle.mesh_check.specs.Reduced.{NoOpposite}
+use Rattle.mesh_check.proofs.ReducedMesh.{reduced_no_opposite}
 use Rattle.side_terms.specs.Corners.{AllFine, IsFineCorner}
 use Rattle.side_terms.specs.Fine.{IsFine}
 use Rattle.side_terms.specs.Sides.{IsSide, Side, corner_of, corners_of, side_of}

@@ -1,6 +1,7 @@
 -- What an operation gives of two meshes, or of two outlines, under the kernels that a script may choose, and an extrusion of an outline: a result of them; and what
 -- remeshing keeps of the meshes of a script.
 use Rattle.std.specs.Prelude.{◌≡◌, ◌≤◌, ℕ, ℤ, pos, ◌-ℤ◌, ◌*ℤ◌, min, length, List, None, Ok, map}
+use Rattle.std.specs.List.Sorted.{IsPermutation}
 use Rattle.mb_base.specs.declared.kernel_kind.KernelKind.{KernelKind}
 use Rattle.mb_base.specs.declared.op.Op.{Op}
 use Rattle.mesh_terms.specs.Given.{IsGiven}
@@ -11,7 +12,7 @@ use Rattle.mesh_terms.specs.Points.{IsOnGrid}
 use Rattle.mesh_terms.specs.Volume.{volume6_of}
 use Rattle.cross_section.specs.Extruded.{doubled_area, extruded}
 use Rattle.outline_pair_terms.specs.Balance.{AreConserved}
-use Rattle.outline_pair_terms.specs.Lists.{flat_copies}
+use Rattle.outline_pair_terms.specs.Lists.{FlatCopy, flat_copies, flat_segments}
 use Rattle.outline_terms.specs.Outlines.{IsOutline, Outline, most_vertices, outline_edges}
 use Rattle.run_terms.specs.Files.{Bytes, Files}
 use Rattle.source_face_terms.specs.Filled.{points_of_copies}
@@ -51,10 +52,16 @@ GivesMeshes k limits script =
     → IsResultOf state.kernels op (mesh_at state.named left) (mesh_at state.named right)
     (operation (tests_under state.kernels) op (mesh_at state.named left) (mesh_at state.named right))
 
--- a result of an operation on two outlines: winding numbers change along the edges of both by their crossings; and it is an outline, of the prescribed vertices
+-- the prescribed vertices of an operation on two outlines
+abbrev pub copies_under : KernelKind → Op → Outline → Outline → List FlatCopy
+copies_under kernels op p q = flat_copies op p q (flat_numbers_under kernels op p q)
+
+-- a result of an operation on two outlines: winding numbers change along the edges of both by their crossings; it is an outline, of the prescribed
+-- vertices; and the edges of its loops are the segments that pair these along the edges of both
 pub record IsOutlineOf (kernels : KernelKind) (op : Op) (p q o : Outline) : Type 0 where
   pub conserved : AreConserved (outline_edges p) (outline_edges q) (flat_numbers_under kernels op p q)
-  pub prescribed : o.points ≡ map (λ c. c.point) (flat_copies op p q (flat_numbers_under kernels op p q))
+  pub prescribed : o.points ≡ map (λ c. c.point) (copies_under kernels op p q)
+  pub segments : IsPermutation (flat_segments p q (copies_under kernels op p q)) (outline_edges o)
   pub outline : IsOutline o
 
 -- so what an operation makes of the outlines of two names is, where its vertices are within the limits

@@ -5,4 +5,5 @@ pub mod Exchange
 pub mod Long
 pub mod Once
 pub mod Prescribed
+mod Rows
 pub mod Whole

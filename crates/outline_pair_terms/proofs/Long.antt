@@ -1,16 +1,9 @@
 -- The loops of the segments of two outlines have three vertices or more.
-use Rattle.std.proofs.Common.{◌≡◌, ℕ, zero, suc, ◌<◌, ◌≤◌, inl, inr, cond, ◌==◌, List, [], ◌∷◌, length, get_or, refl, sym, ap, arith}
-use Rattle.std.specs.List.{All, concat}
-use Rattle.std.specs.List.Sorted.{IsPermutation}
-use Rattle.std.proofs.lemmas.Bool.{cases_lt, eq-eqb}
-use Rattle.std.proofs.lemmas.List.Sorted.{sum_by-IsPermutation}
-use Rattle.chain_terms.specs.Chains.{one_if}
+use Rattle.std.proofs.Common.{◌≤◌, List, length}
+use Rattle.std.specs.List.{All}
 use Rattle.chain_terms.specs.Cycles.{cycles}
-use Rattle.chain_terms.specs.Sums.{upto}
-use Rattle.chain_laws.specs.Counts.{count_by-cons}
-use Rattle.face_loops.specs.Segments.{AreDifferent, IsOneToOne}
+use Rattle.face_loops.specs.Segments.{IsOneToOne}
 use Rattle.face_loops.specs.Standings.{AreEven}
-use Rattle.face_loops.proofs.Counting.{times_in}
 use Rattle.face_loops.proofs.LongLoops.{loops_are_long}
 use Rattle.face_loops.proofs.OneToOne.{one_to_one}
 use Rattle.outline_pair_terms.specs.Laws.{IsOfBoth}

@@ -1,12 +1,10 @@
 -- An operation on two outlines: its loops are long, whatever the tests answer that keep the lift.
-use Rattle.std.proofs.Common.{◌≡◌, ℕ, ◌<◌, ◌≤◌, inl, inr, Bool, false, cond, ◌==◌, ◌++◌, ℤ, pos, List, [], ◌∷◌, length, get_or, int_lt, refl, sym, ap, ◌∙◌, arith}
+use Rattle.std.proofs.Common.{◌≡◌, ℕ, ◌<◌, ◌≤◌, Bool, false, ◌++◌, ℤ, pos, List, [], ◌∷◌, length, get_or, int_lt, refl, sym, ap, ◌∙◌, arith}
 use Rattle.std.specs.Prelude.{◌-ℤ◌, ◌+ℤ◌, ◌*ℤ◌}
-use Rattle.std.specs.List.{All, Contains, concat, zip}
+use Rattle.std.specs.List.{All, concat, zip}
 use Rattle.std.specs.List.Sorted.{IsPermutation}
-use Rattle.std.proofs.lemmas.Bool.{cases_lt}
 use Rattle.std.proofs.lemmas.List.{get_or-map, length-map, length-replicate}
-use Rattle.std.proofs.lemmas.List.Elements.{All-append, All-map, All-weaker, Contains-get_or}
-use Rattle.std.proofs.lemmas.List.Sorted.{sum_by-IsPermutation}
+use Rattle.std.proofs.lemmas.List.Elements.{All-append, All-map, All-weaker}
 use Rattle.chain_terms.specs.Cycles.{cycles}
 use Rattle.chain_terms.specs.Ranks.{start, finish}
 use Rattle.chain_terms.specs.Sums.{upto}

@@ -1,0 +1,3 @@
+mod Numbered
+pub mod ReadingBack
+mod Welded
