@@ -1,5 +1,5 @@
 -- What rings keep while holes are joined to them, one after the other.
-use Rattle.std.specs.Prelude.{◌≡◌, ◌≢◌, ℕ, zero, suc, ◌+◌, ◌*◌, ◌<◌, ◌⊎◌, ℤ, pos, ◌+ℤ◌, ◌≤ℤ◌, List, [], ◌∷◌}
+use Rattle.std.specs.Prelude.{◌≡◌, ◌≢◌, ℕ, zero, suc, ◌+◌, ◌*◌, ◌<◌, ◌≤◌, ◌⊎◌, ℤ, pos, ◌+ℤ◌, ◌≤ℤ◌, List, [], ◌∷◌}
 use Rattle.std.specs.Prelude.{◌++◌, ◌==◌, length, get_or, set, take, drop, Option, Some, None}
 use Rattle.std.specs.List.{All, concat}
 use Rattle.std.proofs.Common.{arith, refl, sym, ap, subst, ◌∙◌, inl, inr}
@@ -14,12 +14,13 @@ use Rattle.chain_terms.specs.Sums.{total}
 use Rattle.chain_terms.specs.Paths.{round_edges}
 use Rattle.chain_laws.specs.Counts.{one_if-false}
 use Rattle.chain_laws.specs.Sums.{total-flat_map}
+use Rattle.face_loops.specs.Segments.{AreDifferent}
 use Rattle.face_plane.specs.Planes.{Plane, settled_plane}
 use Rattle.face_plane.specs.Rings.{In, IsRing, vertex_at}
 use Rattle.hole_joining.specs.declared.bridge.Bridge.{Bridge}
 use Rattle.hole_joining.specs.Bridges.{is_clear_bridge, chosen_bridge, join, bridged, joined, join_holes}
 use Rattle.hole_joining.specs.Holes.{is_ring, ring_list, hole_list}
-use Rattle.hole_joining.specs.Laws.{AreFillable, IsJoining}
+use Rattle.hole_joining.specs.Laws.{AreFillable, AreLoops, IsJoining, KeepsLoops}
 use Rattle.hole_joining.proofs.Choice.{LeadsTo, chosen_leads, no_bridge}
 use Rattle.hole_joining.proofs.Turning.{once_round, round_turned, length-turned, often, often-cons, often-turned, in_often}
 use Rattle.hole_joining.proofs.Joins.{vertex_within, join_total, length-join, often-join, ringy_join, ringy_turned}
@@ -92,6 +93,36 @@ ends_differ rings later hole b can leads e =
 abbrev pub after_join : List (List ℕ) → List ℕ → Bridge → List (List ℕ)
 after_join rings hole b = set rings b.ring (join (get_or rings b.ring []) b.place hole)
 
+-- rings and holes with a place or more, and no hole without a ring: there always is a bridge
+pub record HaveBridges (rings holes : List (List ℕ)) : Type 0 where
+  pub full_rings : All (λ r. 0 < length r) rings
+  pub full_holes : All (λ h. 0 < length h) holes
+  pub some : 0 < length holes → 0 < length rings
+
+always_bridge : (at : Plane) (rings later : List (List ℕ)) (hole : List ℕ) → HaveBridges rings (hole ∷ later) →
+    chosen_bridge at rings hole later ≡ None → ⊥
+always_bridge at rings later hole have e =
+    no_bridge at (vertex_at hole 0) (is_clear_bridge at rings hole later) rings (have.some (omega arith)) have.full_rings e
+
+-- also for the next hole
+have_next : (rings later : List (List ℕ)) (hole : List ℕ) (b : Bridge) → HaveBridges rings (hole ∷ later) → LeadsTo rings b →
+    HaveBridges (after_join rings hole b) later
+have_next rings later hole b have leads =
+    let next = join (get_or rings b.ring []) b.place hole in
+    record {
+      full_rings = All-set (λ r. 0 < length r) rings b.ring next (omega (arith, length-join (get_or rings b.ring []) b.place hole)) have.full_rings;
+      full_holes = All-tail (λ h. 0 < length h) hole later have.full_holes;
+      some = λ h. omega (arith, length-set rings b.ring next, leads.ring);
+    }
+
+-- rings have places
+bridges_of_can : (rings holes : List (List ℕ)) → CanJoin rings holes → HaveBridges rings holes
+bridges_of_can rings holes can = record {
+  full_rings = All-weaker IsRing (λ r. 0 < length r) (λ r h. omega (arith, h.long)) rings can.ringy;
+  full_holes = All-weaker IsRing (λ r. 0 < length r) (λ r h. omega (arith, h.long)) holes can.ringy_holes;
+  some = can.some;
+}
+
 -- the next hole can be joined to them
 can_join_next : (rings later : List (List ℕ)) (hole : List ℕ) (b : Bridge) → CanJoin rings (hole ∷ later) → LeadsTo rings b →
     CanJoin (after_join rings hole b) later
@@ -128,7 +159,6 @@ can_join_next rings later hole b can leads =
 -- what joining keeps of rings and holes
 pub record Keeps (rings holes out : List (List ℕ)) : Type 0 where
   pub count : length out ≡ length rings
-  pub ringy : All IsRing out
   pub below : (n : ℕ) → All (λ r. All (λ v. v < n) r) rings → All (λ r. All (λ v. v < n) r) holes → All (λ r. All (λ v. v < n) r) out
   pub places : total (λ r. pos (length r)) out ≡ (total (λ r. pos (length r)) rings +ℤ total (λ r. pos (length r)) holes) +ℤ pos (2 * length holes)
   pub sums : (f : ℕ → ℕ → ℤ) → IsOdd f → total (once_round (along f)) out ≡ total (once_round (along f)) rings +ℤ total (once_round (along f)) holes
@@ -151,15 +181,13 @@ All-join P r i hole within some ring all =
     (All-drop P (i + 1) r ring)
 
 -- one hole more
-keeps_one : (rings later out : List (List ℕ)) (hole : List ℕ) (b : Bridge) → CanJoin rings (hole ∷ later) → LeadsTo rings b →
+keeps_one : (rings later out : List (List ℕ)) (hole : List ℕ) (b : Bridge) → 0 < length hole → LeadsTo rings b →
     Keeps (after_join rings hole b) later out → Keeps rings (hole ∷ later) out
-keeps_one rings later out hole b can leads k =
+keeps_one rings later out hole b some leads k =
     let ring = get_or rings b.ring [] in
     let next = join ring b.place hole in
-    let some : 0 < length hole = omega (arith, (All-head IsRing hole later can.ringy_holes).long) in
     record {
       count = k.count ∙ length-set rings b.ring next;
-      ringy = k.ringy;
       below = λ n all more.
           (let P : ℕ → Type 0 = λ v. v < n in
           let Q : List ℕ → Type 0 = λ r. All (λ v. v < n) r in
@@ -178,21 +206,30 @@ keeps_one rings later out hole b can leads k =
     }
 
 -- every hole joined
-pub joined_keeps : (at : Plane) (rings holes : List (List ℕ)) → CanJoin rings holes → Keeps rings holes (joined at rings holes)
-joined_keeps at rings [] can =
-    record { count = refl; ringy = can.ringy; below = λ n all more. all; places = omega (arith, ints); sums = λ f odd. omega (arith, ints) }
-joined_keeps at rings (hole ∷ later) can = by_bridge (chosen_bridge at rings hole later) refl (λ r c. joined_keeps at r later c)
+pub joined_keeps : (at : Plane) (rings holes : List (List ℕ)) → HaveBridges rings holes → Keeps rings holes (joined at rings holes)
+joined_keeps at rings [] have = record { count = refl; below = λ n all more. all; places = omega (arith, ints); sums = λ f odd. omega (arith, ints) }
+joined_keeps at rings (hole ∷ later) have = by_bridge (chosen_bridge at rings hole later) refl (λ r h. joined_keeps at r later h)
   where
     by_bridge : (o : Option Bridge) → chosen_bridge at rings hole later ≡ o →
-        ((r : List (List ℕ)) → CanJoin r later → Keeps r later (joined at r later)) →
+        ((r : List (List ℕ)) → HaveBridges r later → Keeps r later (joined at r later)) →
         Keeps rings (hole ∷ later) (joined at (bridged hole rings o) later)
-    by_bridge None e rest =
-        absurd (no_bridge at (vertex_at hole 0) (is_clear_bridge at rings hole later) rings (can.some (omega arith))
-        (All-weaker IsRing (λ r. 0 < length r) (λ r h. omega (arith, h.long)) rings can.ringy) e)
+    by_bridge None e rest = absurd (always_bridge at rings later hole have e)
     by_bridge (Some b) e rest =
         let leads = chosen_leads at (vertex_at hole 0) rings (is_clear_bridge at rings hole later) b e in
-        keeps_one rings later (joined at (after_join rings hole b) later) hole b can leads
-        (rest (after_join rings hole b) (can_join_next rings later hole b can leads))
+        keeps_one rings later (joined at (after_join rings hole b) later) hole b (All-head (λ h. 0 < length h) hole later have.full_holes) leads
+        (rest (after_join rings hole b) (have_next rings later hole b have leads))
+
+-- where no vertex of a hole stands anywhere else, the rings stay rings
+pub joined_ringy : (at : Plane) (rings holes : List (List ℕ)) → CanJoin rings holes → All IsRing (joined at rings holes)
+joined_ringy at rings [] can = can.ringy
+joined_ringy at rings (hole ∷ later) can = by_bridge (chosen_bridge at rings hole later) refl (λ r c. joined_ringy at r later c)
+  where
+    by_bridge : (o : Option Bridge) → chosen_bridge at rings hole later ≡ o →
+        ((r : List (List ℕ)) → CanJoin r later → All IsRing (joined at r later)) → All IsRing (joined at (bridged hole rings o) later)
+    by_bridge None e rest = absurd (always_bridge at rings later hole (bridges_of_can rings (hole ∷ later) can) e)
+    by_bridge (Some b) e rest =
+        let leads = chosen_leads at (vertex_at hole 0) rings (is_clear_bridge at rings hole later) b e in
+        rest (after_join rings hole b) (can_join_next rings later hole b can leads)
 
 -- the lists of which one list is made have what it has
 All-parts : (P : ℕ → Type 0) (ls : List (List ℕ)) → All P (concat ls) → All (λ l. All P l) ls
@@ -226,18 +263,29 @@ can_join at loops points f =
           ]);
     }
 
--- what joining makes of loops that can be filled
-pub is_joining : (at : Plane) (loops : List (List ℕ)) (points : ℕ) → AreFillable loops points →
-    IsJoining (settled_plane at loops) loops (join_holes (settled_plane at loops) loops) points
-is_joining at loops points f =
+-- there is a bridge for each hole among loops of three vertices or more
+have_bridges : (at : Plane) (loops : List (List ℕ)) → All (λ l. 3 ≤ length l) loops →
+    HaveBridges (ring_list (settled_plane at loops) loops) (hole_list (settled_plane at loops) loops)
+have_bridges at loops long =
+    let p = settled_plane at loops in
+    let some = All-weaker (λ l. 3 ≤ length l) (λ l. 0 < length l) (λ l h. omega (arith, h)) loops long in
+    record {
+      full_rings = All-kept (λ l. 0 < length l) (is_ring p) loops some;
+      full_holes = All-hole_list p (λ l. 0 < length l) (λ l h. subst (λ n. 0 < n) (sym (length-turned _ l)) h) loops some;
+      some = λ h. some_ring p loops (settled_up at loops) (omega (arith, h, length-hole_list p loops));
+    }
+
+-- what joining makes of any loops
+pub keeps_loops : (at : Plane) (loops : List (List ℕ)) (points : ℕ) → AreLoops loops points →
+    KeepsLoops (settled_plane at loops) loops (join_holes (settled_plane at loops) loops) points
+keeps_loops at loops points f =
     let p = settled_plane at loops in
     let out = join_holes p loops in
-    let k = joined_keeps p (ring_list p loops) (hole_list p loops) (can_join at loops points f) in
+    let k = joined_keeps p (ring_list p loops) (hole_list p loops) (have_bridges at loops f.long) in
     let Q : List ℕ → Type 0 = λ r. All (λ v. v < points) r in
     let below = All-parts (λ v. v < points) loops f.below in
     record {
       count = k.count;
-      ringy = k.ringy;
       below = k.below points (All-kept Q (is_ring p) loops below)
           (All-hole_list p Q
           (λ l h. All-append (λ v. v < points) (drop _ l) (take _ l) (All-drop (λ v. v < points) _ l h) (All-take (λ v. v < points) _ l h)) loops below);
@@ -252,4 +300,26 @@ is_joining at loops points f =
       );
       chain = λ g odd. total-flat_map (along g) round_edges out ∙ k.sums g odd
           ∙ told_total p (once_round (along g)) (λ l. round_turned (along g) _ l) loops ∙ sym (total-flat_map (along g) round_edges loops);
+    }
+
+-- loops that can be filled are such loops
+pub loops_of : (loops : List (List ℕ)) (points : ℕ) → AreFillable loops points → AreLoops loops points
+loops_of loops points f = record { long = f.long; below = f.below; few = f.few }
+
+-- and loops whose vertices differ can be filled
+pub fillable_of : (loops : List (List ℕ)) (points : ℕ) → AreLoops loops points → AreDifferent (concat loops) → AreFillable loops points
+fillable_of loops points f different = record { long = f.long; different = different; below = f.below; few = f.few }
+
+-- what joining makes of these
+pub is_joining : (at : Plane) (loops : List (List ℕ)) (points : ℕ) → AreFillable loops points →
+    IsJoining (settled_plane at loops) loops (join_holes (settled_plane at loops) loops) points
+is_joining at loops points f =
+    let p = settled_plane at loops in
+    let k = keeps_loops at loops points (loops_of loops points f) in
+    record {
+      count = k.count;
+      ringy = joined_ringy p (ring_list p loops) (hole_list p loops) (can_join at loops points f);
+      below = k.below;
+      places = k.places;
+      chain = k.chain;
     }

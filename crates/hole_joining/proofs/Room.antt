@@ -13,7 +13,7 @@ use Rattle.face_plane.specs.Rings.{vertex_at}
 use Rattle.hole_joining.specs.declared.bridge.Bridge.{Bridge}
 use Rattle.hole_joining.specs.Bridges.{edges_of, join, bridged, chosen_bridge, is_clear_bridge, joined_one}
 use Rattle.hole_joining.specs.Holes.{is_ring, ring_list, hole_list}
-use Rattle.hole_joining.specs.Laws.{AreFillable}
+use Rattle.hole_joining.specs.Laws.{AreLoops}
 use Rattle.hole_joining.specs.Room.{added}
 use Rattle.hole_joining.proofs.Choice.{chosen_leads}
 use Rattle.hole_joining.proofs.Turning.{length-turned}
@@ -92,8 +92,8 @@ all_within (l ∷ ls) n h =
 long_holes : (p : Plane) (loops : List (List ℕ)) → All (λ l. 3 ≤ length l) loops → All (λ l. 3 ≤ length l) (hole_list p loops)
 long_holes p loops long = All-hole_list p (λ l. 3 ≤ length l) (λ l h. subst (λ n. 3 ≤ n) (sym (length-turned _ l)) h) loops long
 
--- loops that can be filled leave room
-pub room : (p : Plane) (loops : List (List ℕ)) (points : ℕ) → AreFillable loops points →
+-- loops leave room
+pub room : (p : Plane) (loops : List (List ℕ)) (points : ℕ) → AreLoops loops points →
     All (λ r. length r + added (hole_list p loops) ≤ 100000000) (ring_list p loops)
 room p loops points f =
     let rings = ring_list p loops in let holes = hole_list p loops in
@@ -105,7 +105,7 @@ room p loops points f =
     All-weaker (λ r. length r ≤ length (concat rings)) (λ r. length r + added holes ≤ 100000000) (λ r h. omega (arith, h, few)) rings
     (all_within rings (length (concat rings)) (omega arith))
 
-pub has_room : (p : Plane) (loops rings holes : List (List ℕ)) (points : ℕ) → AreFillable loops points → rings ≡ ring_list p loops →
+pub has_room : (p : Plane) (loops rings holes : List (List ℕ)) (points : ℕ) → AreLoops loops points → rings ≡ ring_list p loops →
     holes ≡ hole_list p loops → All (λ r. length r + added holes < 2 ^ 32) rings
 has_room p loops rings holes points f e g =
     subst (λ (rs : List (List ℕ)). All (λ r. length r + added holes < 2 ^ 32) rs) (sym e)
@@ -113,12 +113,12 @@ has_room p loops rings holes points f e g =
     (λ r h. omega (arith, h, ap added g)) (ring_list p loops) (room p loops points f))
 
 -- and no ring or hole is empty
-pub some_rings : (p : Plane) (loops : List (List ℕ)) (points : ℕ) → AreFillable loops points → All (λ r. 0 < length r) (ring_list p loops)
+pub some_rings : (p : Plane) (loops : List (List ℕ)) (points : ℕ) → AreLoops loops points → All (λ r. 0 < length r) (ring_list p loops)
 some_rings p loops points f =
     All-weaker (λ r. 3 ≤ length r) (λ r. 0 < length r) (λ r h. omega (arith, h)) (ring_list p loops)
     (All-kept (λ (l : List ℕ). 3 ≤ length l) (is_ring p) loops f.long)
 
-pub some_holes : (p : Plane) (loops : List (List ℕ)) (points : ℕ) → AreFillable loops points → All (λ h. 0 < length h) (hole_list p loops)
+pub some_holes : (p : Plane) (loops : List (List ℕ)) (points : ℕ) → AreLoops loops points → All (λ h. 0 < length h) (hole_list p loops)
 some_holes p loops points f =
     All-weaker (λ r. 3 ≤ length r) (λ r. 0 < length r) (λ r h. omega (arith, h)) (hole_list p loops) (long_holes p loops f.long)
 
@@ -127,8 +127,8 @@ length-edges : (ls : List (List ℕ)) → length (edges_of ls) ≡ length (conca
 length-edges [] = refl
 length-edges (l ∷ ls) = omega (arith, length-append (round_edges l) (edges_of ls), length-append l (concat ls), length-round_edges l, length-edges ls)
 
--- loops that can be filled have few edges
-pub few_edges : (p : Plane) (loops rings holes : List (List ℕ)) (points : ℕ) → AreFillable loops points → rings ≡ ring_list p loops →
+-- loops have few edges
+pub few_edges : (p : Plane) (loops rings holes : List (List ℕ)) (points : ℕ) → AreLoops loops points → rings ≡ ring_list p loops →
     holes ≡ hole_list p loops → length (edges_of rings ++ edges_of holes) ≤ most_halfedges
 few_edges p loops rings holes points f e g =
     let told = told_total p (λ r. pos (length r)) (λ l. ap pos (length-turned _ l)) loops in

@@ -14,8 +14,14 @@ use Rattle.hole_joining.specs.Holes.{ring_count, hole_count}
 abbrev pub settled_in : ℕ → List (List ℤ) → List (List ℕ) → Plane
 settled_in drop_axis points loops = settled_plane (plane_of drop_axis (point_at points)) loops
 
--- loops that can be filled: each has three vertices or more; all vertices of all loops are different, each has one of
--- so many points, and there are at most 60,000,000 of them
+-- loops whose holes can be joined: each has three vertices or more, each vertex has one of so many points, and there are at
+-- most 60,000,000; one vertex may stand in them more than once
+pub record AreLoops (loops : List (List ℕ)) (points : ℕ) : Type 0 where
+  pub long : All (λ loop. 3 ≤ length loop) loops
+  pub below : All (λ v. v < points) (concat loops)
+  pub few : length (concat loops) ≤ most_halfedges
+
+-- loops that can be filled: those, where all vertices of all loops are different
 pub record AreFillable (loops : List (List ℕ)) (points : ℕ) : Type 0 where
   pub long : All (λ loop. 3 ≤ length loop) loops
   pub different : AreDifferent (concat loops)
@@ -30,9 +36,15 @@ HasPlaces at loops rings = length (concat rings) ≡ length (concat loops) + 2 *
 abbrev pub KeepsAreas : Plane → List (List ℕ) → List (List ℕ) → Type 0
 KeepsAreas at loops rings = total (area at) rings ≡ total (area at) loops
 
--- what joining makes of the loops: one ring for each loop of area at least 0, with neighbours that differ and three
--- different vertices, each of which has a point; two places for each hole beside those of the loops; the same sums of
--- every odd function, so the boundary and the area of the loops
+-- what joining makes of any loops: one ring for each loop of area at least 0, each vertex of which has a point; two places
+-- for each hole beside those of the loops; the same sums of every odd function, so the boundary and the area of the loops
+pub record KeepsLoops (at : Plane) (loops rings : List (List ℕ)) (points : ℕ) : Type 0 where
+  pub count : length rings ≡ ring_count at loops
+  pub below : All (λ ring. All (λ v. v < points) ring) rings
+  pub places : HasPlaces at loops rings
+  pub chain : SameChain (flat_map round_edges rings) (flat_map round_edges loops)
+
+-- what it makes of loops that can be filled: the same, and neighbours that differ and three different vertices in each ring
 pub record IsJoining (at : Plane) (loops rings : List (List ℕ)) (points : ℕ) : Type 0 where
   pub count : length rings ≡ ring_count at loops
   pub ringy : All IsRing rings

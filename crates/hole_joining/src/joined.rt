@@ -1,12 +1,13 @@
 // Every hole of a face joined.
 ghost use Rattle.std.specs.Prelude.{◌≡◌, ◌<◌, IfOk, length};
-ghost use Rattle.std.specs.List.{flat_map};
+ghost use Rattle.std.specs.List.{All, concat, flat_map};
 ghost use Rattle.chain_terms.specs.Paths.{round_edges};
+ghost use Rattle.face_loops.specs.Segments.{AreDifferent};
 ghost use Rattle.face_plane.specs.Keeping.{AreRings, KeepsChain};
 ghost use Rattle.face_plane.specs.Planes.{is_turned, plane_of, point_at};
 ghost use Rattle.hole_joining.specs.Bridges.{join_holes};
 ghost use Rattle.hole_joining.specs.Holes.{ring_count};
-ghost use Rattle.hole_joining.specs.Laws.{AreFillable, HasPlaces, KeepsAreas, settled_in};
+ghost use Rattle.hole_joining.specs.Laws.{AreLoops, HasPlaces, KeepsAreas, settled_in};
 
 use crate::area::{areas_of, is_turned};
 use crate::circle::{circles_of, rings_of_circles};
@@ -30,8 +31,8 @@ pub struct Joined {
 
 /// The rings of a face: its loops in the plane that drops an axis, with every hole joined to a ring.
 ///
-/// Each loop has three vertices or more, all vertices of all loops are different, each has a point, and there are at most
-/// 60,000,000. Where the doubled areas of all loops add up to less than 0, u and v are exchanged. Then a loop of area at
+/// Each loop has three vertices or more, each vertex has a point, and there are at most 60,000,000; a vertex may stand twice,
+/// also in one loop. Where the doubled areas of all loops add up to less than 0, u and v are exchanged. Then a loop of area at
 /// least 0 is a ring, and one of area below 0 is a hole. A hole starts at the vertex that lies farthest along u; where
 /// several do, at the one of them farthest along v; where these have one point, at the one with the lowest number. Holes
 /// are joined in the same order of their starts. A bridge leads from the start to a place of a ring: the shortest that lies
@@ -48,7 +49,7 @@ pub fn join_holes(
     loops: &[Loop],
     points: &[Point],
 ) -> Result<Joined, NoMemory>
-    requires loops { AreFillable loops.now (length points.now) }
+    requires loops { AreLoops loops.now (length points.now) }
     requires drop { plane.drop < 3 }
     ensures rings { IfOk result (λ j. j.rings.items ≡ join_holes (settled_in plane.drop points.now loops.now) loops.now) }
     ensures turned { IfOk result (λ j. j.turned ≡ is_turned (plane_of plane.drop (point_at points.now)) loops.now) }
@@ -57,8 +58,10 @@ pub fn join_holes(
     ensures count { IfOk result (λ j. length j.rings.items ≡ ring_count (settled_in plane.drop points.now loops.now) loops.now) }
     ensures places { IfOk result (λ j. HasPlaces (settled_in plane.drop points.now loops.now) loops.now j.rings.items) }
 
-    // Each ring has different neighbours and three different vertices, each with a point.
-    ensures proper { IfOk result (λ j. AreRings (length points.now) j.rings.items) }
+    // Each vertex of the rings has a point. Where all vertices of all loops are different, each ring has different neighbours
+    // and three different vertices.
+    ensures below { IfOk result (λ j. All (λ ring. All (λ v. v < length points.now) ring) j.rings.items) }
+    ensures proper { IfOk result (λ j. AreDifferent (concat loops.now) → AreRings (length points.now) j.rings.items) }
 
     // The rings have the boundary of the loops, and doubled areas with the same sum; and so has every odd function.
     ensures keeps { IfOk result (λ j. KeepsChain (flat_map round_edges j.rings.items) (flat_map round_edges loops.now)) }

@@ -3,8 +3,8 @@
 //! one list of places goes round both. The rings that are left can be cut into triangles one by one.
 //!
 //! `join_holes` gives the rings that the definition of the same name names. They have the boundary and the areas of the
-//! loops, neighbours that differ and three different vertices each, however the points lie: equal, on a line, or with loops
-//! that cross.
+//! loops, also where a vertex stands twice. Where all vertices are different, they have neighbours that differ and three
+//! different vertices each, however the points lie: equal, on a line, or with loops that cross.
 #![tactic(auto)]
 
 mod area;

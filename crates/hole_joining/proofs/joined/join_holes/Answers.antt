@@ -3,12 +3,13 @@ use Rattle.std.specs.Prelude.{int_lt}
 use Rattle.std.specs.List.{All, flat_map}
 use Rattle.chain_terms.specs.Paths.{round_edges}
 use Rattle.chain_laws.specs.Chains.{boundary_same}
-use Rattle.face_plane.specs.Planes.{Plane, exchanged, plane_of, point_at, face_plane, is_turned}
+use Rattle.face_plane.specs.Keeping.{AreRings}
+use Rattle.face_plane.specs.Planes.{Plane, exchanged, plane_of, point_at, face_plane, is_turned, settled_plane}
 use Rattle.hole_joining.specs.Holes.{ring_list, hole_list}
 use Rattle.hole_joining.specs.Bridges.{joined, join_holes}
-use Rattle.hole_joining.specs.Laws.{AreFillable, IsJoining, settled_in}
+use Rattle.hole_joining.specs.Laws.{AreFillable, AreLoops, KeepsLoops, settled_in}
 use Rattle.hole_joining.proofs.Areas.{areas_kept}
-use Rattle.hole_joining.proofs.Keeps.{is_joining}
+use Rattle.hole_joining.proofs.Keeps.{fillable_of, is_joining, keeps_loops}
 use Rattle.hole_joining.proofs.Room.{few_edges, has_room, some_rings, some_holes}
 use Rattle.hole_joining.proofs.joined.join_holes.Goals as goal
 
@@ -34,11 +35,16 @@ made drop_axis points loops rings holes now t turned e f g =
     all_joined (face_plane drop_axis t points) loops rings holes now e f g ∙ ap (λ p. join_holes p loops) same
 
 -- what is kept of them
-kept : (drop_axis : ℕ) (points : List (List ℤ)) (loops now : List (List ℕ)) → AreFillable loops (length points) →
-    now ≡ join_holes (settled_in drop_axis points loops) loops → IsJoining (settled_in drop_axis points loops) loops now (length points)
+kept : (drop_axis : ℕ) (points : List (List ℤ)) (loops now : List (List ℕ)) → AreLoops loops (length points) →
+    now ≡ join_holes (settled_in drop_axis points loops) loops → KeepsLoops (settled_in drop_axis points loops) loops now (length points)
 kept drop_axis points loops now fits e =
-    subst (λ (r : List (List ℕ)). IsJoining (settled_in drop_axis points loops) loops r (length points)) (sym e)
-    (is_joining (plane_of drop_axis (point_at points)) loops (length points) fits)
+    subst (λ (r : List (List ℕ)). KeepsLoops (settled_in drop_axis points loops) loops r (length points)) (sym e)
+    (keeps_loops (plane_of drop_axis (point_at points)) loops (length points) fits)
+
+-- of loops that can be filled
+joined_rings : (at : Plane) (loops : List (List ℕ)) (points : ℕ) → AreFillable loops points →
+    AreRings points (join_holes (settled_plane at loops) loops)
+joined_rings at loops points f = let all = is_joining at loops points f in record { ringy = all.ringy; below = all.below }
 
 pub returns-clause-rings : goal.returns-clause-rings
 returns-clause-rings c =
@@ -57,10 +63,17 @@ pub returns-clause-places : goal.returns-clause-places
 returns-clause-places c =
     (kept c.args.plane.drop c.args.points.now c.args.loops.now c.in_ok-rings-2.rings.items c.requires.loops (returns-clause-rings c)).places
 
+pub returns-clause-below : goal.returns-clause-below
+returns-clause-below c =
+    (kept c.args.plane.drop c.args.points.now c.args.loops.now c.in_ok-rings-2.rings.items c.requires.loops (returns-clause-rings c)).below
+
 pub returns-clause-proper : goal.returns-clause-proper
-returns-clause-proper c =
-    let all = kept c.args.plane.drop c.args.points.now c.args.loops.now c.in_ok-rings-2.rings.items c.requires.loops (returns-clause-rings c) in
-    record { ringy = all.ringy; below = all.below }
+returns-clause-proper c different =
+    let drop_axis = c.args.plane.drop in
+    let points = c.args.points.now in
+    let loops = c.args.loops.now in
+    subst (AreRings (length points)) (sym (returns-clause-rings c))
+    (joined_rings (plane_of drop_axis (point_at points)) loops (length points) (fillable_of loops (length points) c.requires.loops different))
 
 pub returns-clause-keeps : goal.returns-clause-keeps
 returns-clause-keeps c =

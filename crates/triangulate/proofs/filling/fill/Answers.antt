@@ -48,7 +48,7 @@ made c =
     subst (λ (at : Plane). IfOk c.cut_all.result (λ f. f ≡ cuts at (rings_of c))) plane c.cut_all.ensures
 
 laws : (c : goal.After-cut_all) → AreCuttings (plane_at c) (length c.args.points.now) (rings_of c) (cuts (plane_at c) (rings_of c))
-laws c = cuttings (plane_at c) (length c.args.points.now) (rings_of c) c.in_ok-joined.ensures.proper.ringy c.in_ok-joined.ensures.proper.below
+laws c = cuttings (plane_at c) (length c.args.points.now) (rings_of c) (c.in_ok-joined.ensures.proper c.requires.loops.different).ringy c.in_ok-joined.ensures.below
 
 pub returns-clause-value : goal.returns-clause-value
 returns-clause-value c =
