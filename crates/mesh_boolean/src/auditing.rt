@@ -6,8 +6,10 @@
 // Triangles are gathered by their source faces in linear time, and each face is compared by a sort of its edges and
 // segments; a face that nothing crosses takes the short way of fillings, where its triangles are copies of it. Every
 // vertex that is prescribed occurs among the vertices of a mesh, so there are no more of them than points of a mesh,
-// and their numbers fit. That it says yes of what an operation gives is the contract of a function that puts the two
-// together (`audit_of_result`): the clauses of both give it, and no code of either is opened.
+// and their numbers fit. That it says yes of what an operation gives follows from clauses, and no code is opened:
+// those of `boolean` that `results_are_sound` names make an outcome sound, and of a sound one an audit says yes by
+// `sound` of `audit`. `audit_of_result` makes the two calls one after the other, and its proof is just this; its own
+// clause, that the answer is yes, names neither.
 ghost use Rattle.std.specs.Prelude.{◌≡◌, ◌↔◌, ◌<◌, ◌≤◌, IfOk, IsTrue, length};
 ghost use Rattle.std.specs.List.{All};
 ghost use Rattle.mesh_boolean.specs.Assembly.{AreNumbers};

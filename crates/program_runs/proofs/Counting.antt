@@ -1,16 +1,16 @@
--- The steps that a run counts.
+-- The sums that a run counts.
 use Rattle.std.proofs.Common.{◌≡◌, ◌≤◌, ◌+◌, ◌∙◌, ℕ, ℤ, Bool, IsTrue, List, Option, Some, ap, arith, refl}
 use Rattle.mesh_terms.specs.Limits.{Limits}
 use Rattle.run_terms.specs.Files.{Bytes, Files}
 use Rattle.play_terms.specs.Words.{Command, InsideFile, IsInside, RunScript}
-use Rattle.program_runs.specs.Points.{steps_of_point}
+use Rattle.program_runs.specs.Points.{sums_of_point}
 use Rattle.program_runs.specs.declared.status.Status.{Status}
 use Rattle.program_runs.specs.declared.status.Status.TheVariants as statuses
 use Rattle.script_runs.specs.Costs.{script_cost}
 use Rattle.script_runs.specs.Operations as operations
 use Rattle.program_runs.specs.Running.{IsCounted}
 
-point_once : (status : Status) → steps_of_point status ≤ 1
+point_once : (status : Status) → sums_of_point status ≤ 1
 point_once statuses.Done = omega arith
 point_once statuses.Usage = omega arith
 point_once statuses.BadScript = omega arith
@@ -21,7 +21,7 @@ point_once statuses.ReadFault = omega arith
 point_once statuses.WriteFault = omega arith
 point_once statuses.NoMemory = omega arith
 
-point_none : (status : Status) → (status ≡ statuses.Done → ⊥) → (status ≡ statuses.WriteFault → ⊥) → steps_of_point status ≡ 0
+point_none : (status : Status) → (status ≡ statuses.Done → ⊥) → (status ≡ statuses.WriteFault → ⊥) → sums_of_point status ≡ 0
 point_none statuses.Done done written = absurd (done refl)
 point_none statuses.Usage done written = refl
 point_none statuses.BadScript done written = refl
@@ -33,7 +33,7 @@ point_none statuses.WriteFault done written = absurd (written refl)
 point_none statuses.NoMemory done written = refl
 
 module _ (limits : Limits) (tells : Bool) (files : Files) where
-  -- where no step is counted, no number of a point was said
+  -- where no sum is counted, no number of a point was said
   pub none_counted : (what : Option Command) (n : ℕ) (status : Status) → (IsInside what → status ≡ statuses.Done → ⊥) → IsCounted limits what tells files n n status
   none_counted what n status other = record {
     copies_uncounted = λ _. refl;
@@ -44,11 +44,11 @@ module _ (limits : Limits) (tells : Bool) (files : Files) where
   }
 
   -- a point counts one where its number was found
-  pub point_counted : (k : ℕ) (file : Bytes) (point : List ℤ) (before now : ℕ) (status : Status) → now ≡ before + steps_of_point status
+  pub point_counted : (k : ℕ) (file : Bytes) (point : List ℤ) (before now : ℕ) (status : Status) → now ≡ before + sums_of_point status
       → IsCounted limits (Some (InsideFile k file point)) tells files before now status
   point_counted k file point before now status is = record {
     copies_uncounted = λ copy. let wrong = copy.3 in absurd cc;
-    counted = λ _ done. is ∙ ap (λ s. before + steps_of_point s) done;
+    counted = λ _ done. is ∙ ap (λ s. before + sums_of_point s) done;
     most = λ _. omega (arith, is, point_once status);
     cost = λ _. omega (arith, is, point_once status);
     uncounted = λ _ done written. let none = point_none status done written in omega (arith, is, none);

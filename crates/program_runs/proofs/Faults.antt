@@ -9,7 +9,8 @@ use Rattle.play_terms.specs.Program.{play}
 use Rattle.run_terms.specs.Files.{Bytes, Grew}
 use Rattle.run_terms.specs.Meets.{Faults, Meets, ReadRose, Refused, Rises, Seen, Starved, Unread, Unsaid, Unwritten, Why}
 use Rattle.run_terms.specs.Tasks.{Refusal, NoCommand, FaultyScript, NoFile, FaultyText, OpenEdge, FaultyStep, PastLimit, Task}
-use Rattle.play_terms.specs.Ends.{ReadFailed, RiseWith, refusal_status, ended_status}
+use Rattle.play_terms.specs.Ends.{ReadFailed, RiseWith, refusal_status, ended_line, ended_status}
+use Rattle.play_terms.specs.Lines.{report_fault, write_fault}
 use Rattle.program_runs.specs.Statuses.{IsDoneOrStarved, status_number}
 use Rattle.program_runs.specs.declared.status.Status.{Status}
 use Rattle.program_runs.specs.declared.status.Status.TheVariants as statuses
@@ -73,6 +74,21 @@ failed_write statuses.Limit is = absurd cc
 failed_write statuses.ReadFault is = absurd cc
 failed_write statuses.WriteFault is = refl
 failed_write statuses.NoMemory is = absurd cc
+
+-- with status 7 the output failed, and the line is that of the report, or it did not, and the line is that of a file
+pub blamed : (status : Status) (ended : Result (Unit {0}) Why) (tells : Bool) (before now : Faults) (Told : Bytes → Type 0) → status ≡ statuses.WriteFault
+    → status_number status ≡ ended_status ended → Rises tells before now ended → before.out < 2 ^ 64 - 1 → Told (ended_line ended)
+    → ((before.out < now.out) × Told report_fault) ⊎ ((now.out ≡ before.out) × ((name : Bytes) × Told (write_fault name)))
+blamed status ended tells before now Told is number rises outs told = by ended (ap status_number (sym is) ∙ number) rises told
+  where
+    by : (ended : Result (Unit {0}) Why) → 7 ≡ ended_status ended → Rises tells before now ended → Told (ended_line ended)
+        → ((before.out < now.out) × Told report_fault) ⊎ ((now.out ≡ before.out) × ((name : Bytes) × Told (write_fault name)))
+    by (Ok done) is rises told = absurd cc
+    by (Err (Refused why)) is rises told = let few = refused_below_six why in absurd (omega (arith, few, is))
+    by (Err (Unread name)) is rises told = absurd cc
+    by (Err (Unwritten name)) is rises told = inr (rises.3, (name, told))
+    by (Err Unsaid) is rises told = inl (rose before.out now.out outs rises.0, told)
+    by (Err Starved) is rises told = absurd cc
 
 -- a count that stayed did not rise
 stayed : (before now : ℕ) → before < 2 ^ 64 - 1 → now ≡ before → Grew before now → ⊥

@@ -8,7 +8,7 @@ use Rattle.mesh_files.specs.Halts.{IsHaltOfCopy, IsHaltOfInside, IsUnreadAt, hal
 use Rattle.mesh_files.specs.declared.halt.Halt.{Halt}
 use Rattle.mesh_files.specs.declared.halt.Halt.TheVariants.{At, Reporting, NoMemory as Starved}
 use Rattle.run_terms.specs.Files.{Bytes}
-use Rattle.program_runs.specs.Points.{steps_in, steps_of_point}
+use Rattle.program_runs.specs.Points.{sums_in, sums_of_point}
 use Rattle.program_runs.specs.Statuses.{status_number}
 use Rattle.program_runs.specs.declared.status.Status.{Status}
 use Rattle.program_runs.specs.declared.status.Status.TheVariants as status
@@ -46,12 +46,12 @@ inside_worded file (Err (At name stop)) halts is =
 inside_worded file (Err Reporting) halts is = cc
 inside_worded file (Err Starved) halts is = cc
 
--- ---- the steps of a point by its status
+-- ---- the sums of a point by its status
 
-abbrev steps_by : ℕ → ℕ
-steps_by n = if n == 0 then 1 else if n == 7 then 1 else 0
+abbrev sums_by : ℕ → ℕ
+sums_by n = if n == 0 then 1 else if n == 7 then 1 else 0
 
-by_number : (status : Status) → steps_of_point status ≡ steps_by (status_number status)
+by_number : (status : Status) → sums_of_point status ≡ sums_by (status_number status)
 by_number status.Done = refl
 by_number status.Usage = refl
 by_number status.BadScript = refl
@@ -62,31 +62,31 @@ by_number status.ReadFault = refl
 by_number status.WriteFault = refl
 by_number status.NoMemory = refl
 
-unread_steps : (name : Bytes) (stop : Stop) → IsTrue (is_reading_stop stop) → steps_by (why_status (why_of name stop)) ≡ 0
-unread_steps name Usage reads = cc
-unread_steps name (BadScript line kind) reads = cc
-unread_steps name (BadStep line kind) reads = cc
-unread_steps name Missing reads = refl
-unread_steps name (BadText line kind) reads = refl
-unread_steps name (BadEdge from to) reads = refl
-unread_steps name (Over what seen) reads = refl
-unread_steps name ReadFault reads = refl
-unread_steps name WriteFault reads = cc
-unread_steps name NoMemory reads = refl
+unread_sums : (name : Bytes) (stop : Stop) → IsTrue (is_reading_stop stop) → sums_by (why_status (why_of name stop)) ≡ 0
+unread_sums name Usage reads = cc
+unread_sums name (BadScript line kind) reads = cc
+unread_sums name (BadStep line kind) reads = cc
+unread_sums name Missing reads = refl
+unread_sums name (BadText line kind) reads = refl
+unread_sums name (BadEdge from to) reads = refl
+unread_sums name (Over what seen) reads = refl
+unread_sums name ReadFault reads = refl
+unread_sums name WriteFault reads = cc
+unread_sums name NoMemory reads = refl
 
 -- where its mesh was not read, no number was found
-pub unread_none : (file : Bytes) (halt : Halt) → IsUnreadAt file halt → steps_in (Err halt) ≡ 0
+pub unread_none : (file : Bytes) (halt : Halt) → IsUnreadAt file halt → sums_in (Err halt) ≡ 0
 unread_none file (At name stop) unread = refl
 unread_none file Reporting unread = absurd unread
 unread_none file Starved unread = absurd unread
 
 -- the status tells whether the number was found
 pub found_by_status : (file : Bytes) (ended : Result (Unit {0}) Halt) (status : Status) → IfErr ended (IsHaltOfInside file) → status_number status ≡ ended_status (halted ended)
-    → steps_in ended ≡ steps_of_point status
-found_by_status file (Ok done) status halts is = sym (by_number status ∙ ap steps_by is)
-found_by_status file (Err (At name stop)) status halts is = sym (by_number status ∙ ap steps_by is ∙ unread_steps name.now stop reads)
+    → sums_in ended ≡ sums_of_point status
+found_by_status file (Ok done) status halts is = sym (by_number status ∙ ap sums_by is)
+found_by_status file (Err (At name stop)) status halts is = sym (by_number status ∙ ap sums_by is ∙ unread_sums name.now stop reads)
   where
     reads : IsTrue (is_reading_stop stop)
     reads = elim halts [ inl unread ↦ unread.1 | inr later ↦ elim later [ inl unsaid ↦ cc | inr starved ↦ cc ] ]
-found_by_status file (Err Reporting) status halts is = sym (by_number status ∙ ap steps_by is)
-found_by_status file (Err Starved) status halts is = sym (by_number status ∙ ap steps_by is)
+found_by_status file (Err Reporting) status halts is = sym (by_number status ∙ ap sums_by is)
+found_by_status file (Err Starved) status halts is = sym (by_number status ∙ ap sums_by is)

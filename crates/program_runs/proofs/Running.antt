@@ -21,7 +21,7 @@ use Rattle.mesh_files.specs.declared.halt.Halt.{Halt}
 use Rattle.mesh_files.specs.declared.halt.Halt.TheVariants as halt
 use Rattle.program_runs.proofs.Halts.{copy_worded, inside_worded}
 use Rattle.program_runs.specs.Commands.{IsEnded}
-use Rattle.program_runs.specs.Points.{steps_of_point}
+use Rattle.program_runs.specs.Points.{sums_of_point}
 use Rattle.program_runs.specs.Statuses.{status_number}
 use Rattle.program_runs.specs.Windings.{windings}
 use Rattle.program_runs.specs.declared.status.Status.{Status}
@@ -55,7 +55,7 @@ module _ {S O E : Type 0} (s : OfShelf S) (o : OfSink O) (e : OfSink E) (limits 
       → ((ended : Result (Unit {0}) Halt) → IfErr ended MayHalt → ended_status (halted ended) ≡ 1 → ⊥) → IsCounted limits (Some command) (s.tells old.0)
       (s.files old.0) before now status
       → IsRunOf s o e limits words old new before now status
-  command_run command MayHalt asked ends no_words steps =
+  command_run command MayHalt asked ends no_words sums =
       let worded : status ≡ statuses.Usage → ⊥ = λ is. no_words ends.ended ends.met.halts (sym ends.told.0 ∙ ap status_number is) in
       let P : Option Command → Type 0 = λ w. IsRunOf s o e limits w old new before now status in
       subst P (sym asked)
@@ -66,12 +66,12 @@ module _ {S O E : Type 0} (s : OfShelf S) (o : OfSink O) (e : OfSink E) (limits 
         untouched = λ is. absurd (worded is);
         quiet = ends.quiet;
         play = (halted ends.ended, ends.met.meets, ends.told);
-        steps = steps;
+        sums = sums;
       })
 
   pub point_run : (k : ℕ) (file : Bytes) (point : List ℤ) → words ≡ Some (InsideFile k file point) →
       IsEnded s o e (inside_task k windings limits file point) (IsHaltOfInside file) old new status
-      → now ≡ before + steps_of_point status → IsRunOf s o e limits words old new before now status
+      → now ≡ before + sums_of_point status → IsRunOf s o e limits words old new before now status
   point_run k file point asked ends counted =
       command_run (InsideFile k file point) (IsHaltOfInside file) asked ends (inside_worded file)
       (point_counted limits (s.tells old.0) (s.files old.0) k file point before now status counted)
@@ -83,21 +83,21 @@ module _ {S O E : Type 0} (s : OfShelf S) (o : OfSink O) (e : OfSink E) (limits 
       command_run (RunScript k script) (IsHaltOfScript script) asked ends (script_worded script)
       (script_counted limits (s.tells old.0) (s.files old.0) k script before now status cost)
 
-module _ {S O E : Type 0} (s : OfShelf S) (o : OfSink O) (e : OfSink E) (limits : Limits) (words : Option Command) (steps : ℕ) where
+module _ {S O E : Type 0} (s : OfShelf S) (o : OfSink O) (e : OfSink E) (limits : Limits) (words : Option Command) (sums : ℕ) where
   pub copy_run : (k : ℕ) (from to : Bytes) (old new : S × O × E) (status : Status) → words ≡ Some (CopyFile k from to)
-      → IsEnded s o e (copy_task k limits from to) (IsHaltOfCopy from to) old new status → IsRunOf s o e limits words old new steps steps status
+      → IsEnded s o e (copy_task k limits from to) (IsHaltOfCopy from to) old new status → IsRunOf s o e limits words old new sums sums status
   copy_run k from to old new status asked ends =
-      command_run s o e limits words old new steps steps status (CopyFile k from to) (IsHaltOfCopy from to) asked ends (copy_worded from to)
-      (none_counted limits (s.tells old.0) (s.files old.0) (Some (CopyFile k from to)) steps status (λ inside _. let wrong = inside.3 in absurd cc))
+      command_run s o e limits words old new sums sums status (CopyFile k from to) (IsHaltOfCopy from to) asked ends (copy_worded from to)
+      (none_counted limits (s.tells old.0) (s.files old.0) (Some (CopyFile k from to)) sums status (λ inside _. let wrong = inside.3 in absurd cc))
 
   -- words of no command are refused
   pub refused_run : (shelf : S) (out : O) (err told : E) → words ≡ None → IsReported usage (on_output e err) (on_output e told)
-      → IsRunOf s o e limits words (shelf, out, err) (shelf, out, told) steps steps statuses.Usage
+      → IsRunOf s o e limits words (shelf, out, err) (shelf, out, told) sums sums statuses.Usage
   refused_run shelf out err told none line =
       let now = seen_of s o shelf out in
       let refused : Meets (command_task meanings limits None) now now (Err (Refused NoCommand)) =
       record { tells = refl; faults = refl; does = λ t. record { gives = refl; all_done = refl } } in
-      let P : Option Command → Type 0 = λ w. IsRunOf s o e limits w (shelf, out, err) (shelf, out, told) steps steps statuses.Usage in
+      let P : Option Command → Type 0 = λ w. IsRunOf s o e limits w (shelf, out, err) (shelf, out, told) sums sums statuses.Usage in
       subst P (sym none)
       (record {
         usage = λ _. refl;
@@ -106,12 +106,12 @@ module _ {S O E : Type 0} (s : OfShelf S) (o : OfSink O) (e : OfSink E) (limits 
         untouched = λ _. (refl, refl);
         quiet = λ is. absurd cc;
         play = (Err (Refused NoCommand), refused, (refl, line));
-        steps = none_counted limits (s.tells shelf) (s.files shelf) None steps statuses.Usage (λ _ is. cc);
+        sums = none_counted limits (s.tells shelf) (s.files shelf) None sums statuses.Usage (λ _ is. cc);
       })
 
   -- where memory is wanting to read the words, nothing is done
   pub unread_words_run : (shelf : S) (out : O) (err told : E) → IsReported no_memory (on_output e err) (on_output e told)
-      → IsRunOf s o e limits words (shelf, out, err) (shelf, out, told) steps steps statuses.NoMemory
+      → IsRunOf s o e limits words (shelf, out, err) (shelf, out, told) sums sums statuses.NoMemory
   unread_words_run shelf out err told line = record {
     usage = λ is. absurd cc;
     no_command = λ _. inr refl;
@@ -119,5 +119,5 @@ module _ {S O E : Type 0} (s : OfShelf S) (o : OfSink O) (e : OfSink E) (limits 
     untouched = λ is. absurd cc;
     quiet = λ is. absurd cc;
     play = (Err Starved, meets_starved (command_task meanings limits words) (seen_of s o shelf out), (refl, line));
-    steps = none_counted limits (s.tells shelf) (s.files shelf) words steps statuses.NoMemory (λ _ is. cc);
+    sums = none_counted limits (s.tells shelf) (s.files shelf) words sums statuses.NoMemory (λ _ is. cc);
   }

@@ -10,13 +10,14 @@ use Rattle.play_terms.specs.ReadingBack.{CopiesReadable, WritesReadable, digits_
 use Rattle.play_terms.specs.Words.{Command, CopyFile, Given, InsideFile, RunScript, after_end, before_end, command, command_by, command_with, copy_of}
 use Rattle.play_terms.specs.Words.{digits_of, given, inside_at, inside_of, run_of, with_more}
 use Rattle.play_laws.proofs.ReadingBack.{copy_keeps, inside_keeps, mesh_given}
+use Rattle.geometric_laws.specs.Laws.{ScriptsAreGeometric}
 use Rattle.operation_laws.specs.Laws.{OperationsAreReadable}
 use Rattle.operation_laws.specs.Results.{ScriptsGiveResults, ScriptsRemesh}
 use Rattle.play_terms.specs.Program.{command_task}
 use Rattle.play_laws.proofs.ScriptsReadingBack.{meshes_kept, script_keeps}
 use Rattle.program_runs.specs.Windings.{windings}
 use Rattle.program_runs.specs.Playing.{meanings}
-use Rattle.program_runs.specs.Results.{CommandGivesResults, CommandKeepsMeshes, CommandRemeshes}
+use Rattle.program_runs.specs.Results.{CommandGivesResults, CommandIsGeometric, CommandKeepsMeshes, CommandRemeshes}
 
 -- ---- the digits of words are at most 6
 
@@ -109,6 +110,13 @@ gives_results limits None lawful few law = tt
 gives_results limits (Some (CopyFile k from to)) lawful few law = tt
 gives_results limits (Some (InsideFile k file point)) lawful few law = tt
 gives_results limits (Some (RunScript k script)) lawful few law = law k limits few lawful script
+
+-- what they keep under exact kernels, by the law of that
+pub gives_geometric : (limits : Limits) (what : Option Command) → IsLawful limits → digits_in what ≤ 6 → ScriptsAreGeometric → CommandIsGeometric limits what
+gives_geometric limits None lawful few law = tt
+gives_geometric limits (Some (CopyFile k from to)) lawful few law = tt
+gives_geometric limits (Some (InsideFile k file point)) lawful few law = tt
+gives_geometric limits (Some (RunScript k script)) lawful few law = law k limits few lawful script
 
 -- and what remeshing keeps, by the law of that
 pub remeshes : (limits : Limits) (what : Option Command) → IsLawful limits → digits_in what ≤ 6 → ScriptsRemesh → CommandRemeshes limits what

@@ -1,4 +1,4 @@
--- The most steps that a run counts.
+-- The most sums that a run counts.
 use Rattle.std.specs.Prelude.{ℕ, List, Option, Some, None}
 use Rattle.mesh_terms.specs.Limits.{Limits}
 use Rattle.run_terms.specs.Files.{Bytes, Files}

@@ -1,13 +1,15 @@
 -- A run against the task of its words.
-use Rattle.std.specs.Prelude.{◌≡◌, ℕ, List, IsTrue, Result, Ok}
+use Rattle.std.specs.Prelude.{◌≡◌, ◌<◌, ◌⊎◌, ℕ, List, IsTrue, Result, Ok}
 use Rattle.mesh_terms.specs.Limits.{Limits}
 use Rattle.run_terms.specs.Files.{Bytes}
 use Rattle.run_terms.specs.Meets.{Why}
 use Rattle.run_terms.specs.Tasks.{Task}
 use Rattle.play_terms.specs.Ends.{RiseWith}
+use Rattle.play_terms.specs.Lines.{report_fault, write_fault}
 use Rattle.mb_outside.specs.Seen.{MeetsOn, on_output, seen_of}
 use Rattle.mb_outside.specs.declared.shelf.Shelf.{Ghosts as OfShelf}
 use Rattle.mb_outside.specs.declared.sink.Sink.{Ghosts as OfSink}
+use Rattle.report_lines.specs.Reports.{IsReported}
 use Rattle.program_runs.specs.Endings.{TellsAs}
 use Rattle.program_runs.specs.Windings.{windings}
 use Rattle.play_terms.specs.Program.{Meanings, play}
@@ -30,6 +32,12 @@ RunMeets s o e limits words old new status = MeetsAs s o e (play meanings limits
 -- the status is that of some end, whose line was told on standard error
 abbrev pub TellsEnd : {E : Type 0} → OfSink E → E → E → ℕ → Type 0
 TellsEnd e old new status = (ended : Result (Unit {0}) Why) × TellsAs ended status (on_output e old) (on_output e new)
+
+-- the output failed, and the line told on standard error is that of the report; or it did not, and the line is that of a file
+abbrev pub TellsUnwritten : {O E : Type 0} → OfSink O → OfSink E → O × E → O × E → Type 0
+TellsUnwritten o e old new =
+    ((o.faults old.0 < o.faults new.0) × IsReported report_fault (on_output e old.1) (on_output e new.1))
+    ⊎ ((o.faults new.0 ≡ o.faults old.0) × ((name : Bytes) × IsReported (write_fault name) (on_output e old.1) (on_output e new.1)))
 
 -- the counts rise with the status
 abbrev pub RiseOn : {S O : Type 0} → OfShelf S → OfSink O → S × O → S × O → ℕ → Type 0

@@ -13,19 +13,20 @@ use Rattle.report_lines.specs.Reports.{IsReported}
 use Rattle.program_runs.specs.Statuses.{IsDoneOrStarved, IsUsageOrStarved, status_number}
 use Rattle.program_runs.specs.declared.status.Status.{Status}
 use Rattle.program_runs.specs.declared.status.Status.TheVariants.{Done, Usage, WriteFault}
-use Rattle.program_runs.specs.Playing.{IsUntroubled, RiseOn, TellsEnd, meanings}
-use Rattle.program_runs.specs.Results.{CommandGivesResults, CommandKeepsMeshes, CommandRemeshes}
+use Rattle.program_runs.specs.Playing.{IsUntroubled, RiseOn, TellsEnd, TellsUnwritten, meanings}
+use Rattle.program_runs.specs.Results.{CommandGivesResults, CommandIsGeometric, CommandKeepsMeshes, CommandRemeshes}
 use Rattle.program_runs.specs.Running.{IsRunOf}
 
--- whatever the files, how what the play writes is read again, what the names of a script hold, what its operations give, and what remeshing keeps
+-- whatever the files, how what the play writes is read again, what the names of a script hold, what its operations give and keep, and what remeshing keeps
 pub record IsSoundPlay (limits : Limits) (words : List Bytes) : Type 0 where
   pub mesh_back : CopiesReadable limits (command words)
   pub back : (files : Files) → All (WritesReadable (digits_in (command words)) limits) (play meanings limits words files).actions
   pub held : CommandKeepsMeshes limits (command words)
   pub results : CommandGivesResults limits (command words)
+  pub geometric : CommandIsGeometric limits (command words)
   pub remeshed : CommandRemeshes limits (command words)
 
--- a run on these words over a shelf, an output and standard error, with its steps and its status
+-- a run on these words over a shelf, an output and standard error, with its sums and its status
 pub record IsSoundRun {S O E : Type 0} (s : OfShelf S) (o : OfSink O) (e : OfSink E) (limits : Limits) (words : List Bytes) (old new : S × O × E)
     (before now : ℕ) (status : Status) : Type 0 where
   pub run : IsRunOf s o e limits (command words) old new before now status
@@ -42,3 +43,4 @@ pub record IsHeard {O E : Type 0} (o : OfSink O) (e : OfSink E) (words : List By
   pub quiet : status ≡ Done → new.1 ≡ old.1
   pub told : TellsEnd e old.1 new.1 (status_number status)
   pub outs : (status ≡ WriteFault → ⊥) → o.faults new.0 ≡ o.faults old.0
+  pub blamed : status ≡ WriteFault → TellsUnwritten o e old new

@@ -1,5 +1,6 @@
--- What the operations of a command give, what remeshing keeps, and what its names hold.
+-- What the operations of a command give and keep, what remeshing keeps, and what its names hold.
 use Rattle.std.specs.Prelude.{Option, Some, None}
+use Rattle.geometric_laws.specs.Laws.{GivesGeometric}
 use Rattle.mesh_terms.specs.Limits.{Limits}
 use Rattle.operation_laws.specs.Results.{GivesRemeshed, GivesResults}
 use Rattle.play_terms.specs.Words.{Command, CopyFile, InsideFile, RunScript}
@@ -12,6 +13,13 @@ CommandGivesResults limits None = Unit {0}
 CommandGivesResults limits (Some (CopyFile k from to)) = Unit {0}
 CommandGivesResults limits (Some (InsideFile k file p)) = Unit {0}
 CommandGivesResults limits (Some (RunScript k script)) = GivesResults k limits script
+
+-- and, where these lines chose exact kernels, an operation keeps the vertices of its meshes by their geometric winding numbers
+abbrev pub CommandIsGeometric : Limits → Option Command → Type 0
+CommandIsGeometric limits None = Unit {0}
+CommandIsGeometric limits (Some (CopyFile k from to)) = Unit {0}
+CommandIsGeometric limits (Some (InsideFile k file p)) = Unit {0}
+CommandIsGeometric limits (Some (RunScript k script)) = GivesGeometric k limits script
 
 -- and what remeshing keeps holds of the mesh of each name
 abbrev pub CommandRemeshes : Limits → Option Command → Type 0

@@ -15,7 +15,7 @@ use Rattle.program_runs.specs.declared.status.Status.TheVariants.{Done, Usage, W
 use Rattle.program_runs.specs.Counting.{command_cost}
 use Rattle.program_runs.specs.Playing.{MeetsAs, meanings}
 
--- its steps, of which there were so many before and are so many now
+-- its sums, of which there were so many before and are so many now
 pub record IsCounted (limits : Limits) (what : Option Command) (tells : Bool) (files : Files) (before now : ℕ) (status : Status) : Type 0 where
   pub copies_uncounted : IsCopy what → now ≡ before
   pub counted : IsInside what → status ≡ Done → now ≡ before + 1
@@ -32,4 +32,4 @@ pub record IsRunOf {S O E : Type 0} (s : OfShelf S) (o : OfSink O) (e : OfSink E
   pub untouched : status ≡ Usage → (new.0 ≡ old.0) × (new.1 ≡ old.1)
   pub quiet : status ≡ Done → new.2 ≡ old.2
   pub play : MeetsAs s o e (command_task meanings limits what) old new (status_number status)
-  pub steps : IsCounted limits what (s.tells old.0) (s.files old.0) before now status
+  pub sums : IsCounted limits what (s.tells old.0) (s.files old.0) before now status

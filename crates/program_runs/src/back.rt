@@ -5,8 +5,10 @@ ghost use Rattle.play_terms.specs.Words.{command};
 ghost use Rattle.play_terms.specs.Program.{play};
 ghost use Rattle.run_terms.specs.Files.{Files};
 ghost use Rattle.program_runs.specs.Playing.{meanings};
-ghost use Rattle.program_runs.specs.Results.{CommandGivesResults, CommandKeepsMeshes, CommandRemeshes};
+ghost use Rattle.program_runs.specs.Promises.{IsSoundPlay};
+ghost use Rattle.program_runs.specs.Results.{CommandGivesResults, CommandIsGeometric, CommandKeepsMeshes, CommandRemeshes};
 
+use geometric_laws::laws::operations_are_geometric;
 use mb_base::{ArgList, Limits};
 use operation_laws::laws::{operations_are_readable, operations_are_results};
 
@@ -23,13 +25,24 @@ pub fn plays_are_readable(limits: &Limits, words: &ArgList)
     operations_are_readable();
 }
 
-/// Whatever lines of the script that the words ask for were done, over whatever files, an operation on the meshes of two names is a result of these, and
-/// remeshing keeps of the mesh of a name what it says. The contract is this law, and the call does nothing.
+/// Whatever lines of the script that the words ask for were done, over whatever files, an operation on the meshes of two names is a result of these, which
+/// under exact kernels keeps their vertices by their geometric winding numbers, and remeshing keeps of the mesh of a name what it says. The contract is this
+/// law, and the call does nothing.
 pub fn plays_give_results(limits: &Limits, words: &ArgList)
     ensures results { CommandGivesResults limits.now (command words.now) }
+    ensures geometric { CommandIsGeometric limits.now (command words.now) }
     ensures remeshed { CommandRemeshes limits.now (command words.now) }
 {
-    // The limits are lawful, and the law of operations in scripts.
+    // The limits are lawful, and the laws of operations in scripts.
     let _ = limits.file_bytes();
     operations_are_results();
+    operations_are_geometric();
+}
+
+/// All of it. The contract is this law, and the call does nothing.
+pub fn plays_are_sound(limits: &Limits, words: &ArgList)
+    ensures { IsSoundPlay limits.now words.now }
+{
+    plays_are_readable(limits, words);
+    plays_give_results(limits, words);
 }

@@ -12,54 +12,56 @@ ghost use Rattle.program_runs.specs.Commands.{IsEnded, IsMet};
 
 use crate::ending::concluded;
 use crate::status::Status;
-use mb_base::Limits;
 use mb_outside::{Shelf, Sink};
 use mesh_files::{Halt, Read, ask, write};
 use report_lines::say_copied;
-use std::alloc::Global;
+use script_runs::Settings;
 
 /// Reads a mesh from one file, saves it to another, and reports that on the output. It stops at the first thing that goes wrong: as the
-/// first file is read, as the second is written, which alone is a `WriteFault` at a file, or as it reports; one line on `err` tells it. `digits`
-/// are the decimal digits of a unit on the grid, in both files. The mesh that is read is read again of what is saved, with its unused points
+/// first file is read, as the second is written, which alone is a `WriteFault` at a file, or as it reports; one line on `err` tells it. The digits
+/// of the settings are those of a unit on the grid, in both files. The mesh that is read is read again of what is saved, with its unused points
 /// left out.
 pub fn copy<'a, S: Shelf, O: Sink, E: Sink>(
-    alloc: Global,
+    settings: &Settings<'_>,
     from: &'a str,
     to: &'a str,
-    digits: u8,
-    limits: &Limits,
     shelf: &mut S,
     out: &mut O,
     err: &mut E,
 ) -> Status
-    requires digits { digits ≤ 6 }
+    requires digits { settings.now.digits ≤ 6 }
     requires errs { E.faults err.old < 2 ^ 64 - 1 }
-    ensures ends { IsEnded S.Shelf O.Sink E.Sink (copy_task digits limits.now from.now to.now) (IsHaltOfCopy from.now to.now)
+    ensures ends { IsEnded S.Shelf O.Sink E.Sink (copy_task settings.now.digits settings.now.limits.now from.now to.now) (IsHaltOfCopy from.now to.now)
         (shelf.old, out.old, err.old) (shelf.new, out.new, err.new) result }
-    ensures mesh_back { GivesReadable digits limits.now from.now }
-    ensures back { (files : Files) → All (WritesReadable digits limits.now) (copy_task digits limits.now from.now to.now files).actions }
+    ensures mesh_back { GivesReadable settings.now.digits settings.now.limits.now from.now }
+    ensures back { (files : Files) → All (WritesReadable settings.now.digits settings.now.limits.now)
+        (copy_task settings.now.digits settings.now.limits.now from.now to.now files).actions }
 {
-    let ended = copied(alloc, from, to, digits, limits, shelf, out);
+    let ended = copied(settings, from, to, shelf, out);
     concluded(ended, err)
 }
 
 // The copy, and where it stopped.
 fn copied<'a, S: Shelf, O: Sink>(
-    alloc: Global,
+    settings: &Settings<'_>,
     from: &'a str,
     to: &'a str,
-    digits: u8,
-    limits: &Limits,
     shelf: &mut S,
     out: &mut O,
 ) -> Result<(), Halt<'a>>
-    requires digits { digits ≤ 6 }
-    ensures met { IsMet S.Shelf O.Sink (copy_task digits limits.now from.now to.now) (IsHaltOfCopy from.now to.now)
+    requires digits { settings.now.digits ≤ 6 }
+    ensures met { IsMet S.Shelf O.Sink (copy_task settings.now.digits settings.now.limits.now from.now to.now) (IsHaltOfCopy from.now to.now)
         (shelf.old, out.old) (shelf.new, out.new) result }
-    ensures lawful { IsLawful limits.now }
+    ensures lawful { IsLawful settings.now.limits.now }
 {
-    let read = ask(alloc, from, digits, limits, shelf)?;
-    written(&read, to, digits, shelf, out)
+    let read = ask(
+        settings.alloc,
+        from,
+        settings.digits,
+        settings.limits,
+        shelf,
+    )?;
+    written(&read, to, settings.digits, shelf, out)
 }
 
 // Saves the mesh that was read, and reports that. Here the mesh is borrowed, so that no early return has to let it go.

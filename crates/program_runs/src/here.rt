@@ -17,9 +17,10 @@ use std::alloc::{AllocError, Global};
 use std::rt::Files;
 use std::sync::ledger::{Blank, Ledger};
 
-/// The program over the current folder, which counts its steps for nobody. What the folder holds can't be told. So of a run it says what needs no told
-/// files: the status with its line on `err`; that the faults of `out` rise with status 7 alone; and of the play of the words, whatever the files, how
-/// what it writes is read again, what its operations give, and what remeshing keeps.
+/// The program over the current folder, which counts its sums for nobody. What the folder holds can't be told. So of a run it says what needs no told
+/// files: the status with its line on `err`; that the faults of `out` rise with status 7 alone, and then the line is that of the report, and where they
+/// do not, that of a file; and of the play of the words, whatever the files, how what it writes is read again, what its operations give, and what
+/// remeshing keeps.
 pub fn start_here<R: Files, O: Sink, E: Sink, L: Ledger>(
     rt: &R,
     alloc: Global,
@@ -41,8 +42,8 @@ pub fn start_here<R: Files, O: Sink, E: Sink, L: Ledger>(
 {
     keep_freed(alloc);
     let mut shelf = FolderShelf::of(rt);
-    let mut steps = Steps::<L>::over(blank);
-    start(alloc, words, &mut shelf, out, err, &mut steps)
+    let mut sums = Steps::<L>::over(blank);
+    start(alloc, words, &mut shelf, out, err, &mut sums)
 }
 
 // How many bytes are asked for and given back: a little less than 2^25, up to which the C library of Linux learns from what

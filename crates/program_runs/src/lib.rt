@@ -4,11 +4,9 @@
 
 mod back;
 mod copying;
-mod dispatch;
 mod ending;
 mod here;
 mod locating;
-mod scripted;
 mod starting;
 mod status;
 mod top_call;
@@ -17,7 +15,7 @@ mod words;
 pub use copying::copy;
 pub use ending::concluded;
 pub use here::start_here;
-pub use locating::inside;
+pub use locating::{Sought, inside};
 pub use starting::start;
 pub use status::{Status, status_at};
 pub use top_call::run;

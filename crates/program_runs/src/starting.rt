@@ -25,20 +25,20 @@ pub fn start<S: Shelf, O: Sink, E: Sink, L: Ledger>(
     shelf: &mut S,
     out: &mut O,
     err: &mut E,
-    steps: &mut Steps<L>,
+    sums: &mut Steps<L>,
 ) -> Status
     requires reads { S.read_faults shelf.old < 2 ^ 64 - 1 }
     requires writes { S.write_faults shelf.old < 2 ^ 64 - 1 }
     requires outs { O.faults out.old < 2 ^ 64 - 1 }
     requires errs { E.faults err.old < 2 ^ 64 - 1 }
     ensures run { IfOk words (λ words. IsSoundRun S.Shelf O.Sink E.Sink program_limits words
-        (shelf.old, out.old, err.old) (shelf.new, out.new, err.new) steps.old steps.new result) }
+        (shelf.old, out.old, err.old) (shelf.new, out.new, err.new) sums.old sums.new result) }
     ensures status { IfErr words (λ stop. status_number result ≡ why_status (why_of [] stop)) }
     ensures report { IfErr words (λ stop. IsReported (why_line (why_of [] stop)) (on_output E.Sink err.old) (on_output E.Sink err.new)) }
-    ensures alone { IfErr words (λ _. (shelf.new ≡ shelf.old) × (out.new ≡ out.old) × (steps.new ≡ steps.old)) }
+    ensures alone { IfErr words (λ _. (shelf.new ≡ shelf.old) × (out.new ≡ out.old) × (sums.new ≡ sums.old)) }
 {
     match words {
-        Ok(words) => run(alloc, &words, &Limits::program(), shelf, out, err, steps),
+        Ok(words) => run(alloc, &words, &Limits::program(), shelf, out, err, sums),
         Err(stop) => {
             tell_stop("", &stop, err);
             status_at(&stop)

@@ -1,5 +1,4 @@
 pub mod Faults
-pub mod Jobs
 pub mod Names
 pub mod Operands
 pub mod Polygons

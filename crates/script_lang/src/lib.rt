@@ -20,7 +20,6 @@ ghost use Rattle.script_lang.specs.Faults.{IsFaultOf};
 mod commands;
 mod corners;
 mod fault;
-mod jobs;
 mod motions;
 mod names;
 mod operands;
@@ -32,7 +31,6 @@ mod words;
 
 pub use corners::Corners2;
 pub use fault::ScriptFault;
-pub use jobs::Job;
 use reading::Reading;
 use std::alloc::Global;
 pub use steps::{Line, Script, Step, Word};

@@ -1,13 +1,10 @@
 // The steps of a script.
-ghost use Rattle.std.specs.Prelude.{◌≡◌, [], false, map, option_copied};
+ghost use Rattle.std.specs.Prelude.{◌≡◌, [], map, option_copied};
 ghost use Rattle.play_terms.specs.Sound.{AreSound};
-ghost use Rattle.play_terms.specs.Steps.{Make, Move, draws, new_kind, new_name};
-ghost use Rattle.script_lang.specs.Jobs.{job_step};
+ghost use Rattle.play_terms.specs.Steps.{new_kind, new_name};
 ghost use Rattle.script_lang.specs.Steps.{line_of, step_of};
 
 use crate::corners::Corners2;
-use crate::jobs::Job;
-use made_terms::{Motion, Solid};
 use mb_base::{Op, Point};
 use play_terms::HeldKind;
 use std::marker::Model;
@@ -181,108 +178,6 @@ impl<'a> Step<'a> {
             Step::Polygon { .. } | Step::Combine2 { .. } => HeldKind::Outline,
             _ => HeldKind::Mesh,
         }
-    }
-
-    /// What the step does, by the names and files in it, where that is not to make an outline.
-    pub fn job(&self) -> Job<'a>
-        requires { draws (step_of self.now) ≡ false }
-        ensures { job_step result ≡ step_of self.now }
-    {
-        match self {
-            Step::Load { name, file } => Job::Load {
-                name: name.as_str(),
-                file: file.as_str(),
-            },
-            Step::Save { name, file } => Job::Save {
-                name: name.as_str(),
-                file: file.as_str(),
-            },
-            Step::Measure { name } => Job::Measure {
-                name: name.as_str(),
-            },
-            Step::Combine {
-                op,
-                name,
-                left,
-                right,
-            } => Job::Combine {
-                op: *op,
-                name: name.as_str(),
-                left: left.as_str(),
-                right: right.as_str(),
-            },
-            Step::MakeBox { name, low, high } => made(name, Solid::Box(*low, *high)),
-            Step::MakeTetra { name, at, size } => made(name, Solid::Tetra(*at, *size)),
-            Step::MakePrism {
-                name,
-                at,
-                size,
-                height,
-            } => made(name, Solid::Prism(*at, *size, *height)),
-            Step::MakeLattice { name, n, seed } => made(name, Solid::Lattice(*n, *seed)),
-            Step::Shift { name, source, by } => moved(name, source, Motion::Shift(*by)),
-            Step::Scale {
-                name,
-                source,
-                factor,
-            } => moved(name, source, Motion::Scale(*factor)),
-            Step::Mirror { name, source, axis } => moved(name, source, Motion::Mirror(*axis)),
-            Step::Turn { name, source, axis } => moved(name, source, Motion::Turn(*axis)),
-            Step::Tidy { name, source } => Job::Tidy {
-                name: name.as_str(),
-                source: source.as_str(),
-            },
-            Step::Remesh { name, source } => Job::Remesh {
-                name: name.as_str(),
-                source: source.as_str(),
-            },
-            // A step with a list of its own.
-            Step::Polygon { .. } => unreachable!(),
-            Step::Combine2 {
-                op,
-                name,
-                left,
-                right,
-            } => Job::Combine2 {
-                op: *op,
-                name: name.as_str(),
-                left: left.as_str(),
-                right: right.as_str(),
-            },
-            Step::Extrude {
-                name,
-                source,
-                low,
-                high,
-            } => Job::Extrude {
-                name: name.as_str(),
-                source: source.as_str(),
-                low: *low,
-                high: *high,
-            },
-            Step::Exact => Job::Exact,
-        }
-    }
-}
-
-// A name gets a solid.
-fn made<'a>(name: &Word<'a>, solid: Solid) -> Job<'a>
-    ensures { job_step result ≡ Make name.now solid }
-{
-    Job::Make {
-        name: name.as_str(),
-        solid,
-    }
-}
-
-// A name gets the mesh of another after a motion.
-fn moved<'a>(name: &Word<'a>, source: &Word<'a>, motion: Motion) -> Job<'a>
-    ensures { job_step result ≡ Move name.now source.now motion }
-{
-    Job::Move {
-        name: name.as_str(),
-        source: source.as_str(),
-        motion,
     }
 }
 

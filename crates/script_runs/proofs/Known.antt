@@ -36,14 +36,14 @@ held_keeps step name h old new is kind now w =
     by false = refl
 
 -- a mesh, or an outline
-pub mesh_keeps : {X Y : Type 0} (r : Result X Y) (old new : Named) {step job : Step} {name : Bytes} → step ≡ job → new_name job ≡ Some name → new_kind job ≡ held.Mesh →
-    OnOk r (IsNamed name old new) → OnOk r (KeepsNames step old new)
-mesh_keeps r old new {step} {job} {name} same is kind done =
+pub mesh_keeps : {X Y : Type 0} (r : Result X Y) (old new : Named) {step other : Step} {name : Bytes} → step ≡ other → new_name other ≡ Some name
+    → new_kind other ≡ held.Mesh → OnOk r (IsNamed name old new) → OnOk r (KeepsNames step old new)
+mesh_keeps r old new {step} {other} {name} same is kind done =
     on_ok_weaker r (λ so. held_keeps step name (OfMesh so.0) old new (ap new_name same ∙ is) (ap (λ s. Some (new_kind s)) same ∙ ap Some kind) so.1) done
 
-pub outline_keeps : {X Y : Type 0} (r : Result X Y) (old new : Named) {step job : Step} {name : Bytes} → step ≡ job → new_name job ≡ Some name → new_kind job ≡ held.Outline →
-    OnOk r (IsOutlined name old new) → OnOk r (KeepsNames step old new)
-outline_keeps r old new {step} {job} {name} same is kind done =
+pub outline_keeps : {X Y : Type 0} (r : Result X Y) (old new : Named) {step other : Step} {name : Bytes} → step ≡ other → new_name other ≡ Some name
+    → new_kind other ≡ held.Outline → OnOk r (IsOutlined name old new) → OnOk r (KeepsNames step old new)
+outline_keeps r old new {step} {other} {name} same is kind done =
     on_ok_weaker r (λ so. held_keeps step name (OfOutline so.0) old new (ap new_name same ∙ is) (ap (λ s. Some (new_kind s)) same ∙ ap Some kind) so.1) done
 
 -- where a step gives no name anything, names that stay are kept
@@ -85,10 +85,10 @@ has_taken named before step known sound =
     (λ t is. holds t.0 (named t.1) (known t.1 t.0 (kind_is t.0 (given_kind t.1 before) is))) _ sound.given
 
 -- a step that takes one name, or two, has what it takes
-pub taken_one : (named : Named) {step job : Step} {t : HeldKind × Bytes} → step ≡ job → taken job ≡ t ∷ [] → HasTaken named step → Holds t.0 (named t.1)
+pub taken_one : (named : Named) {step other : Step} {t : HeldKind × Bytes} → step ≡ other → taken other ≡ t ∷ [] → HasTaken named step → Holds t.0 (named t.1)
 taken_one named {t = t} same is has = let P : HeldKind × Bytes → Type 0 = λ t. Holds t.0 (named t.1) in All-head P t [] (subst (All P) (ap taken same ∙ is) has)
 
-pub taken_two : (named : Named) {step job : Step} {t u : HeldKind × Bytes} → step ≡ job → taken job ≡ t ∷ u ∷ [] → HasTaken named step →
+pub taken_two : (named : Named) {step other : Step} {t u : HeldKind × Bytes} → step ≡ other → taken other ≡ t ∷ u ∷ [] → HasTaken named step →
     Holds t.0 (named t.1) × Holds u.0 (named u.1)
 taken_two named {t = t} {u} same is has =
     let P : HeldKind × Bytes → Type 0 = λ t. Holds t.0 (named t.1) in

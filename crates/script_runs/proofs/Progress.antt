@@ -1,4 +1,4 @@
--- How far a script has come: the lines that are done, the names, and the steps that were counted.
+-- How far a script has come: the lines that are done, the names, and the sums that were counted.
 use Rattle.std.proofs.Common.{◌≡◌, ◌+◌, ◌<◌, ◌≤◌, ◌++◌, ℕ, Bool, List, [], ◌∷◌, length, get_or, take, drop, Ok, Err, IsTrue, refl, ap, sym, subst, ◌∙◌, arith}
 use Rattle.std.proofs.lemmas.List.{drop_more, take_more}
 use Rattle.mb_base.specs.declared.kernel_kind.KernelKind.{KernelKind}
@@ -30,18 +30,18 @@ module _ (means : KernelKind → Meanings) (k : ℕ) (limits : Limits) (script :
   cost_of ls s files = lines_cost means k limits script ls s files
 
   -- so many lines are done, with this state after them
-  pub record HasDone (at : ℕ) (after : State) (here : Seen) (steps : ℕ) : Type 0 where
+  pub record HasDone (at : ℕ) (after : State) (here : Seen) (sums : ℕ) : Type 0 where
     pub far : SoFar whole start (in_order doing (drop at lines) after) here
     pub tells : here.tells ≡ start.tells
     pub sound : AreSound (take at lines) (drop at lines)
     pub known : AreNamed after.named (take at lines)
-    pub spent : IsTrue start.tells → steps + cost_of (drop at lines) after here.world.files ≤ old + cost_of lines state start.world.files
+    pub spent : IsTrue start.tells → sums + cost_of (drop at lines) after here.world.files ≤ old + cost_of lines state start.world.files
 
   pub none_done : AreSound [] lines → HasDone 0 state start old
   none_done sound = record { far = begins whole start; tells = refl; sound = sound; known = none_named state.named; spent = λ told. omega arith }
 
   -- the next line, which is this one
-  module _ (at : ℕ) (l : Line) (after : State) (here : Seen) (steps : ℕ) (inside : at < length lines) (is : get_or lines at l ≡ l) (done : HasDone at after here steps) where
+  module _ (at : ℕ) (l : Line) (after : State) (here : Seen) (sums : ℕ) (inside : at < length lines) (is : get_or lines at l ≡ l) (done : HasDone at after here sums) where
     first : drop at lines ≡ l ∷ drop (at + 1) lines
     first = drop_more lines at l inside ∙ ap (λ (m : Line). m ∷ drop (at + 1) lines) is
 
@@ -62,7 +62,7 @@ module _ (means : KernelKind → Meanings) (k : ℕ) (limits : Limits) (script :
         cost_of (drop at lines) after files ≡ step_cost l.1 after.named + cost_after (doing l after files) files (λ b now. cost_of (drop (at + 1) lines) b now)
     cost_from files = ap (λ ls. cost_of ls after files) first
 
-    module _ (there : Seen) (now : ℕ) (most : now ≤ steps + step_cost l.1 after.named) where
+    module _ (there : Seen) (now : ℕ) (most : now ≤ sums + step_cost l.1 after.named) where
       -- the task of its step
       abbrev step : Task Named
       step = step_task (means after.kernels) k limits script l.0 l.1 after.named
@@ -109,8 +109,8 @@ module _ (means : KernelKind → Meanings) (k : ℕ) (limits : Limits) (script :
             }
 
   -- no line is left
-  pub ends : (at : ℕ) (after : State) (here : Seen) (steps : ℕ) → length lines ≤ at → HasDone at after here steps → Meets whole start here (Ok after)
-  ends at after here steps past done = all_done whole start here doing lines at after past done.far
+  pub ends : (at : ℕ) (after : State) (here : Seen) (sums : ℕ) → length lines ≤ at → HasDone at after here sums → Meets whole start here (Ok after)
+  ends at after here sums past done = all_done whole start here doing lines at after past done.far
 
-  pub end_spent : (at : ℕ) (after : State) (here : Seen) (steps : ℕ) → HasDone at after here steps → IsTrue start.tells → steps ≤ old + cost_of lines state start.world.files
-  end_spent at after here steps done told = omega (arith, done.spent told)
+  pub end_spent : (at : ℕ) (after : State) (here : Seen) (sums : ℕ) → HasDone at after here sums → IsTrue start.tells → sums ≤ old + cost_of lines state start.world.files
+  end_spent at after here sums done told = omega (arith, done.spent told)

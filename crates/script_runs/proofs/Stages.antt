@@ -2,16 +2,14 @@
 use Rattle.std.proofs.Common.{◌≡◌, ℕ, Result, Ok, Err, refl, sym, subst}
 use Rattle.mesh_terms.specs.Limits.{Limits}
 use Rattle.mesh_terms.specs.Meshes.{Mesh, Soup}
-use Rattle.mb_base.specs.declared.op.Op.{Op}
 use Rattle.mb_outside.specs.Seen.{OnOutput, OnShelf, OutputMeets, ShelfMeets, seen}
 use Rattle.play_terms.specs.Commands.{ask_mesh, say_line, write_mesh}
 use Rattle.run_terms.specs.Files.{Bytes}
 use Rattle.run_terms.specs.Meets.{Meets, Seen, Starved, Why}
-use Rattle.run_terms.specs.Tasks.{Task, give, then_task}
+use Rattle.run_terms.specs.Tasks.{Refusal, Task, give, then_task}
 use Rattle.play_laws.proofs.Tasks.{meets_given, meets_starved, meets_stop, meets_then}
-use Rattle.play_terms.specs.Combined.{Combined}
-use Rattle.play_terms.specs.ScriptLines.{combine_line, load_line, measure_line, remesh_line, save_line, tidy_line}
-use Rattle.play_terms.specs.Plays.{Held, Meanings, Named, OfMesh, combine_task, load_task, measure_task, mesh_at, remesh_task, save_task, tidy_task, with_held, with_name, within}
+use Rattle.play_terms.specs.ScriptLines.{load_line, measure_line, remesh_line, save_line, tidy_line}
+use Rattle.play_terms.specs.Plays.{Held, Meanings, Named, OfMesh, load_task, measure_task, remesh_task, save_task, tidy_task, with_held, with_name}
 use Rattle.tidy_terms.specs.Tidy.{tidied, tidy_mesh}
 
 -- the shelf and the output together
@@ -194,48 +192,41 @@ module _ (means : Meanings) (name old : Bytes) (of m : Mesh) (named : Named) (is
       → OutputMeets (remeshing of) out told (Ok after)
   remesh_named after same met = of_its_name (Ok after) (λ on. named_so remesh_says name (OfMesh (means.remeshing m).mesh) named on out told after same (says_met (Ok tt) met))
 
--- an operation on two meshes is within the limit, or not, or ended otherwise
-abbrev pub Operates : Limits → Combined → Result Combined Why → Type 0
-Operates limits o r = (now : Seen) → Meets (give (within limits o)) now now r
+-- a task without actions ended so: with what is given, with its refusal, or otherwise
+abbrev pub Ends : {A : Type 0} → Result A Refusal → Result A Why → Type 0
+Ends given r = (now : Seen) → Meets (give given) now now r
 
--- the meshes of two names, which are these, are combined
-module _ (means : Meanings) (limits : Limits) (op : Op) (name left right : Bytes) (p q : Mesh) (named : Named) (is_p : mesh_at named left ≡ p)
-    (is_q : mesh_at named right ≡ q) (out told : OnOutput) where
-  abbrev combining : Task Named
-  combining = combine_task means limits op name left right named
+-- what is given of operands is given of their equals
+pub for_one : {X A : Type 0} (f : X → Result A Refusal) {x p : X} (r : Result A Why) → x ≡ p → Ends (f p) r → Ends (f x) r
+for_one f r same ended = subst (λ z. Ends (f z) r) (sym same) ended
 
-  abbrev given : Combined
-  given = means.operation op (mesh_at named left) (mesh_at named right)
+pub for_two : {X A : Type 0} (f : X → X → Result A Refusal) {x y p q : X} (r : Result A Why) → x ≡ p → y ≡ q → Ends (f p q) r → Ends (f x y) r
+for_two f {x} {y} {p} {q} r is_p is_q ended =
+    subst (λ z. Ends (f z y) r) (sym is_p) (subst (λ z. Ends (f p z) r) (sym is_q) ended)
 
-  abbrev after_operation : Combined → Task Named
-  after_operation o = then_task (say_line (combine_line op name left right o)) (λ _. give (Ok (with_name name o.mesh named)))
+-- something is given, it is said, and a name gets it; or one of these was not done
+module _ {A : Type 0} (given : Result A Refusal) (line : A → Bytes) (gets : A → Held) (name : Bytes) (named : Named) (out told : OnOutput) where
+  abbrev saying : A → Task Named
+  saying a = then_task (say_line (line a)) (λ _. give (Ok (with_held name (gets a) named)))
 
-  -- the operation on the two is that of the names
-  of_names : (r : Result Combined Why) → Operates limits (means.operation op p q) r → Operates limits given r
-  of_names r operates =
-      let P : Mesh × Mesh → Type 0 = λ m. Operates limits (means.operation op m.0 m.1) r in
-      let same : (mesh_at named left, mesh_at named right) ≡ (p, q) = λ i. (is_p i, is_q i) in
-      subst P (sym same) operates
+  abbrev giving : Task Named
+  giving = then_task (give given) saying
 
-  pub combine_stopped : (why : Why) → Operates limits (means.operation op p q) (Err why) → OutputMeets combining out out (Err why)
-  combine_stopped why operates on =
-      meets_stop (give (within limits given)) after_operation why (beside on out) (beside on out) (of_names (Err why) operates (beside on out))
+  pub given_stopped : (why : Why) → Ends given (Err why) → OutputMeets giving out out (Err why)
+  given_stopped why ended on = meets_stop (give given) saying why (beside on out) (beside on out) (ended (beside on out))
 
-  pub combine_unsaid : (o : Combined) (why : Why) → Operates limits (means.operation op p q) (Ok o) →
-      OutputMeets (say_line (combine_line op name left right o)) out told (Err why)
-      → OutputMeets combining out told (Err why)
-  combine_unsaid o why operates line on =
-      meets_then (give (within limits given)) after_operation o (Err why) (beside on out) (beside on out) (beside on told) (of_names (Ok o) operates (beside on out))
-      (unsaid (combine_line op name left right o) name (OfMesh o.mesh) named on out told why line)
+  pub given_unsaid : (a : A) (why : Why) → Ends given (Ok a) → OutputMeets (say_line (line a)) out told (Err why) → OutputMeets giving out told (Err why)
+  given_unsaid a why ended met on =
+      meets_then (give given) saying a (Err why) (beside on out) (beside on out) (beside on told) (ended (beside on out))
+      (unsaid (line a) name (gets a) named on out told why met)
 
-  pub combine_unnamed : (o : Combined) → Operates limits (means.operation op p q) (Ok o) → OutputMeets (say_line (combine_line op name left right o)) out told (Ok tt)
-      → OutputMeets combining out told (Err Starved)
-  combine_unnamed o operates line on =
-      meets_then (give (within limits given)) after_operation o (Err Starved) (beside on out) (beside on out) (beside on told) (of_names (Ok o) operates (beside on out))
-      (unnamed (combine_line op name left right o) name (OfMesh o.mesh) named on out told line)
+  pub given_unnamed : (a : A) → Ends given (Ok a) → OutputMeets (say_line (line a)) out told (Ok tt) → OutputMeets giving out told (Err Starved)
+  given_unnamed a ended met on =
+      meets_then (give given) saying a (Err Starved) (beside on out) (beside on out) (beside on told) (ended (beside on out))
+      (unnamed (line a) name (gets a) named on out told met)
 
-  pub combine_named : (o : Combined) (after : Named) → after ≡ with_name name o.mesh named → Operates limits (means.operation op p q) (Ok o)
-      → OutputMeets (say_line (combine_line op name left right o)) out told (Ok tt) → OutputMeets combining out told (Ok after)
-  combine_named o after is operates line on =
-      meets_then (give (within limits given)) after_operation o (Ok after) (beside on out) (beside on out) (beside on told) (of_names (Ok o) operates (beside on out))
-      (named_so (combine_line op name left right o) name (OfMesh o.mesh) named on out told after is line)
+  pub given_named : (a : A) (after : Named) → after ≡ with_held name (gets a) named → Ends given (Ok a) → OutputMeets (say_line (line a)) out told (Ok tt)
+      → OutputMeets giving out told (Ok after)
+  given_named a after is ended met on =
+      meets_then (give given) saying a (Ok after) (beside on out) (beside on out) (beside on told) (ended (beside on out))
+      (named_so (line a) name (gets a) named on out told after is met)

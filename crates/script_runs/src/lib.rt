@@ -15,6 +15,8 @@ mod outlining;
 mod remeshing;
 mod running;
 mod saving;
+mod settings;
 mod tidying;
 
 pub use running::run_script;
+pub use settings::Settings;

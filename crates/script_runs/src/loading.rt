@@ -7,31 +7,28 @@ ghost use Rattle.script_runs.specs.Names.{IsNamed, named_in};
 ghost use Rattle.play_terms.specs.Plays.{load_task};
 
 use crate::names::Names;
-use mb_base::Limits;
+use crate::settings::AtLine;
 use mb_outside::{Shelf, Sink};
 use mesh_files::{Halt, ask};
 use report_lines::say_loaded;
-use std::alloc::Global;
 
 /// Reads a mesh from a file, reports that on the output, and gives a name the mesh.
 pub fn load<'a, S: Shelf, O: Sink>(
-    alloc: Global,
+    at: &AtLine<'_, 'a>,
     name: &'a str,
     file: &'a str,
-    digits: u8,
-    limits: &Limits,
     names: &mut Names<'a>,
     shelf: &mut S,
     out: &mut O,
 ) -> Result<(), Halt<'a>>
-    requires digits { digits ≤ 6 }
-    ensures meets { MeetsOn S.Shelf O.Sink (load_task digits limits.now name.now file.now (named_in names.old))
+    requires digits { at.now.digits ≤ 6 }
+    ensures meets { MeetsOn S.Shelf O.Sink (load_task at.now.digits at.now.limits.now name.now file.now (named_in names.old))
         (shelf.old, out.old) (shelf.new, out.new) (halted_by (λ _. named_in names.new) result) }
     ensures halts { IfErr result IsHaltOfStep }
     ensures named { OnOk result (IsNamed name.now (named_in names.old) (named_in names.new)) }
     ensures kept { OnErr result (names.new ≡ names.old) }
 {
-    let read = ask(alloc, file, digits, limits, shelf)?;
+    let read = ask(at.alloc, file, at.digits, at.limits, shelf)?;
     say_loaded(name, file, &read.mesh, read.unused, out)?;
     names.define(name, read.mesh)?;
     Ok(())

@@ -9,10 +9,9 @@ ghost use Rattle.play_terms.specs.Plays.{make_task};
 ghost use Rattle.made_terms.specs.Making.{IsSolid};
 
 use crate::names::Names;
-use mb_base::Limits;
+use crate::settings::AtLine;
 use mesh_files::{Halt, Stop};
 use mesh_make::{MakeFault, Solid, make_solid};
-use std::alloc::Global;
 
 /// Where a script stops that makes no solid, or moves no mesh, on this line.
 pub fn halt_at<'a>(script: &'a str, line: u64, fault: MakeFault) -> Halt<'a>
@@ -30,24 +29,21 @@ pub fn halt_at<'a>(script: &'a str, line: u64, fault: MakeFault) -> Halt<'a>
 
 /// Gives a name the solid of a line of the script.
 pub fn make<'a>(
-    alloc: Global,
-    script: &'a str,
-    line: u64,
+    at: &AtLine<'_, 'a>,
     name: &'a str,
     solid: Solid,
-    limits: &Limits,
     names: &mut Names<'a>,
 ) -> Result<(), Halt<'a>>
     requires { IsSolid solid }
-    ensures meets { (now : Seen) → Meets (make_task limits.now script.now line name.now solid (named_in names.old)) now now
+    ensures meets { (now : Seen) → Meets (make_task at.now.limits.now at.now.script.now at.now.line name.now solid (named_in names.old)) now now
         (halted_by (λ _. named_in names.new) result) }
     ensures halts { IfErr result IsHaltOfStep }
     ensures named { OnOk result (IsNamed name.now (named_in names.old) (named_in names.new)) }
     ensures kept { OnErr result (names.new ≡ names.old) }
 {
-    let mesh = match make_solid(alloc, solid, limits) {
+    let mesh = match make_solid(at.alloc, solid, at.limits) {
         Ok(mesh) => mesh,
-        Err(fault) => return Err(halt_at(script, line, fault)),
+        Err(fault) => return Err(halt_at(at.script, at.line, fault)),
     };
     names.define(name, mesh)?;
     Ok(())

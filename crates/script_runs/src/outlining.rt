@@ -19,10 +19,12 @@ ghost use Rattle.script_runs.specs.Operations.{meanings};
 ghost use Rattle.rounding.specs.Nearest.{settle_nearest};
 ghost use Rattle.script_runs.specs.Outcomes.{IsOutcome2};
 
+use crate::combining::Combining;
 use crate::names::Names;
+use crate::settings::AtLine;
 use cross_section::{ExtrudeFault, Extruded, Flat, OutlineFault, combine_outlines, extrude};
 use exact_kernels::Exact;
-use mb_base::{KernelKind, Limits, Op};
+use mb_base::{KernelKind, Op};
 use mb_outside::Sink;
 use mesh_files::{Halt, Stop};
 use outlines::Outline;
@@ -49,68 +51,28 @@ pub fn polygon<'a>(
     Ok(())
 }
 
-// What an operation on two outlines gives under the chosen kernels, with rounding to the nearest.
-fn operate2<'a>(
-    alloc: Global,
-    kernels: KernelKind,
-    op: Op,
-    p: &Outline,
-    q: &Outline,
-    limits: &Limits,
-) -> Result<Flat, Halt<'a>>
-    ensures meets { (now : Seen) → Meets (give (within2 limits.now ((meanings kernels).outlines op p.now q.now))) now now
-        (halted_by (λ _. (meanings kernels).outlines op p.now q.now) result) }
-    ensures outcome { IfOk result (IsOutcome2 ((meanings kernels).outlines op p.now q.now)) }
+// What an operation on two outlines gives under the kernels of the line, with rounding to the nearest.
+fn operate2<'a>(at: &AtLine<'_, 'a>, op: Op, p: &Outline, q: &Outline) -> Result<Flat, Halt<'a>>
+    ensures meets { (now : Seen) → Meets (give (within2 at.now.limits.now ((meanings at.now.kernels).outlines op p.now q.now))) now now
+        (halted_by (λ _. (meanings at.now.kernels).outlines op p.now q.now) result) }
+    ensures outcome { IfOk result (IsOutcome2 ((meanings at.now.kernels).outlines op p.now q.now)) }
     ensures halts { IfErr result IsHaltOfStep }
 {
-    match kernels {
-        KernelKind::Grid => operate2_on_grid(alloc, op, p, q, limits),
-        KernelKind::Exact => operate2_exactly(alloc, op, p, q, limits),
+    match at.kernels {
+        KernelKind::Grid => operate2_under(at, &Grid { rounding: Nearest }, op, p, q),
+        KernelKind::Exact => operate2_under(at, &Exact { rounding: Nearest }, op, p, q),
     }
-}
-
-// What it gives under the kernels of the grid.
-fn operate2_on_grid<'a>(
-    alloc: Global,
-    op: Op,
-    p: &Outline,
-    q: &Outline,
-    limits: &Limits,
-) -> Result<Flat, Halt<'a>>
-    ensures meets { (now : Seen) → Meets (give (within2 limits.now ((meanings KernelKind.Grid).outlines op p.now q.now))) now now
-        (halted_by (λ _. (meanings KernelKind.Grid).outlines op p.now q.now) result) }
-    ensures outcome { IfOk result (IsOutcome2 ((meanings KernelKind.Grid).outlines op p.now q.now)) }
-    ensures halts { IfErr result IsHaltOfStep }
-{
-    operate2_under(alloc, &Grid { rounding: Nearest }, op, p, q, limits)
-}
-
-// What it gives under exact kernels.
-fn operate2_exactly<'a>(
-    alloc: Global,
-    op: Op,
-    p: &Outline,
-    q: &Outline,
-    limits: &Limits,
-) -> Result<Flat, Halt<'a>>
-    ensures meets { (now : Seen) → Meets (give (within2 limits.now ((meanings KernelKind.Exact).outlines op p.now q.now))) now now
-        (halted_by (λ _. (meanings KernelKind.Exact).outlines op p.now q.now) result) }
-    ensures outcome { IfOk result (IsOutcome2 ((meanings KernelKind.Exact).outlines op p.now q.now)) }
-    ensures halts { IfErr result IsHaltOfStep }
-{
-    operate2_under(alloc, &Exact { rounding: Nearest }, op, p, q, limits)
 }
 
 // What an operation on two outlines gives under any kernels.
 fn operate2_under<'a, K: Flats>(
-    alloc: Global,
+    at: &AtLine<'_, 'a>,
     kernels: &K,
     op: Op,
     p: &Outline,
     q: &Outline,
-    limits: &Limits,
 ) -> Result<Flat, Halt<'a>>
-    ensures meets { (now : Seen) → Meets (give (within2 limits.now (told2_of (outcome_of op p.now q.now (flat_numbers (flat_tests
+    ensures meets { (now : Seen) → Meets (give (within2 at.now.limits.now (told2_of (outcome_of op p.now q.now (flat_numbers (flat_tests
         (⟦<K as Meets<1, 2>>⟧.meet_of kernels.now) (⟦<K as Meets<2, 1>>⟧.meet_of kernels.now) (⟦<K as Meets<2, 2>>⟧.meet_of kernels.now))
         settle_nearest (p_flat op p.now) (q_flat q.now)))))) now now
         (halted_by (λ _. told2_of (outcome_of op p.now q.now (flat_numbers (flat_tests
@@ -121,7 +83,7 @@ fn operate2_under<'a, K: Flats>(
         settle_nearest (p_flat op p.now) (q_flat q.now))))) }
     ensures halts { IfErr result IsHaltOfStep }
 {
-    match combine_outlines(alloc, op, p, q, kernels, &Nearest, limits) {
+    match combine_outlines(at.alloc, op, p, q, kernels, &Nearest, at.limits) {
         Ok(flat) => Ok(flat),
         Err(OutlineFault::Over { what, seen }) => Err(Halt::At {
             name: "",
@@ -142,58 +104,60 @@ fn counts_of(flat: &Flat) -> OutlineCounts
     }
 }
 
-/// Gives a name what an operation makes of the outlines of two names under the chosen kernels, and reports that on the output.
+/// Gives a name what an operation makes of the outlines of two names under the kernels of the line, and reports that on the output.
 pub fn combine2<'a, O: Sink>(
-    alloc: Global,
-    kernels: KernelKind,
-    op: Op,
-    name: &'a str,
-    left: &'a str,
-    right: &'a str,
-    limits: &Limits,
+    at: &AtLine<'_, 'a>,
+    what: &Combining<'a>,
     names: &mut Names<'a>,
     out: &mut O,
 ) -> Result<(), Halt<'a>>
-    requires left { IsSome (outline_held (named_in names.old left.now)) }
-    requires right { IsSome (outline_held (named_in names.old right.now)) }
-    ensures meets { MeetsOnOutput O.Sink (combine2_task (meanings kernels) limits.now op name.now left.now right.now (named_in names.old)) out.old out.new
+    requires left { IsSome (outline_held (named_in names.old what.now.left.now)) }
+    requires right { IsSome (outline_held (named_in names.old what.now.right.now)) }
+    ensures meets { MeetsOnOutput O.Sink (combine2_task (meanings at.now.kernels) at.now.limits.now
+        what.now.op what.now.name.now what.now.left.now what.now.right.now (named_in names.old)) out.old out.new
         (halted_by (λ _. named_in names.new) result) }
     ensures halts { IfErr result IsHaltOfStep }
-    ensures named { OnOk result (IsOutlined name.now (named_in names.old) (named_in names.new)) }
+    ensures named { OnOk result (IsOutlined what.now.name.now (named_in names.old) (named_in names.new)) }
     ensures kept { OnErr result (names.new ≡ names.old) }
 {
-    let p = names.outline_of(left);
-    let q = names.outline_of(right);
-    let flat = operate2(alloc, kernels, op, p, q, limits)?;
+    let p = names.outline_of(what.left);
+    let q = names.outline_of(what.right);
+    let flat = operate2(at, what.op, p, q)?;
     let counts = counts_of(&flat);
-    say_combined2(op, name, left, right, &counts, out)?;
-    names.define_outline(name, flat.outline)?;
+    say_combined2(what.op, what.name, what.left, what.right, &counts, out)?;
+    names.define_outline(what.name, flat.outline)?;
     Ok(())
+}
+
+/// The heights between which an outline is made a solid of.
+#[derive(Clone, Copy, Drop)]
+pub struct Heights {
+    pub low: i32,
+    pub high: i32,
 }
 
 // The solid between an outline at two heights, or where a script stops that makes none on this line.
 fn solid_between<'a>(
-    alloc: Global,
-    script: &'a str,
-    line: u64,
+    at: &AtLine<'_, 'a>,
     outline: &Outline,
-    low: i32,
-    high: i32,
-    limits: &Limits,
+    heights: Heights,
 ) -> Result<Extruded, Halt<'a>>
-    requires low { IsOnGrid low }
-    requires high { IsOnGrid high }
-    ensures meets { (now : Seen) → Meets (give (solid_or_not script.now line limits.now outline.now low high)) now now
-        (halted_by (λ _. solid_of outline.now low high) result) }
-    ensures mesh { IfOk result (λ e. e.mesh ≡ (solid_of outline.now low high).mesh) }
-    ensures forced { IfOk result (λ e. e.forced ≡ (solid_of outline.now low high).forced) }
+    requires low { IsOnGrid heights.low }
+    requires high { IsOnGrid heights.high }
+    ensures meets { (now : Seen) → Meets (give (solid_or_not at.now.script.now at.now.line at.now.limits.now outline.now heights.low heights.high)) now now
+        (halted_by (λ _. solid_of outline.now heights.low heights.high) result) }
+    ensures mesh { IfOk result (λ e. e.mesh ≡ (solid_of outline.now heights.low heights.high).mesh) }
+    ensures forced { IfOk result (λ e. e.forced ≡ (solid_of outline.now heights.low heights.high).forced) }
     ensures halts { IfErr result IsHaltOfStep }
 {
-    match extrude(alloc, outline, low, high, limits) {
+    match extrude(at.alloc, outline, heights.low, heights.high, at.limits) {
         Ok(extruded) => Ok(extruded),
         Err(ExtrudeFault::FlatSolid) => Err(Halt::At {
-            name: script,
-            stop: Stop::BadStep { line, kind: 16 },
+            name: at.script,
+            stop: Stop::BadStep {
+                line: at.line,
+                kind: 16,
+            },
         }),
         Err(ExtrudeFault::Over { what, seen }) => Err(Halt::At {
             name: "",
@@ -205,28 +169,24 @@ fn solid_between<'a>(
 
 /// Gives a name the solid between the outline of another at two heights, and reports on the output how many cuts were forced.
 pub fn extrude_outline<'a, O: Sink>(
-    alloc: Global,
-    script: &'a str,
-    line: u64,
+    at: &AtLine<'_, 'a>,
     name: &'a str,
     source: &'a str,
-    low: i32,
-    high: i32,
-    limits: &Limits,
+    heights: Heights,
     names: &mut Names<'a>,
     out: &mut O,
 ) -> Result<(), Halt<'a>>
     requires source { IsSome (outline_held (named_in names.old source.now)) }
-    requires low { IsOnGrid low }
-    requires high { IsOnGrid high }
-    ensures meets { (kernels : KernelKind) → MeetsOnOutput O.Sink (extrude_task (meanings kernels) limits.now script.now line name.now source.now low high (named_in names.old))
-        out.old out.new (halted_by (λ _. named_in names.new) result) }
+    requires low { IsOnGrid heights.low }
+    requires high { IsOnGrid heights.high }
+    ensures meets { (kernels : KernelKind) → MeetsOnOutput O.Sink (extrude_task (meanings kernels) at.now.limits.now at.now.script.now at.now.line
+        name.now source.now heights.low heights.high (named_in names.old)) out.old out.new (halted_by (λ _. named_in names.new) result) }
     ensures halts { IfErr result IsHaltOfStep }
     ensures named { OnOk result (IsNamed name.now (named_in names.old) (named_in names.new)) }
     ensures kept { OnErr result (names.new ≡ names.old) }
 {
     let outline = names.outline_of(source);
-    let extruded = solid_between(alloc, script, line, outline, low, high, limits)?;
+    let extruded = solid_between(at, outline, heights)?;
     say_extruded(name, source, extruded.forced, out)?;
     names.define(name, extruded.mesh)?;
     Ok(())

@@ -13,9 +13,9 @@ use report_lines::say_saved;
 
 /// Saves the mesh of a name to a file, and reports that on the output.
 pub fn save<'a, S: Shelf, O: Sink>(
+    digits: u8,
     name: &'a str,
     file: &'a str,
-    digits: u8,
     names: &Names<'a>,
     shelf: &mut S,
     out: &mut O,

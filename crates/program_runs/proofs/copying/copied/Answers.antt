@@ -8,7 +8,8 @@ pub returns-in_err-read-clause-met : goal.returns-in_err-read-clause-met
 returns-in_err-read-clause-met g c =
     rw (handed_on _ _ c.from_residual.ensures.1)
     (record {
-      meets = copy_unread c.args.digits c.args.limits.now c.args.from.now c.args.to.now _ _ (on_output g.O.Sink c.args.out.now) _ c.in_err-read.ensures.meets;
+      meets = copy_unread c.args.settings.now.digits c.args.settings.now.limits.now c.args.from.now c.args.to.now _ _
+          (on_output g.O.Sink c.args.out.now) _ c.in_err-read.ensures.meets;
       halts = inl c.in_err-read.ensures.unread;
     })
 
@@ -18,6 +19,7 @@ returns-clause-met g c =
     let before = on_output g.O.Sink c.args.out.now in
     let now = on_output g.O.Sink c.written.new.out in
     record {
-      meets = copy_ended c.args.digits c.args.limits.now c.args.from.now c.args.to.now soup _ _ _ before now _ c.in_ok-read.ensures.meets c.written.ensures.meets;
+      meets = copy_ended c.args.settings.now.digits c.args.settings.now.limits.now c.args.from.now c.args.to.now soup _ _ _
+          before now _ c.in_ok-read.ensures.meets c.written.ensures.meets;
       halts = copy_halts c.args.from.now c.args.to.now _ c.written.ensures.halts;
     }

@@ -1,6 +1,8 @@
 use Rattle.std.proofs.lemmas.Result.{IfOk-weaker}
 use Rattle.program_runs.specs.Statuses.{status_number}
-use Rattle.program_runs.proofs.Faults.{failed_write, outs_stay}
+use Rattle.mb_outside.specs.Seen.{on_output}
+use Rattle.program_runs.proofs.Faults.{blamed, failed_write, outs_stay}
+use Rattle.report_lines.specs.Reports.{IsReported}
 use Rattle.program_runs.proofs.here.start_here.Goals as goal
 
 pub returns-clause-heard : goal.returns-clause-heard
@@ -14,6 +16,8 @@ returns-clause-heard g c =
       quiet = made.run.quiet;
       told = (made.run.play.0, made.run.play.2);
       outs = λ other. outs_stay (status_number c.start.result) _ _ _ made.counts (λ is. other (failed_write c.start.result is));
+      blamed = λ is. blamed c.start.result made.run.play.0 _ _ _ (λ line. IsReported line (on_output g.E.Sink c.args.err.now) (on_output g.E.Sink c.start.new.err)) is
+          made.run.play.2.0 made.run.play.1.faults c.requires.outs made.run.play.2.1;
     })
     c.start.ensures.run
 

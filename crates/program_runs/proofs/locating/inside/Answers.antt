@@ -8,9 +8,12 @@ pub returns-clause-ends : goal.returns-clause-ends
 returns-clause-ends g c = record { ended = c.located-ended.result; met = c.located-ended.ensures.met; told = c.concluded.ensures.told; quiet = c.concluded.ensures.quiet }
 
 pub returns-clause-back : goal.returns-clause-back
-returns-clause-back g c = (inside_keeps c.args.digits windings c.args.limits.now c.args.file.now c.args.point c.requires.digits c.located-ended.ensures.lawful).actions
+returns-clause-back g c =
+    (inside_keeps c.args.settings.now.digits windings c.args.settings.now.limits.now
+    c.args.sought.now.file.now c.args.sought.now.point c.requires.digits c.located-ended.ensures.lawful).actions
 
 pub returns-clause-counted : goal.returns-clause-counted
 returns-clause-counted g c =
     c.located-ended.ensures.counted
-    ∙ ap (λ n. c.args.steps.now + n) (found_by_status c.args.file.now c.located-ended.result c.concluded.result c.located-ended.ensures.met.halts c.concluded.ensures.told.0)
+    ∙ ap (λ n. c.args.sums.now + n) (found_by_status c.args.sought.now.file.now c.located-ended.result c.concluded.result
+    c.located-ended.ensures.met.halts c.concluded.ensures.told.0)

@@ -13,7 +13,7 @@ pub returns-in-Ok-clause-run : goal.returns-in-Ok-clause-run
 returns-in-Ok-clause-run g c =
     if_words _ c.args.words c.in-Ok.words c.in-Ok.is (subst
     (λ l. IsSoundRun g.S.Shelf g.O.Sink g.E.Sink l c.in-Ok.words (c.args.shelf.now, c.args.out.now, c.args.err.now)
-    (c.run.new.shelf, c.run.new.out, c.run.new.err) c.args.steps.now c.run.new.steps c.run.result)
+    (c.run.new.shelf, c.run.new.out, c.run.new.err) c.args.sums.now c.run.new.steps c.run.result)
     c.program.ensures.value c.run.ensures)
 
 pub returns-in-Ok-clause-status : goal.returns-in-Ok-clause-status

@@ -11,12 +11,13 @@ returns-in-Err-clause-meets c now =
     let named = named_in c.args.names.now in
     let is = sym c.mesh_of-mesh.ensures in
     rw c.halt_at.ensures.why
-    (unmoved c.args.script.now c.args.line c.args.name.now c.args.source.now c.args.motion named c.mesh_of-mesh.result.now is _ c.in-Err.fault c.in-Err.ensures.refused now)
+    (unmoved c.args.at.now.script.now c.args.at.now.line c.args.name.now c.args.source.now c.args.motion named
+    c.mesh_of-mesh.result.now is _ c.in-Err.fault c.in-Err.ensures.refused now)
 
 pub returns-in_err-define-clause-meets : goal.returns-in_err-define-clause-meets
 returns-in_err-define-clause-meets c now =
     let e = err_from_is_err_and c.from_residual.result c.from_residual.ensures.1 in
-    rw (e.1, e.2) (meets_starved (move_task c.args.script.now c.args.line c.args.name.now c.args.source.now c.args.motion (named_in c.args.names.now)) now)
+    rw (e.1, e.2) (meets_starved (move_task c.args.at.now.script.now c.args.at.now.line c.args.name.now c.args.source.now c.args.motion (named_in c.args.names.now)) now)
 
 pub returns-clause-meets : goal.returns-clause-meets
 returns-clause-meets c now =
@@ -25,7 +26,8 @@ returns-clause-meets c now =
     let mesh = c.mesh_of-mesh.result.now in
     let is = sym c.mesh_of-mesh.ensures in
     let after = c.in_ok-define.ensures.named ∙ ap (λ m. with_name name m named) c.in-Ok.ensures.mesh in
-    moved_so c.args.script.now c.args.line name c.args.source.now c.args.motion named mesh is c.in-Ok.moved c.in-Ok.ensures.refused (named_in c.define.new.self) after now
+    moved_so c.args.at.now.script.now c.args.at.now.line name c.args.source.now c.args.motion named mesh is
+    c.in-Ok.moved c.in-Ok.ensures.refused (named_in c.define.new.self) after now
 
 pub returns-clause-named : goal.returns-clause-named
 returns-clause-named c = (c.in-Ok.moved, c.in_ok-define.ensures.named)

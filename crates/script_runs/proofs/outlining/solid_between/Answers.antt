@@ -6,9 +6,9 @@ use Rattle.script_runs.proofs.outlining.solid_between.Goals as goal
 
 pub returns-in-Ok-clause-meets : goal.returns-in-Ok-clause-meets
 returns-in-Ok-clause-meets c =
-    let limits = c.args.limits.now in
+    let limits = c.args.at.now.limits.now in
     let o = c.args.outline.now in
-    let low = kept_32 c.args.low c.requires.low in
-    let high = kept_32 c.args.high c.requires.high in
-    is_extruded limits c.args.script.now c.args.line o c.args.low c.args.high c.in-Ok.extruded
+    let low = kept_32 c.args.heights.low c.requires.low in
+    let high = kept_32 c.args.heights.high c.requires.high in
+    is_extruded limits c.args.at.now.script.now c.args.at.now.line o c.args.heights.low c.args.heights.high c.in-Ok.extruded
     (subst (λ (z : ℤ × ℤ). IsRefusedFor (extrusion_fault limits o z.0 z.1) (Ok c.in-Ok.extruded)) (λ i. (low i, high i)) c.in-Ok.ensures.refused)

@@ -1,0 +1,11 @@
+use Rattle.program_runs.proofs.back.plays_are_sound.Goals as goal
+
+pub returns : goal.returns
+returns c = record {
+  mesh_back = c.plays_are_readable.ensures.mesh_back;
+  back = c.plays_are_readable.ensures.back;
+  held = c.plays_are_readable.ensures.held;
+  results = c.plays_give_results.ensures.results;
+  geometric = c.plays_give_results.ensures.geometric;
+  remeshed = c.plays_give_results.ensures.remeshed;
+}
