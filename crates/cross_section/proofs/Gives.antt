@@ -16,7 +16,7 @@ use Rattle.mesh_terms.specs.Points.{coordinate_of}
 use Rattle.outline_terms.proofs.Edges.{edges_long}
 use Rattle.outline_pair_terms.proofs.Prescribed.{IsHit, all_hits}
 use Rattle.outline_pair_terms.proofs.Whole.{conserved, each_whole, loops_whole, once_whole, p_corners, q_corners}
-use Rattle.outline_pair_terms.specs.Lists.{copy_count, flat_copies, flat_segments, hits_included, p_included, q_included}
+use Rattle.outline_pair_terms.specs.Lists.{copy_count, flat_copies, flat_segments, hits_prescribed, p_prescribed, q_prescribed}
 use Rattle.outline_pair_terms.specs.declared.FlatHit.{FlatHit}
 use Rattle.outline_pair_terms.specs.Numbers.{FlatNumbers, FlatTests, LiftEdges, edge_at, ends_of, flat_hit, flat_hits_along, flat_numbers, flat_winding, flat_winding_back, p_flat, q_flat}
 use Rattle.outline_terms.specs.Outlines.{IsOutline, Outline, most_vertices, outline_edges}
@@ -128,9 +128,9 @@ pub counted : (op : Op) (p q : Outline) (n m : FlatNumbers) → n ≡ m → AreN
     a ≡ sum_by (λ w. nat_abs (vertex_number op P w)) ws → b ≡ sum_by (λ w. nat_abs (vertex_number op Q w)) vs →
     k ≡ sum_by (λ (h : FlatHit). nat_abs (hit_number op h.number)) hs → AreCounted (outcome_of op p q m) a b k
 counted op p q n m e are ws vs hs w v h a b k sum_p sum_q sum_hits = record {
-  of_p = sum_p ∙ ap (λ l. sum_by (λ w. nat_abs (vertex_number op P w)) l) w ∙ count_p op p q n are.w02_long ∙ ap (λ x. copy_count (p_included op p x)) e;
-  of_q = sum_q ∙ ap (λ l. sum_by (λ w. nat_abs (vertex_number op Q w)) l) v ∙ count_q op p q n are.w20_long ∙ ap (λ x. copy_count (q_included op q x)) e;
-  of_hits = sum_hits ∙ ap (λ l. sum_by (λ (h : FlatHit). nat_abs (hit_number op h.number)) l) h ∙ count_hits op p q n ∙ ap (λ x. copy_count (hits_included op x)) e;
+  of_p = sum_p ∙ ap (λ l. sum_by (λ w. nat_abs (vertex_number op P w)) l) w ∙ count_p op p q n are.w02_long ∙ ap (λ x. copy_count (p_prescribed op p x)) e;
+  of_q = sum_q ∙ ap (λ l. sum_by (λ w. nat_abs (vertex_number op Q w)) l) v ∙ count_q op p q n are.w20_long ∙ ap (λ x. copy_count (q_prescribed op q x)) e;
+  of_hits = sum_hits ∙ ap (λ l. sum_by (λ (h : FlatHit). nat_abs (hit_number op h.number)) l) h ∙ count_hits op p q n ∙ ap (λ x. copy_count (hits_prescribed op x)) e;
 }
 
 -- all of them together

@@ -6,11 +6,11 @@ use Rattle.outline_pair_terms.specs.Balance.{AreConserved}
 use Rattle.outline_pair_terms.specs.Lists.{FlatCopy, FlatOrigin, OfBoth, OfP, OfQ, constant}
 use Rattle.outline_pair_terms.specs.Numbers.{FlatNumbers}
 use Rattle.outline_terms.specs.Outlines.{Outline, most_vertices, outline_edges}
-use Rattle.cross_section.specs.declared.copies.Copies.{Copies}
+use Rattle.cross_section.specs.declared.copies.FlatCopies.{FlatCopies}
 use Rattle.cross_section.specs.declared.operand.Operand.{Operand}
 use Rattle.cross_section.specs.declared.operand.Operand.TheVariants.{P, Q}
 
--- how often a vertex with a winding number is included, and a crossing with a number
+-- how often a vertex with a winding number is prescribed, and a crossing with a number
 abbrev pub vertex_number : Op → Operand → ℤ → ℤ
 vertex_number op P w = constant op 0 +ℤ constant op 2 *ℤ w
 vertex_number op Q w = constant op 1 +ℤ constant op 2 *ℤ w
@@ -61,7 +61,7 @@ pub record FitVertices (n : ℕ) (ws : List ℤ) (leaving entering : List ℕ) :
   pub ends_below : All (λ k. k ≤ most_vertices) entering
 
 -- copies of some things, each as often as the size of its number, were added with their points and lists
-pub record AreAdded {X : Type 0} (old new : Copies) (number : X → ℤ) (at : X → List ℤ) (from to : X → ℕ) (xs : List X) : Type 0 where
+pub record AreAdded {X : Type 0} (old new : FlatCopies) (number : X → ℤ) (at : X → List ℤ) (from to : X → ℕ) (xs : List X) : Type 0 where
   pub points : new.points.items ≡ old.points.items ++ repeated number at xs
   pub starts : new.starts.items ≡ old.starts.items ++ repeated number (λ x. by_sign (number x) (from x) (to x)) xs
   pub ends : new.ends.items ≡ old.ends.items ++ repeated number (λ x. by_sign (number x) (to x) (from x)) xs

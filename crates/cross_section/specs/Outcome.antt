@@ -4,7 +4,7 @@ use Rattle.mesh_terms.specs.Limits.{Limits}
 use Rattle.mb_base.specs.declared.fault.Counted.TheVariants.{Points}
 use Rattle.mb_base.specs.declared.op.Op.{Op}
 use Rattle.face_loops.specs.Segments.{IsOneToOne}
-use Rattle.outline_pair_terms.specs.Lists.{copy_count, flat_copies, flat_segments, hits_included, outline_of, p_included, q_included}
+use Rattle.outline_pair_terms.specs.Lists.{copy_count, flat_copies, flat_segments, hits_prescribed, outline_of, p_prescribed, q_prescribed}
 use Rattle.outline_pair_terms.specs.Numbers.{FlatNumbers}
 use Rattle.outline_terms.specs.Outlines.{IsOutline, Outline, most_vertices}
 use Rattle.cross_section.specs.declared.fault.OutlineFault.{OutlineFault}
@@ -22,9 +22,9 @@ abbrev pub outcome_of : Op → Outline → Outline → FlatNumbers → Outcome
 outcome_of op p q n =
     record {
       outline = outline_of p q (flat_copies op p q n);
-      p_kept = copy_count (p_included op p n);
-      q_kept = copy_count (q_included op q n);
-      crossings = copy_count (hits_included op n);
+      p_kept = copy_count (p_prescribed op p n);
+      q_kept = copy_count (q_prescribed op q n);
+      crossings = copy_count (hits_prescribed op n);
     }
 
 -- the segments form loops, and these and the copies' points are an outline

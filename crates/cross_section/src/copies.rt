@@ -8,7 +8,7 @@ ghost use Rattle.outline_terms.specs.Outlines.{most_vertices, outline_edges};
 
 use crate::Numbers;
 use crate::operand::{Operand, hit_number};
-use crate::places::{Places, places_on};
+use crate::places::{VertexEdges, places_on};
 use mb_base::{NoMemory, Op, Point};
 use outline_pair_terms::FlatHit;
 use outlines::Outline;
@@ -16,7 +16,7 @@ use std::alloc::Global;
 
 /// The points of copies, and of each the list in which it is a start and that in which it is an end.
 #[derive(Drop)]
-pub struct Copies {
+pub struct FlatCopies {
     pub points: Vec<Point>,
     pub starts: Vec<u32>,
     pub ends: Vec<u32>,
@@ -31,14 +31,14 @@ pub fn copies_of(
     p_edges: &[(u32, u32)],
     q_edges: &[(u32, u32)],
     numbers: &Numbers,
-) -> Result<Copies, NoMemory>
+) -> Result<FlatCopies, NoMemory>
     requires p_edges { p_edges.now ≡ outline_edges p.now }
     requires q_edges { q_edges.now ≡ outline_edges q.now }
     requires numbers { AreNumbers p.now q.now numbers.now }
     ensures { IfOk result (λ c. AreCopies p_edges.now q_edges.now (flat_copies op p.now q.now numbers.now) c.points.items c.starts.items c.ends.items) }
 {
     let (p_points, q_points) = (p.points(), q.points());
-    let mut copies = Copies {
+    let mut copies = FlatCopies {
         points: Vec::new(alloc),
         starts: Vec::new(alloc),
         ends: Vec::new(alloc),
@@ -70,12 +70,12 @@ pub fn copies_of(
 
 // Adds the copies of the vertices of one outline, whose edges' lists are numbered from a number on.
 fn push_vertices(
-    copies: &mut Copies,
+    copies: &mut FlatCopies,
     op: Op,
     operand: Operand,
     points: &[Point],
     windings: &[i64],
-    places: &Places,
+    places: &VertexEdges,
     first: u32,
 ) -> Result<(), NoMemory>
     requires fit { FitVertices (length points.now) windings.now places.now.leaving.items places.now.entering.items }
@@ -98,7 +98,7 @@ fn push_vertices(
 }
 
 // Adds the copies of hits. Q's lists are numbered from a number on.
-fn push_hits(copies: &mut Copies, op: Op, hits: &[FlatHit], first: u32) -> Result<(), NoMemory>
+fn push_hits(copies: &mut FlatCopies, op: Op, hits: &[FlatHit], first: u32) -> Result<(), NoMemory>
     requires small { All (λ h. nat_abs h.number ≤ 1) hits.now }
     requires below { All (λ h. h.q_edge < most_vertices) hits.now }
     requires few { first ≤ most_vertices }
@@ -113,7 +113,7 @@ fn push_hits(copies: &mut Copies, op: Op, hits: &[FlatHit], first: u32) -> Resul
 
 // Adds as many copies as the size of a number.
 fn push_copies(
-    copies: &mut Copies,
+    copies: &mut FlatCopies,
     number: i64,
     point: Point,
     from: u32,
@@ -138,7 +138,7 @@ fn by_sign(number: i64, from: u32, to: u32) -> u32
 
 // Adds so many copies of one vertex.
 fn push_many(
-    copies: &mut Copies,
+    copies: &mut FlatCopies,
     count: u64,
     point: Point,
     start: u32,

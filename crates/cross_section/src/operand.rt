@@ -1,4 +1,4 @@
-// Which of the two outlines, and how often what it has is included.
+// Which of the two outlines, and how often what it has is prescribed.
 ghost use Rattle.std.specs.Prelude.{◌≡◌, ◌≤◌, nat_abs};
 ghost use Rattle.outline_terms.specs.Outlines.{most_vertices};
 ghost use Rattle.cross_section.specs.Copies.{hit_number, vertex_number};
@@ -13,7 +13,7 @@ pub enum Operand {
 }
 
 impl Operand {
-    /// How often a vertex of this outline is included.
+    /// How often a vertex of this outline is prescribed.
     pub fn number(self, op: Op, winding: i64) -> i64
         requires { nat_abs winding ≤ most_vertices }
         ensures value { result ≡ vertex_number op self winding }
@@ -27,7 +27,7 @@ impl Operand {
     }
 }
 
-/// How often a crossing is included.
+/// How often a crossing is prescribed.
 pub fn hit_number(op: Op, number: i8) -> i64
     requires { nat_abs number ≤ 1 }
     ensures value { result ≡ hit_number op number }

@@ -11,13 +11,13 @@ use std::alloc::Global;
 /// Of each vertex the place of the first edge that starts at it, and of the first that ends there. Where there is none it is
 /// the number of edges.
 #[derive(Drop)]
-pub struct Places {
+pub struct VertexEdges {
     pub leaving: Vec<u32>,
     pub entering: Vec<u32>,
 }
 
 /// The places of so many vertices on edges.
-pub fn places_on(alloc: Global, edges: &[(u32, u32)], count: usize) -> Result<Places, NoMemory>
+pub fn places_on(alloc: Global, edges: &[(u32, u32)], count: usize) -> Result<VertexEdges, NoMemory>
     requires between { All (IsBetween count) edges.now }
     requires few { length edges.now ≤ most_vertices }
     ensures leaving { IfOk result (λ p. p.leaving.items ≡ map (leaving edges.now) (upto count)) }
@@ -25,7 +25,7 @@ pub fn places_on(alloc: Global, edges: &[(u32, u32)], count: usize) -> Result<Pl
 {
     let leaving = all_leaving(alloc, edges, count)?;
     let entering = all_entering(alloc, edges, count)?;
-    Ok(Places { leaving, entering })
+    Ok(VertexEdges { leaving, entering })
 }
 
 // Of so many vertices the place of the first edge that starts at each.

@@ -12,7 +12,7 @@ ghost use Rattle.outline_pair_terms.specs.Lists.{flat_copies, flat_segments};
 ghost use Rattle.outline_terms.specs.Outlines.{IsBetween, most_vertices, outline_edges};
 
 use crate::Numbers;
-use crate::copies::Copies;
+use crate::copies::FlatCopies;
 use edge_pairing::segments_of_edge;
 use mb_base::{Entry, NoMemory, Op, Point, Segment};
 use outlines::Outline;
@@ -35,7 +35,7 @@ pub fn segments_of(
     p_edges: &[(u32, u32)],
     q_edges: &[(u32, u32)],
     numbers: &Numbers,
-    copies: &Copies,
+    copies: &FlatCopies,
 ) -> Result<Vec<Segment>, NoMemory>
     requires p_edges { p_edges.now ≡ outline_edges p.now }
     requires q_edges { q_edges.now ≡ outline_edges q.now }
@@ -71,7 +71,7 @@ pub fn segments_of(
 }
 
 // The starts and the ends of so many lists, by the numbers of the copies.
-fn lists_of(alloc: Global, copies: &Copies, count: usize) -> Result<Lists, NoMemory>
+fn lists_of(alloc: Global, copies: &FlatCopies, count: usize) -> Result<Lists, NoMemory>
     requires starts_below { All (λ k. k < count) copies.now.starts.items }
     requires ends_below { All (λ k. k < count) copies.now.ends.items }
     requires few_starts { length copies.now.starts.items ≤ most_vertices }

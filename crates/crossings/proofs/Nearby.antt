@@ -18,7 +18,7 @@ use Rattle.lean.proofs.Corners.{face_fine}
 use Rattle.box_tree.proofs.NearNumbers as near
 use Rattle.box_tree.proofs.NearNumbers.{filter_map-filter}
 use Rattle.crossings.specs.Apart.{apart_back}
-use Rattle.crossings.specs.Hits.{CrossTest, hit_of, hits_along}
+use Rattle.crossings.specs.Hits.{CrossingTest, hit_of, hits_along}
 use Rattle.crossings.specs.Near.{hits_with}
 
 -- as many boxes as faces
@@ -30,11 +30,11 @@ pub face_box : (faces : Side) (f : ℕ) → f < length faces.triples → box_at 
 face_box faces f below = get_or-map (λ (t : Triple). box_of (face_of faces.corners t)) faces.triples f (0, 0, 0) no_box below
 
 -- the law that simplices apart do not cross, for edges and faces
-abbrev pub Separates : CrossTest → Type 0
+abbrev pub Separates : CrossingTest → Type 0
 Separates test = (edge face : List Corner) (i : ℕ) → length edge ≡ 2 → length face ≡ 3 → AllFine edge → AllFine face → i < 3 → AreApart i edge face → test edge face ≡ None
 
 -- an edge has no hit with a face whose box does not touch its own
-pub none_beyond : (test : CrossTest) (edges faces : Side) → Separates test → IsSide faces → (h f : ℕ) → AllFine (edge_at edges h) → f < length faces.triples →
+pub none_beyond : (test : CrossingTest) (edges faces : Side) → Separates test → IsSide faces → (h f : ℕ) → AllFine (edge_at edges h) → f < length faces.triples →
     touches (box_at (face_boxes faces) f) (box_of (edge_at edges h)) ≡ false → test (edge_at edges h) (face_at faces f) ≡ None
 none_beyond test edges faces apart known h f fine below far =
     let edge = edge_at edges h in
@@ -43,7 +43,7 @@ none_beyond test edges faces apart known h f fine below far =
     apart edge face a.0 refl refl fine (face_fine faces.corners known.fine (get_or faces.triples f (0, 0, 0))) a.1 (apart_back a.0 face edge a.2)
 
 -- so its hits are those with the faces whose boxes touch an area, where each box that touches its own does
-pub hits_in : (test : CrossTest) (edges faces : Side) → Separates test → IsSide faces → (h : ℕ) → AllFine (edge_at edges h) → (area : Box3) →
+pub hits_in : (test : CrossingTest) (edges faces : Side) → Separates test → IsSide faces → (h : ℕ) → AllFine (edge_at edges h) → (area : Box3) →
     ((b : Box3) → touches b area ≡ false → touches b (box_of (edge_at edges h)) ≡ false) →
     hits_with test edges faces h (touching_numbers (face_boxes faces) area) ≡ hits_along test edges faces h
 hits_in test edges faces apart known h fine area less =
@@ -58,7 +58,7 @@ hits_in test edges faces apart known h fine area less =
     ap (λ m. filter_map f (filter p (upto m))) (many_boxes faces) ∙ filter_map-filter f p (upto n) each
 
 -- as its own box is
-pub hits_near : (test : CrossTest) (edges faces : Side) → Separates test → IsSide faces → (h : ℕ) → AllFine (edge_at edges h) →
+pub hits_near : (test : CrossingTest) (edges faces : Side) → Separates test → IsSide faces → (h : ℕ) → AllFine (edge_at edges h) →
     hits_with test edges faces h (touching_numbers (face_boxes faces) (box_of (edge_at edges h))) ≡ hits_along test edges faces h
 hits_near test edges faces apart known h fine = hits_in test edges faces apart known h fine (box_of (edge_at edges h)) (λ b far. far)
 

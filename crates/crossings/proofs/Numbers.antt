@@ -8,16 +8,16 @@ use Rattle.halfedge.proofs.Around.{pair_up}
 use Rattle.mesh_terms.specs.Meshes.{Triple}
 use Rattle.edge_face.specs.Crossings.{number_of}
 use Rattle.side_terms.specs.Sides.{Side, IsSide, edge_of, face_of}
-use Rattle.crossings.specs.Hits.{CrossTest, hits_of}
+use Rattle.crossings.specs.Hits.{CrossingTest, hits_of}
 use Rattle.side_terms.specs.Conservation.{hit_number, half_number}
 use Rattle.crossings.proofs.Totals.{hits_number}
 
 -- the number that is answered for the edge from a to b and a triangle
-abbrev pub edge_number : CrossTest → Side → Side → Triple → ℕ → ℕ → ℤ
+abbrev pub edge_number : CrossingTest → Side → Side → Triple → ℕ → ℕ → ℤ
 edge_number test edges faces t a b = number_of (test (edge_of edges.corners a b) (face_of faces.corners t))
 
 -- a test whose numbers turn with the edge
-abbrev pub Turns : CrossTest → Side → Side → Type 0
+abbrev pub Turns : CrossingTest → Side → Side → Type 0
 Turns test edges faces = (t : Triple) (a b : ℕ) → edge_number test edges faces t b a ≡ neg_ℤ (edge_number test edges faces t a b)
 
 -- minus minus a number
@@ -25,7 +25,7 @@ twice : (z : ℤ) → neg_ℤ (neg_ℤ z) ≡ z
 twice z = omega (arith, ints)
 
 -- of the lower half-edge
-lower_number : (test : CrossTest) (edges faces : Side) (h f : ℕ) → h < length (all_edges edges.triples) → f < length faces.triples → h < twin (all_edges edges.triples) h →
+lower_number : (test : CrossingTest) (edges faces : Side) (h f : ℕ) → h < length (all_edges edges.triples) → f < length faces.triples → h < twin (all_edges edges.triples) h →
     half_number (all_edges edges.triples) (hits_of test edges faces) h f
     ≡ edge_number test edges faces (get_or faces.triples f (0, 0, 0)) (start (all_edges edges.triples) h) (finish (all_edges edges.triples) h)
 lower_number test edges faces h f inside below lower =
@@ -34,7 +34,7 @@ lower_number test edges faces h f inside below lower =
     ap (λ b. if b then hit_number hits h f else neg_ℤ (hit_number hits (twin es h) f)) (lt-ltb h (twin es h) lower) ∙ hits_number test edges faces h f inside lower below
 
 -- of the upper one
-upper_number : (test : CrossTest) (edges faces : Side) → IsSide edges → Turns test edges faces → (h f : ℕ) → h < length (all_edges edges.triples) →
+upper_number : (test : CrossingTest) (edges faces : Side) → IsSide edges → Turns test edges faces → (h f : ℕ) → h < length (all_edges edges.triples) →
     f < length faces.triples → twin (all_edges edges.triples) h ≤ h →
     half_number (all_edges edges.triples) (hits_of test edges faces) h f
     ≡ edge_number test edges faces (get_or faces.triples f (0, 0, 0)) (start (all_edges edges.triples) h) (finish (all_edges edges.triples) h)
@@ -57,7 +57,8 @@ upper_number test edges faces known turns h f inside below upper =
     strictly a b d l = elim (cases_lt a b) as (λ _. a < b) [ inl m ↦ m | inr m ↦ absurd (d (omega arith)) ]
 
 -- the number by half-edge is that of the half-edge's corners
-pub half_number_is : (test : CrossTest) (edges faces : Side) → IsSide edges → Turns test edges faces → (h f : ℕ) → h < length (all_edges edges.triples) → f < length faces.triples →
+pub half_number_is : (test : CrossingTest) (edges faces : Side) → IsSide edges → Turns test edges faces → (h f : ℕ) →
+    h < length (all_edges edges.triples) → f < length faces.triples →
     half_number (all_edges edges.triples) (hits_of test edges faces) h f
     ≡ edge_number test edges faces (get_or faces.triples f (0, 0, 0)) (start (all_edges edges.triples) h) (finish (all_edges edges.triples) h)
 half_number_is test edges faces known turns h f inside below =

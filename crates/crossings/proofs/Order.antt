@@ -14,7 +14,7 @@ use Rattle.edge_face.specs.Crossings.{number_of}
 use Rattle.side_terms.specs.Corners.{AllFine}
 use Rattle.lean.proofs.Corners.{edge_fine, face_fine}
 use Rattle.side_terms.specs.Sides.{Side, edge_at, face_at}
-use Rattle.crossings.specs.Hits.{CrossTest, hit_of, hits_along, hits_of}
+use Rattle.crossings.specs.Hits.{CrossingTest, hit_of, hits_along, hits_of}
 use Rattle.side_terms.specs.Hits.{IsBefore, IsNumber, AreHits, AllCross}
 
 -- a number of crossings that is listed
@@ -39,7 +39,7 @@ record IsAlong (h k n : ℕ) (x : Hit) : Type 0 where
   listed : IsListed x.number
 
 -- each answer has a number that may be listed
-abbrev pub AllListed : CrossTest → Side → Side → Type 0
+abbrev pub AllListed : CrossingTest → Side → Side → Type 0
 AllListed test edges faces = (h f : ℕ) → IfSome (test (edge_at edges h) (face_at faces f)) (λ c. IsListed c.number)
 
 -- an answer whose number is small and not 0
@@ -48,7 +48,7 @@ listed_number None h k = tt
 listed_number (Some c) h k = record { some = h; range = record { low = k.0; high = k.1 } }
 
 -- where every answer for fine corners is such, all are
-pub all_listed : (test : CrossTest) (edges faces : Side) → AllFine edges.corners → AllFine faces.corners →
+pub all_listed : (test : CrossingTest) (edges faces : Side) → AllFine edges.corners → AllFine faces.corners →
     ((e f : List Corner) → length e ≡ 2 → length f ≡ 3 → AllFine e → AllFine f →
     IfSome (test e f) (λ c. c.number ≢ pos 0) × ((negsuc 1 ≤ℤ number_of (test e f)) × (number_of (test e f) ≤ℤ pos 2))) →
     AllListed test edges faces
@@ -129,7 +129,7 @@ of_from lower n rows each k (suc m) =
     ]
 
 -- all hits are of lower half-edges and faces, in order, and each pair crosses
-pub hits_in_order : (test : CrossTest) (edges faces : Side) → AllListed test edges faces →
+pub hits_in_order : (test : CrossingTest) (edges faces : Side) → AllListed test edges faces →
     AreHits (all_edges edges.triples) (length faces.triples) (hits_of test edges faces) × AllCross (hits_of test edges faces)
 hits_in_order test edges faces listed =
     let es = all_edges edges.triples in

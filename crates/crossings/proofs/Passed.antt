@@ -14,7 +14,7 @@ use Rattle.side_terms.specs.Corners.{blank_corner, corner_at}
 use Rattle.side_terms.specs.Sides.{Side, IsSide, edge_at, face_at, face_boxes}
 use Rattle.box_tree.specs.Touching.{end_on, overlap, overlap_on, touches, touching_numbers}
 use Rattle.lean.proofs.Corners.{edge_fine}
-use Rattle.crossings.specs.Hits.{CrossTest, hits_along, hits_before}
+use Rattle.crossings.specs.Hits.{CrossingTest, hits_along, hits_before}
 use Rattle.crossings.specs.Near.{hits_with}
 use Rattle.crossings.specs.Runs.{IsRound}
 use Rattle.crossings.proofs.Nearby.{Separates, hits_in}
@@ -90,7 +90,7 @@ half_within side b h below round =
     edge_within (corner_at side.corners (start es h)) (corner_at side.corners (finish es h)) b ends.0 ends.1
 
 -- a half-edge whose triangle lies in a box has its hits with the faces whose boxes touch that one
-hits_within : (test : CrossTest) (edges faces : Side) → Separates test → IsSide edges → IsSide faces → (b : Box3) (h : ℕ) → h < 3 * length edges.triples →
+hits_within : (test : CrossingTest) (edges faces : Side) → Separates test → IsSide edges → IsSide faces → (b : Box3) (h : ℕ) → h < 3 * length edges.triples →
     All (IsRound b) (face_at edges (h / 3)) → hits_with test edges faces h (touching_numbers (face_boxes faces) b) ≡ hits_along test edges faces h
 hits_within test edges faces apart own known b h below round =
     let es = all_edges edges.triples in
@@ -98,14 +98,14 @@ hits_within test edges faces apart own known b h below round =
     hits_in test edges faces apart known h fine b (λ c far. touches_less c (box_of (edge_at edges h)) b (half_within edges b h below round) far)
 
 -- a half-edge without hits adds none
-passed_one : (test : CrossTest) (edges faces : Side) (h : ℕ) → hits_along test edges faces h ≡ [] → hits_before test edges faces (h + 1) ≡ hits_before test edges faces h
+passed_one : (test : CrossingTest) (edges faces : Side) (h : ℕ) → hits_along test edges faces h ≡ [] → hits_before test edges faces (h + 1) ≡ hits_before test edges faces h
 passed_one test edges faces h none = elim (cases_lt h (twin (all_edges edges.triples) h)) as (λ _. hits_before test edges faces (h + 1) ≡ hits_before test edges faces h) [
   | inl lower ↦ hits_lower test edges faces h lower ∙ ap (λ r. hits_before test edges faces h ++ r) none ∙ append-nil (hits_before test edges faces h)
   | inr upper ↦ hits_upper test edges faces h upper
 ]
 
 -- nor do many
-passed : (test : CrossTest) (edges faces : Side) (from n : ℕ) → ((h : ℕ) → from ≤ h → h < from + n → hits_along test edges faces h ≡ []) →
+passed : (test : CrossingTest) (edges faces : Side) (from n : ℕ) → ((h : ℕ) → from ≤ h → h < from + n → hits_along test edges faces h ≡ []) →
     hits_before test edges faces (from + n) ≡ hits_before test edges faces from
 passed test edges faces from zero none = ap (hits_before test edges faces) (omega arith)
 passed test edges faces from (suc n) none =
@@ -114,14 +114,14 @@ passed test edges faces from (suc n) none =
     ∙ passed test edges faces from n (λ h low high. none h low (omega (arith, high)))
 
 -- half-edges of a run of triangles that lies in a box
-pub run_within : (test : CrossTest) (edges faces : Side) → Separates test → IsSide edges → IsSide faces → (b : Box3) (from to : ℕ) → to ≤ length edges.triples →
+pub run_within : (test : CrossingTest) (edges faces : Side) → Separates test → IsSide edges → IsSide faces → (b : Box3) (from to : ℕ) → to ≤ length edges.triples →
     ((f : ℕ) → from ≤ f → f < to → All (IsRound b) (face_at edges f)) → (h : ℕ) → 3 * from ≤ h → h < 3 * to →
     hits_with test edges faces h (touching_numbers (face_boxes faces) b) ≡ hits_along test edges faces h
 run_within test edges faces apart own known b from to within round h low high =
     hits_within test edges faces apart own known b h (omega (arith, high, within)) (round (h / 3) (omega (arith, low)) (omega (arith, high)))
 
 -- where no half-edge of a run has hits, the run adds none
-pub passed_run : (test : CrossTest) (edges faces : Side) (first end : ℕ) → first ≤ end →
+pub passed_run : (test : CrossingTest) (edges faces : Side) (first end : ℕ) → first ≤ end →
     ((h : ℕ) → first ≤ h → h < end → hits_along test edges faces h ≡ []) →
     hits_before test edges faces first ≡ hits_before test edges faces end
 passed_run test edges faces first end order none =

@@ -11,7 +11,7 @@ use Rattle.halfedge.proofs.Edges.{length-all_edges}
 use Rattle.mesh_terms.specs.Meshes.{Triple}
 use Rattle.side_terms.specs.Sides.{Side, IsSide}
 use Rattle.lean.proofs.Triangles.{half_of_face}
-use Rattle.crossings.specs.Hits.{CrossTest, hits_of}
+use Rattle.crossings.specs.Hits.{CrossingTest, hits_of}
 use Rattle.side_terms.specs.Conservation.{half_number, PairIdentity}
 use Rattle.crossings.proofs.Numbers.{edge_number, Turns, half_number_is}
 
@@ -25,11 +25,11 @@ round_face number n ts f below each =
     omega (arith, ints, at 0 (omega arith), at 1 (omega arith), at 2 (omega arith))
 
 -- the number of an edge and a triangle by the shadows of the ends, and of the edge on the triangle's edges
-abbrev pub Lifts : CrossTest → Side → Side → (Triple → ℕ → ℤ) → (ℕ → ℕ → (ℕ × ℕ) → ℤ) → Type 0
+abbrev pub Lifts : CrossingTest → Side → Side → (Triple → ℕ → ℤ) → (ℕ → ℕ → (ℕ × ℕ) → ℤ) → Type 0
 Lifts test side faces ends sides = (t : Triple) (a b : ℕ) → edge_number test side faces t a b ≡ (ends t b -ℤ ends t a) -ℤ total (sides a b) (edges t)
 
 -- the sum round a triangle of P, with a triangle of Q, is that round the triangle of Q
-pub pairs_agree : (p q : Side) (test12 test21 : CrossTest) (up down : Triple → ℕ → ℤ) (sides : (ℕ × ℕ) → (ℕ × ℕ) → ℤ) → IsSide p → IsSide q →
+pub pairs_agree : (p q : Side) (test12 test21 : CrossingTest) (up down : Triple → ℕ → ℤ) (sides : (ℕ × ℕ) → (ℕ × ℕ) → ℤ) → IsSide p → IsSide q →
     Turns test12 p q → Turns test21 q p → Lifts test12 p q up (λ a b. sides (a, b)) → Lifts test21 q p down (λ c d e. sides e (c, d)) →
     PairIdentity (length p.triples) (length q.triples) (half_number (all_edges p.triples) (hits_of test12 p q)) (half_number (all_edges q.triples) (hits_of test21 q p))
 pairs_agree p q test12 test21 up down sides p_known q_known turn12 turn21 lift12 lift21 = record {

@@ -8,7 +8,7 @@ use Rattle.shadow_kernels.specs.Shadows.{meet01, meet10, meet11, meet02, meet20}
 use Rattle.shadow_kernels.specs.Spots.{spot01, spot10, spot_between}
 use Rattle.edge_face.specs.Crossings.{p_point, q_point, crossed, crossing, edge_face_crossing, face_edge_crossing}
 use Rattle.side_terms.specs.Sides.{Side, corners_of}
-use Rattle.crossings.specs.Hits.{CrossTest, hits_of}
+use Rattle.crossings.specs.Hits.{CrossingTest, hits_of}
 
 abbrev faces : List Triple
 faces = (0, 2, 1) ∷ (0, 1, 3) ∷ (1, 2, 3) ∷ (2, 0, 3) ∷ []
@@ -30,10 +30,10 @@ low = tetrahedron (point (pos 0) (pos 0) (pos 0)) (point (pos 4) (pos 0) (pos 0)
 abbrev high : Side
 high = tetrahedron (point (pos 1) (pos 1) (negsuc 1)) (point (pos 5) (pos 1) (negsuc 1)) (point (pos 1) (pos 5) (negsuc 1)) (point (pos 1) (pos 1) (pos 2))
 
-abbrev edge_test : CrossTest
+abbrev edge_test : CrossingTest
 edge_test edge face = edge_face_crossing grid nearest settle_nearest edge face
 
-abbrev face_test : CrossTest
+abbrev face_test : CrossingTest
 face_test edge face = face_edge_crossing grid nearest settle_nearest face edge
 
 -- the edge of the bottom under the slanted face goes in and out of the other

@@ -11,7 +11,7 @@ use Rattle.mb_base.specs.declared.results.Hit.{Hit}
 use Rattle.edge_face.specs.declared.Cross.{Cross}
 use Rattle.edge_face.specs.Crossings.{number_of}
 use Rattle.side_terms.specs.Sides.{Side, edge_at, face_at}
-use Rattle.crossings.specs.Hits.{CrossTest, hit_of, hits_along, hits_of}
+use Rattle.crossings.specs.Hits.{CrossingTest, hit_of, hits_along, hits_of}
 use Rattle.side_terms.specs.Hits.{lower_halves}
 use Rattle.side_terms.specs.Conservation.{hit_number}
 
@@ -48,7 +48,7 @@ exchanged false true z = refl
 exchanged false false z = refl
 
 -- what the hits of one half-edge add
-along_added : (test : CrossTest) (edges faces : Side) (e f h : ℕ) → f < length faces.triples →
+along_added : (test : CrossingTest) (edges faces : Side) (e f h : ℕ) → f < length faces.triples →
     total (added e f) (hits_along test edges faces h) ≡ where_same h e (number_of (test (edge_at edges h) (face_at faces f)))
 along_added test edges faces e f h below =
     let n = length faces.triples in
@@ -60,7 +60,7 @@ along_added test edges faces e f h below =
     ∙ ap (where_same h e) (one_hit_of (λ g. number_of (answer g)) f n below)
 
 -- what all hits add: for the lower half-edge of an edge and a face, the number that was answered
-pub hits_number : (test : CrossTest) (edges faces : Side) (e f : ℕ) → e < length (all_edges edges.triples) → e < twin (all_edges edges.triples) e → f < length faces.triples →
+pub hits_number : (test : CrossingTest) (edges faces : Side) (e f : ℕ) → e < length (all_edges edges.triples) → e < twin (all_edges edges.triples) e → f < length faces.triples →
     hit_number (hits_of test edges faces) e f ≡ number_of (test (edge_at edges e) (face_at faces f))
 hits_number test edges faces e f inside lower below =
     let es = all_edges edges.triples in

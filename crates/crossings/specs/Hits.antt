@@ -11,8 +11,8 @@ use Rattle.side_terms.specs.Hits.{lower_halves}
 use Rattle.side_terms.specs.Sides.{Side, edge_at, face_at}
 
 -- what is answered for the corners of an edge and of a face
-abbrev pub CrossTest : Type 0
-CrossTest = List Corner → List Corner → Option Cross
+abbrev pub CrossingTest : Type 0
+CrossingTest = List Corner → List Corner → Option Cross
 
 -- the hit of an edge and a face; none where there is no answer
 abbrev pub hit_of : ℕ → ℕ → Option Cross → Option Hit
@@ -20,13 +20,13 @@ hit_of e f None = None
 hit_of e f (Some c) = Some (record { edge = e; face = f; number = c.number; at = c.at })
 
 -- the hits of one half-edge, ascending by face
-abbrev pub hits_along : CrossTest → Side → Side → ℕ → List Hit
+abbrev pub hits_along : CrossingTest → Side → Side → ℕ → List Hit
 hits_along test edges faces h = filter_map (λ f. hit_of h f (test (edge_at edges h) (face_at faces f))) (upto (length faces.triples))
 
 -- the hits of the first n half-edges
-abbrev pub hits_before : CrossTest → Side → Side → ℕ → List Hit
+abbrev pub hits_before : CrossingTest → Side → Side → ℕ → List Hit
 hits_before test edges faces n = flat_map (hits_along test edges faces) (filter (λ h. nat_lt h (twin (all_edges edges.triples) h)) (upto n))
 
 -- all hits, ascending by edge, then face
-abbrev pub hits_of : CrossTest → Side → Side → List Hit
+abbrev pub hits_of : CrossingTest → Side → Side → List Hit
 hits_of test edges faces = flat_map (hits_along test edges faces) (lower_halves (all_edges edges.triples))

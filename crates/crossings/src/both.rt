@@ -22,8 +22,8 @@ pub fn crossings<K: Kernels>(
     q: &Side,
     kernels: &K,
 ) -> Result<Hits, NoMemory>
-    ensures x12 { IfOk result (λ hits. hits.x12.items ≡ hits_of (⟦<K as Crosses<2, 3>>⟧.cross_of kernels.now) p.now q.now) }
-    ensures x21 { IfOk result (λ hits. hits.x21.items ≡ hits_of (λ edge face. ⟦<K as Crosses<3, 2>>⟧.cross_of kernels.now face edge) q.now p.now) }
+    ensures x12 { IfOk result (λ hits. hits.x12.items ≡ hits_of (⟦<K as Crosses<2, 3>>⟧.crossing_of kernels.now) p.now q.now) }
+    ensures x21 { IfOk result (λ hits. hits.x21.items ≡ hits_of (λ edge face. ⟦<K as Crosses<3, 2>>⟧.crossing_of kernels.now face edge) q.now p.now) }
 
     // Each is named by its lower half-edge, in order, with a number from -2 to 2, which is not 0.
     ensures x12_listed { IfOk result (λ hits. AreHits (all_edges p.now.triples) (length q.now.triples) hits.x12.items) }

@@ -193,12 +193,12 @@ fn push_hit<C: EdgeFace>(
     ensures { OnOk result (hits.new.items ≡ hits.old.items ++
         cons_option (hit_of half face (C.crossing_of pairs.now edge.now (face_at faces.now face))) []) }
 {
-    if let Some(cross) = pairs.cross(edge, &faces.face(face)) {
+    if let Some(crossing) = pairs.crossing(edge, &faces.face(face)) {
         hits.push(Hit {
             edge: half,
             face,
-            number: cross.number,
-            at: cross.at,
+            number: crossing.number,
+            at: crossing.at,
         })?;
     }
     Ok(())

@@ -11,11 +11,11 @@ use mb_base::Corner;
 
 /// What tells how often an edge of one side crosses a face of the other.
 pub trait EdgeFace {
-    /// What `cross` answers.
+    /// What `crossing` answers.
     ghost crossing_of: { Self → List Corner → List Corner → Option Cross };
 
     /// The answer for the corners of the edge and of the face.
-    fn cross(&self, edge: &[Corner; 2], face: &[Corner; 3]) -> Option<Cross>
+    fn crossing(&self, edge: &[Corner; 2], face: &[Corner; 3]) -> Option<Cross>
         requires edge_fine { AllFine edge.now }
         requires face_fine { AllFine face.now }
         ensures { result ≡ crossing_of self.now edge.now face.now };
@@ -30,11 +30,11 @@ pub trait EdgeFace {
 pub struct PEdges<'a, K>(pub &'a K);
 
 impl<K: Crosses<2, 3>> EdgeFace for PEdges<'_, K> {
-    ghost crossing_of = { λ s edge face. K.cross_of s.0.now edge face };
+    ghost crossing_of = { λ s edge face. K.crossing_of s.0.now edge face };
 
     ghost apart = { λ s edge face i. (K.laws s.0.now).apart edge face i };
 
-    fn cross(&self, edge: &[Corner; 2], face: &[Corner; 3]) -> Option<Cross> {
+    fn crossing(&self, edge: &[Corner; 2], face: &[Corner; 3]) -> Option<Cross> {
         self.0.cross(edge, face)
     }
 }
@@ -44,12 +44,12 @@ impl<K: Crosses<2, 3>> EdgeFace for PEdges<'_, K> {
 pub struct QEdges<'a, K>(pub &'a K);
 
 impl<K: Crosses<3, 2>> EdgeFace for QEdges<'_, K> {
-    ghost crossing_of = { λ s edge face. K.cross_of s.0.now face edge };
+    ghost crossing_of = { λ s edge face. K.crossing_of s.0.now face edge };
 
     ghost apart = { λ s edge face i e f edge_fine face_fine axis a.
         (K.laws s.0.now).apart face edge i f e face_fine edge_fine axis (apart_back i edge face a) };
 
-    fn cross(&self, edge: &[Corner; 2], face: &[Corner; 3]) -> Option<Cross> {
+    fn crossing(&self, edge: &[Corner; 2], face: &[Corner; 3]) -> Option<Cross> {
         self.0.cross(face, edge)
     }
 }

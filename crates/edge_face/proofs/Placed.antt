@@ -9,7 +9,7 @@ use Rattle.shadow_kernels.specs.declared.Spot.{Spot}
 use Rattle.shadow_kernels.specs.Spots.{Between, gap}
 use Rattle.edge_face.specs.Crossings.{Settle, p_point, q_point}
 use Rattle.edge_face.specs.Sides.{mirrored}
-use Rattle.edge_face.specs.CrossLaws.{IsSettling}
+use Rattle.edge_face.specs.CrossingLaws.{IsSettling}
 use Rattle.shadow_kernels.proofs.Values.{seen}
 
 -- a settled value between values by weights, all kept at their width

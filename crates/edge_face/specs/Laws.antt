@@ -17,7 +17,7 @@ use Rattle.shadow_kernels.specs.Lawful.{IsRule}
 use Rattle.shadow_kernels.specs.Decided.{IsDecided, apart_none, first_hull}
 use Rattle.edge_face.specs.declared.Cross.{Cross}
 use Rattle.edge_face.specs.Crossings.{Settle, number_of, mirror, edge_pairs, edge_number, p_point, q_point, crossed, crossing, edge_face_crossing, face_edge_crossing}
-use Rattle.edge_face.specs.CrossLaws.{CrossLaws, IsSettling}
+use Rattle.edge_face.specs.CrossingLaws.{CrossingLaws, IsSettling}
 use Rattle.edge_face.specs.Boundaries.{AreMet, rule_edge_face, rule_face_edge, signed_pairs, number_signed, spots_signed, pairs_decided, pairs_whole, number_turned}
 use Rattle.edge_face.specs.Settled.{p_point_inside, q_point_inside}
 
@@ -106,7 +106,7 @@ by_lists X each (a ∷ b ∷ []) (u ∷ v ∷ w ∷ x ∷ f) two three fe ff = a
 
 -- the crossings under a lawful rule are lawful
 module _ {k : Rule} {w : Between} (rule : IsRule k w) (settle : Settle) (settling : IsSettling settle) where
-  pub edge_face_laws : CrossLaws 2 3 (edge_face_crossing k w settle)
+  pub edge_face_laws : CrossingLaws 2 3 (edge_face_crossing k w settle)
   edge_face_laws =
       let vf = vertex_face k w in
       let ee = edge_edge k w in
@@ -124,7 +124,7 @@ module _ {k : Rule} {w : Between} (rule : IsRule k w) (settle : Settle) (settlin
         inside_q = λ p q two. absurd (omega (arith, two));
       }
 
-  pub face_edge_laws : CrossLaws 3 2 (face_edge_crossing k w settle)
+  pub face_edge_laws : CrossingLaws 3 2 (face_edge_crossing k w settle)
   face_edge_laws =
       let vf = mirror (face_vertex k w) in
       let ee = mirror (edge_edge k w) in

@@ -1,5 +1,5 @@
 pub mod Crossings
-pub mod CrossLaws
+pub mod CrossingLaws
 pub mod Parts
 pub mod Settled
 pub mod Boundaries

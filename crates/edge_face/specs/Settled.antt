@@ -14,7 +14,7 @@ use Rattle.shadow_kernels.specs.Bounds.{IsFineSpot, corner_in_box, box_between, 
 use Rattle.shadow_kernels.specs.Hulls.{StaysBetween}
 use Rattle.shadow_kernels.specs.Lifted.{gap_weight}
 use Rattle.edge_face.specs.Crossings.{Settle, point_between, p_point, q_point}
-use Rattle.edge_face.specs.CrossLaws.{IsSettling}
+use Rattle.edge_face.specs.CrossingLaws.{IsSettling}
 use Rattle.edge_face.specs.Parts.{both_of}
 use Rattle.side_terms.specs.Corners.{IsWhole, IsWholeCorner, AllWhole}
 use Rattle.side_terms.specs.Boxes.{IsPointIn}

@@ -15,7 +15,7 @@ use rounding::Rounding;
 use shadow_kernels::{Edge, Grid};
 
 impl<R: Rounding> Crosses<2, 3> for Grid<R> {
-    ghost cross_of = { λ k. edge_face_crossing grid (R.between_of k.rounding) (R.settle_of k.rounding) };
+    ghost crossing_of = { λ k. edge_face_crossing grid (R.between_of k.rounding) (R.settle_of k.rounding) };
 
     ghost laws = { λ k. edge_face_laws (grid_rule (R.between_of k.rounding) (record { within = R.within k.rounding }))
         (R.settle_of k.rounding) (record { monotone = R.monotone k.rounding; units = R.units k.rounding }) };
@@ -26,7 +26,7 @@ impl<R: Rounding> Crosses<2, 3> for Grid<R> {
 }
 
 impl<R: Rounding> Crosses<3, 2> for Grid<R> {
-    ghost cross_of = { λ k. face_edge_crossing grid (R.between_of k.rounding) (R.settle_of k.rounding) };
+    ghost crossing_of = { λ k. face_edge_crossing grid (R.between_of k.rounding) (R.settle_of k.rounding) };
 
     ghost laws = { λ k. face_edge_laws (grid_rule (R.between_of k.rounding) (record { within = R.within k.rounding }))
         (R.settle_of k.rounding) (record { monotone = R.monotone k.rounding; units = R.units k.rounding }) };

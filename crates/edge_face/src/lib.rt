@@ -11,7 +11,7 @@ ghost use Rattle.side_terms.specs.Corners.{AllFine};
 ghost use Rattle.shadow_kernels.specs.Counts.{count_of, shadow_of};
 ghost use Rattle.edge_face.specs.declared.Cross.{Cross};
 ghost use Rattle.edge_face.specs.Crossings.{number_of, face_edges, mirror, edge_number};
-ghost use Rattle.edge_face.specs.CrossLaws.{CrossLaws};
+ghost use Rattle.edge_face.specs.CrossingLaws.{CrossingLaws};
 
 use mb_base::{Corner, Point};
 pub use numbered::crossing;
@@ -34,18 +34,18 @@ pub struct Cross {
 /// a face (3). Every coordinate lies within `UNIT * 2^30` of 0. There is no answer where the number is 0.
 pub trait Crosses<const M: usize, const N: usize> {
     /// What `cross` answers.
-    ghost cross_of: { Self → List Corner → List Corner → Option Cross };
+    ghost crossing_of: { Self → List Corner → List Corner → Option Cross };
 
     /// The answer for the corners of p and of q.
     fn cross(&self, p: &[Corner; M], q: &[Corner; N]) -> Option<Cross>
         requires p_fine { AllFine p.now }
         requires q_fine { AllFine q.now }
-        ensures { result ≡ cross_of self.now p.now q.now };
+        ensures { result ≡ crossing_of self.now p.now q.now };
 
     /// The laws: the number of an answer is not 0 and lies from -2 to 2; exchanging the ends of the edge turns its sign; boxes
     /// strictly apart on an axis give no answer; and where every coordinate is a multiple of `UNIT`, the point lies in the
     /// box of the edge.
-    ghost laws: { (k : Self) → CrossLaws M N (cross_of k) };
+    ghost laws: { (k : Self) → CrossingLaws M N (crossing_of k) };
 }
 
 /// All shadow tests and crossings. Their counts and numbers are the signed sums of the shadows of their boundary pairs.
@@ -62,11 +62,11 @@ pub trait Kernels: Flats + Meets<1, 3> + Meets<3, 1> + Crosses<2, 3> + Crosses<3
 
     /// An edge of P and a face of Q.
     ghost lift_12: { (k : Self) (a b u v w : Corner) → AllFine (a ∷ b ∷ []) → AllFine (u ∷ v ∷ w ∷ []) →
-        number_of (⟦<Self as Crosses<2, 3>>⟧.cross_of k (a ∷ b ∷ []) (u ∷ v ∷ w ∷ []))
+        number_of (⟦<Self as Crosses<2, 3>>⟧.crossing_of k (a ∷ b ∷ []) (u ∷ v ∷ w ∷ []))
         ≡ edge_number (⟦<Self as Meets<1, 3>>⟧.meet_of k) (⟦<Self as Meets<2, 2>>⟧.meet_of k) a b u v w };
 
     /// A face of P and an edge of Q.
     ghost lift_21: { (k : Self) (u v w c d : Corner) → AllFine (u ∷ v ∷ w ∷ []) → AllFine (c ∷ d ∷ []) →
-        number_of (⟦<Self as Crosses<3, 2>>⟧.cross_of k (u ∷ v ∷ w ∷ []) (c ∷ d ∷ []))
+        number_of (⟦<Self as Crosses<3, 2>>⟧.crossing_of k (u ∷ v ∷ w ∷ []) (c ∷ d ∷ []))
         ≡ edge_number (mirror (⟦<Self as Meets<3, 1>>⟧.meet_of k)) (mirror (⟦<Self as Meets<2, 2>>⟧.meet_of k)) c d u v w };
 }

@@ -9,7 +9,7 @@ use Rattle.mb_base.specs.declared.point.Corner.{Corner}
 use Rattle.shadow_kernels.specs.declared.Edge.TheVariants.{OfP, OfQ}
 use Rattle.shadow_kernels.specs.declared.Spot.{Spot}
 use Rattle.shadow_kernels.specs.Spots.{Between}
-use Rattle.shadow_kernels.specs.Rules.{sight}
+use Rattle.shadow_kernels.specs.Rules.{spot_and_side}
 use Rattle.shadow_kernels.specs.Counts.{shadow_of, met, by_ends}
 use Rattle.shadow_kernels.specs.Sizes.{turned_shadow}
 use Rattle.shadow_kernels.specs.Shadows.{meet01, meet10, boundary11}
@@ -56,12 +56,12 @@ mark10 a b q = if exact_beyond b q then exact_edge OfP q a b else exact_edge OfP
 -- the shadow of a vertex and an edge by bits
 pub shadow01 : (w : Between) (p c d : Corner) → shadow_of (meet01 exact w p c d) ≡ bit_shadow (exact_beyond p c) (exact_beyond p d) (mark01 p c d)
 unfolding meet01
-shadow01 w p c d = ends_bits (exact_beyond p c) (exact_beyond p d) (sight exact w OfQ p c d) (sight exact w OfQ p d c)
+shadow01 w p c d = ends_bits (exact_beyond p c) (exact_beyond p d) (spot_and_side exact w OfQ p c d) (spot_and_side exact w OfQ p d c)
 
 -- that of an edge and a vertex
 pub shadow10 : (w : Between) (a b q : Corner) → shadow_of (meet10 exact w a b q) ≡ bit_shadow (exact_beyond b q) (exact_beyond a q) (mark10 a b q)
 unfolding meet10
-shadow10 w a b q = ends_bits (exact_beyond b q) (exact_beyond a q) (sight exact w OfP q a b) (sight exact w OfP q b a)
+shadow10 w a b q = ends_bits (exact_beyond b q) (exact_beyond a q) (spot_and_side exact w OfP q a b) (spot_and_side exact w OfP q b a)
 
 -- the sums of boundary pairs by bits
 pub edges_total : (w : Between) (a b c d : Corner) → total shadow_of (boundary11 exact w a b c d)

@@ -187,7 +187,7 @@ impl<R: Rounding> Flats for Exact<R> {
 }
 
 impl<R: Rounding> Crosses<2, 3> for Exact<R> {
-    ghost cross_of = { λ k. edge_face_crossing exact (R.between_of k.rounding) (R.settle_of k.rounding) };
+    ghost crossing_of = { λ k. edge_face_crossing exact (R.between_of k.rounding) (R.settle_of k.rounding) };
 
     ghost laws = { λ k. edge_face_laws (exact_rule (R.between_of k.rounding) (record { within = R.within k.rounding }))
         (R.settle_of k.rounding) (record { monotone = R.monotone k.rounding; units = R.units k.rounding }) };
@@ -204,7 +204,7 @@ impl<R: Rounding> Crosses<2, 3> for Exact<R> {
 }
 
 impl<R: Rounding> Crosses<3, 2> for Exact<R> {
-    ghost cross_of = { λ k. face_edge_crossing exact (R.between_of k.rounding) (R.settle_of k.rounding) };
+    ghost crossing_of = { λ k. face_edge_crossing exact (R.between_of k.rounding) (R.settle_of k.rounding) };
 
     ghost laws = { λ k. face_edge_laws (exact_rule (R.between_of k.rounding) (record { within = R.within k.rounding }))
         (R.settle_of k.rounding) (record { monotone = R.monotone k.rounding; units = R.units k.rounding }) };

@@ -12,16 +12,16 @@ use Rattle.mb_base.specs.declared.results.Origin.TheVariants.{PVertex, QVertex, 
 use Rattle.side_terms.specs.Sides.{Side}
 use Rattle.side_terms.specs.Lists.{Copy}
 use Rattle.side_terms.specs.Points.{points_of}
-use Rattle.side_terms.specs.Prescribed.{Included, Numbers, copies_of, copy_of, hit_number_of, p_hits, p_number, p_vertices, prescribed, q_hits, q_number, q_vertices}
+use Rattle.side_terms.specs.Prescribed.{Prescription, Numbers, copies_of, copy_of, hit_number_of, p_hits, p_number, p_vertices, prescribed, q_hits, q_number, q_vertices}
 use Rattle.geometric_laws.specs.Geometric.{is_of_p, is_of_q}
 
 module _ (test : Copy → Bool) where
   -- the copies that pass a test
-  kept : List Included → List Copy
+  kept : List Prescription → List Copy
   kept is = filter test (flat_map copies_of is)
 
   -- of two lists together
-  kept-append : (xs ys : List Included) → kept (xs ++ ys) ≡ kept xs ++ kept ys
+  kept-append : (xs ys : List Prescription) → kept (xs ++ ys) ≡ kept xs ++ kept ys
   unfolding kept
   kept-append xs ys = ap (filter test) (flat_map-append copies_of xs ys) ∙ filter-append test (flat_map copies_of xs) (flat_map copies_of ys)
 
@@ -36,17 +36,17 @@ module _ (test : Copy → Bool) where
   stay (suc n) c passes = ap (λ b. cond b (c ∷ filter test (replicate n c)) (filter test (replicate n c))) passes ∙ ap (λ cs. c ∷ cs) (stay n c passes)
 
   -- the first of a list, and the rest
-  kept-cons : (i : Included) (is : List Included) → kept (i ∷ is) ≡ filter test (copies_of i) ++ kept is
+  kept-cons : (i : Prescription) (is : List Prescription) → kept (i ∷ is) ≡ filter test (copies_of i) ++ kept is
   unfolding kept
   kept-cons i is = ap (filter test) (flat_map-cons copies_of i is) ∙ filter-append test (copies_of i) (flat_map copies_of is)
 
   -- none, where none passes
-  none : {X : Type 0} (f : X → Included) → ((x : X) → test (copy_of (f x)) ≡ false) → (xs : List X) → kept (map f xs) ≡ []
+  none : {X : Type 0} (f : X → Prescription) → ((x : X) → test (copy_of (f x)) ≡ false) → (xs : List X) → kept (map f xs) ≡ []
   unfolding kept
   none f fails [] = refl
   none f fails (x ∷ xs) = kept-cons (f x) (map f xs) ∙ ap (λ cs. cs ++ kept (map f xs)) (dropped (nat_abs (f x).number) (copy_of (f x)) (fails x)) ∙ none f fails xs
 
-  module _ (f : ℕ → Included) (v : ℕ) (other : (w : ℕ) → w ≢ v → test (copy_of (f w)) ≡ false) (own : test (copy_of (f v)) ≡ true) where
+  module _ (f : ℕ → Prescription) (v : ℕ) (other : (w : ℕ) → w ≢ v → test (copy_of (f w)) ≡ false) (own : test (copy_of (f v)) ≡ true) where
     -- numbers past v have none
     past : (k n : ℕ) → v < k → kept (map f (up_from k n)) ≡ []
     unfolding kept
@@ -73,7 +73,7 @@ module _ (test : Copy → Bool) where
     ]
 
   -- of four lists one after the other
-  four : (xs ys zs ws : List Included) → kept (xs ++ (ys ++ (zs ++ ws))) ≡ kept xs ++ (kept ys ++ (kept zs ++ kept ws))
+  four : (xs ys zs ws : List Prescription) → kept (xs ++ (ys ++ (zs ++ ws))) ≡ kept xs ++ (kept ys ++ (kept zs ++ kept ws))
   four xs ys zs ws =
       kept-append xs (ys ++ (zs ++ ws)) ∙ ap (λ l. kept xs ++ l) (kept-append ys (zs ++ ws) ∙ ap (λ l. kept ys ++ l) (kept-append zs ws))
 
@@ -91,8 +91,8 @@ pub copies_of_p : (op : Op) (p q : Side) (n : Numbers) (v : ℕ) → v < length 
 unfolding kept
 copies_of_p op p q n v below =
     let test : Copy → Bool = λ c. is_of_p v c.origin in
-    let f : ℕ → Included = λ w. record { origin = PVertex w; number = p_number op (get_or n.w03 w (pos 0)); point = get_or (points_of p.corners) w [] } in
-    let g : ℕ → Included = λ w. record { origin = QVertex w; number = q_number op (get_or n.w30 w (pos 0)); point = get_or (points_of q.corners) w [] } in
+    let f : ℕ → Prescription = λ w. record { origin = PVertex w; number = p_number op (get_or n.w03 w (pos 0)); point = get_or (points_of p.corners) w [] } in
+    let g : ℕ → Prescription = λ w. record { origin = QVertex w; number = q_number op (get_or n.w30 w (pos 0)); point = get_or (points_of q.corners) w [] } in
     let a = the_one test f v (λ w differ. ne_eqb w v differ) (eq-eqb v v (refl {a = v})) 0 (length p.corners) (omega arith) (omega (arith, below)) in
     let b = none test g (λ w. refl {a = false}) (upto (length q.corners)) in
     let c = none test (λ h. record { origin = PEdge h.edge h.face; number = hit_number_of op h.number; point = h.at }) (λ h. refl {a = false}) n.x12 in
@@ -105,8 +105,8 @@ pub copies_of_q : (op : Op) (p q : Side) (n : Numbers) (v : ℕ) → v < length 
 unfolding kept
 copies_of_q op p q n v below =
     let test : Copy → Bool = λ c. is_of_q v c.origin in
-    let f : ℕ → Included = λ w. record { origin = PVertex w; number = p_number op (get_or n.w03 w (pos 0)); point = get_or (points_of p.corners) w [] } in
-    let g : ℕ → Included = λ w. record { origin = QVertex w; number = q_number op (get_or n.w30 w (pos 0)); point = get_or (points_of q.corners) w [] } in
+    let f : ℕ → Prescription = λ w. record { origin = PVertex w; number = p_number op (get_or n.w03 w (pos 0)); point = get_or (points_of p.corners) w [] } in
+    let g : ℕ → Prescription = λ w. record { origin = QVertex w; number = q_number op (get_or n.w30 w (pos 0)); point = get_or (points_of q.corners) w [] } in
     let a = none test f (λ w. refl {a = false}) (upto (length p.corners)) in
     let b = the_one test g v (λ w differ. ne_eqb w v differ) (eq-eqb v v (refl {a = v})) 0 (length q.corners) (omega arith) (omega (arith, below)) in
     let c = none test (λ h. record { origin = PEdge h.edge h.face; number = hit_number_of op h.number; point = h.at }) (λ h. refl {a = false}) n.x12 in

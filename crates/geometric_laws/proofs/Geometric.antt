@@ -1,4 +1,4 @@
--- An operation under exact kernels keeps vertices as often as it says for their geometric winding numbers.
+-- An operation under exact kernels prescribes vertices as often as it says for their geometric winding numbers.
 use Rattle.std.proofs.Common.{◌≡◌, ◌<◌, ℕ, pos, Bool, false, List, [], ◌∷◌, get_or, length, replicate, refl, sym, ap, subst, ◌∙◌}
 use Rattle.std.proofs.lemmas.List.{get_or-map, length-replicate}
 use Rattle.mb_base.specs.declared.TheConstants.{UNIT}

@@ -1,4 +1,4 @@
--- How often an operation keeps the vertices of two meshes, by the geometric winding numbers of those that lie in no triangle of the other mesh.
+-- How often an operation prescribes the vertices of two meshes, by the geometric winding numbers of those that lie in no triangle of the other mesh.
 use Rattle.std.specs.Prelude.{◌≡◌, ◌<◌, ℕ, ◌==◌, ℤ, Bool, false, List, [], filter, get_or, length}
 use Rattle.mb_base.specs.declared.op.Op.{Op}
 use Rattle.mb_base.specs.declared.results.Origin.{Origin}

@@ -8,14 +8,14 @@ pub const FULL: u64 = 10 << 60;
 
 // The digits at the front of a text, what they spell behind the digits before them, and the text after them.
 #[derive(Clone, Copy)]
-pub struct Run<'t> {
+pub struct LeadingDigits<'t> {
     pub digits: &'t [u8],
     pub value: u64,
     pub rest: &'t [u8],
 }
 
 // The digits at the front of a text, behind digits that spell `before`.
-pub fn leading_digits<'t>(text: &'t [u8], before: u64) -> Run<'t>
+pub fn leading_digits<'t>(text: &'t [u8], before: u64) -> LeadingDigits<'t>
     requires { before ≤ saturation }
     ensures split { text.entry.now ≡ result.digits.now ++ result.rest.now }
     ensures digits { IsTrue (all_digits result.digits.now) }
@@ -26,7 +26,7 @@ pub fn leading_digits<'t>(text: &'t [u8], before: u64) -> Run<'t>
     for (place, byte) in text.iter().enumerate() {
         if !byte.is_ascii_digit() {
             let (digits, rest) = text.split_at(place);
-            return Run {
+            return LeadingDigits {
                 digits,
                 value,
                 rest,
@@ -34,7 +34,7 @@ pub fn leading_digits<'t>(text: &'t [u8], before: u64) -> Run<'t>
         }
         value = appended(value, *byte);
     }
-    Run {
+    LeadingDigits {
         digits: text,
         value,
         rest: &[],

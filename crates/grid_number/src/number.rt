@@ -3,7 +3,7 @@ ghost use Rattle.std.specs.Prelude.{◌≡◌, ◌+◌, ◌*◌, ◌^◌, ◌<�
 ghost use Rattle.text_terms.specs.Numbers.{all_digits, value_from, digits_value, number_parts, signed, size_of};
 ghost use Rattle.grid_number.specs.Reading.{saturated, saturated_size, saturated_parts, saturation, parts_with, begins_digit, exponent_after, power_of, spelled_by, with_sign, AfterPoint};
 
-use crate::digits::{Run, leading_digits};
+use crate::digits::{LeadingDigits, leading_digits};
 use crate::moved::{lowered, raised};
 
 // The sign, the digits before and after the point, what they spell together, and the exponent.
@@ -78,7 +78,7 @@ fn after_sign<'t>(text: &'t [u8]) -> (bool, &'t [u8])
 }
 
 // The digits after a point, where one comes next, behind digits that spell `before`.
-fn after_point<'t>(text: &'t [u8], before: u64) -> Run<'t>
+fn after_point<'t>(text: &'t [u8], before: u64) -> LeadingDigits<'t>
     requires before { before ≤ saturation }
     requires ends { IsFalse (begins_digit text.now) }
     ensures split { AfterPoint text.entry.now result.digits.now result.rest.now }
@@ -88,7 +88,7 @@ fn after_point<'t>(text: &'t [u8], before: u64) -> Run<'t>
 {
     match text {
         [b'.', rest @ ..] => leading_digits(rest, before),
-        _ => Run {
+        _ => LeadingDigits {
             digits: &[],
             value: before,
             rest: text,

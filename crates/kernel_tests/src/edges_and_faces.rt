@@ -88,7 +88,7 @@ fn crossing(word: [u8; 6]) -> Option<Cross> {
         [b'-', b'1', b':', x, y, z] => (-1, x, y, z),
         [_, _, _, x, y, z] => (9, x, y, z),
     };
-    cross_at(number, digit(x) as i32, digit(y) as i32, digit(z) as i32)
+    crossing_at(number, digit(x) as i32, digit(y) as i32, digit(z) as i32)
 }
 
 /// Whether a sign may stand at a place of a line: digits and marks in the six corners, a blank after each word, and no other blank.
@@ -138,7 +138,7 @@ fn number_back<K: Kernels>(kernels: &K, a: &Corner, b: &Corner, q: &[Corner; 3])
     requires a_fine { IsFineCorner a.now }
     requires b_fine { IsFineCorner b.now }
     requires q_fine { AllFine q.now }
-    ensures { result ≡ number_of (⟦<K as Crosses<2, 3>>⟧.cross_of kernels.now (a.now ∷ b.now ∷ []) q.now) }
+    ensures { result ≡ number_of (⟦<K as Crosses<2, 3>>⟧.crossing_of kernels.now (a.now ∷ b.now ∷ []) q.now) }
 {
     match kernels.cross(&[*b, *a], q) {
         None => 0,
@@ -175,7 +175,7 @@ fn turned_edges_have_turned_numbers(rt: HostRuntime) {
 }
 
 /// A crossing at a point.
-fn cross_at(number: i8, x: i32, y: i32, z: i32) -> Option<Cross> {
+fn crossing_at(number: i8, x: i32, y: i32, z: i32) -> Option<Cross> {
     let at = Point::of(x, y, z)?;
     Some(Cross { number, at })
 }
@@ -194,10 +194,10 @@ fn a_cube_crosses_a_post(rt: HostRuntime) {
     let diagonal = [top[2], top[0]];
     let front = [at(3, 4, 5, still), at(6, 4, 5, still), at(3, 4, 20, still)];
     let side = [at(6, 4, 5, still), at(6, 7, 5, still), at(6, 7, 20, still)];
-    assert!(rt; grid.cross(&diagonal, &front) == cross_at(1, 4, 4, 10));
-    assert!(rt; grid.cross(&diagonal, &side) == cross_at(-1, 6, 6, 10));
+    assert!(rt; grid.cross(&diagonal, &front) == crossing_at(1, 4, 4, 10));
+    assert!(rt; grid.cross(&diagonal, &side) == crossing_at(-1, 6, 6, 10));
     let wall = [front[1], front[2]];
-    assert!(rt; grid.cross(&top, &wall) == cross_at(1, 5, 4, 10));
+    assert!(rt; grid.cross(&top, &wall) == crossing_at(1, 5, 4, 10));
 }
 
 // Lines as in the table, with the answers of an independent program of the same definitions, in fine steps of 1/256 of a grid

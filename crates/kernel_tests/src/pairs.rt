@@ -46,7 +46,7 @@ fn are_rows(hits: &[Hit], rows: &[Row]) -> bool {
 }
 
 // Whether these boxes cross so: the hits of the edges of the first, and those of the second.
-fn cross_at(
+fn crossing_at(
     alloc: Global,
     first: &[Span],
     second: &[Span],
@@ -76,7 +76,7 @@ const WALLS: [Row; 8] = [
 
 #[test]
 fn a_post_crosses_the_top_of_a_cube(rt: HostRuntime) -> Result<(), Fail> {
-    assert!(rt; cross_at(rt.alloc(), &[CUBE], &[POST], &TOP, &WALLS)?);
+    assert!(rt; crossing_at(rt.alloc(), &[CUBE], &[POST], &TOP, &WALLS)?);
     Ok(())
 }
 
@@ -100,7 +100,7 @@ const WALLS_AFTER_TWO: [Row; 8] = [
 #[test]
 fn boxes_far_away_change_no_hit(rt: HostRuntime) -> Result<(), Fail> {
     assert!(rt;
-        cross_at(
+        crossing_at(
             rt.alloc(),
             &[CUBE],
             &AFTER_TWO,
@@ -114,6 +114,6 @@ fn boxes_far_away_change_no_hit(rt: HostRuntime) -> Result<(), Fail> {
 // The first is grown, so nothing crosses.
 #[test]
 fn a_cube_does_not_cross_itself(rt: HostRuntime) -> Result<(), Fail> {
-    assert!(rt; cross_at(rt.alloc(), &[CUBE], &[CUBE], &[], &[])?);
+    assert!(rt; crossing_at(rt.alloc(), &[CUBE], &[CUBE], &[], &[])?);
     Ok(())
 }

@@ -12,12 +12,12 @@ mod copying;
 mod folder_shelf;
 mod memory_shelf;
 mod memory_sink;
-mod places;
 mod shelf;
 mod short_shelf;
 mod sink;
 mod std_sink;
 mod stored_file;
+mod stored_files;
 mod sure_shelf;
 mod writing;
 

@@ -9,8 +9,8 @@ ghost use Rattle.mb_outside.specs.ShelfState.{ShelfState, empty_shelf, holding, 
 
 use crate::calls::FailingCalls;
 use crate::copying::copy_from;
-use crate::places::Places;
 use crate::shelf::{Failed, Shelf};
+use crate::stored_files::StoredFiles;
 use mb_base::NoMemory;
 use std::alloc::Global;
 use std::marker::Model;
@@ -26,7 +26,7 @@ use std::marker::Model;
 /// What fails changes no file. No call of the trait takes memory.
 #[derive(Drop)]
 pub struct MemoryShelf {
-    places: Places,
+    places: StoredFiles,
     most: usize,
     calls: FailingCalls,
     read_faults: u64,
@@ -62,7 +62,7 @@ impl MemoryShelf {
         ensures { IfOk result (λ shelf. shelf ≡ empty_shelf places room most fails.items) }
     {
         Ok(MemoryShelf {
-            places: Places::of(alloc, places, room)?,
+            places: StoredFiles::of(alloc, places, room)?,
             most,
             calls: FailingCalls::of(fails),
             read_faults: 0,

@@ -50,7 +50,7 @@ plain_bounded side runs points f n negative below plain =
     (λ x y. ap (λ ts. dir (all_edges ts) x y) triples ∙ as_often negative r.first s.first u.first n x y
     ∙ sym (ap (λ es. dir es x y) (segments side runs points f n negative below plain)))
 
--- so where they are included one number of times
+-- so where they are prescribed one number of times
 pub copies_bounded : (side : Side) (runs : List CopyRange) (points : List (List ℤ)) (k : ℕ) → IsSide side → AreRuns side (length points) runs →
     AreInOrder k runs → LieAtVertices side runs points → (f : ℕ) → f < length side.triples → are_equal_runs runs (face side f) ≡ true →
     HaveOneBoundary (all_edges (face_copies side runs f).triples) (segments_by side runs points f [])

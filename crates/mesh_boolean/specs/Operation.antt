@@ -7,7 +7,7 @@ use Rattle.mesh_check.specs.Reduced.{reduced}
 use Rattle.side_terms.specs.Sides.{Side, side_of}
 use Rattle.lean.specs.Leans.{leans_of}
 use Rattle.shadow_kernels.specs.ShadowLaws.{ShadowTest}
-use Rattle.crossings.specs.Hits.{CrossTest, hits_of}
+use Rattle.crossings.specs.Hits.{CrossingTest, hits_of}
 use Rattle.winding.specs.Windings.{winding, winding_back}
 use Rattle.side_terms.specs.Lists.{Copy}
 use Rattle.side_terms.specs.Prescribed.{Numbers, crossing_count, p_kept, prescribed, prescribed_halfedges, q_kept}
@@ -19,8 +19,8 @@ use Rattle.source_face_terms.specs.Filled.{all_filled, all_triples, forced_of, p
 pub record Tests : Type 0 where
   pub vertex_face : ShadowTest
   pub face_vertex : ShadowTest
-  pub edge_face : CrossTest
-  pub face_edge : CrossTest
+  pub edge_face : CrossingTest
+  pub face_edge : CrossingTest
 
 -- the reduced mesh
 abbrev pub reduced_mesh : Mesh → Mesh

@@ -14,7 +14,7 @@ impl<K: Kernels> Tested for K {
     ghost tests = { λ k. record {
       vertex_face = ⟦<K as Meets<1, 3>>⟧.meet_of k;
       face_vertex = ⟦<K as Meets<3, 1>>⟧.meet_of k;
-      edge_face = ⟦<K as Crosses<2, 3>>⟧.cross_of k;
-      face_edge = ⟦<K as Crosses<3, 2>>⟧.cross_of k;
+      edge_face = ⟦<K as Crosses<2, 3>>⟧.crossing_of k;
+      face_edge = ⟦<K as Crosses<3, 2>>⟧.crossing_of k;
     } };
 }

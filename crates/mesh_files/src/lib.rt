@@ -2,8 +2,8 @@
 //!
 //! Each call meets its task, whatever the shelf: `read_file` that of asking for a file, `read_mesh` that of reading a mesh, and
 //! `save_mesh` that of writing one. What is read is what the file holds, what is saved is the mesh's text or a first part of it,
-//! and a fault comes only where the shelf had one. `Stop` says why one of them, or another part of a run, stopped. `ask_bytes`,
-//! `ask` and `write` call them for the files of a command, and a `Halt` of theirs carries the file's name beside the stop.
+//! and a fault comes only where the shelf had one. `Stop` says why one of them, or another part of a run, stopped. `read_named_file`,
+//! `read_named_mesh` and `save_named_mesh` call them for the files of a command, and a `Halt` of theirs carries the file's name beside the stop.
 #![tactic(auto)]
 
 mod files;
@@ -16,7 +16,7 @@ mod stop;
 
 pub use files::read_file;
 pub use halt::Halt;
-pub use named::{ask, ask_bytes, write};
+pub use named::{read_named_file, read_named_mesh, save_named_mesh};
 pub use reading::{Read, read_mesh};
 pub use saving::save_mesh;
 pub use stop::Stop;

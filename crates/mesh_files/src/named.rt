@@ -18,7 +18,7 @@ use mesh_check::Mesh;
 use std::alloc::Global;
 
 /// Reads the bytes of a file, as `read_file` does.
-pub fn ask_bytes<'a, S: Shelf>(
+pub fn read_named_file<'a, S: Shelf>(
     alloc: Global,
     name: &'a str,
     limits: &Limits,
@@ -35,7 +35,7 @@ pub fn ask_bytes<'a, S: Shelf>(
 }
 
 /// Reads a mesh from a file, as `read_mesh` does.
-pub fn ask<'a, S: Shelf>(
+pub fn read_named_mesh<'a, S: Shelf>(
     alloc: Global,
     name: &'a str,
     digits: u8,
@@ -55,7 +55,7 @@ pub fn ask<'a, S: Shelf>(
 }
 
 /// Saves a mesh to a file, as `save_mesh` does.
-pub fn write<'a, S: Shelf>(
+pub fn save_named_mesh<'a, S: Shelf>(
     mesh: &Mesh,
     name: &'a str,
     digits: u8,

@@ -23,12 +23,12 @@ use Rattle.tidy_laws.proofs.Tidying.{AreGood, are_met, can_of, finish_below, sam
 use Rattle.tidy_laws.proofs.Turned.{same_turned}
 use Rattle.tidy_laws.proofs.Twins.{runs_down}
 use Rattle.mesh_tidy.specs.Doubts.{AreDoubted, HasLesser, lies_at_one}
-use Rattle.mesh_tidy.specs.Surface.{Surface, Has, HasCollapsed, IsTwin, left_of, number_of}
+use Rattle.mesh_tidy.specs.TidySurface.{TidySurface, Has, HasCollapsed, IsTwin, left_of, number_of}
 use Rattle.mesh_tidy.proofs.Left.{finish_number, number_below, number_one, start_number}
 use Rattle.mesh_tidy.proofs.Queue.{lesser_is}
 
 -- a surface before and after the collapse of half-edge h
-module _ (points : List (List ℤ)) (each : All (λ p. length p ≡ 3) points) (old new : Surface) (h : ℕ) (marks : length new.left ≡ length new.triples)
+module _ (points : List (List ℤ)) (each : All (λ p. length p ≡ 3) points) (old new : TidySurface) (h : ℕ) (marks : length new.left ≡ length new.triples)
     (good : AreGood (length points) (left_of old)) (good_new : AreGood (length points) (left_of new)) (has_h : Has old h)
     (can_h : is_collapsible points (left_of old) (number_of old h) ≡ true) (c : HasCollapsed old new h) (doubts more : List ℕ)
     (all : AreDoubted points old (h ∷ doubts)) (stay : (x : ℕ) →

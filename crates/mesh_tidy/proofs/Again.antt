@@ -15,26 +15,26 @@ use Rattle.tidy_laws.proofs.Around.{ac, ac_stays, cb, cb_stays, da, da_stays}
 use Rattle.tidy_laws.proofs.Kept.{Stays, next_down}
 use Rattle.tidy_laws.proofs.Tidying.{AreGood, can_of}
 use Rattle.mesh_tidy.specs.Doubts.{HasLesser}
-use Rattle.mesh_tidy.specs.Surface.{Surface, Has, HasCollapsed, IsTwin, left_of, number_of}
+use Rattle.mesh_tidy.specs.TidySurface.{TidySurface, Has, HasCollapsed, IsTwin, left_of, number_of}
 use Rattle.mesh_tidy.proofs.Left.{next_marked, next_number, number_below}
 use Rattle.mesh_tidy.proofs.NewSurface.{prev_is}
 
 -- a half-edge that can be collapsed, with its ends and the third vertices of both triangles
-pub can_at : (points : List (List ℤ)) (s : Surface) (h : ℕ) → AreGood (length points) (left_of s) → Has s h → is_collapsible points (left_of s) (number_of s h) ≡ true →
+pub can_at : (points : List (List ℤ)) (s : TidySurface) (h : ℕ) → AreGood (length points) (left_of s) → Has s h → is_collapsible points (left_of s) (number_of s h) ≡ true →
     CanCollapse (left_of s) (number_of s h) (start (all_edges (left_of s)) (number_of s h)) (finish (all_edges (left_of s)) (number_of s h))
     (third_vertex (left_of s) (number_of s h)) (third_vertex (left_of s) (twin (all_edges (left_of s)) (number_of s h)))
 can_at points s h good has can = can_of points (left_of s) good (number_of s h) (omega (arith, number_below s.left s.triples h has, length-all_edges (left_of s))) can
 
 -- what is in doubt stays so where nothing leaves doubt
-pub still_lesser : (s : Surface) (few more : List ℕ) (h : ℕ) → ((x : ℕ) → Contains few x → Contains more x) → HasLesser s few h → HasLesser s more h
+pub still_lesser : (s : TidySurface) (few more : List ℕ) (h : ℕ) → ((x : ℕ) → Contains few x → Contains more x) → HasLesser s few h → HasLesser s more h
 still_lesser s few more h stay l = record { other = l.other; pair = l.pair; among = stay (min h l.other) l.among }
 
 -- a half-edge that is left, and the number that one has among the triangles before as it has it now
-pub record IsLeftAs (new : Surface) (y n : ℕ) : Type 0 where
+pub record IsLeftAs (new : TidySurface) (y n : ℕ) : Type 0 where
   pub there : Has new y
   pub is : number_of new y ≡ n
 
-module _ (old new : Surface) (h : ℕ) (c : HasCollapsed old new h) (p q : ℕ)
+module _ (old new : TidySurface) (h : ℕ) (c : HasCollapsed old new h) (p q : ℕ)
     (can : CanCollapse (left_of old) (number_of old h) (start (all_edges (left_of old)) (number_of old h)) (finish (all_edges (left_of old)) (number_of old h)) p q) where
   abbrev pub ts : List Triple
   ts = left_of old

@@ -9,7 +9,7 @@ use Rattle.tidy_terms.specs.Collapsible.{is_collapsible}
 use Rattle.tidy_terms.specs.PointTriples.{same_point}
 use Rattle.tidy_laws.proofs.Tidying.{AreGood}
 use Rattle.mesh_tidy.specs.Neighbours.{MeetOnly, are_single}
-use Rattle.mesh_tidy.specs.Surface.{Surface, Has, IsSurface, IsTwin, left_of, number_of}
+use Rattle.mesh_tidy.specs.TidySurface.{TidySurface, Has, IsSurface, IsTwin, left_of, number_of}
 use Rattle.mesh_tidy.proofs.Asking.{AreAsked, asked_no, asked_yes}
 use Rattle.mesh_tidy.proofs.Compared.{compared, equal_on}
 use Rattle.mesh_tidy.proofs.Queue.{surface_good}
@@ -47,7 +47,7 @@ not_twice : (b : Bool) → not (not b) ≡ b
 not_twice true = refl
 not_twice false = refl
 
-module _ (points : List (List ℤ)) (s : Surface) (whole : IsSurface s) (size : length points ≡ s.vertices) (h g : ℕ) (has : Has s h) (pair : IsTwin s h g)
+module _ (points : List (List ℤ)) (s : TidySurface) (whole : IsSurface s) (size : length points ≡ s.vertices) (h g : ℕ) (has : Has s h) (pair : IsTwin s h g)
     (a b c d : ℕ) (a_is : a ≡ start (all_edges s.triples) h) (b_is : b ≡ finish (all_edges s.triples) h) (c_is : c ≡ third_vertex s.triples h)
     (d_is : d ≡ third_vertex s.triples g) where
   good : AreGood (length points) (left_of s)

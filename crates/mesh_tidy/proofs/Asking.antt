@@ -20,52 +20,52 @@ use Rattle.tidy_laws.proofs.Tidying.{AreGood, are_met, can_of}
 use Rattle.halfedge.proofs.Edges.{length-all_edges, not_back}
 use Rattle.mesh_tidy.specs.Neighbours.{AreNeighboursMarked, MeetOnly, ends_at}
 use Rattle.mesh_tidy.specs.Stars.{is_left}
-use Rattle.mesh_tidy.specs.Surface.{Surface, Has, IsKept, IsTwin, left_of, number_of}
+use Rattle.mesh_tidy.specs.TidySurface.{TidySurface, Has, IsKept, IsTwin, left_of, number_of}
 use Rattle.mesh_tidy.proofs.Counting.{dir_star}
 use Rattle.mesh_tidy.proofs.Left.{finish_number, next_marked, next_number, number_below, start_number}
 
 -- an edge runs as often as the star of its start has such half-edges
-pub dir_counts : (s : Surface) (tw : List ℕ) (stars : List (List ℕ)) → IsKept s tw stars → length stars ≡ s.vertices → (v w : ℕ) → v < s.vertices →
+pub dir_counts : (s : TidySurface) (tw : List ℕ) (stars : List (List ℕ)) → IsKept s tw stars → length stars ≡ s.vertices → (v w : ℕ) → v < s.vertices →
     dir (all_edges (left_of s)) v w ≡ count_by (ends_at s w) (get_or stars v [])
 dir_counts s tw stars kept size v w low =
     dir_star s.left s.triples (get_or stars v []) v w kept.marks (All-get_or (All (λ h. h < 3 * length s.triples)) stars v [] (omega (arith, low, size)) kept.within)
     (λ h h_low on. kept.stand h (h_low, on) v low)
 
 -- what a half-edge of a star adds to the count for a vertex
-ends_yes : (s : Surface) (w h : ℕ) → is_left s.left h ≡ true → finish (all_edges s.triples) h ≡ w → ends_at s w h ≡ true
+ends_yes : (s : TidySurface) (w h : ℕ) → is_left s.left h ≡ true → finish (all_edges s.triples) h ≡ w → ends_at s w h ≡ true
 ends_yes s w h on e = and_from (is_left s.left h) (finish (all_edges s.triples) h == w) on (eq-eqb (finish (all_edges s.triples) h) w e)
 
-ends_off : (s : Surface) (w h : ℕ) → is_left s.left h ≡ false → ends_at s w h ≡ false
+ends_off : (s : TidySurface) (w h : ℕ) → is_left s.left h ≡ false → ends_at s w h ≡ false
 ends_off s w h off = ap (λ b. b && (finish (all_edges s.triples) h == w)) off
 
-ends_other : (s : Surface) (w h : ℕ) → is_left s.left h ≡ true → finish (all_edges s.triples) h ≢ w → ends_at s w h ≡ false
+ends_other : (s : TidySurface) (w h : ℕ) → is_left s.left h ≡ true → finish (all_edges s.triples) h ≢ w → ends_at s w h ≡ false
 ends_other s w h on n = (λ i. on i && ne_eqb (finish (all_edges s.triples) h) w n i)
 
 -- counts over the first half-edges of a star
-pub edges_yes : (s : Surface) (w : ℕ) (star : List ℕ) (i : ℕ) → i < length star → is_left s.left (get_or star i 0) ≡ true →
+pub edges_yes : (s : TidySurface) (w : ℕ) (star : List ℕ) (i : ℕ) → i < length star → is_left s.left (get_or star i 0) ≡ true →
     finish (all_edges s.triples) (get_or star i 0) ≡ w → count_by (ends_at s w) (take (i + 1) star) ≡ count_by (ends_at s w) (take i star) + 1
 edges_yes s w star i low on e = count_by_more_yes (ends_at s w) star i 0 low (ends_yes s w (get_or star i 0) on e)
 
-pub edges_off : (s : Surface) (w : ℕ) (star : List ℕ) (i : ℕ) → i < length star → is_left s.left (get_or star i 0) ≡ false →
+pub edges_off : (s : TidySurface) (w : ℕ) (star : List ℕ) (i : ℕ) → i < length star → is_left s.left (get_or star i 0) ≡ false →
     count_by (ends_at s w) (take (i + 1) star) ≡ count_by (ends_at s w) (take i star)
 edges_off s w star i low off = count_by_more_no (ends_at s w) star i 0 low (ends_off s w (get_or star i 0) off)
 
-pub edges_other : (s : Surface) (w : ℕ) (star : List ℕ) (i : ℕ) → i < length star → is_left s.left (get_or star i 0) ≡ true →
+pub edges_other : (s : TidySurface) (w : ℕ) (star : List ℕ) (i : ℕ) → i < length star → is_left s.left (get_or star i 0) ≡ true →
     finish (all_edges s.triples) (get_or star i 0) ≢ w → count_by (ends_at s w) (take (i + 1) star) ≡ count_by (ends_at s w) (take i star)
 edges_other s w star i low on n = count_by_more_no (ends_at s w) star i 0 low (ends_other s w (get_or star i 0) on n)
 
 -- the ends of the first half-edges of a star have the mark, the others that which they had
-pub record AreMarkedTo (s : Surface) (star : List ℕ) (mark : Bool) (i : ℕ) (old new : List Bool) : Type 0 where
+pub record AreMarkedTo (s : TidySurface) (star : List ℕ) (mark : Bool) (i : ℕ) (old new : List Bool) : Type 0 where
   pub count : length new ≡ length old
   pub each : (v : ℕ) → v < length old → get_or new v false ≡ cond (nat_lt 0 (count_by (ends_at s v) (take i star))) mark (get_or old v false)
 
 above : (n : ℕ) → 0 < n → nat_lt 0 n ≡ true
 above n some = (Decides-ltb 0 n).1 some
 
-pub none_marked : (s : Surface) (star : List ℕ) (mark : Bool) (old : List Bool) → AreMarkedTo s star mark 0 old old
+pub none_marked : (s : TidySurface) (star : List ℕ) (mark : Bool) (old : List Bool) → AreMarkedTo s star mark 0 old old
 none_marked s star mark old = record { count = refl; each = λ v low. refl }
 
-module _ (s : Surface) (star : List ℕ) (mark : Bool) (i : ℕ) (old new : List Bool) (low : i < length star) (so_far : AreMarkedTo s star mark i old new) where
+module _ (s : TidySurface) (star : List ℕ) (mark : Bool) (i : ℕ) (old new : List Bool) (low : i < length star) (so_far : AreMarkedTo s star mark i old new) where
   -- one that is gone changes nothing
   pub passed_over : is_left s.left (get_or star i 0) ≡ false → AreMarkedTo s star mark (i + 1) old new
   passed_over off =
@@ -89,7 +89,7 @@ module _ (s : Surface) (star : List ℕ) (mark : Bool) (i : ℕ) (old new : List
           ∙ ap (λ n. cond (nat_lt 0 n) mark (get_or old v false)) (sym (edges_other s v star i low on (λ q. apart (sym q ∙ is))))
 
 -- after the whole star: the neighbours of its vertex
-pub all_marked : (s : Surface) (star : List ℕ) (v : ℕ) → ((w : ℕ) → dir (all_edges (left_of s)) v w ≡ count_by (ends_at s w) star) →
+pub all_marked : (s : TidySurface) (star : List ℕ) (v : ℕ) → ((w : ℕ) → dir (all_edges (left_of s)) v w ≡ count_by (ends_at s w) star) →
     (i : ℕ) (mark : Bool) (old new : List Bool) → length star ≤ i → AreMarkedTo s star mark i old new →
     AreNeighboursMarked (all_edges (left_of s)) v mark old new
 all_marked s star v counts i mark old new past marked = record {
@@ -129,7 +129,7 @@ module _ (es : List (ℕ × ℕ)) (a b c d : ℕ) (old met : List Bool) (none : 
   only_met inside only v q on = only v (off_mark v (inside v q) on) q
 
 -- the conditions as they are asked
-pub record AreAsked (s : Surface) (points : List (List ℤ)) (a b c d : ℕ) : Type 0 where
+pub record AreAsked (s : TidySurface) (points : List (List ℤ)) (a b c d : ℕ) : Type 0 where
   pub at_one : same_point (get_or points a []) (get_or points b []) ≡ true
   pub differ : c ≢ d
   pub ab : dir (all_edges (left_of s)) a b ≡ 1
@@ -140,14 +140,14 @@ pub record AreAsked (s : Surface) (points : List (List ℤ)) (a b c d : ℕ) : T
   pub only : MeetOnly (all_edges (left_of s)) a b c d
 
 -- the third vertex of a half-edge among those that are left
-pub third_number : (s : Surface) (h : ℕ) → Has s h → third_vertex (left_of s) (number_of s h) ≡ third_vertex s.triples h
+pub third_number : (s : TidySurface) (h : ℕ) → Has s h → third_vertex (left_of s) (number_of s h) ≡ third_vertex s.triples h
 third_number s h has =
     let one = next_marked s.left s.triples h has in
     let two = next_marked s.left s.triples (next_half h) one in
     ap (start (all_edges (left_of s))) (sym (next_number s.left (next_half h) ∙ ap next_half (next_number s.left h))) ∙ start_number s.left s.triples (next_half (next_half h)) two
 
 -- a half-edge that is left, and its twin
-module _ (points : List (List ℤ)) (s : Surface) (good : AreGood (length points) (left_of s)) (h g : ℕ) (has : Has s h) (pair : IsTwin s h g) where
+module _ (points : List (List ℤ)) (s : TidySurface) (good : AreGood (length points) (left_of s)) (h g : ℕ) (has : Has s h) (pair : IsTwin s h g) where
   abbrev pub ts : List Triple
   ts = left_of s
 

@@ -11,7 +11,7 @@ use Rattle.mesh_terms.specs.Halves.{next_half, prev_half}
 use Rattle.mesh_terms.specs.Meshes.{Triple, triples_of}
 use Rattle.tidy_laws.specs.Conditions.{CanCollapse}
 use Rattle.mesh_tidy.specs.Pairs.{paired}
-use Rattle.mesh_tidy.specs.Surface.{Surface, Has, HasCollapsed, IsKept, IsRenamed, IsTwin, left_of, number_of}
+use Rattle.mesh_tidy.specs.TidySurface.{TidySurface, Has, HasCollapsed, IsKept, IsRenamed, IsTwin, left_of, number_of}
 use Rattle.mesh_tidy.proofs.Follow.{without}
 use Rattle.mesh_tidy.proofs.Known.{start_known}
 use Rattle.mesh_tidy.proofs.Left.{number_below, number_one, start_number}
@@ -40,11 +40,11 @@ first_pair_is twins read put one h e f g =
     g ∙ with_items_is twins put full ∙ f ∙ (λ i. paired (e i) (get_or (e i) (next_half h) 0) (get_or (e i) (prev_half h) 0))
 
 -- a half-edge has one twin
-pub twin_one : (s : Surface) (h x y : ℕ) → length s.left ≡ length s.triples → IsTwin s h x → IsTwin s h y → x ≡ y
+pub twin_one : (s : TidySurface) (h x y : ℕ) → length s.left ≡ length s.triples → IsTwin s h x → IsTwin s h y → x ≡ y
 twin_one s h x y marks p q = number_one s.left s.triples marks x y p.there q.there (sym p.is ∙ q.is)
 
 -- a surface, a half-edge that can be collapsed, and its twin
-module _ (s : Surface) (tw : List ℕ) (stars : List (List ℕ)) (kept : IsKept s tw stars) (h : ℕ) (h_has : Has s h) (a b c d : ℕ)
+module _ (s : TidySurface) (tw : List ℕ) (stars : List (List ℕ)) (kept : IsKept s tw stars) (h : ℕ) (h_has : Has s h) (a b c d : ℕ)
     (can : CanCollapse (left_of s) (number_of s h) a b c d) (g : ℕ) (pair : IsTwin s h g) where
   -- the twin stands in the list
   pub twin_listed : g ≡ get_or tw h 0
@@ -87,16 +87,16 @@ module _ (s : Surface) (tw : List ℕ) (stars : List (List ℕ)) (kept : IsKept 
     abbrev pub list : List ℕ
     list = new_twins_list s tw stars kept size h h_has from to c d here low_from low_to us count renames
 
-    abbrev pub new : ℕ → ℕ → Surface
+    abbrev pub new : ℕ → ℕ → TidySurface
     new x n = record { triples = us; left = without s.left (h / 3) (x / 3); vertices = n }
 
-    abbrev pub collapsed_surface : Surface
+    abbrev pub collapsed_surface : TidySurface
     collapsed_surface = new g (length (joined stars from to))
 
     many : s.vertices ≡ length (joined stars from to)
     many = sym (length-set (set stars to []) from (get_or stars from [] ++ get_or stars to []) ∙ length-set stars to [] ∙ size)
 
-    read_new : (P : Surface → Type 0) → P (new (get_or tw h 0) s.vertices) → P collapsed_surface
+    read_new : (P : TidySurface → Type 0) → P (new (get_or tw h 0) s.vertices) → P collapsed_surface
     read_new P x = subst (λ y. P (new y (length (joined stars from to)))) (sym twin_listed) (subst (λ n. P (new (get_or tw h 0) n)) many x)
 
     pub follows_so : HasCollapsed s collapsed_surface h

@@ -17,7 +17,7 @@ use Rattle.tidy_laws.proofs.Steps.{Rests, tidied_rests, tidied_steps}
 use Rattle.tidy_laws.proofs.Tidying.{AreGood, are_met, can_of, least_can}
 use Rattle.tidy_laws.proofs.TwoGo.{two_go}
 use Rattle.mesh_tidy.specs.Doubts.{AreDoubted, HasLesserAtOne}
-use Rattle.mesh_tidy.specs.Surface.{Surface, Has, HasCollapsed, HasTidied, labels_of, left_of, number_of}
+use Rattle.mesh_tidy.specs.TidySurface.{TidySurface, Has, HasCollapsed, HasTidied, labels_of, left_of, number_of}
 use Rattle.mesh_tidy.proofs.Left.{before, number_below}
 
 -- so many collapses before
@@ -37,7 +37,7 @@ none_there [] none = refl
 none_there (x ∷ xs) none = absurd (none (omega arith))
 
 -- the first surface is tidied as the second is, with so many collapses before
-abbrev pub HasCome : List (List ℤ) → Surface → Surface → ℕ → Type 0
+abbrev pub HasCome : List (List ℤ) → TidySurface → TidySurface → ℕ → Type 0
 HasCome points first now n =
     (labels : List (List ℕ)) → length labels ≡ length first.triples → tidied points (left_of first) (labels_of first labels)
     ≡ after n (tidied points (left_of now) (labels_of now labels))
@@ -59,7 +59,7 @@ module _ (points : List (List ℤ)) (each : All (λ p. length p ≡ 3) points) w
         let inside = listed h low met.at_one in omega (arith, inside.1)
 
   -- so are those of a surface with nothing in doubt
-  pub doubted_rests : (s : Surface) → AreDoubted points s [] → Rests points each (left_of s)
+  pub doubted_rests : (s : TidySurface) → AreDoubted points s [] → Rests points each (left_of s)
   doubted_rests s all = none_rests (left_of s) none where
     none : (h : ℕ) → h < 3 * length (left_of s) → is_collapsible points (left_of s) h ≡ true → ⊥
     none h low can =
@@ -67,13 +67,13 @@ module _ (points : List (List ℤ)) (each : All (λ p. length p ≡ 3) points) w
         let l = all b.half b.marked (ap (is_collapsible points (left_of s)) b.is ∙ can) in
         let inside = l.among in omega (arith, inside.1)
 
-  pub come_none : (s : Surface) → HasCome points s s 0
+  pub come_none : (s : TidySurface) → HasCome points s s 0
   come_none s labels same =
       let t = tidied points (left_of s) (labels_of s labels) in
       let none : t.collapses ≡ 0 + t.collapses = omega arith in (λ i. record { triples = t.triples; labels = t.labels; collapses = none i })
 
   -- a collapse of the least that can be
-  module _ (first now new : Surface) (n h : ℕ) (count : length now.triples ≡ length first.triples) (good : AreGood (length points) (left_of now))
+  module _ (first now new : TidySurface) (n h : ℕ) (count : length now.triples ≡ length first.triples) (good : AreGood (length points) (left_of now))
       (has : Has now h) (can : is_collapsible points (left_of now) (number_of now h) ≡ true)
       (least : least_collapsible points (left_of now) ≡ number_of now h) (c : HasCollapsed now new h) where
     abbrev pub ts : List Triple
@@ -106,7 +106,7 @@ module _ (points : List (List ℤ)) (each : All (λ p. length p ≡ 3) points) w
         omega (arith, ap length c.left, two_go ts k (start es k) (finish es k) (third_vertex ts k) (third_vertex ts (twin es k)) (can_of points ts good k low can))
 
   -- and where none is left in doubt
-  pub come_all : (first now : Surface) (n : ℕ) → HasCome points first now n → AreDoubted points now [] → HasTidied points first now n
+  pub come_all : (first now : TidySurface) (n : ℕ) → HasCome points first now n → AreDoubted points now [] → HasTidied points first now n
   come_all first now n so_far none labels same =
       let last : n + 0 ≡ n = omega arith in
       so_far labels same ∙ ap (after n) (tidied_rests points each (left_of now) (labels_of now labels) (doubted_rests now none))

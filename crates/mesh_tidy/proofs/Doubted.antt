@@ -17,7 +17,7 @@ use Rattle.tidy_terms.specs.PointTriples.{same_point}
 use Rattle.tidy_laws.proofs.Tidying.{are_met}
 use Rattle.tidy_laws.proofs.Turned.{same_turned}
 use Rattle.mesh_tidy.specs.Doubts.{AreDoubted, HasLesserAtOne, lies_at_one}
-use Rattle.mesh_tidy.specs.Surface.{Surface, Has, IsTwin, left_of, number_of}
+use Rattle.mesh_tidy.specs.TidySurface.{TidySurface, Has, IsTwin, left_of, number_of}
 use Rattle.mesh_tidy.proofs.DoubtSet.{added_there, others_there}
 
 -- where each has a mark, ranks are places
@@ -28,11 +28,11 @@ all_rank (m ∷ ms) all (suc k) low =
     omega (arith, ap one_if (All-head (λ n. n ≡ true) m ms all), all_rank ms (All-tail (λ n. n ≡ true) m ms all) k (omega (arith, low)))
 
 -- and the numbers of half-edges are their own
-pub whole_number : (s : Surface) → length s.left ≡ length s.triples → All (λ m. m ≡ true) s.left → (h : ℕ) → h < 3 * length s.triples → number_of s h ≡ h
+pub whole_number : (s : TidySurface) → length s.left ≡ length s.triples → All (λ m. m ≡ true) s.left → (h : ℕ) → h < 3 * length s.triples → number_of s h ≡ h
 whole_number s marks all h low = omega (arith, all_rank s.left all (h / 3) (omega (arith, low, marks)))
 
 -- at the start: of each half-edge of zero length and its twin the lesser
-pub first_doubted : (points : List (List ℤ)) (s : Surface) (doubts : List ℕ) → length s.left ≡ length s.triples → All (λ m. m ≡ true) s.left →
+pub first_doubted : (points : List (List ℤ)) (s : TidySurface) (doubts : List ℕ) → length s.left ≡ length s.triples → All (λ m. m ≡ true) s.left →
     left_of s ≡ s.triples → IsClosed (all_edges s.triples) →
     HasLesserAtOne points s.triples doubts → AreDoubted points s doubts
 first_doubted points s doubts marks all whole closed listed h has can =

@@ -9,7 +9,7 @@ use Rattle.tidy_laws.proofs.TidyMeshes.{sound, tidy_meshes}
 use Rattle.unused_points.specs.Used.{IsSound}
 use Rattle.unused_points.proofs.AllUsed.{soup_of-all}
 use Rattle.mesh_tidy.specs.Doubts.{HasLesserAtOne}
-use Rattle.mesh_tidy.specs.Surface.{Surface, HasTidied, labels_of, left_of}
+use Rattle.mesh_tidy.specs.TidySurface.{TidySurface, HasTidied, labels_of, left_of}
 use Rattle.mesh_tidy.proofs.Done.{listed_rests}
 
 -- the mesh of tidied triangles over these points
@@ -31,7 +31,7 @@ module _ (m : Mesh) (each : All (λ p. length p ≡ 3) m.points) (accepted : IsA
   tidy_law t is = subst (IsTidyMesh m) (sym is) (tidy_meshes m each accepted)
 
   -- a surface of the whole mesh, and what is left of it
-  module _ (first last : Surface) (n : ℕ) (whole : left_of first ≡ m.triples) (all : labels_of first m.labels ≡ m.labels)
+  module _ (first last : TidySurface) (n : ℕ) (whole : left_of first ≡ m.triples) (all : labels_of first m.labels ≡ m.labels)
       (labels : length m.labels ≡ length first.triples) (has : HasTidied m.points first last n) where
     pub told : tidied m.points m.triples m.labels ≡ record { triples = left_of last; labels = labels_of last m.labels; collapses = n }
     told = sym (λ i. tidied m.points (whole i) (all i)) ∙ has m.labels labels

@@ -15,7 +15,7 @@ use Rattle.tidy_terms.specs.Collapse.{collapsed, merged, stays}
 use Rattle.tidy_laws.specs.Conditions.{CanCollapse, number_after}
 use Rattle.tidy_laws.proofs.Closed.{merged_other}
 use Rattle.tidy_laws.proofs.Six.{between, goes_near, the_six, triple_starts}
-use Rattle.mesh_tidy.specs.Surface.{IsRenamed}
+use Rattle.mesh_tidy.specs.TidySurface.{IsRenamed}
 use Rattle.mesh_tidy.proofs.Left.{AllFollow, Follows, Marked, number, number_below, number_one, picked_follows, rank_follows, start_number}
 
 -- the marks after two triangles lost theirs

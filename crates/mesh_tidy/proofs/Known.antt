@@ -5,10 +5,10 @@ use Rattle.chain_terms.specs.Ranks.{start, finish}
 use Rattle.halfedge.proofs.Edges.{length-all_edges}
 use Rattle.mesh_check.specs.Opposites.{third_vertex}
 use Rattle.mesh_terms.specs.Halves.{next_half}
-use Rattle.mesh_tidy.specs.Surface.{Surface, IsKept}
+use Rattle.mesh_tidy.specs.TidySurface.{TidySurface, IsKept}
 use Rattle.tidy_laws.proofs.Tidying.{finish_below, start_below}
 
-module _ (s : Surface) (tw : List ℕ) (stars : List (List ℕ)) (kept : IsKept s tw stars) (h : ℕ) (low : h < 3 * length s.triples) where
+module _ (s : TidySurface) (tw : List ℕ) (stars : List (List ℕ)) (kept : IsKept s tw stars) (h : ℕ) (low : h < 3 * length s.triples) where
   pub start_known : start (all_edges s.triples) h < s.vertices
   start_known = start_below s.vertices s.triples kept.below h (omega (arith, low, length-all_edges s.triples))
 

@@ -10,7 +10,7 @@ use Rattle.mesh_terms.specs.Meshes.{IsBelow, Triple}
 use Rattle.tidy_laws.proofs.Near.{found}
 use Rattle.tidy_laws.proofs.Tidying.{finish_below}
 use Rattle.mesh_tidy.specs.Neighbours.{AreNeighboursMarked, MeetOnly, ends_at, meets_another}
-use Rattle.mesh_tidy.specs.Surface.{Surface, IsSurface, left_of}
+use Rattle.mesh_tidy.specs.TidySurface.{TidySurface, IsSurface, left_of}
 use Rattle.mesh_tidy.proofs.Asking.{met_only, only_met}
 use Rattle.mesh_tidy.proofs.Queue.{surface_good}
 
@@ -34,10 +34,10 @@ passes_some p (x ∷ xs) zero low y = omega (arith, count_by-cons p x xs, one_if
 passes_some p (x ∷ xs) (suc i) low y = omega (arith, count_by-cons p x xs, passes_some p xs i (omega (arith, low)) y)
 
 -- no vertex to which an edge runs has a mark, but c and d
-abbrev pub MeetsOnly : Surface → List Bool → ℕ → ℕ → ℕ → Type 0
+abbrev pub MeetsOnly : TidySurface → List Bool → ℕ → ℕ → ℕ → Type 0
 MeetsOnly s met vertex c d = (v : ℕ) → 0 < dir (all_edges (left_of s)) vertex v → get_or met v false ≡ true → (v ≡ c) ⊎ (v ≡ d)
 
-module _ (s : Surface) (met : List Bool) (c d : ℕ) where
+module _ (s : TidySurface) (met : List Bool) (c d : ℕ) where
   abbrev to : ℕ → ℕ
   to h = finish (all_edges s.triples) h
 
@@ -91,7 +91,7 @@ joined_below : (n : ℕ) (ts : List Triple) → All (IsBelow n) ts → (v w : �
 joined_below n ts below v w some = let f = found (all_edges ts) v w some in omega (arith, finish_below n ts below f.place f.runs.low, f.runs.to)
 
 -- where the neighbours of a have marks, those of b with one are just the common ones
-pub meet_just : (s : Surface) → IsSurface s → (a b c d : ℕ) (old met : List Bool) → length old ≡ s.vertices → All (λ mark. mark ≡ false) old →
+pub meet_just : (s : TidySurface) → IsSurface s → (a b c d : ℕ) (old met : List Bool) → length old ≡ s.vertices → All (λ mark. mark ≡ false) old →
     AreNeighboursMarked (all_edges (left_of s)) a true old met →
     (result : Bool) → IsTrue result ↔ MeetsOnly s met b c d → IsTrue result ↔ MeetOnly (all_edges (left_of s)) a b c d
 meet_just s whole a b c d old met full none marked result told = (

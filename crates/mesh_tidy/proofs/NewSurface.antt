@@ -20,7 +20,7 @@ use Rattle.tidy_laws.proofs.Points.{three_stay}
 use Rattle.tidy_laws.proofs.Six.{next_thrice, triple_starts}
 use Rattle.tidy_laws.proofs.Tidying.{start_below}
 use Rattle.mesh_tidy.specs.Pairs.{paired}
-use Rattle.mesh_tidy.specs.Surface.{Surface, Has, HasCollapsed, IsKept, IsRenamed, IsTwin, left_of, number_of}
+use Rattle.mesh_tidy.specs.TidySurface.{TidySurface, Has, HasCollapsed, IsKept, IsRenamed, IsTwin, left_of, number_of}
 use Rattle.mesh_tidy.proofs.Follow.{left_follows, length-without, mark_follows, number_follows, stands, start_follows, without}
 use Rattle.mesh_tidy.proofs.Left.{number_below, picked_again}
 use Rattle.mesh_tidy.proofs.NewStars.{joined, stands_joined}
@@ -39,11 +39,11 @@ pub prev_is : (h : ℕ) → prev_half h ≡ next_half (next_half h)
 prev_is h = ap prev_half (sym (next_thrice h)) ∙ prev_next (next_half (next_half h))
 
 -- twins, as a list has them
-pub twins_in : (s : Surface) (tw : List ℕ) → ((x : ℕ) → Has s x → IsTwin s x (get_or tw x 0)) → (x : ℕ) → Has s x → IsTwinIn s.left s.triples x (get_or tw x 0)
+pub twins_in : (s : TidySurface) (tw : List ℕ) → ((x : ℕ) → Has s x → IsTwin s x (get_or tw x 0)) → (x : ℕ) → Has s x → IsTwinIn s.left s.triples x (get_or tw x 0)
 twins_in s tw each x has = let t = each x has in record { there = t.there; is = t.is }
 
 -- the parts of a surface before the collapse of half-edge h, and its triangles afterwards
-module _ (s : Surface) (tw : List ℕ) (stars : List (List ℕ)) (kept : IsKept s tw stars) (size : length stars ≡ s.vertices) (h : ℕ) (h_has : Has s h)
+module _ (s : TidySurface) (tw : List ℕ) (stars : List (List ℕ)) (kept : IsKept s tw stars) (size : length stars ≡ s.vertices) (h : ℕ) (h_has : Has s h)
     (a b c d : ℕ) (can : CanCollapse (left_of s) (number_of s h) a b c d) (a_low : a < s.vertices) (b_low : b < s.vertices)
     (us : List Triple) (count : length us ≡ length s.triples) (renames : IsRenamed s.triples us (get_or (joined stars a b) a []) b a) where
   abbrev pub g : ℕ
@@ -53,7 +53,7 @@ module _ (s : Surface) (tw : List ℕ) (stars : List (List ℕ)) (kept : IsKept 
   g_twin = kept.twins h h_has
 
   -- afterwards
-  abbrev pub new : Surface
+  abbrev pub new : TidySurface
   new = record { triples = us; left = without s.left (h / 3) (g / 3); vertices = s.vertices }
 
   stood : (x : ℕ) → Has s x → (v : ℕ) → v < length stars → count_by (λ y. y == x) (get_or stars v []) ≡ one_if (start (all_edges s.triples) x == v)

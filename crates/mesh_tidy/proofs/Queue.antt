@@ -14,7 +14,7 @@ use Rattle.tidy_terms.specs.Collapsible.{is_collapsible, least_collapsible}
 use Rattle.tidy_laws.proofs.Tidying.{AreGood, at_upto, least_can}
 use Rattle.tidy_laws.proofs.Turned.{collapsible_turned}
 use Rattle.mesh_tidy.specs.Doubts.{AreDoubted, HasLesser}
-use Rattle.mesh_tidy.specs.Surface.{Surface, Has, IsKept, IsSurface, IsTwin, left_of, number_of}
+use Rattle.mesh_tidy.specs.TidySurface.{TidySurface, Has, IsKept, IsSurface, IsTwin, left_of, number_of}
 use Rattle.mesh_tidy.proofs.Left.{Before, before, number_below, number_order}
 
 -- the lesser of two is one of them, and not above the first
@@ -37,21 +37,21 @@ all_picked {X} P (m ∷ ms) (x ∷ xs) all = by m (all_picked P ms xs (All-tail 
   by false rest = rest
 
 -- what is left is good
-pub kept_good : (s : Surface) (twins : List ℕ) (stars : List (List ℕ)) (n : ℕ) → s.vertices ≡ n → IsKept s twins stars → AreGood n (left_of s)
+pub kept_good : (s : TidySurface) (twins : List ℕ) (stars : List (List ℕ)) (n : ℕ) → s.vertices ≡ n → IsKept s twins stars → AreGood n (left_of s)
 kept_good s twins stars n e kept = record {
   three = kept.three;
   closed = kept.closed;
   below = all_picked (IsBelow n) s.left s.triples (subst (λ k. All (IsBelow k) s.triples) e kept.below);
 }
 
-pub surface_good : (s : Surface) (n : ℕ) → s.vertices ≡ n → IsSurface s → AreGood n (left_of s)
+pub surface_good : (s : TidySurface) (n : ℕ) → s.vertices ≡ n → IsSurface s → AreGood n (left_of s)
 surface_good s n e whole = record {
   three = whole.three;
   closed = whole.closed;
   below = all_picked (IsBelow n) s.left s.triples (subst (λ k. All (IsBelow k) s.triples) e whole.below);
 }
 
-module _ (points : List (List ℤ)) (each : All (λ p. length p ≡ 3) points) (s : Surface) (marks : length s.left ≡ length s.triples)
+module _ (points : List (List ℤ)) (each : All (λ p. length p ≡ 3) points) (s : TidySurface) (marks : length s.left ≡ length s.triples)
     (good : AreGood (length points) (left_of s)) (k : ℕ) (rest : List ℕ) (all : AreDoubted points s (k ∷ rest)) where
   abbrev pub ts : List Triple
   ts = left_of s

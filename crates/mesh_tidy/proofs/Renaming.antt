@@ -12,7 +12,7 @@ use Rattle.halfedge.proofs.Starts.{start_read}
 use Rattle.mesh_terms.specs.Meshes.{Triple, triple_of, triples_of}
 use Rattle.tidy_terms.specs.Collapse.{merged}
 use Rattle.tidy_laws.proofs.Closed.{merged_other, merged_second}
-use Rattle.mesh_tidy.specs.Surface.{IsRenamed}
+use Rattle.mesh_tidy.specs.TidySurface.{IsRenamed}
 
 -- past the end a half-edge starts at 0
 start_past : (xs : List (List ℕ)) (x : ℕ) → 3 * length xs ≤ x → start (all_edges (triples_of xs)) x ≡ 0

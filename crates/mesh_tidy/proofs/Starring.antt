@@ -11,7 +11,7 @@ use Rattle.chain_terms.specs.Sums.{up_from, upto}
 use Rattle.chain_laws.proofs.Places.{get_or-up_from, length-up_from, upto_more}
 use Rattle.chain_laws.specs.Counts.{count_by-cons}
 use Rattle.mesh_tidy.specs.Stars.{is_left, star_of, stars_of}
-use Rattle.mesh_tidy.specs.Surface.{Surface, Has, IsKept}
+use Rattle.mesh_tidy.specs.TidySurface.{TidySurface, Has, IsKept}
 
 -- the half-edges below n that start at the vertex
 abbrev pub star_to : List (ℕ × ℕ) → ℕ → ℕ → List ℕ
@@ -125,7 +125,7 @@ abbrev pub pruned : List Bool → List (List ℕ) → ℕ → List (List ℕ)
 pruned left stars v = set stars v (filter (is_left left) (get_or stars v []))
 
 -- what is kept stays so
-pub pruned_kept : (s : Surface) (tw : List ℕ) (stars : List (List ℕ)) (v : ℕ) → IsKept s tw stars → length stars ≡ s.vertices → v < length stars →
+pub pruned_kept : (s : TidySurface) (tw : List ℕ) (stars : List (List ℕ)) (v : ℕ) → IsKept s tw stars → length stars ≡ s.vertices → v < length stars →
     IsKept s tw (pruned s.left stars v)
 pruned_kept s tw stars v kept size low = record {
   marks = kept.marks;

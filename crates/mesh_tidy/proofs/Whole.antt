@@ -12,7 +12,7 @@ use Rattle.mesh_check.specs.Reduced.{picked}
 use Rattle.mesh_terms.specs.Meshes.{HasThree, IsAccepted, Triple}
 use Rattle.mesh_terms.specs.Twins.{IsTwinned}
 use Rattle.mesh_tidy.specs.Stars.{stars_of}
-use Rattle.mesh_tidy.specs.Surface.{Surface, Has, IsKept, IsTwin, left_of, number_of}
+use Rattle.mesh_tidy.specs.TidySurface.{TidySurface, Has, IsKept, IsTwin, left_of, number_of}
 use Rattle.mesh_tidy.proofs.Doubted.{whole_number}
 use Rattle.mesh_tidy.proofs.Starring.{length-stars_to, stars_stand, stars_within}
 
@@ -26,7 +26,7 @@ picked_true (m ∷ ms) (x ∷ xs) same all =
 
 -- triangles of which each is left
 module _ (n : ℕ) (ts : List Triple) (accepted : IsAccepted n ts) (marks : List Bool) (count : length marks ≡ length ts) (all : All (λ m. m ≡ true) marks) where
-  abbrev pub whole : Surface
+  abbrev pub whole : TidySurface
   whole = record { triples = ts; left = marks; vertices = n }
 
   pub whole_left : left_of whole ≡ ts

@@ -2,4 +2,4 @@ pub mod Doubts
 pub mod Neighbours
 pub mod Pairs
 pub mod Stars
-pub mod Surface
+pub mod TidySurface

@@ -2,14 +2,14 @@
 use Rattle.std.specs.Prelude.{◌≡◌, ◌/◌, ◌<◌, ◌⊎◌, ℕ, List, Bool, false, not, ◌&&◌, ◌==◌, cond, nat_lt, get_or, length}
 use Rattle.chain_terms.specs.Chains.{all_edges, dir}
 use Rattle.chain_terms.specs.Ranks.{finish}
-use Rattle.mesh_tidy.specs.Surface.{Surface}
+use Rattle.mesh_tidy.specs.TidySurface.{TidySurface}
 
 -- the half-edge is left, and ends at the vertex
-abbrev pub ends_at : Surface → ℕ → ℕ → Bool
+abbrev pub ends_at : TidySurface → ℕ → ℕ → Bool
 ends_at s w h = get_or s.left (h / 3) false && (finish (all_edges s.triples) h == w)
 
 -- the half-edge is left, and ends at a vertex that has a mark and is neither c nor d
-abbrev pub meets_another : Surface → List Bool → ℕ → ℕ → ℕ → Bool
+abbrev pub meets_another : TidySurface → List Bool → ℕ → ℕ → ℕ → Bool
 meets_another s met c d h =
     get_or s.left (h / 3) false && (get_or met (finish (all_edges s.triples) h) false
     && (not (finish (all_edges s.triples) h == c) && not (finish (all_edges s.triples) h == d)))

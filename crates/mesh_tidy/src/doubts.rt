@@ -4,9 +4,9 @@ ghost use Rattle.std.specs.List.{All, Contains};
 ghost use Rattle.mesh_terms.specs.Limits.{most_triangles};
 ghost use Rattle.mesh_terms.specs.Meshes.{IsBelow, triples_of};
 ghost use Rattle.mesh_tidy.specs.Doubts.{AreHalves, HasLesser, HasLesserAtOne, lies_at_one};
-ghost use Rattle.mesh_tidy.specs.Surface.{Has};
+ghost use Rattle.mesh_tidy.specs.TidySurface.{Has};
 
-use crate::surface::Surface;
+use crate::surface::TidySurface;
 use halfedge::halves::{end, start};
 use mb_base::{NoMemory, Point};
 use mesh_check::Mesh;
@@ -42,7 +42,7 @@ fn lies_at_one(points: &[Point], triples: &[[u32; 3]], half: u32) -> bool
 pub fn doubt(
     doubts: &mut BTreeSet<u32>,
     points: &[Point],
-    surface: &Surface,
+    surface: &TidySurface,
     half: u32,
 ) -> Result<(), NoMemory>
     requires has { Has surface.now half }

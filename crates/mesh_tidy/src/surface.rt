@@ -8,7 +8,7 @@ ghost use Rattle.mesh_check.specs.Opposites.{third_vertex};
 ghost use Rattle.mesh_terms.specs.Labels.{no_labels};
 ghost use Rattle.mesh_terms.specs.Limits.{most_triangles};
 ghost use Rattle.mesh_terms.specs.Meshes.{renumbered, soup_of, triples_of, used_from};
-ghost use Rattle.mesh_tidy.specs.Surface.{Has, IsTwin, labels_of, left_of};
+ghost use Rattle.mesh_tidy.specs.TidySurface.{Has, IsTwin, labels_of, left_of};
 ghost use Rattle.unused_points.specs.Used.{IsSound};
 
 mod asking;
@@ -25,7 +25,7 @@ use std::marker::Model;
 /// Triangles of which some are gone. Half-edges keep the numbers that they had in the mesh, and vertices too: where an edge
 /// is collapsed, its start is put for its end in the triangles that are left.
 #[derive(Drop)]
-pub struct Surface {
+pub struct TidySurface {
     triples: Vec<[u32; 3]>,
     // By triangle, whether it is left.
     left: Vec<bool>,
@@ -35,10 +35,10 @@ pub struct Surface {
     stars: Stars,
 }
 
-impl Model for Surface {
+impl Model for TidySurface {
     ghost use Rattle.std.specs.Prelude.{length};
     ghost use Rattle.mesh_terms.specs.Meshes.{triples_of};
-    ghost use Rattle.mesh_tidy.specs.Surface.{Surface as TheSurface, IsKept};
+    ghost use Rattle.mesh_tidy.specs.TidySurface.{TidySurface as TheSurface, IsKept};
 
     ghost Value = { TheSurface };
 
@@ -47,9 +47,9 @@ impl Model for Surface {
     ghost invariant = { λ s. IsKept (record { triples = triples_of s.triples.items; left = s.left.items; vertices = length s.stars }) s.twins.items s.stars };
 }
 
-impl Surface {
+impl TidySurface {
     /// All triangles of the mesh.
-    pub fn of(alloc: Global, mesh: &Mesh) -> Result<Surface, NoMemory>
+    pub fn of(alloc: Global, mesh: &Mesh) -> Result<TidySurface, NoMemory>
         ensures triples { IfOk result (λ s. s.triples ≡ mesh.now.triples) }
         ensures left { IfOk result (λ s. All (λ mark. mark ≡ true) s.left) }
         ensures whole { IfOk result (λ s. left_of s ≡ mesh.now.triples) }
@@ -59,7 +59,7 @@ impl Surface {
         let left = vec![in alloc; true; triples.len()]?;
         let twins = Vec::from_slice(alloc, mesh.twins().twins())?;
         let stars = Stars::of(alloc, &triples, mesh.points().len())?;
-        Ok(Surface {
+        Ok(TidySurface {
             triples,
             left,
             twins,

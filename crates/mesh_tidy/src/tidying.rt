@@ -9,10 +9,10 @@ ghost use Rattle.tidy_laws.specs.Laws.{LieAtSame, NoneCollapsible};
 ghost use Rattle.tidy_terms.specs.Collapsible.{is_collapsible};
 ghost use Rattle.tidy_terms.specs.Tidy.{tidied, tidy_mesh};
 ghost use Rattle.mesh_tidy.specs.Doubts.{AreDoubted, AreHalves};
-ghost use Rattle.mesh_tidy.specs.Surface.{Has, HasCollapsed, HasTidied, IsSurface, left_of, number_of};
+ghost use Rattle.mesh_tidy.specs.TidySurface.{Has, HasCollapsed, HasTidied, IsSurface, left_of, number_of};
 
 use crate::doubts::{doubt, first_doubts};
-use crate::surface::Surface;
+use crate::surface::TidySurface;
 use crate::tidied::Tidied;
 use halfedge::halves::{next, previous};
 use mb_base::{NoMemory, Point};
@@ -44,7 +44,7 @@ pub fn tidy(alloc: Global, mesh: &Mesh) -> Result<Tidied, NoMemory>
     }
     // Read so that what the types of the mesh and of the surface keep is known here.
     let _ = mesh.labels();
-    let surface = Surface::of(alloc, mesh)?;
+    let surface = TidySurface::of(alloc, mesh)?;
     let _ = surface.vertices();
     let (surface, collapsed) = collapse_all(alloc, mesh.points(), surface, doubts)?;
     Ok(Tidied {
@@ -66,9 +66,9 @@ fn read_points(points: &[Point])
 fn collapse_all(
     alloc: Global,
     points: &[Point],
-    surface: Surface,
+    surface: TidySurface,
     doubts: BTreeSet<u32>,
-) -> Result<(Surface, u64), NoMemory>
+) -> Result<(TidySurface, u64), NoMemory>
     requires points { length points.now ≡ surface.vertices }
     requires each { All (λ p. length p ≡ 3) points.now }
     requires doubts { AreDoubted points.now surface doubts.keys }
@@ -91,7 +91,7 @@ fn collapse_all(
 }
 
 // Whether the half-edge can be collapsed. The stars of its ends lose what is gone. No vertex has a mark before or after.
-fn is_collapsible(points: &[Point], surface: &mut Surface, half: u32, met: &mut [bool]) -> bool
+fn is_collapsible(points: &[Point], surface: &mut TidySurface, half: u32, met: &mut [bool]) -> bool
     requires points { length points.now ≡ surface.old.vertices }
     requires has { Has surface.old half }
     requires marks { length met.old ≡ surface.old.vertices }
@@ -112,7 +112,7 @@ fn is_collapsible(points: &[Point], surface: &mut Surface, half: u32, met: &mut 
 fn collapse(
     alloc: Global,
     points: &[Point],
-    surface: &mut Surface,
+    surface: &mut TidySurface,
     doubts: &mut BTreeSet<u32>,
     half: u32,
 ) -> Result<(), NoMemory>

@@ -5,7 +5,7 @@ ghost use Rattle.mesh_terms.specs.Labels.{IsLabel};
 ghost use Rattle.format_terms.specs.ObjLabels.{label_byte, label_of, without_blank};
 ghost use Rattle.obj_text.specs.Groups.{no_groups, padded, put_behind};
 
-use crate::words::Words;
+use crate::words::ObjWords;
 use arrayvec::ArrayVec;
 use mb_base::{Labels, NoMemory};
 use std::alloc::Global;
@@ -48,7 +48,7 @@ impl Groups {
     }
 
     /// The label of the words of a line after its first one comes next.
-    pub fn set(&mut self, words: Words<'_>)
+    pub fn set(&mut self, words: ObjWords<'_>)
         ensures labels { self.new.labels ≡ self.old.labels }
         ensures label { self.new.label ≡ label_of words.entry }
     {
@@ -93,7 +93,7 @@ fn push_times(labels: &mut Labels, label: &[u8], times: usize) -> Result<(), NoM
 }
 
 // The label of these words.
-fn label_of(words: Words<'_>) -> Label
+fn label_of(words: ObjWords<'_>) -> Label
     ensures { result.items ≡ label_of words.entry }
 {
     let mut label = Label::new();

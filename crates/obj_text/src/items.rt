@@ -9,7 +9,7 @@ ghost use Rattle.format_terms.specs.ObjFaces.{minus_first, is_whole, is_slash, i
 ghost use Rattle.grid_number.specs.TextFaults.{IsFaultOf};
 ghost use Rattle.obj_text.specs.Items.{digits_up_to, whole_up_to, most, IsRead};
 
-use crate::words::Words;
+use crate::words::ObjWords;
 use grid_number::{bad, coordinate};
 use mb_base::{Point, TextFault, TextKind};
 
@@ -17,7 +17,7 @@ use mb_base::{Point, TextFault, TextKind};
 const MOST: u64 = 1 << 32;
 
 /// The point of the words after `v` on the line with this number, under so many digits.
-pub fn point_of(words: Words<'_>, number: u64, digits: u8) -> Result<Point, TextFault>
+pub fn point_of(words: ObjWords<'_>, number: u64, digits: u8) -> Result<Point, TextFault>
     requires { digits ≤ 6 }
     ensures point { IfOk result (λ p. point_coordinates digits number words.entry ≡ Ok p) }
     ensures fault { IfErr result (IsFaultOf (point_coordinates digits number words.entry)) }
@@ -49,7 +49,7 @@ fn point_at(x: &[u8], y: &[u8], z: &[u8], digits: u8) -> Result<Point, TextKind>
 /// Puts the vertices that the words after `f` name on the line with this number, of so many points, in
 /// place of what `vertices` held.
 pub fn read_vertices(
-    mut words: Words<'_>,
+    mut words: ObjWords<'_>,
     number: u64,
     count: u32,
     vertices: &mut Vec<u32>,

@@ -34,7 +34,7 @@ mod words;
 
 use grid_number::without_mark;
 use mb_base::{Limits, Soup, TextFault};
-use reading::Reading;
+use reading::ObjReader;
 use std::alloc::Global;
 
 /// The points and triangles of a Wavefront OBJ file in the order of the file, each triangle with its label: points in grid steps, 10 to
@@ -59,5 +59,5 @@ pub fn read_obj(alloc: Global, bytes: &[u8], digits: u8, limits: &Limits) -> Res
     ensures soup { IfOk result (λ soup. obj digits limits.now bytes.now ≡ Ok soup) }
     ensures fault { IfErr result (IsFaultOf (obj digits limits.now bytes.now)) }
 {
-    Reading::of(alloc, without_mark(bytes), digits, limits)?.into_soup(alloc)
+    ObjReader::of(alloc, without_mark(bytes), digits, limits)?.into_soup(alloc)
 }

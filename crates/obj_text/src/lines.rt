@@ -6,7 +6,7 @@ ghost use Rattle.obj_text.specs.Lines.{lines_past};
 ghost use Rattle.obj_text.specs.Plain.{IsFaceFirst, IsPointFirst};
 
 use crate::plain::{face_line, point_line};
-use crate::words::{Words, is_continued};
+use crate::words::{ObjWords, is_continued};
 use grid_number::first_line;
 use std::marker::Model;
 
@@ -60,7 +60,7 @@ impl<'t> Lines<'t> {
 }
 
 impl<'t> Iterator for Lines<'t> {
-    type Item = (u64, Words<'t>);
+    type Item = (u64, ObjWords<'t>);
 
     ghost use Rattle.std.specs.Iterator.{YieldsFirst, item_count};
 
@@ -68,7 +68,7 @@ impl<'t> Iterator for Lines<'t> {
 
     ghost remaining = { item_count (λ lines. lines) };
 
-    fn next(&mut self) -> Option<(u64, Words<'t>)> {
+    fn next(&mut self) -> Option<(u64, ObjWords<'t>)> {
         if self.text.is_empty() {
             return None;
         }
@@ -77,7 +77,7 @@ impl<'t> Iterator for Lines<'t> {
         let (next, text) = past_line(line, after, number);
         self.text = text;
         self.number = next;
-        Some((number, Words::of(line, after)))
+        Some((number, ObjWords::of(line, after)))
     }
 }
 

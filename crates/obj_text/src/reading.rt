@@ -14,7 +14,7 @@ use crate::groups::Groups;
 use crate::items::{point_of, read_vertices};
 use crate::lines::Lines;
 use crate::repeats::has_repeat;
-use crate::words::Words;
+use crate::words::ObjWords;
 use grid_number::bad;
 use mb_base::{Counted, Labels, Limits, NoMemory, Point, Soup, TextFault, TextKind};
 use std::alloc::{AllocError, Global};
@@ -255,20 +255,25 @@ fn push_fan(triples: &mut Vec<[u32; 3]>, vertices: &[u32]) -> Result<(), AllocEr
 
 /// What the lines so far gave, and room for the vertices of a face.
 #[derive(Drop)]
-pub struct Reading {
+pub struct ObjReader {
     pub gathered: Gathered,
     vertices: Vec<u32>,
     sorted: Vec<u32>,
 }
 
-impl Reading {
+impl ObjReader {
     /// Reads the lines of a text until the first fault.
-    pub fn of(alloc: Global, text: &[u8], digits: u8, limits: &Limits) -> Result<Reading, TextFault>
+    pub fn of(
+        alloc: Global,
+        text: &[u8],
+        digits: u8,
+        limits: &Limits,
+    ) -> Result<ObjReader, TextFault>
         requires { digits ≤ 6 }
         ensures read { IfOk result (λ r. obj_lines digits limits.now (word_lines (joined_lines text.now)) nothing_gathered ≡ Ok r.gathered) }
         ensures fault { IfErr result (IsFaultOf (obj_lines digits limits.now (word_lines (joined_lines text.now)) nothing_gathered)) }
     {
-        let mut reading = Reading {
+        let mut reading = ObjReader {
             gathered: Gathered::new(alloc),
             vertices: Vec::new(alloc),
             sorted: Vec::new(alloc),
@@ -306,7 +311,7 @@ impl Reading {
         ensures soup { IfOk result (λ soup. soup ≡ soup_of self.gathered.points self.gathered.triples self.gathered.labels) }
         ensures fault { IfErr result (λ e. e ≡ TextFault.NoMemory) }
     {
-        let Reading {
+        let ObjReader {
             gathered,
             vertices: _,
             sorted: _,
@@ -317,7 +322,7 @@ impl Reading {
     // Reads the words of the line with this number.
     fn read_line(
         &mut self,
-        mut words: Words<'_>,
+        mut words: ObjWords<'_>,
         number: u64,
         digits: u8,
         limits: &Limits,
@@ -346,7 +351,7 @@ impl Reading {
     // Reads the words after `v`.
     fn read_point(
         &mut self,
-        words: Words<'_>,
+        words: ObjWords<'_>,
         number: u64,
         digits: u8,
         limits: &Limits,
@@ -360,7 +365,12 @@ impl Reading {
     }
 
     // Reads the words after `f`.
-    fn read_face(&mut self, words: Words<'_>, number: u64, limits: &Limits) -> Result<(), TextFault>
+    fn read_face(
+        &mut self,
+        words: ObjWords<'_>,
+        number: u64,
+        limits: &Limits,
+    ) -> Result<(), TextFault>
         ensures read { OnOk result (obj_face limits.now number self.old.gathered words.entry ≡ Ok self.new.gathered) }
         ensures fault { IfErr result (IsFaultOf (obj_face limits.now number self.old.gathered words.entry)) }
     {

@@ -11,12 +11,12 @@ use std::marker::Model;
 /// The words of a line from the first to the last: longest runs of bytes that are neither a space nor a
 /// tab. A word that begins with `#` ends the line.
 #[derive(Drop)]
-pub struct Words<'t> {
+pub struct ObjWords<'t> {
     part: &'t [u8],
     later: &'t [u8],
 }
 
-impl<'t> Model for Words<'t> {
+impl<'t> Model for ObjWords<'t> {
     ghost use Rattle.std.specs.Prelude.{ℕ, List};
     ghost use Rattle.text_terms.specs.Lines.{before_comment};
     ghost use Rattle.obj_text.specs.Lines.{words_left};
@@ -26,13 +26,13 @@ impl<'t> Model for Words<'t> {
     ghost view = { λ w. before_comment (words_left w.part.now w.later.now) };
 }
 
-impl<'t> Words<'t> {
+impl<'t> ObjWords<'t> {
     /// The words of a line, as far as it goes on in the text after it.
-    pub fn of(line: &'t [u8], after: &'t [u8]) -> Words<'t>
+    pub fn of(line: &'t [u8], after: &'t [u8]) -> ObjWords<'t>
         ensures { result ≡ before_comment (first_words (line.now ∷ lines_of after.now)) }
     {
         let (part, later) = part_of(line, after);
-        Words { part, later }
+        ObjWords { part, later }
     }
 
     /// Each word has some bytes, and none begins with `#`.
@@ -68,7 +68,7 @@ impl<'t> Words<'t> {
     }
 }
 
-impl<'t> Iterator for Words<'t> {
+impl<'t> Iterator for ObjWords<'t> {
     type Item = &'t [u8];
 
     ghost use Rattle.std.specs.Iterator.{YieldsFirstRef, item_count};

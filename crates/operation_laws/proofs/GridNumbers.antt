@@ -17,10 +17,10 @@ use Rattle.shadow_kernels.specs.Lawful.{IsRule}
 use Rattle.shadow_kernels.specs.Shadows.{edge_edge, face_vertex, vertex_face}
 use Rattle.shadow_kernels.specs.Sizes.{turned_shadow}
 use Rattle.shadow_kernels.specs.Spots.{Between}
-use Rattle.edge_face.specs.CrossLaws.{IsSettling}
+use Rattle.edge_face.specs.CrossingLaws.{IsSettling}
 use Rattle.edge_face.specs.Crossings.{Settle, edge_face_crossing, face_edge_crossing, mirror, p_point, q_point}
 use Rattle.edge_face.specs.Laws.{edge_face_laws, face_edge_laws, lift}
-use Rattle.crossings.specs.Hits.{CrossTest, hits_of}
+use Rattle.crossings.specs.Hits.{CrossingTest, hits_of}
 use Rattle.crossings.proofs.Numbers.{Turns}
 use Rattle.crossings.proofs.Order.{all_listed, hits_in_order}
 use Rattle.crossings.proofs.Rounds.{Lifts, pairs_agree}
@@ -32,10 +32,10 @@ use Rattle.operation_laws.proofs.HitPoints.{p_hits_on_grid, q_hits_on_grid}
 use Rattle.operation_laws.proofs.Made.{AreNumbersOf}
 
 module _ {k : Rule} {w : Between} (rule : IsRule k w) (settle : Settle) (settling : IsSettling settle) (p q : Side) (p_known : IsSide p) (q_known : IsSide q) where
-  abbrev test12 : CrossTest
+  abbrev test12 : CrossingTest
   test12 = edge_face_crossing k w settle
 
-  abbrev test21 : CrossTest
+  abbrev test21 : CrossingTest
   test21 = λ edge face. face_edge_crossing k w settle face edge
 
   abbrev pc : ℕ → Corner

@@ -26,10 +26,10 @@ use Rattle.shadow_kernels.specs.Shadows.{edge_edge, face_vertex, vertex_face}
 use Rattle.shadow_kernels.specs.Sizes.{any_holds}
 use Rattle.shadow_kernels.specs.Spots.{Between}
 use Rattle.edge_face.specs.declared.Cross.{Cross}
-use Rattle.edge_face.specs.CrossLaws.{IsSettling}
+use Rattle.edge_face.specs.CrossingLaws.{IsSettling}
 use Rattle.edge_face.specs.Crossings.{Settle, crossed, crossing, edge_face_crossing, edge_number, edge_pairs, face_edge_crossing, mirror, p_point, q_point}
 use Rattle.edge_face.specs.Laws.{edge_face_laws, face_edge_laws}
-use Rattle.crossings.specs.Hits.{CrossTest, hit_of, hits_along, hits_of}
+use Rattle.crossings.specs.Hits.{CrossingTest, hit_of, hits_along, hits_of}
 
 -- what holds of the points of all answers holds of those of all hits
 module _ (P : List ℤ → Type 0) where
@@ -45,7 +45,7 @@ module _ (P : List ℤ → Type 0) where
   rows row each [] = All-nil (λ x. P x.at)
   rows row each (h ∷ hs) = All-append (λ x. P x.at) (row h) (flat_map row hs) (each h) (rows row each hs)
 
-  pub hits_hold : (test : CrossTest) (edges faces : Side) → ((h f : ℕ) → IfSome (test (edge_at edges h) (face_at faces f)) (λ c. P c.at)) →
+  pub hits_hold : (test : CrossingTest) (edges faces : Side) → ((h f : ℕ) → IfSome (test (edge_at edges h) (face_at faces f)) (λ c. P c.at)) →
       All (λ x. P x.at) (hits_of test edges faces)
   hits_hold test edges faces each =
       rows (hits_along test edges faces) (λ h. along (λ f. test (edge_at edges h) (face_at faces f)) (each h) h (upto (length faces.triples)))

@@ -17,8 +17,8 @@ use Rattle.side_terms.specs.Hits.{AreHits}
 use Rattle.side_terms.specs.Sides.{Side}
 use Rattle.side_terms.specs.Lists.{Copy}
 use Rattle.side_terms.specs.Points.{point_of, points_of}
-use Rattle.side_terms.specs.Prescribed.{Included, Numbers, copies_of, copy_of, hit_number_of, included_hits}
-use Rattle.side_terms.specs.Prescribed.{included_vertices, p_hits, p_number, p_vertices, prescribed}
+use Rattle.side_terms.specs.Prescribed.{Prescription, Numbers, copies_of, copy_of, hit_number_of, prescribed_hits}
+use Rattle.side_terms.specs.Prescribed.{prescribed_vertices, p_hits, p_number, p_vertices, prescribed}
 use Rattle.side_terms.specs.Prescribed.{prescribed_halfedges, q_hits, q_number, q_vertices}
 use Rattle.side_terms.specs.Standing.{AreConserved}
 use Rattle.retained_verts.proofs.AllStarts.{all_starts}
@@ -73,8 +73,8 @@ can_be_assembled op p q n p_known q_known known few = record {
   few = omega (arith, few, all_starts op p q n p_known.kept q_known.kept known.w03 known.w30 known.x12 known.x21);
 }
 
--- what holds of the point of each that is included holds of the points of all copies
-copies_at : (is : List Included) → All (λ i. IsPoint i.point) is → All (λ c. IsPoint c.point) (flat_map copies_of is)
+-- what holds of the point of each that is prescribed holds of the points of all copies
+copies_at : (is : List Prescription) → All (λ i. IsPoint i.point) is → All (λ c. IsPoint c.point) (flat_map copies_of is)
 copies_at [] on = All-nil (λ c. IsPoint c.point)
 copies_at (i ∷ is) on =
     All-append (λ c. IsPoint c.point) (copies_of i) (flat_map copies_of is)
@@ -83,19 +83,19 @@ copies_at (i ∷ is) on =
 
 -- the points of vertices
 vertices_at : (origin : ℕ → Origin) (number : ℤ → ℤ) (ws : List ℤ) (points : List (List ℤ)) (n : ℕ) → n ≤ length points → All IsPoint points →
-    All (λ i. IsPoint i.point) (included_vertices origin number ws points n)
+    All (λ i. IsPoint i.point) (prescribed_vertices origin number ws points n)
 vertices_at origin number ws points n few on =
     All-map (λ i. IsPoint i.point) (λ v. record { origin = origin v; number = number (get_or ws v (pos 0)); point = get_or points v [] }) (upto n)
     (all_upto (λ v. IsPoint (get_or points v [])) n (λ v below. on v [] (omega (arith, few, below))))
 
 -- and of hits
-hits_at : (origin : ℕ → ℕ → Origin) (number : ℤ → ℤ) (hs : List Hit) → All (λ h. IsPoint h.at) hs → All (λ i. IsPoint i.point) (included_hits origin number hs)
+hits_at : (origin : ℕ → ℕ → Origin) (number : ℤ → ℤ) (hs : List Hit) → All (λ h. IsPoint h.at) hs → All (λ i. IsPoint i.point) (prescribed_hits origin number hs)
 hits_at origin number hs on = All-map (λ i. IsPoint i.point) (λ h. record { origin = origin h.edge h.face; number = number h.number; point = h.at }) hs on
 
 -- the prescribed vertices lie on the grid
 pub prescribed_at : (op : Op) (p q : Side) (n : Numbers) → IsKnown p → IsKnown q → AreNumbersOf p q n → All IsPoint (points_of_copies (prescribed op p q n))
 prescribed_at op p q n p_known q_known known =
-    let On : Included → Type 0 = λ i. IsPoint i.point in
+    let On : Prescription → Type 0 = λ i. IsPoint i.point in
     let pv = vertices_at PVertex (p_number op) n.w03 (points_of p.corners) (length p.corners) (omega (arith, length-map p.corners point_of)) p_known.on_grid in
     let qv = vertices_at QVertex (q_number op) n.w30 (points_of q.corners) (length q.corners) (omega (arith, length-map q.corners point_of)) q_known.on_grid in
     let ph = hits_at PEdge (hit_number_of op) n.x12 known.x12_on_grid in

@@ -18,7 +18,7 @@ use Rattle.rounding.specs.Lawful.{nearest_within, settle_monotone, settle_units}
 use Rattle.rounding.specs.Nearest.{nearest, settle_nearest}
 use Rattle.shadow_kernels.specs.Hulls.{StaysBetween}
 use Rattle.shadow_kernels.specs.Lawful.{IsRule, grid_rule}
-use Rattle.edge_face.specs.CrossLaws.{IsSettling}
+use Rattle.edge_face.specs.CrossingLaws.{IsSettling}
 use Rattle.source_face_laws.specs.FillingLaws.{FacesAreFilled}
 use Rattle.play_laws.specs.ScriptsReadingBack.{MeshReadable, MeshesReadable}
 use Rattle.play_laws.proofs.Readable.{readable_within, within_of_readable}

@@ -15,7 +15,7 @@ use Rattle.chain_laws.proofs.Places.{one_hit_of, total-places, where_same}
 use Rattle.mb_base.specs.declared.op.Op.{Op}
 use Rattle.face_loops.specs.Standings.{AreEven}
 use Rattle.outline_pair_terms.specs.Balance.{AreConserved}
-use Rattle.outline_pair_terms.specs.Lists.{EdgeP, EdgeQ, FlatCopy, FlatIncluded, FlatList, FlatOrigin, OfBoth, OfP, OfQ, at_end, at_same, constant, flat_copies, flat_copies_of, flat_incidence, flat_lists, flat_standing, hits_included, no_flat_copy, p_included, q_included}
+use Rattle.outline_pair_terms.specs.Lists.{EdgeP, EdgeQ, FlatCopy, FlatPrescription, FlatList, FlatOrigin, OfBoth, OfP, OfQ, at_end, at_same, constant, flat_copies, flat_copies_of, flat_incidence, flat_lists, flat_standing, hits_prescribed, no_flat_copy, p_prescribed, q_prescribed}
 use Rattle.outline_pair_terms.specs.declared.FlatHit.{FlatHit}
 use Rattle.outline_pair_terms.specs.Numbers.{FlatNumbers}
 use Rattle.outline_terms.specs.Outlines.{Outline, outline_edges}
@@ -106,10 +106,10 @@ signed_size (pos k) z = ap (λ b. pos k *ℤ cond b (neg_ℤ z) z) (le-ltb k 0 (
 signed_size (negsuc k) z = mul-neg (pos (suc k)) z ∙ sym (neg-mul (pos (suc k)) z)
 
 -- a number times its incidence
-abbrev weight : (p q : List (ℕ × ℕ)) → FlatList → FlatIncluded → ℤ
+abbrev weight : (p q : List (ℕ × ℕ)) → FlatList → FlatPrescription → ℤ
 weight p q x i = i.number *ℤ flat_incidence p q x i.origin
 
-copies_total : (p q : List (ℕ × ℕ)) (x : FlatList) (is : List FlatIncluded) → total (stands p q x) (flat_map flat_copies_of is) ≡ total (weight p q x) is
+copies_total : (p q : List (ℕ × ℕ)) (x : FlatList) (is : List FlatPrescription) → total (stands p q x) (flat_map flat_copies_of is) ≡ total (weight p q x) is
 copies_total p q x is =
     total-flat_map (stands p q x) flat_copies_of is
     ∙ total-same (λ i. total (stands p q x) (flat_copies_of i)) (weight p q x)
@@ -175,7 +175,7 @@ hits_total_turned c test (h ∷ hs) =
     one false = omega (arith, ints)
 
 -- the three kinds one after the other
-three_totals : (f : FlatIncluded → ℤ) (xs ys zs : List FlatIncluded) → total f (xs ++ (ys ++ zs)) ≡ total f xs +ℤ total f ys +ℤ total f zs
+three_totals : (f : FlatPrescription → ℤ) (xs ys zs : List FlatPrescription) → total f (xs ++ (ys ++ zs)) ≡ total f xs +ℤ total f ys +ℤ total f zs
 three_totals f xs ys zs = omega (arith, ints, total-append f xs (ys ++ zs), total-append f ys zs)
 
 module _ (op : Op) (p q : Outline) (n : FlatNumbers) (keeps : AreConserved (outline_edges p) (outline_edges q) n) where
@@ -197,18 +197,18 @@ module _ (op : Op) (p q : Outline) (n : FlatNumbers) (keeps : AreConserved (outl
       let c = constant op 2 in
       let m = length p.points in
       let x = EdgeP k in
-      let by_vertices : total (weight es fs x) (p_included op p n) ≡ p_number (start es k) -ℤ p_number (finish es k) =
+      let by_vertices : total (weight es fs x) (p_prescribed op p n) ≡ p_number (start es k) -ℤ p_number (finish es k) =
       total-map (weight es fs x) (λ v. record { origin = OfP v; number = p_number v; point = get_or p.points v [] }) (upto m) ∙ vertices_total es k m p_number s f in
-      let by_others : total (weight es fs x) (q_included op q n) ≡ pos 0 =
+      let by_others : total (weight es fs x) (q_prescribed op q n) ≡ pos 0 =
       total-map (weight es fs x) (λ v. record { origin = OfQ v; number = constant op 1 +ℤ c *ℤ get_or n.w20 v (pos 0); point = get_or q.points v [] })
       (upto (length q.points)) ∙ none_total (λ v. constant op 1 +ℤ c *ℤ get_or n.w20 v (pos 0)) (upto (length q.points)) in
-      let by_hits : total (weight es fs x) (hits_included op n) ≡ c *ℤ total (λ h. cond (h.p_edge == k) h.number (pos 0)) n.hits =
+      let by_hits : total (weight es fs x) (hits_prescribed op n) ≡ c *ℤ total (λ h. cond (h.p_edge == k) h.number (pos 0)) n.hits =
       total-map (weight es fs x) (λ (h : FlatHit). record { origin = OfBoth h.p_edge h.q_edge; number = c *ℤ h.number; point = h.at }) n.hits
       ∙ hits_total c (λ h. h.p_edge == k) n.hits in
       let turn = total (λ h. cond (h.p_edge == k) h.number (pos 0)) n.hits in
       let change = ap (λ z. c *ℤ z) (keeps.p_edges k low) ∙ mul-add c (get_or n.w02 (start es k) (pos 0)) turn in
-      copies_total es fs x (p_included op p n ++ (q_included op q n ++ hits_included op n))
-      ∙ three_totals (weight es fs x) (p_included op p n) (q_included op q n) (hits_included op n) ∙ omega (arith, ints, by_vertices, by_others, by_hits, change)
+      copies_total es fs x (p_prescribed op p n ++ (q_prescribed op q n ++ hits_prescribed op n))
+      ∙ three_totals (weight es fs x) (p_prescribed op p n) (q_prescribed op q n) (hits_prescribed op n) ∙ omega (arith, ints, by_vertices, by_others, by_hits, change)
 
   q_even : (k : ℕ) → k < length fs → start fs k < length q.points → finish fs k < length q.points → total (stands es fs (EdgeQ k)) (flat_copies op p q n) ≡ pos 0
   unfolding q_number
@@ -216,18 +216,18 @@ module _ (op : Op) (p q : Outline) (n : FlatNumbers) (keeps : AreConserved (outl
       let c = constant op 2 in
       let m = length q.points in
       let x = EdgeQ k in
-      let by_vertices : total (weight es fs x) (q_included op q n) ≡ q_number (start fs k) -ℤ q_number (finish fs k) =
+      let by_vertices : total (weight es fs x) (q_prescribed op q n) ≡ q_number (start fs k) -ℤ q_number (finish fs k) =
       total-map (weight es fs x) (λ v. record { origin = OfQ v; number = q_number v; point = get_or q.points v [] }) (upto m) ∙ vertices_total fs k m q_number s f in
-      let by_others : total (weight es fs x) (p_included op p n) ≡ pos 0 =
+      let by_others : total (weight es fs x) (p_prescribed op p n) ≡ pos 0 =
       total-map (weight es fs x) (λ v. record { origin = OfP v; number = constant op 0 +ℤ c *ℤ get_or n.w02 v (pos 0); point = get_or p.points v [] })
       (upto (length p.points)) ∙ none_total (λ v. constant op 0 +ℤ c *ℤ get_or n.w02 v (pos 0)) (upto (length p.points)) in
-      let by_hits : total (weight es fs x) (hits_included op n) ≡ neg_ℤ (c *ℤ total (λ h. cond (h.q_edge == k) h.number (pos 0)) n.hits) =
+      let by_hits : total (weight es fs x) (hits_prescribed op n) ≡ neg_ℤ (c *ℤ total (λ h. cond (h.q_edge == k) h.number (pos 0)) n.hits) =
       total-map (weight es fs x) (λ (h : FlatHit). record { origin = OfBoth h.p_edge h.q_edge; number = c *ℤ h.number; point = h.at }) n.hits
       ∙ hits_total_turned c (λ h. h.q_edge == k) n.hits in
       let turn = total (λ h. cond (h.q_edge == k) h.number (pos 0)) n.hits in
       let change = ap (λ z. c *ℤ z) (keeps.q_edges k low) ∙ mul-sub c (get_or n.w20 (start fs k) (pos 0)) turn in
-      copies_total es fs x (p_included op p n ++ (q_included op q n ++ hits_included op n))
-      ∙ three_totals (weight es fs x) (p_included op p n) (q_included op q n) (hits_included op n) ∙ omega (arith, ints, by_vertices, by_others, by_hits, change)
+      copies_total es fs x (p_prescribed op p n ++ (q_prescribed op q n ++ hits_prescribed op n))
+      ∙ three_totals (weight es fs x) (p_prescribed op p n) (q_prescribed op q n) (hits_prescribed op n) ∙ omega (arith, ints, by_vertices, by_others, by_hits, change)
 
   -- so all lists of edges are even
   pub are_even : ((k : ℕ) → k < length es → (start es k < length p.points) × (finish es k < length p.points)) →

@@ -11,7 +11,7 @@ use Rattle.chain_laws.proofs.Places.{one_hit_of, total-places, where_same}
 use Rattle.mesh_terms.specs.Points.{coordinate_of}
 use Rattle.shadow_kernels.specs.Counts.{count_of}
 use Rattle.shadow_kernels.specs.declared.Meet.{Meet}
-use Rattle.outline_pair_terms.specs.Lists.{FlatCopy, FlatIncluded, flat_copies_of}
+use Rattle.outline_pair_terms.specs.Lists.{FlatCopy, FlatPrescription, flat_copies_of}
 use Rattle.outline_pair_terms.specs.declared.FlatHit.{FlatHit}
 use Rattle.outline_pair_terms.specs.Numbers.{FlatSide, FlatTests, edge_at, ends_of, flat_hit, flat_hits, flat_hits_along, flat_number, flat_point}
 use Rattle.outline_pair_terms.proofs.Exchange.{all_upto}
@@ -26,11 +26,11 @@ all_replicated : {X : Type 0} (P : X → Type 0) (k : ℕ) (x : X) → P x → A
 all_replicated P zero x h = All-nil P
 all_replicated P (suc k) x h = All-cons P x (replicate k x) h (all_replicated P k x h)
 
--- the copy of what is included
-abbrev pub copy_from : FlatIncluded → FlatCopy
+-- the copy of what is prescribed
+abbrev pub copy_from : FlatPrescription → FlatCopy
 copy_from i = record { origin = i.origin; negative = int_lt i.number (pos 0); point = i.point }
 
-pub all_copies : (P : FlatCopy → Type 0) (is : List FlatIncluded) → All (λ i. P (copy_from i)) is → All P (flat_map flat_copies_of is)
+pub all_copies : (P : FlatCopy → Type 0) (is : List FlatPrescription) → All (λ i. P (copy_from i)) is → All P (flat_map flat_copies_of is)
 all_copies P [] each = All-nil P
 all_copies P (i ∷ is) each =
     All-append P (flat_copies_of i) (flat_map flat_copies_of is) (all_replicated P (nat_abs i.number) (copy_from i) (All-head (λ j. P (copy_from j)) i is each))

@@ -15,7 +15,7 @@ use Rattle.side_terms.specs.Sides.{corner_of}
 use Rattle.face_loops.specs.Segments.{IsOneToOne}
 use Rattle.outline_pair_terms.specs.Balance.{AreConserved}
 use Rattle.outline_pair_terms.specs.Laws.{IsOfBoth}
-use Rattle.outline_pair_terms.specs.Lists.{FlatCopy, FlatIncluded, FlatOrigin, OfBoth, OfP, OfQ, constant, flat_copies, flat_key, flat_lists, flat_segments, flat_standing, no_flat_copy, hits_included, p_included, q_included}
+use Rattle.outline_pair_terms.specs.Lists.{FlatCopy, FlatPrescription, FlatOrigin, OfBoth, OfP, OfQ, constant, flat_copies, flat_key, flat_lists, flat_segments, flat_standing, no_flat_copy, hits_prescribed, p_prescribed, q_prescribed}
 use Rattle.outline_pair_terms.specs.declared.FlatHit.{FlatHit}
 use Rattle.outline_pair_terms.specs.Numbers.{FlatNumbers, FlatSide, FlatTests, LiftEdges, edge_at, flat_number, flat_numbers, flat_winding, flat_winding_back, p_flat, q_flat}
 use Rattle.outline_terms.specs.Outlines.{IsOutline, Outline, after, before, marks_between, outline_edges, p_marks, q_marks}
@@ -87,13 +87,13 @@ module _ (t : FlatTests) (settle : ℤ → ℤ) (op : Op) (p q : Outline) (p_is 
       P (copy_from (record { origin = OfQ v; number = z; point = at })))
       → ((h : FlatHit) → IsHit t settle ps qs h → P (copy_from (record { origin = OfBoth h.p_edge h.q_edge; number = constant op 2 *ℤ h.number; point = h.at }))) → All P cs
   of_all P on_p on_q on_hit =
-      let R : FlatIncluded → Type 0 = λ i. P (copy_from i) in
-      all_copies P (p_included op p n ++ (q_included op q n ++ hits_included op n))
-      (All-append R (p_included op p n) (q_included op q n ++ hits_included op n)
+      let R : FlatPrescription → Type 0 = λ i. P (copy_from i) in
+      all_copies P (p_prescribed op p n ++ (q_prescribed op q n ++ hits_prescribed op n))
+      (All-append R (p_prescribed op p n) (q_prescribed op q n ++ hits_prescribed op n)
       (All-map R (λ v. record { origin = OfP v; number = constant op 0 +ℤ constant op 2 *ℤ get_or n.w02 v (pos 0); point = get_or p.points v [] }) (upto (length p.points))
       (all_upto (λ v. R (record { origin = OfP v; number = constant op 0 +ℤ constant op 2 *ℤ get_or n.w02 v (pos 0); point = get_or p.points v [] }))
       (length p.points) (λ v low. on_p v low (constant op 0 +ℤ constant op 2 *ℤ get_or n.w02 v (pos 0)) (get_or p.points v []) refl)))
-      (All-append R (q_included op q n) (hits_included op n)
+      (All-append R (q_prescribed op q n) (hits_prescribed op n)
       (All-map R (λ v. record { origin = OfQ v; number = constant op 1 +ℤ constant op 2 *ℤ get_or n.w20 v (pos 0); point = get_or q.points v [] }) (upto (length q.points))
       (all_upto (λ v. R (record { origin = OfQ v; number = constant op 1 +ℤ constant op 2 *ℤ get_or n.w20 v (pos 0); point = get_or q.points v [] }))
       (length q.points) (λ v low. on_q v low (constant op 1 +ℤ constant op 2 *ℤ get_or n.w20 v (pos 0)) (get_or q.points v []) refl)))

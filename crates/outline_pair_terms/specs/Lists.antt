@@ -18,13 +18,13 @@ pub data FlatOrigin : Type 0 where
   OfQ : (vertex : ℕ) → FlatOrigin
   OfBoth : (p_edge q_edge : ℕ) → FlatOrigin
 
--- that, how often it is included, and its point
-pub record FlatIncluded : Type 0 where
+-- that, how often it is prescribed, and its point
+pub record FlatPrescription : Type 0 where
   pub origin : FlatOrigin
   pub number : ℤ
   pub point : List ℤ
 
--- one copy: whether it is included a negative number of times
+-- one copy: whether it is prescribed a negative number of times
 pub record FlatCopy : Type 0 where
   pub origin : FlatOrigin
   pub negative : Bool
@@ -33,25 +33,25 @@ pub record FlatCopy : Type 0 where
 abbrev pub constant : Op → ℕ → ℤ
 constant op i = get_or (constants_of op) i (pos 0)
 
-abbrev pub p_included : Op → Outline → FlatNumbers → List FlatIncluded
-p_included op p n = map (λ v. record { origin = OfP v; number = constant op 0 +ℤ constant op 2 *ℤ get_or n.w02 v (pos 0); point = get_or p.points v [] }) (upto (length p.points))
+abbrev pub p_prescribed : Op → Outline → FlatNumbers → List FlatPrescription
+p_prescribed op p n = map (λ v. record { origin = OfP v; number = constant op 0 +ℤ constant op 2 *ℤ get_or n.w02 v (pos 0); point = get_or p.points v [] }) (upto (length p.points))
 
-abbrev pub q_included : Op → Outline → FlatNumbers → List FlatIncluded
-q_included op q n = map (λ v. record { origin = OfQ v; number = constant op 1 +ℤ constant op 2 *ℤ get_or n.w20 v (pos 0); point = get_or q.points v [] }) (upto (length q.points))
+abbrev pub q_prescribed : Op → Outline → FlatNumbers → List FlatPrescription
+q_prescribed op q n = map (λ v. record { origin = OfQ v; number = constant op 1 +ℤ constant op 2 *ℤ get_or n.w20 v (pos 0); point = get_or q.points v [] }) (upto (length q.points))
 
-abbrev pub hits_included : Op → FlatNumbers → List FlatIncluded
-hits_included op n = map (λ (h : FlatHit). record { origin = OfBoth h.p_edge h.q_edge; number = constant op 2 *ℤ h.number; point = h.at }) n.hits
+abbrev pub hits_prescribed : Op → FlatNumbers → List FlatPrescription
+hits_prescribed op n = map (λ (h : FlatHit). record { origin = OfBoth h.p_edge h.q_edge; number = constant op 2 *ℤ h.number; point = h.at }) n.hits
 
 -- as many copies as the size of the number
-abbrev pub flat_copies_of : FlatIncluded → List FlatCopy
+abbrev pub flat_copies_of : FlatPrescription → List FlatCopy
 flat_copies_of i = replicate (nat_abs i.number) (record { origin = i.origin; negative = int_lt i.number (pos 0); point = i.point })
 
 -- the prescribed vertices in order, copies together
 abbrev pub flat_copies : Op → Outline → Outline → FlatNumbers → List FlatCopy
-flat_copies op p q n = flat_map flat_copies_of (p_included op p n ++ (q_included op q n ++ hits_included op n))
+flat_copies op p q n = flat_map flat_copies_of (p_prescribed op p n ++ (q_prescribed op q n ++ hits_prescribed op n))
 
 -- how many copies there are of some
-abbrev pub copy_count : List FlatIncluded → ℕ
+abbrev pub copy_count : List FlatPrescription → ℕ
 copy_count is = sum_by (λ i. nat_abs i.number) is
 
 -- the lists: one for each edge of P, by its place, and one for each of Q

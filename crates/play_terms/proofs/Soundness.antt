@@ -12,7 +12,7 @@ use Rattle.mb_base.specs.declared.op.Op.{Op}
 use Rattle.mb_base.specs.declared.op.Op.TheVariants.{Union, Intersect, Subtract}
 use Rattle.text_terms.specs.FirstFault.{then_read, on_line}
 use Rattle.run_terms.specs.Files.{Bytes}
-use Rattle.play_terms.specs.ScriptCommands.{Command, at, load, save, measure, combine, tidy, remesh, polygon, combine2, extrude, exact, box, tetra, prism, lattice, shift, scale, mirror, turn, commands, motions, outlines, solids, named_in, command_named, number_at, pair_at, ring_at, ring_numbers}
+use Rattle.play_terms.specs.ScriptCommands.{ScriptCommand, at, load, save, measure, combine, tidy, remesh, polygon, combine2, extrude, exact, box, tetra, prism, lattice, shift, scale, mirror, turn, commands, motions, outlines, solids, named_in, command_named, number_at, pair_at, ring_at, ring_numbers}
 use Rattle.play_terms.specs.Formats.{is_mesh_name}
 use Rattle.made_terms.specs.declared.motion.Motion.{Motion}
 use Rattle.made_terms.specs.declared.solid.Solid.{Solid}
@@ -44,11 +44,11 @@ two : {X : Type 0} (P : X → Type 0) (x y : X) → P x → P y → All P (x ∷
 two P x y first second = All-cons P x (y ∷ []) first (one P y second)
 
 -- none of the words is refused as an operand of the command
-abbrev NoneRefused : ℕ → List Line → List Bytes → Command → Type 0
+abbrev NoneRefused : ℕ → List Line → List Bytes → ScriptCommand → Type 0
 NoneRefused k before ws c = (i : ℕ) → i < length (c.operands (length ws)) → operand_fault k before (get_or (c.operands (length ws)) i NewName) (at ws i) ≡ None
 
 -- the steps of a command are sound
-abbrev GivesSound : Command → Type 0
+abbrev GivesSound : ScriptCommand → Type 0
 GivesSound c = (k : ℕ) (before : List Line) (ws : List Bytes) → length ws ≡ length (c.operands (length ws)) → NoneRefused k before ws c → IsSound before (c.step k ws)
 
 load_sound : GivesSound load
@@ -241,12 +241,12 @@ turn_sound : GivesSound turn
 turn_sound k before ws count none = moves_sound before (at ws 0) (at ws 1) _ (none 0 (omega arith)) (none 1 (omega arith)) (axis_taken (at ws 2) (none 2 (omega arith)))
 
 -- each of some commands
-abbrev Each : (Command → Type 0) → List Command → Type 0
+abbrev Each : (ScriptCommand → Type 0) → List ScriptCommand → Type 0
 Each P [] = Unit {0}
 Each P (c ∷ cs) = P c × Each P cs
 
 -- what holds of each command holds of the one that a word names
-named_such : (P : Command → Type 0) (cs : List Command) (w : Bytes) (c : Command) → Each P cs → named_in cs w ≡ Some c → P c
+named_such : (P : ScriptCommand → Type 0) (cs : List ScriptCommand) (w : Bytes) (c : ScriptCommand) → Each P cs → named_in cs w ≡ Some c → P c
 named_such P [] w c such e = absurd (cc)
 named_such P (d ∷ cs) w c such e = by_word (bytes_eq w d.word) e (λ f. named_such P cs w c such.1 f)
   where
@@ -262,7 +262,7 @@ all_sound =
     (load_sound, (save_sound, (measure_sound, (combine_sound Union, (combine_sound Intersect, (combine_sound Subtract, (tidy_sound, (remesh_sound, (exact_sound, making)))))))))
 
 -- the step of a command whose steps are sound
-command_sound : (k : ℕ) (before : List Line) (ws : List Bytes) (c : Command) (step : Step) → GivesSound c → command_step k before ws c ≡ Ok step → IsSound before step
+command_sound : (k : ℕ) (before : List Line) (ws : List Bytes) (c : ScriptCommand) (step : Step) → GivesSound c → command_step k before ws c ≡ Ok step → IsSound before step
 command_sound k before ws c step sound e = by_count (length ws == length (c.operands (length ws))) refl e
   where
     by_fault : length ws ≡ length (c.operands (length ws)) → (f : Option ℕ) →
@@ -281,7 +281,7 @@ command_sound k before ws c step sound e = by_count (length ws == length (c.oper
 step_sound : (k : ℕ) (before : List Line) (w : Bytes) (ws : List Bytes) (step : Step) → step_by k before ws (command_named w) ≡ Ok step → IsSound before step
 step_sound k before w ws step e = by_command (command_named w) refl e
   where
-    by_command : (o : Option Command) → command_named w ≡ o → step_by k before ws o ≡ Ok step → IsSound before step
+    by_command : (o : Option ScriptCommand) → command_named w ≡ o → step_by k before ws o ≡ Ok step → IsSound before step
     by_command None is e = absurd (cc)
     by_command (Some c) is e = command_sound k before ws c step (named_such GivesSound commands w c all_sound is) e
 

@@ -5,7 +5,7 @@ use Rattle.mesh_terms.specs.Faults.{Fault}
 use Rattle.text_terms.specs.FirstFault.{then_read, read_each, on_line}
 use Rattle.format_terms.specs.Obj.{word_lines}
 use Rattle.run_terms.specs.Files.{Bytes}
-use Rattle.play_terms.specs.ScriptCommands.{Command, command_named}
+use Rattle.play_terms.specs.ScriptCommands.{ScriptCommand, command_named}
 use Rattle.play_terms.specs.Operands.{operands_fault}
 use Rattle.play_terms.specs.Steps.{Line, Step}
 
@@ -15,13 +15,13 @@ unless_refused step None = Ok step
 unless_refused step (Some kind) = Err kind
 
 -- the step of a command with the words after it: 21 where these are not as many as its operands, and then the first operand that is refused
-abbrev pub command_step : ℕ → List Line → List Bytes → Command → Result Step ℕ
+abbrev pub command_step : ℕ → List Line → List Bytes → ScriptCommand → Result Step ℕ
 command_step k before ws c =
     let operands = c.operands (length ws) in
     if length ws == length operands then unless_refused (c.step k ws) (operands_fault k before operands ws) else Err 21
 
 -- 20 where the first word is no command
-abbrev pub step_by : ℕ → List Line → List Bytes → Option Command → Result Step ℕ
+abbrev pub step_by : ℕ → List Line → List Bytes → Option ScriptCommand → Result Step ℕ
 step_by k before ws None = Err 20
 step_by k before ws (Some c) = command_step k before ws c
 

@@ -13,7 +13,7 @@ ghost use Rattle.program_runs.specs.Commands.{IsEnded, IsMet};
 use crate::ending::concluded;
 use crate::status::Status;
 use mb_outside::{Shelf, Sink};
-use mesh_files::{Halt, Read, ask, write};
+use mesh_files::{Halt, Read, read_named_mesh, save_named_mesh};
 use report_lines::say_copied;
 use script_runs::Settings;
 
@@ -76,7 +76,7 @@ fn written<'a, S: Shelf, O: Sink>(
     ensures meets { MeetsOn S.Shelf O.Sink (copied_task digits to.now (soup_with read.now)) (shelf.old, out.old) (shelf.new, out.new) (halted result) }
     ensures halts { IfErr result (λ halt. IsUnwrittenAt to.now halt ⊎ (halt ≡ Reporting)) }
 {
-    write(&read.mesh, to, digits, shelf)?;
+    save_named_mesh(&read.mesh, to, digits, shelf)?;
     let told = say_copied(to, &read.mesh, read.unused, out);
     Ok(told?)
 }

@@ -16,7 +16,7 @@ use crate::ending::concluded;
 use crate::status::Status;
 use mb_base::{Point, Steps};
 use mb_outside::{Shelf, Sink};
-use mesh_files::{Halt, Read, ask};
+use mesh_files::{Halt, Read, read_named_mesh};
 use report_lines::say_winding;
 use script_runs::Settings;
 use std::alloc::Global;

@@ -19,7 +19,7 @@ use Rattle.mb_base.specs.declared.results.Origin.TheVariants.{PVertex, QVertex, 
 use Rattle.side_terms.specs.Hits.{AreHits}
 use Rattle.side_terms.specs.Sides.{Side, IsSide}
 use Rattle.side_terms.specs.Lists.{Copy, ListName, lists_of_p, lists_of_q, no_copy, standing, starts}
-use Rattle.side_terms.specs.Prescribed.{Included, Numbers, copies_of, copy_of, hit_count, hit_number_of, included_hits, included_vertices, p_hits, p_number, p_vertices, prescribed, prescribed_halfedges, q_hits, q_number, q_vertices, triples_at, vertex_halfedges}
+use Rattle.side_terms.specs.Prescribed.{Prescription, Numbers, copies_of, copy_of, hit_count, hit_number_of, prescribed_hits, prescribed_vertices, p_hits, p_number, p_vertices, prescribed, prescribed_halfedges, q_hits, q_number, q_vertices, triples_at, vertex_halfedges}
 use Rattle.side_terms.specs.Standing.{count_all_starts, count_starts, start_count}
 use Rattle.retained_verts.proofs.Corners.{total_pos}
 use Rattle.retained_verts.proofs.Origins.{IsFrom, all_from}
@@ -104,9 +104,10 @@ of_copy p q p_known q_known c from =
     (λ g below. ap pos (q_starts p q p_known q_known c from g below)) in
     omega (arith, ints, at_p, at_q, over_faces p q p_known q_known c.origin from)
 
--- the copies of what is included
-of_included : (p q : Side) (is : List Included) → total (λ c. pos (faces_of p q c.origin)) (flat_map copies_of is) ≡ total (λ i. pos (nat_abs i.number * faces_of p q i.origin)) is
-of_included p q is =
+-- the copies of what is prescribed
+of_prescriptions : (p q : Side) (is : List Prescription) →
+    total (λ c. pos (faces_of p q c.origin)) (flat_map copies_of is) ≡ total (λ i. pos (nat_abs i.number * faces_of p q i.origin)) is
+of_prescriptions p q is =
     total-flat_map (λ c. pos (faces_of p q c.origin)) copies_of is
     ∙ total-same (λ i. total (λ c. pos (faces_of p q c.origin)) (copies_of i)) (λ i. pos (nat_abs i.number * faces_of p q i.origin))
     (λ i. total-replicate (λ c. pos (faces_of p q c.origin)) (nat_abs i.number) (copy_of i) ∙ product (nat_abs i.number) (faces_of p q i.origin)) is
@@ -117,19 +118,19 @@ of_included p q is =
 -- vertices and hits
 of_vertices : (p q : Side) (origin : ℕ → Origin) (number : ℤ → ℤ) (ws : List ℤ) (ps : List (List ℤ)) (n : ℕ) (ts : List Triple) → n ≡ length ws →
     ((v : ℕ) → faces_of p q (origin v) ≡ triples_at ts v) →
-    total (λ i. pos (nat_abs i.number * faces_of p q i.origin)) (included_vertices origin number ws ps n) ≡ pos (vertex_halfedges number ws ts)
+    total (λ i. pos (nat_abs i.number * faces_of p q i.origin)) (prescribed_vertices origin number ws ps n) ≡ pos (vertex_halfedges number ws ts)
 of_vertices p q origin number ws ps n ts long faces =
     let s : ℕ → ℕ = λ v. nat_abs (number (get_or ws v (pos 0))) in
-    total-map (λ (i : Included). pos (nat_abs i.number * faces_of p q i.origin))
+    total-map (λ (i : Prescription). pos (nat_abs i.number * faces_of p q i.origin))
     (λ v. record { origin = origin v; number = number (get_or ws v (pos 0)); point = get_or ps v [] }) (upto n)
     ∙ total-same (λ v. pos (s v * faces_of p q (origin v))) (λ v. pos (s v * triples_at ts v)) (λ v. ap (λ k. pos (s v * k)) (faces v)) (upto n)
     ∙ ap (λ m. total (λ v. pos (s v * triples_at ts v)) (upto m)) long ∙ total_pos (λ v. s v * triples_at ts v) (upto (length ws))
 
 of_hits : (p q : Side) (op : Op) (origin : ℕ → ℕ → Origin) (hs : List Hit) → ((e f : ℕ) → faces_of p q (origin e f) ≡ 3) →
-    total (λ i. pos (nat_abs i.number * faces_of p q i.origin)) (included_hits origin (hit_number_of op) hs) ≡ pos (3 * hit_count op hs)
+    total (λ i. pos (nat_abs i.number * faces_of p q i.origin)) (prescribed_hits origin (hit_number_of op) hs) ≡ pos (3 * hit_count op hs)
 of_hits p q op origin hs three =
     let s : Hit → ℕ = λ h. nat_abs (hit_number_of op h.number) in
-    let listed = total-map (λ (i : Included). pos (nat_abs i.number * faces_of p q i.origin))
+    let listed = total-map (λ (i : Prescription). pos (nat_abs i.number * faces_of p q i.origin))
     (λ h. record { origin = origin h.edge h.face; number = hit_number_of op h.number; point = h.at }) hs in
     let each = total-same (λ h. pos (s h * faces_of p q (origin h.edge h.face))) (λ h. pos 3 *ℤ pos (s h)) (λ h. ap (λ k. pos (s h * k)) (three h.edge h.face) ∙ thrice (s h)) hs in
     omega (arith, ints, listed, each, total-times (pos 3) (λ h. pos (s h)) hs, total_pos s hs)
@@ -147,7 +148,7 @@ all_starts op p q n p_known q_known p_long q_long x12 x21 =
     let qv = q_vertices op q n in
     let ph = p_hits op n in
     let qh = q_hits op n in
-    let w : Included → ℤ = λ i. pos (nat_abs i.number * faces_of p q i.origin) in
+    let w : Prescription → ℤ = λ i. pos (nat_abs i.number * faces_of p q i.origin) in
     let at_p : Copy → ℤ = λ c. total (λ f. pos (start_count p q (lists_of_p (length q.triples) f) c)) (upto (length p.triples)) in
     let at_q : Copy → ℤ = λ c. total (λ g. pos (start_count p q (lists_of_q (length p.triples) g) c)) (upto (length q.triples)) in
     let both = total-add at_p at_q cs in
@@ -166,7 +167,7 @@ all_starts op p q n p_known q_known p_long q_long x12 x21 =
       by_face p q cs (lists_of_q (length p.triples)) (length q.triples),
       both,
       each,
-      of_included p q (pv ++ (qv ++ (ph ++ qh))),
+      of_prescriptions p q (pv ++ (qv ++ (ph ++ qh))),
       total-append w pv (qv ++ (ph ++ qh)),
       total-append w qv (ph ++ qh),
       total-append w ph qh,

@@ -13,15 +13,15 @@ use Rattle.mb_base.specs.declared.results.Hit.{Hit}
 use Rattle.mb_base.specs.declared.results.Origin.{Origin}
 use Rattle.mesh_terms.specs.Meshes.{Triple, has, is_used}
 use Rattle.side_terms.specs.Sides.{Side, IsSide}
-use Rattle.side_terms.specs.Prescribed.{Included, Numbers, copies_of, copy_of, crossing_count, hit_count, hit_number_of, included_hits, included_vertices, p_hits, p_kept, p_number, p_vertices, prescribed, prescribed_halfedges, q_hits, q_kept, q_number, q_vertices, triples_at, vertex_count, vertex_halfedges}
+use Rattle.side_terms.specs.Prescribed.{Prescription, Numbers, copies_of, copy_of, crossing_count, hit_count, hit_number_of, prescribed_hits, prescribed_vertices, p_hits, p_kept, p_number, p_vertices, prescribed, prescribed_halfedges, q_hits, q_kept, q_number, q_vertices, triples_at, vertex_count, vertex_halfedges}
 use Rattle.retained_verts.proofs.Corners.{total_pos}
 use Rattle.retained_verts.proofs.Origins.{passes}
 
 -- the sizes of the numbers
-abbrev sizes : List Included → ℕ
+abbrev sizes : List Prescription → ℕ
 sizes is = sum_by (λ i. nat_abs i.number) is
 
-length-copies : (is : List Included) → length (flat_map copies_of is) ≡ sizes is
+length-copies : (is : List Prescription) → length (flat_map copies_of is) ≡ sizes is
 length-copies [] = refl
 length-copies (i ∷ is) =
     omega (
@@ -34,19 +34,19 @@ length-copies (i ∷ is) =
 
 -- those of vertices, where each has a winding number
 sizes-vertices : (origin : ℕ → Origin) (number : ℤ → ℤ) (ws : List ℤ) (ps : List (List ℤ)) (n : ℕ) → n ≡ length ws →
-    sizes (included_vertices origin number ws ps n) ≡ vertex_count number ws
+    sizes (prescribed_vertices origin number ws ps n) ≡ vertex_count number ws
 sizes-vertices origin number ws ps n long =
-    let is = included_vertices origin number ws ps n in
-    let size : Included → ℤ = λ i. pos (nat_abs i.number) in
+    let is = prescribed_vertices origin number ws ps n in
+    let size : Prescription → ℤ = λ i. pos (nat_abs i.number) in
     let by_number = total-map size (λ v. record { origin = origin v; number = number (get_or ws v (pos 0)); point = get_or ps v [] }) (upto n) in
     let all = ap (λ m. total (λ v. pos (nat_abs (number (get_or ws v (pos 0))))) (upto m)) long in
     omega (arith, ints, total_pos (λ i. nat_abs i.number) is, by_number, all, total-places (λ w. pos (nat_abs (number w))) (pos 0) ws, total_pos (λ w. nat_abs (number w)) ws)
 
 -- and of hits
-sizes-hits : (op : Op) (origin : ℕ → ℕ → Origin) (hs : List Hit) → sizes (included_hits origin (hit_number_of op) hs) ≡ hit_count op hs
+sizes-hits : (op : Op) (origin : ℕ → ℕ → Origin) (hs : List Hit) → sizes (prescribed_hits origin (hit_number_of op) hs) ≡ hit_count op hs
 sizes-hits op origin hs =
-    let is = included_hits origin (hit_number_of op) hs in
-    let by_hit = total-map (λ (i : Included). pos (nat_abs i.number)) (λ h. record { origin = origin h.edge h.face; number = hit_number_of op h.number; point = h.at }) hs in
+    let is = prescribed_hits origin (hit_number_of op) hs in
+    let by_hit = total-map (λ (i : Prescription). pos (nat_abs i.number)) (λ h. record { origin = origin h.edge h.face; number = hit_number_of op h.number; point = h.at }) hs in
     omega (arith, ints, total_pos (λ i. nat_abs i.number) is, by_hit, total_pos (λ h. nat_abs (hit_number_of op h.number)) hs)
 
 -- all copies
@@ -57,7 +57,7 @@ all_copies_counted op p q n p_long q_long =
     let qv = q_vertices op q n in
     let ph = p_hits op n in
     let qh = q_hits op n in
-    let size : Included → ℕ = λ i. nat_abs i.number in
+    let size : Prescription → ℕ = λ i. nat_abs i.number in
     let one : sizes pv ≡ p_kept op n = sizes-vertices _ (p_number op) n.w03 _ (length p.corners) (sym p_long) in
     let two : sizes qv ≡ q_kept op n = sizes-vertices _ (q_number op) n.w30 _ (length q.corners) (sym q_long) in
     let three : sizes ph ≡ hit_count op n.x12 = sizes-hits op _ n.x12 in

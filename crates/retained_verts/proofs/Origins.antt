@@ -13,7 +13,7 @@ use Rattle.mb_base.specs.declared.results.Origin.TheVariants.{PVertex, QVertex, 
 use Rattle.side_terms.specs.Hits.{AreHits}
 use Rattle.side_terms.specs.Sides.{Side}
 use Rattle.side_terms.specs.Points.{points_of}
-use Rattle.side_terms.specs.Prescribed.{Included, Numbers, copies_of, hit_number_of, included_hits, included_vertices, p_hits, p_number, p_vertices, prescribed, q_hits, q_number, q_vertices}
+use Rattle.side_terms.specs.Prescribed.{Prescription, Numbers, copies_of, hit_number_of, prescribed_hits, prescribed_vertices, p_hits, p_number, p_vertices, prescribed, q_hits, q_number, q_vertices}
 
 -- a vertex of a side, or an edge of one and a face of the other
 abbrev pub IsFrom : Side → Side → Origin → Type 0
@@ -22,8 +22,8 @@ IsFrom p q (QVertex v) = v < length q.corners
 IsFrom p q (PEdge e g) = (e < length (all_edges p.triples)) × (g < length q.triples)
 IsFrom p q (QEdge e f) = (e < length (all_edges q.triples)) × (f < length p.triples)
 
--- what holds of all that is included holds of all copies
-all_copies : (P : Origin → Type 0) (is : List Included) → All (λ i. P i.origin) is → All (λ c. P c.origin) (flat_map copies_of is)
+-- what holds of all that is prescribed holds of all copies
+all_copies : (P : Origin → Type 0) (is : List Prescription) → All (λ i. P i.origin) is → All (λ c. P c.origin) (flat_map copies_of is)
 all_copies P [] h = All-nil (λ c. P c.origin)
 all_copies P (i ∷ is) h =
     All-append (λ c. P c.origin) (copies_of i) (flat_map copies_of is)
@@ -36,14 +36,14 @@ upto_below n = All-from_get_or (λ v. v < n) (upto n) 0 (λ i l. let below : i <
 
 -- vertices
 all_vertices : (P : Origin → Type 0) (origin : ℕ → Origin) (number : ℤ → ℤ) (ws : List ℤ) (ps : List (List ℤ)) (n : ℕ) → ((v : ℕ) → v < n → P (origin v)) →
-    All (λ i. P i.origin) (included_vertices origin number ws ps n)
+    All (λ i. P i.origin) (prescribed_vertices origin number ws ps n)
 all_vertices P origin number ws ps n h =
     All-map (λ i. P i.origin) (λ v. record { origin = origin v; number = number (get_or ws v (pos 0)); point = get_or ps v [] }) (upto n)
     (All-weaker (λ v. v < n) (λ v. P (origin v)) h (upto n) (upto_below n))
 
 -- hits
 all_hits : (P : Origin → Type 0) (origin : ℕ → ℕ → Origin) (number : ℤ → ℤ) (hs : List Hit) → All (λ h. P (origin h.edge h.face)) hs →
-    All (λ i. P i.origin) (included_hits origin number hs)
+    All (λ i. P i.origin) (prescribed_hits origin number hs)
 all_hits P origin number hs h = All-map (λ i. P i.origin) (λ k. record { origin = origin k.edge k.face; number = number k.number; point = k.at }) hs h
 
 -- the edge and the face of each hit
@@ -55,7 +55,7 @@ pub all_from : (op : Op) (p q : Side) (n : Numbers) → AreHits (all_edges p.tri
     All (λ c. IsFrom p q c.origin) (prescribed op p q n)
 all_from op p q n x12 x21 =
     let P : Origin → Type 0 = IsFrom p q in
-    let I : Included → Type 0 = λ i. P i.origin in
+    let I : Prescription → Type 0 = λ i. P i.origin in
     let pv = p_vertices op p n in
     let qv = q_vertices op q n in
     let ph = p_hits op n in

@@ -15,7 +15,7 @@ use Rattle.mb_base.specs.declared.results.Hit.{Hit}
 use Rattle.mb_base.specs.declared.results.Origin.{Origin}
 use Rattle.mb_base.specs.declared.results.Origin.TheVariants.{PVertex, QVertex, PEdge, QEdge}
 use Rattle.side_terms.specs.Lists.{Copy, ListName, HalfP, HalfQ, PairP, PairQ, at_end, at_same, ends, in_half_p, in_half_q, in_pair, incidence, no_copy, standing, starts, way, way_round}
-use Rattle.side_terms.specs.Prescribed.{Included, copies_of, copy_of, included_hits, included_vertices}
+use Rattle.side_terms.specs.Prescribed.{Prescription, copies_of, copy_of, prescribed_hits, prescribed_vertices}
 use Rattle.retained_verts.proofs.Units.{unit_parts}
 use Rattle.retained_verts.proofs.Ways.{at_same_is, same_few, way_round_within, way_within}
 
@@ -29,11 +29,11 @@ signed_size : (n z : ℤ) → pos (nat_abs n) *ℤ cond (int_lt n (pos 0)) (neg_
 signed_size (pos k) z = ap (λ t. pos k *ℤ cond t (neg_ℤ z) z) (le-ltb k 0 (omega arith))
 signed_size (negsuc k) z = mul-neg (pos (suc k)) z ∙ sym (neg-mul (pos (suc k)) z)
 
--- what is included counts by its number
-abbrev pub weight : (p q : List (ℕ × ℕ)) → ListName → Included → ℤ
+-- what is prescribed counts by its number
+abbrev pub weight : (p q : List (ℕ × ℕ)) → ListName → Prescription → ℤ
 weight p q name i = i.number *ℤ incidence p q name i.origin
 
-pub total-copies : (p q : List (ℕ × ℕ)) (name : ListName) (is : List Included) → total (standing p q name) (flat_map copies_of is) ≡ total (weight p q name) is
+pub total-copies : (p q : List (ℕ × ℕ)) (name : ListName) (is : List Prescription) → total (standing p q name) (flat_map copies_of is) ≡ total (weight p q name) is
 total-copies p q name is =
     total-flat_map (standing p q name) copies_of is
     ∙ total-same (λ i. total (standing p q name) (copies_of i)) (weight p q name)
@@ -41,12 +41,12 @@ total-copies p q name is =
 
 -- vertices, and hits
 pub total-vertices : (p q : List (ℕ × ℕ)) (name : ListName) (origin : ℕ → Origin) (number : ℤ → ℤ) (ws : List ℤ) (ps : List (List ℤ)) (n : ℕ) →
-    total (weight p q name) (included_vertices origin number ws ps n) ≡ total (λ v. number (get_or ws v (pos 0)) *ℤ incidence p q name (origin v)) (upto n)
+    total (weight p q name) (prescribed_vertices origin number ws ps n) ≡ total (λ v. number (get_or ws v (pos 0)) *ℤ incidence p q name (origin v)) (upto n)
 total-vertices p q name origin number ws ps n =
     total-map (weight p q name) (λ v. record { origin = origin v; number = number (get_or ws v (pos 0)); point = get_or ps v [] }) (upto n)
 
 pub total-hits : (p q : List (ℕ × ℕ)) (name : ListName) (origin : ℕ → ℕ → Origin) (number : ℤ → ℤ) (hs : List Hit) →
-    total (weight p q name) (included_hits origin number hs) ≡ total (λ h. number h.number *ℤ incidence p q name (origin h.edge h.face)) hs
+    total (weight p q name) (prescribed_hits origin number hs) ≡ total (λ h. number h.number *ℤ incidence p q name (origin h.edge h.face)) hs
 total-hits p q name origin number hs = total-map (weight p q name) (λ h. record { origin = origin h.edge h.face; number = number h.number; point = h.at }) hs
 
 -- where the incidence is 0

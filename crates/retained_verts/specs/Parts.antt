@@ -1,8 +1,8 @@
--- What each of the two meshes gives: how its vertices and edges are named, how often each is included, and the copies.
+-- What each of the two meshes gives: how its vertices and edges are named, how often each is prescribed, and the copies.
 use Rattle.std.specs.Prelude.{ℕ, ℤ, List, length, map}
 use Rattle.std.specs.List.{flat_map}
 use Rattle.side_terms.specs.Points.{points_of}
-use Rattle.side_terms.specs.Prescribed.{Included, copies_of, hit_number_of, included_hits, included_vertices, p_number, q_number}
+use Rattle.side_terms.specs.Prescribed.{Prescription, copies_of, hit_number_of, prescribed_hits, prescribed_vertices, p_number, q_number}
 use Rattle.mb_base.specs.declared.op.Op.{Op}
 use Rattle.mb_base.specs.declared.point.Corner.{Corner}
 use Rattle.mb_base.specs.declared.results.Hit.{Hit}
@@ -21,22 +21,22 @@ abbrev pub edge_origin : Operand → ℕ → ℕ → Origin
 edge_origin P e f = PEdge e f
 edge_origin Q e f = QEdge e f
 
--- how often a vertex with a winding number is included
+-- how often a vertex with a winding number is prescribed
 abbrev pub vertex_number : Op → Operand → ℤ → ℤ
 vertex_number op P w = p_number op w
 vertex_number op Q w = q_number op w
 
 -- the vertices of a mesh with their numbers and points
-abbrev pub vertices_of : Op → Operand → List Corner → List ℤ → List Included
-vertices_of op operand corners ws = included_vertices (vertex_origin operand) (vertex_number op operand) ws (points_of corners) (length corners)
+abbrev pub vertices_of : Op → Operand → List Corner → List ℤ → List Prescription
+vertices_of op operand corners ws = prescribed_vertices (vertex_origin operand) (vertex_number op operand) ws (points_of corners) (length corners)
 
 -- the crossings of a mesh's edges
-abbrev pub crossings_of : Op → Operand → List Hit → List Included
-crossings_of op operand hs = included_hits (edge_origin operand) (hit_number_of op) hs
+abbrev pub crossings_of : Op → Operand → List Hit → List Prescription
+crossings_of op operand hs = prescribed_hits (edge_origin operand) (hit_number_of op) hs
 
 -- where their copies come from, and where they lie
-abbrev pub origins_of : List Included → List Origin
+abbrev pub origins_of : List Prescription → List Origin
 origins_of is = map (λ c. c.origin) (flat_map copies_of is)
 
-abbrev pub places_of : List Included → List (List ℤ)
+abbrev pub places_of : List Prescription → List (List ℤ)
 places_of is = map (λ c. c.point) (flat_map copies_of is)

@@ -30,7 +30,7 @@ impl Copies {
         Ok(Copies { origins, points })
     }
 
-    /// Adds the kept vertices of a mesh.
+    /// Adds the prescribed vertices of a mesh.
     pub fn push_vertices(
         &mut self,
         op: Op,

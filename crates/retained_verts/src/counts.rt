@@ -13,7 +13,7 @@ use crate::operand::{Operand, hit_number};
 use lean::Side;
 use mb_base::{Hit, Hits, Op, Windings};
 
-/// How many vertices are kept of each mesh, how many are crossings, and the half-edges at all of them.
+/// How many vertices are prescribed of each mesh, how many are crossings, and the half-edges at all of them.
 #[derive(Clone, Copy, Drop)]
 pub struct Counts {
     pub kept: [u64; 2],
@@ -33,8 +33,8 @@ pub fn count(op: Op, p: &Side, q: &Side, windings: &Windings, hits: &Hits) -> Co
 {
     let p_triples = p.triples();
     let q_triples = q.triples();
-    let p_kept = kept(op, Operand::P, &windings.w03);
-    let q_kept = kept(op, Operand::Q, &windings.w30);
+    let p_kept = vertex_count(op, Operand::P, &windings.w03);
+    let q_kept = vertex_count(op, Operand::Q, &windings.w30);
     let crossings = hit_count(op, &hits.x12) + hit_count(op, &hits.x21);
     let p_halfedges = halfedges(op, Operand::P, &windings.w03, p_triples);
     let q_halfedges = halfedges(op, Operand::Q, &windings.w30, q_triples);
@@ -45,18 +45,18 @@ pub fn count(op: Op, p: &Side, q: &Side, windings: &Windings, hits: &Hits) -> Co
     }
 }
 
-// How many vertices of a mesh are kept.
-fn kept(op: Op, operand: Operand, windings: &[i64]) -> u64
+// How many vertices of a mesh are prescribed.
+fn vertex_count(op: Op, operand: Operand, windings: &[i64]) -> u64
     requires small { AreSmallWindings windings.now }
     requires few { length windings.now ≤ most_points }
     ensures value { result ≡ vertex_count (vertex_number op operand) windings.now }
     ensures small { result ≤ 100000001 * most_points }
 {
-    let mut kept = 0;
+    let mut count = 0;
     for winding in windings {
-        kept += operand.number(op, *winding).unsigned_abs();
+        count += operand.number(op, *winding).unsigned_abs();
     }
-    kept
+    count
 }
 
 // How many vertices are crossings of one mesh's edges.
@@ -73,7 +73,7 @@ fn hit_count(op: Op, hits: &[Hit]) -> u64
     count
 }
 
-// The half-edges at the kept vertices of a mesh.
+// The half-edges at the prescribed vertices of a mesh.
 fn halfedges(op: Op, operand: Operand, windings: &[i64], triples: &[[u32; 3]]) -> u64
     requires small { AreSmallWindings windings.now }
     requires below { All (IsBelow (length windings.now)) (triples_of triples.now) }
@@ -84,15 +84,15 @@ fn halfedges(op: Op, operand: Operand, windings: &[i64], triples: &[[u32; 3]]) -
 {
     let mut halfedges = 0;
     for [a, b, c] in triples {
-        halfedges += kept_at(op, operand, windings, *a)
-            + kept_at(op, operand, windings, *b)
-            + kept_at(op, operand, windings, *c);
+        halfedges += count_at(op, operand, windings, *a)
+            + count_at(op, operand, windings, *b)
+            + count_at(op, operand, windings, *c);
     }
     halfedges
 }
 
-// How often a vertex is kept.
-fn kept_at(op: Op, operand: Operand, windings: &[i64], vertex: u32) -> u64
+// How often a vertex is prescribed.
+fn count_at(op: Op, operand: Operand, windings: &[i64], vertex: u32) -> u64
     requires small { AreSmallWindings windings.now }
     requires below { vertex < length windings.now }
     ensures value { result ≡ nat_abs (vertex_number op operand (get_or windings.now vertex (pos 0))) }

@@ -45,7 +45,7 @@ impl From<NoMemory> for PrescribeFault {
 
 /// The vertices that winding numbers and crossings prescribe for an operation on two sides.
 ///
-/// A vertex of P is included `c1 + c3 * w` times, one of Q `c2 + c3 * w` times, w being its winding number in the other
+/// A vertex of P is prescribed `c1 + c3 * w` times, one of Q `c2 + c3 * w` times, w being its winding number in the other
 /// mesh, and a crossing `c3` times its number, with the operation's constants. Each is listed as often as the size of that:
 /// the vertices of P, those of Q, the hits of P's edges, those of Q's edges, in their order, all copies of one together.
 ///

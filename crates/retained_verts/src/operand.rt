@@ -35,7 +35,7 @@ impl Operand {
         }
     }
 
-    /// How often a vertex of this mesh is included.
+    /// How often a vertex of this mesh is prescribed.
     pub fn number(self, op: Op, winding: i64) -> i64
         requires { nat_abs winding ≤ most_triangles }
         ensures value { result ≡ vertex_number op self winding }
@@ -49,7 +49,7 @@ impl Operand {
     }
 }
 
-/// How often a crossing is included.
+/// How often a crossing is prescribed.
 pub fn hit_number(op: Op, number: i8) -> i64
     requires { IsNumber number }
     ensures value { result ≡ hit_number_of op number }

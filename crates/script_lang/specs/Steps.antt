@@ -13,19 +13,19 @@ use Rattle.script_lang.specs.declared.steps.Line.{Line}
 use Rattle.script_lang.specs.declared.steps.Step.{Step}
 use Rattle.script_lang.specs.declared.steps.Step.TheVariants.{Load, Save, Measure, Combine, MakeBox, MakeTetra, MakePrism, MakeLattice, Shift, Scale, Mirror, Turn, Tidy, Remesh, Polygon, Combine2, Extrude, Exact}
 
-abbrev pub making : SolidCommand → named.Command
+abbrev pub making : SolidCommand → named.ScriptCommand
 making solids.Box = named.box
 making solids.Tetra = named.tetra
 making solids.Prism = named.prism
 making solids.Lattice = named.lattice
 
-abbrev pub moving : MotionCommand → named.Command
+abbrev pub moving : MotionCommand → named.ScriptCommand
 moving motions.Shift = named.shift
 moving motions.Scale = named.scale
 moving motions.Mirror = named.mirror
 moving motions.Turn = named.turn
 
-abbrev pub command_of : Command → named.Command
+abbrev pub command_of : Command → named.ScriptCommand
 command_of commands.Load = named.load
 command_of commands.Save = named.save
 command_of commands.Measure = named.measure

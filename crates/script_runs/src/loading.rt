@@ -9,7 +9,7 @@ ghost use Rattle.play_terms.specs.Plays.{load_task};
 use crate::names::Names;
 use crate::settings::AtLine;
 use mb_outside::{Shelf, Sink};
-use mesh_files::{Halt, ask};
+use mesh_files::{Halt, read_named_mesh};
 use report_lines::say_loaded;
 
 /// Reads a mesh from a file, reports that on the output, and gives a name the mesh.

@@ -18,7 +18,7 @@ use crate::names::Names;
 use crate::settings::{AtLine, Settings};
 use mb_base::{KernelKind, Steps};
 use mb_outside::{Shelf, Sink};
-use mesh_files::{Halt, Stop, ask_bytes};
+use mesh_files::{Halt, Stop, read_named_file};
 use operation_laws::laws::operations_are_readable;
 use script_lang::{ScriptFault, Step, read_script};
 use std::sync::ledger::Ledger;
@@ -46,7 +46,7 @@ pub fn run_script<'a, S: Shelf, O: Sink, L: Ledger>(
 {
     // The law of what operations give.
     operations_are_readable();
-    *bytes = ask_bytes(settings.alloc, name, settings.limits, shelf)?;
+    *bytes = read_named_file(settings.alloc, name, settings.limits, shelf)?;
     let script = match read_script(settings.alloc, bytes, settings.digits) {
         Ok(script) => script,
         Err(fault) => return Err(halt_of(name, fault)),

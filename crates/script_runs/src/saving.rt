@@ -8,7 +8,7 @@ ghost use Rattle.play_terms.specs.Plays.{mesh_at, mesh_held, save_task};
 
 use crate::names::Names;
 use mb_outside::{Shelf, Sink};
-use mesh_files::{Halt, write};
+use mesh_files::{Halt, save_named_mesh};
 use report_lines::say_saved;
 
 /// Saves the mesh of a name to a file, and reports that on the output.
@@ -27,7 +27,7 @@ pub fn save<'a, S: Shelf, O: Sink>(
     ensures halts { IfErr result IsHaltOfStep }
 {
     let mesh = names.mesh_of(name);
-    write(mesh, file, digits, shelf)?;
+    save_named_mesh(mesh, file, digits, shelf)?;
     say_saved(name, file, mesh, out)?;
     Ok(())
 }

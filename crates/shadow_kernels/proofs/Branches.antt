@@ -4,7 +4,7 @@ use mathlib.Core.Bool.{beq}
 use Rattle.shadow_kernels.specs.declared.Spot.{Spot}
 use Rattle.shadow_kernels.specs.declared.Meet.{Meet}
 use Rattle.shadow_kernels.specs.Spots.{Between}
-use Rattle.shadow_kernels.specs.Rules.{Rule, sight}
+use Rattle.shadow_kernels.specs.Rules.{Rule, spot_and_side}
 use Rattle.mb_base.specs.declared.point.Corner.{Corner}
 use Rattle.shadow_kernels.specs.declared.Edge.{Edge}
 use Rattle.shadow_kernels.specs.Edges.{past, edge_meet, edge_ends, met_at}
@@ -35,14 +35,15 @@ second_alone {a} {b} e f h is = let k = beq_other a b h in (sym f ∙ k ∙ ap n
 module _ (e : Edge) (k : Rule) (w : Between) (v c d : Corner) where
   -- the tests at both ends answer alike
   pub at_neither : {a b : Bool} → a ≡ past e k v c → b ≡ past e k v d → beq a b ≡ true → None ≡ edge_meet e k w v c d
-  at_neither {a} {b} f g h = let j = beq_same a b h in sym (edge_ends e k w v c d ∙ ends_same (past e k v c) (past e k v d) (sight k w e v c d) (sight k w e v d c) (cc))
+  at_neither {a} {b} f g h =
+      let j = beq_same a b h in sym (edge_ends e k w v c d ∙ ends_same (past e k v c) (past e k v d) (spot_and_side k w e v c d) (spot_and_side k w e v d c) (cc))
 
   -- the vertex is past the first end alone, or past the second
-  pub at_first : (past e k v c ≡ true) × (past e k v d ≡ false) → edge_meet e k w v c d ≡ Some (met_at (pos 1) (sight k w e v c d))
-  at_first h = edge_ends e k w v c d ∙ ends_first (past e k v c) (past e k v d) (sight k w e v c d) (sight k w e v d c) h.0 h.1
+  pub at_first : (past e k v c ≡ true) × (past e k v d ≡ false) → edge_meet e k w v c d ≡ Some (met_at (pos 1) (spot_and_side k w e v c d))
+  at_first h = edge_ends e k w v c d ∙ ends_first (past e k v c) (past e k v d) (spot_and_side k w e v c d) (spot_and_side k w e v d c) h.0 h.1
 
-  pub at_second : (past e k v d ≡ true) × (past e k v c ≡ false) → edge_meet e k w v c d ≡ Some (met_at (negsuc 0) (sight k w e v d c))
-  at_second h = edge_ends e k w v c d ∙ ends_second (past e k v c) (past e k v d) (sight k w e v c d) (sight k w e v d c) h.1 h.0
+  pub at_second : (past e k v d ≡ true) × (past e k v c ≡ false) → edge_meet e k w v c d ≡ Some (met_at (negsuc 0) (spot_and_side k w e v d c))
+  at_second h = edge_ends e k w v c d ∙ ends_second (past e k v c) (past e k v d) (spot_and_side k w e v c d) (spot_and_side k w e v d c) h.1 h.0
 
 -- such an answer as the code makes it
 pub made_at : {n : ℤ} {s : Bool × Spot} {m : Meet} {o : Option Meet} → o ≡ Some (met_at n s) → m ≡ met_at n s → Some m ≡ o

@@ -8,7 +8,7 @@ use Rattle.shadow_kernels.specs.declared.Edge.TheVariants.{OfP, OfQ}
 use Rattle.shadow_kernels.specs.declared.Spot.{Spot}
 use Rattle.shadow_kernels.specs.declared.Meet.{Meet}
 use Rattle.shadow_kernels.specs.Spots.{Between}
-use Rattle.shadow_kernels.specs.Rules.{Rule, sight}
+use Rattle.shadow_kernels.specs.Rules.{Rule, spot_and_side}
 use Rattle.shadow_kernels.specs.Counts.{by_ends}
 use Rattle.shadow_kernels.specs.Shadows.{meet01, meet10}
 use Rattle.shadow_kernels.specs.Order.{IsOrdered}
@@ -42,9 +42,10 @@ past OfP k v c = not (k.beyond_in_x c v)
 past OfQ k v c = k.beyond_in_x v c
 
 -- the answer is that of the tests at the two ends
-pub edge_ends : (e : Edge) (k : Rule) (w : Between) (v c d : Corner) → edge_meet e k w v c d ≡ by_ends (past e k v c) (past e k v d) (sight k w e v c d) (sight k w e v d c)
+pub edge_ends : (e : Edge) (k : Rule) (w : Between) (v c d : Corner) →
+    edge_meet e k w v c d ≡ by_ends (past e k v c) (past e k v d) (spot_and_side k w e v c d) (spot_and_side k w e v d c)
 unfolding meet01 meet10
-edge_ends OfP k w v c d = sym (ends_not (k.beyond_in_x c v) (k.beyond_in_x d v) (sight k w OfP v c d) (sight k w OfP v d c))
+edge_ends OfP k w v c d = sym (ends_not (k.beyond_in_x c v) (k.beyond_in_x d v) (spot_and_side k w OfP v c d) (spot_and_side k w OfP v d c))
 edge_ends OfQ k w v c d = refl
 
 -- a test that fails

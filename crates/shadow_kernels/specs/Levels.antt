@@ -9,7 +9,7 @@ use Rattle.side_terms.specs.Corners.{corner_at, AllFine}
 use Rattle.shadow_kernels.specs.declared.Meet.{Meet}
 use Rattle.shadow_kernels.specs.ShadowLaws.{IsInHull}
 use Rattle.shadow_kernels.specs.Spots.{Between}
-use Rattle.shadow_kernels.specs.Rules.{Rule, sight}
+use Rattle.shadow_kernels.specs.Rules.{Rule, spot_and_side}
 use Rattle.shadow_kernels.specs.Counts.{count_of, turned, lifted}
 use Rattle.shadow_kernels.specs.Shadows.{meet01, meet10, meet11, boundary11}
 use Rattle.shadow_kernels.specs.Order.{no_alternation}
@@ -28,13 +28,13 @@ use Rattle.shadow_kernels.specs.Lifted.{lifted_decided, lifted_reverse}
 -- an edge and a vertex of the other side
 module _ (e : Edge) (k : Rule) (w : Between) (v c d : Corner) where
   pub edge_count : count_of (edge_meet e k w v c d) ≡ less (past e k v c) (past e k v d)
-  edge_count = ap count_of (edge_ends e k w v c d) ∙ ends_count (past e k v c) (past e k v d) (sight k w e v c d) (sight k w e v d c)
+  edge_count = ap count_of (edge_ends e k w v c d) ∙ ends_count (past e k v c) (past e k v d) (spot_and_side k w e v c d) (spot_and_side k w e v d c)
 
   pub edge_sized : IsSized (edge_meet e k w v c d)
-  edge_sized = subst IsSized (sym (edge_ends e k w v c d)) (ends_sized (past e k v c) (past e k v d) (sight k w e v c d) (sight k w e v d c))
+  edge_sized = subst IsSized (sym (edge_ends e k w v c d)) (ends_sized (past e k v c) (past e k v d) (spot_and_side k w e v c d) (spot_and_side k w e v d c))
 
   pub edge_reverse : edge_meet e k w v d c ≡ turned (edge_meet e k w v c d)
-  edge_reverse = edge_ends e k w v d c ∙ ends_turned (past e k v c) (past e k v d) (sight k w e v c d) (sight k w e v d c) ∙ ap turned (sym (edge_ends e k w v c d))
+  edge_reverse = edge_ends e k w v d c ∙ ends_turned (past e k v c) (past e k v d) (spot_and_side k w e v c d) (spot_and_side k w e v d c) ∙ ap turned (sym (edge_ends e k w v c d))
 
 -- the count of an edge of P, by what its ends are beyond
 pub count10 : (k : Rule) (w : Between) (a b q : Corner) → count_of (meet10 k w a b q) ≡ less (k.beyond_in_x b q) (k.beyond_in_x a q)
@@ -53,11 +53,11 @@ pub edge_decided : {k : Rule} {w : Between} → IsRule k w → (e : Edge) (ps qs
     IsPlaced (own e ps qs) c → IsPlaced (own e ps qs) d → IsDecided 1 ps qs (edge_meet e k w v c d)
 edge_decided {k} {w} rule e ps qs v c d hv hc hd =
     let at : (l r : Corner) → IsPlaced (own e ps qs) l → IsPlaced (own e ps qs) r → past e k v l ≡ true → past e k v r ≡ false →
-    IsInHull ps qs (sight k w e v l r).1 = λ l r hl hr f g. edge_hull rule.ordered w rule.stays e ps qs v l r hv hl hr f g in
-    subst (IsDecided 1 ps qs) (sym (edge_ends e k w v c d)) (ends_decided ps qs (past e k v c) (past e k v d) (sight k w e v c d) (sight k w e v d c)
+    IsInHull ps qs (spot_and_side k w e v l r).1 = λ l r hl hr f g. edge_hull rule.ordered w rule.stays e ps qs v l r hv hl hr f g in
+    subst (IsDecided 1 ps qs) (sym (edge_ends e k w v c d)) (ends_decided ps qs (past e k v c) (past e k v d) (spot_and_side k w e v c d) (spot_and_side k w e v d c)
     (λ f g. at c d hc hd f g) (λ f g. at d c hd hc g f) (alike rule e ps qs v c d hv hc hd)
-    (λ t h f g. rule.beside e v c d ps qs hv hc hd f g t h (sight k w e v c d).1 (at c d hc hd f g))
-    (λ t h f g. rule.beside e v d c ps qs hv hd hc g f t h (sight k w e v d c).1 (at d c hd hc g f)))
+    (λ t h f g. rule.beside e v c d ps qs hv hc hd f g t h (spot_and_side k w e v c d).1 (at c d hc hd f g))
+    (λ t h f g. rule.beside e v d c ps qs hv hd hc g f t h (spot_and_side k w e v d c).1 (at d c hd hc g f)))
 
 -- the first two of a list exchanged
 flip : (a b : Option Meet) (ms : List (Option Meet)) → IsPermutation (a ∷ b ∷ ms) (b ∷ a ∷ ms)

@@ -32,5 +32,5 @@ abbrev pub grid : Rule
 grid = record { beyond_in_x = beyond; over_edge = λ e v l r s. above_y s; over_edges = λ a b c d s. above_z s; over_face = λ e v a b c s. above_z s }
 
 -- the spot of a vertex and an edge, and whether P is beyond Q there
-abbrev pub sight : Rule → Between → Edge → Corner → Corner → Corner → Bool × Spot
-sight k w e v l r = let s = edge_spot e w v l r in (k.over_edge e v l r s, s)
+abbrev pub spot_and_side : Rule → Between → Edge → Corner → Corner → Corner → Bool × Spot
+spot_and_side k w e v l r = let s = edge_spot e w v l r in (k.over_edge e v l r s, s)

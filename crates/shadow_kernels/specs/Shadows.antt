@@ -5,7 +5,7 @@ use Rattle.side_terms.specs.Corners.{corner_at}
 use Rattle.shadow_kernels.specs.declared.Edge.TheVariants.{OfP, OfQ}
 use Rattle.shadow_kernels.specs.declared.Meet.{Meet}
 use Rattle.shadow_kernels.specs.Spots.{Between, spot00}
-use Rattle.shadow_kernels.specs.Rules.{Rule, sight}
+use Rattle.shadow_kernels.specs.Rules.{Rule, spot_and_side}
 use Rattle.shadow_kernels.specs.Counts.{turned, by_ends, lifted}
 use Rattle.shadow_kernels.specs.ShadowLaws.{ShadowTest}
 
@@ -15,11 +15,11 @@ meet00 k p q = Some (record { count = pos 1; above = k.beyond_in_x p q; spot = s
 
 -- a vertex and an edge from c to d: the left end is the one that p is beyond, since its x is the smaller
 unfoldable pub meet01 : Rule → Between → Corner → Corner → Corner → Option Meet
-meet01 k w p c d = by_ends (k.beyond_in_x p c) (k.beyond_in_x p d) (sight k w OfQ p c d) (sight k w OfQ p d c)
+meet01 k w p c d = by_ends (k.beyond_in_x p c) (k.beyond_in_x p d) (spot_and_side k w OfQ p c d) (spot_and_side k w OfQ p d c)
 
 -- an edge from a to b and a vertex: the left end is the one that is not beyond q, since its x is the smaller, or the x are equal and it is not up
 unfoldable pub meet10 : Rule → Between → Corner → Corner → Corner → Option Meet
-meet10 k w a b q = by_ends (k.beyond_in_x b q) (k.beyond_in_x a q) (sight k w OfP q a b) (sight k w OfP q b a)
+meet10 k w a b q = by_ends (k.beyond_in_x b q) (k.beyond_in_x a q) (spot_and_side k w OfP q a b) (spot_and_side k w OfP q b a)
 
 -- the boundary pairs of the edges from a to b and from c to d
 abbrev pub boundary11 : Rule → Between → Corner → Corner → Corner → Corner → List (Option Meet)

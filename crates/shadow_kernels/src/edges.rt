@@ -6,7 +6,7 @@ ghost use Rattle.shadow_kernels.specs.Bounds.{IsFinePair};
 ghost use Rattle.shadow_kernels.specs.Counts.{shadow_of};
 ghost use Rattle.shadow_kernels.specs.Edges.{past, edge_meet, met_at};
 ghost use Rattle.shadow_kernels.specs.Hulls.{IsAlong};
-ghost use Rattle.shadow_kernels.specs.Rules.{sight};
+ghost use Rattle.shadow_kernels.specs.Rules.{spot_and_side};
 
 use crate::spots::edge_spot;
 use crate::{Edge, Meet, Rules, Sights};
@@ -31,9 +31,9 @@ pub(crate) fn edge_meet<K: Rules>(
     if past_c == past_d {
         None
     } else if past_c {
-        Some(met_in_y(kernel, 1, edge, vertex, c, d))
+        Some(meet_at_edge(kernel, 1, edge, vertex, c, d))
     } else {
-        Some(met_in_y(kernel, -1, edge, vertex, d, c))
+        Some(meet_at_edge(kernel, -1, edge, vertex, d, c))
     }
 }
 
@@ -74,10 +74,10 @@ fn is_past<K: Rules>(kernel: &K, edge: Edge, vertex: &Corner, end: &Corner) -> b
     }
 }
 
-/// The answer of a count that is not 0, where the edge has this left end and this right end.
-fn met_in_y<K: Rules>(
+/// The answer where vertex and edge overlap in x: the sign, the spot on the edge there, and whether P is beyond.
+fn meet_at_edge<K: Rules>(
     kernel: &K,
-    count: i8,
+    sign: i8,
     edge: Edge,
     vertex: &Corner,
     left: &Corner,
@@ -85,11 +85,15 @@ fn met_in_y<K: Rules>(
 ) -> Meet
     requires along { IsAlong left.now right.now (axis 0 vertex.now) }
     requires vertex_fine { IsFineCorner vertex.now }
-    ensures { result ≡ met_at count (sight (K.rule_of kernel.now) (K.between_of kernel.now) edge vertex.now left.now right.now) }
+    ensures { result ≡ met_at sign (spot_and_side (K.rule_of kernel.now) (K.between_of kernel.now) edge vertex.now left.now right.now) }
 {
     let spot = edge_spot(kernel, edge, vertex, left, right);
     let above = kernel.is_over_edge_at(edge, vertex, left, right, &spot);
-    Meet { count, above, spot }
+    Meet {
+        count: sign,
+        above,
+        spot,
+    }
 }
 
 /// The shadow of a count: the count where P is beyond Q, else 0.

@@ -11,7 +11,7 @@ ghost use Rattle.shadow_kernels.specs.Edges.{rim};
 ghost use Rattle.shadow_kernels.specs.Hulls.{IsAlong};
 ghost use Rattle.shadow_kernels.specs.Lawful.{IsRule};
 ghost use Rattle.shadow_kernels.specs.Levels.{face_meet};
-ghost use Rattle.shadow_kernels.specs.Rules.{Rule, sight};
+ghost use Rattle.shadow_kernels.specs.Rules.{Rule, spot_and_side};
 ghost use Rattle.shadow_kernels.specs.Shadows.{edge_edge};
 
 use crate::{Edge, Spot};
@@ -63,7 +63,7 @@ pub trait Sights: Rules {
     fn is_over_edge(&self, edge: Edge, vertex: &Corner, left: &Corner, right: &Corner) -> bool
         requires along { IsAlong left.now right.now (axis 0 vertex.now) }
         requires vertex_fine { IsFineCorner vertex.now }
-        ensures { result ≡ (sight (⟦<Self as Rules>⟧.rule_of self.now) (⟦<Self as Rounding>⟧.between_of self.now) edge vertex.now left.now right.now).0 };
+        ensures { result ≡ (spot_and_side (⟦<Self as Rules>⟧.rule_of self.now) (⟦<Self as Rounding>⟧.between_of self.now) edge vertex.now left.now right.now).0 };
 
     /// Whether an edge of P is beyond one of Q in z, where their answer is not None.
     fn is_over_edges(&self, p: &[Corner; 2], q: &[Corner; 2]) -> bool

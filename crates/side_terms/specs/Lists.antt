@@ -58,7 +58,7 @@ incidence p q (HalfQ h) x = in_half_q q h x
 incidence p q (PairP f g) x = in_pair p q f g x
 incidence p q (PairQ g f) x = neg_ℤ (in_pair p q f g x)
 
--- a prescribed vertex: what it is a copy of, whether that is included a negative number of times, and the point
+-- a prescribed vertex: what it is a copy of, whether that is prescribed a negative number of times, and the point
 pub record Copy : Type 0 where
   pub origin : Origin
   pub negative : Bool

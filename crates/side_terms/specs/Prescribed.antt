@@ -1,4 +1,4 @@
--- Prescribed vertices: what is included, how often, and the copies in order.
+-- Prescribed vertices: how often each vertex and each hit is prescribed, and the copies in order.
 use Rattle.std.specs.Prelude.{ℕ, ◌+◌, ◌*◌, ℤ, pos, ◌+ℤ◌, ◌*ℤ◌, List, [], ◌++◌, map, replicate, length, get_or, nat_abs, int_lt, count_by}
 use Rattle.std.specs.List.{flat_map, sum_by}
 use Rattle.chain_terms.specs.Sums.{upto}
@@ -23,7 +23,7 @@ pub record Numbers : Type 0 where
 abbrev pub constant : Op → ℕ → ℤ
 constant op i = get_or (constants_of op) i (pos 0)
 
--- how often a vertex of P with a winding number is included, one of Q, and a hit with a number of crossings
+-- how often a vertex of P with a winding number is prescribed, one of Q, and a hit with a number of crossings
 abbrev pub p_number : Op → ℤ → ℤ
 p_number op w = constant op 0 +ℤ constant op 2 *ℤ w
 
@@ -33,38 +33,38 @@ q_number op w = constant op 1 +ℤ constant op 2 *ℤ w
 abbrev pub hit_number_of : Op → ℤ → ℤ
 hit_number_of op n = constant op 2 *ℤ n
 
--- a vertex or a hit, how often it is included, and its point
-pub record Included : Type 0 where
+-- a vertex or a hit, how often it is prescribed, and its point
+pub record Prescription : Type 0 where
   pub origin : Origin
   pub number : ℤ
   pub point : List ℤ
 
 -- the first n vertices with their winding numbers and points
-abbrev pub included_vertices : (ℕ → Origin) → (ℤ → ℤ) → List ℤ → List (List ℤ) → ℕ → List Included
-included_vertices origin number ws points n = map (λ v. record { origin = origin v; number = number (get_or ws v (pos 0)); point = get_or points v [] }) (upto n)
+abbrev pub prescribed_vertices : (ℕ → Origin) → (ℤ → ℤ) → List ℤ → List (List ℤ) → ℕ → List Prescription
+prescribed_vertices origin number ws points n = map (λ v. record { origin = origin v; number = number (get_or ws v (pos 0)); point = get_or points v [] }) (upto n)
 
 -- hits in their order
-abbrev pub included_hits : (ℕ → ℕ → Origin) → (ℤ → ℤ) → List Hit → List Included
-included_hits origin number hs = map (λ h. record { origin = origin h.edge h.face; number = number h.number; point = h.at }) hs
+abbrev pub prescribed_hits : (ℕ → ℕ → Origin) → (ℤ → ℤ) → List Hit → List Prescription
+prescribed_hits origin number hs = map (λ h. record { origin = origin h.edge h.face; number = number h.number; point = h.at }) hs
 
-abbrev pub p_vertices : Op → Side → Numbers → List Included
-p_vertices op p n = included_vertices PVertex (p_number op) n.w03 (points_of p.corners) (length p.corners)
+abbrev pub p_vertices : Op → Side → Numbers → List Prescription
+p_vertices op p n = prescribed_vertices PVertex (p_number op) n.w03 (points_of p.corners) (length p.corners)
 
-abbrev pub q_vertices : Op → Side → Numbers → List Included
-q_vertices op q n = included_vertices QVertex (q_number op) n.w30 (points_of q.corners) (length q.corners)
+abbrev pub q_vertices : Op → Side → Numbers → List Prescription
+q_vertices op q n = prescribed_vertices QVertex (q_number op) n.w30 (points_of q.corners) (length q.corners)
 
-abbrev pub p_hits : Op → Numbers → List Included
-p_hits op n = included_hits PEdge (hit_number_of op) n.x12
+abbrev pub p_hits : Op → Numbers → List Prescription
+p_hits op n = prescribed_hits PEdge (hit_number_of op) n.x12
 
-abbrev pub q_hits : Op → Numbers → List Included
-q_hits op n = included_hits QEdge (hit_number_of op) n.x21
+abbrev pub q_hits : Op → Numbers → List Prescription
+q_hits op n = prescribed_hits QEdge (hit_number_of op) n.x21
 
 -- one of the copies
-abbrev pub copy_of : Included → Copy
+abbrev pub copy_of : Prescription → Copy
 copy_of i = record { origin = i.origin; negative = int_lt i.number (pos 0); point = i.point }
 
 -- as many as the size of the number
-abbrev pub copies_of : Included → List Copy
+abbrev pub copies_of : Prescription → List Copy
 copies_of i = replicate (nat_abs i.number) (copy_of i)
 
 -- the prescribed vertices in order, copies together

@@ -16,7 +16,7 @@ use Rattle.side_terms.specs.Hits.{AreHits, IsBefore}
 use Rattle.side_terms.specs.Sides.{Side}
 use Rattle.side_terms.specs.Lists.{Copy}
 use Rattle.side_terms.specs.Points.{points_of}
-use Rattle.side_terms.specs.Prescribed.{Included, Numbers, copies_of, copy_of, hit_number_of, p_hits, p_number, p_vertices, prescribed, q_hits, q_number, q_vertices}
+use Rattle.side_terms.specs.Prescribed.{Prescription, Numbers, copies_of, copy_of, hit_number_of, p_hits, p_number, p_vertices, prescribed, q_hits, q_number, q_vertices}
 use Rattle.source_face_terms.specs.Naming.{AreNamed, NamesLower}
 use Rattle.source_face_laws.proofs.FaceLists.{all_upto}
 
@@ -58,14 +58,14 @@ listed_number (h ∷ hs) up (suc k) d below =
     let rest = listed_number hs (λ i j c l m. up (suc i) (suc j) c (omega (arith, l)) (omega (arith, m))) k d (omega (arith, below)) in
     omega (arith, ints, counts_nothing here.edge here.face h other, rest)
 
--- what holds of a copy of each that is included holds of all copies
-all_copies : (P : Copy → Type 0) (is : List Included) → All (λ i. P (copy_of i)) is → All P (flat_map copies_of is)
+-- what holds of a copy of each that is prescribed holds of all copies
+all_copies : (P : Copy → Type 0) (is : List Prescription) → All (λ i. P (copy_of i)) is → All P (flat_map copies_of is)
 all_copies P [] h = All-nil P
 all_copies P (i ∷ is) h =
     All-append P (copies_of i) (flat_map copies_of is) (All-replicate P (nat_abs i.number) (copy_of i) (All-head (λ k. P (copy_of k)) i is h))
     (all_copies P is (All-tail (λ k. P (copy_of k)) i is h))
 
--- whether what a copy comes from is included a negative number of times
+-- whether what a copy comes from is prescribed a negative number of times
 abbrev sign_of : Op → Numbers → Origin → Bool
 sign_of op n (PVertex v) = int_lt (p_number op (get_or n.w03 v (pos 0))) (pos 0)
 sign_of op n (QVertex v) = int_lt (q_number op (get_or n.w30 v (pos 0))) (pos 0)
@@ -81,15 +81,15 @@ all_named : (op : Op) (p q : Side) (n : Numbers) → AreHits (all_edges p.triple
     AreHits (all_edges q.triples) (length p.triples) n.x21 → All (IsNamed op p q n) (prescribed op p q n)
 all_named op p q n x12 x21 =
     let Good : Copy → Type 0 = IsNamed op p q n in
-    let I : Included → Type 0 = λ i. Good (copy_of i) in
+    let I : Prescription → Type 0 = λ i. Good (copy_of i) in
     let pv = p_vertices op p n in
     let qv = q_vertices op q n in
     let ph = p_hits op n in
     let qh = q_hits op n in
-    let of_p : ℕ → Included = λ v. record { origin = PVertex v; number = p_number op (get_or n.w03 v (pos 0)); point = get_or (points_of p.corners) v [] } in
-    let of_q : ℕ → Included = λ v. record { origin = QVertex v; number = q_number op (get_or n.w30 v (pos 0)); point = get_or (points_of q.corners) v [] } in
-    let crossing_p : Hit → Included = λ h. record { origin = PEdge h.edge h.face; number = hit_number_of op h.number; point = h.at } in
-    let crossing_q : Hit → Included = λ h. record { origin = QEdge h.edge h.face; number = hit_number_of op h.number; point = h.at } in
+    let of_p : ℕ → Prescription = λ v. record { origin = PVertex v; number = p_number op (get_or n.w03 v (pos 0)); point = get_or (points_of p.corners) v [] } in
+    let of_q : ℕ → Prescription = λ v. record { origin = QVertex v; number = q_number op (get_or n.w30 v (pos 0)); point = get_or (points_of q.corners) v [] } in
+    let crossing_p : Hit → Prescription = λ h. record { origin = PEdge h.edge h.face; number = hit_number_of op h.number; point = h.at } in
+    let crossing_q : Hit → Prescription = λ h. record { origin = QEdge h.edge h.face; number = hit_number_of op h.number; point = h.at } in
     let all_pv : All I pv = All-map I of_p (upto (length p.corners)) (all_upto (λ v. I (of_p v)) (length p.corners) (λ v below. record { lower = tt; signed = refl })) in
     let all_qv : All I qv = All-map I of_q (upto (length q.corners)) (all_upto (λ v. I (of_q v)) (length q.corners) (λ v below. record { lower = tt; signed = refl })) in
     let all_ph : All I ph = All-map I crossing_p n.x12 (λ k d below. record {

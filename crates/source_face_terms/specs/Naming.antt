@@ -15,7 +15,7 @@ NamesLower p q (QVertex v) = Unit {0}
 NamesLower p q (PEdge e face) = e < twin (all_edges p.triples) e
 NamesLower p q (QEdge e face) = e < twin (all_edges q.triples) e
 
--- all copies name edges so, and whether one is included a negative number of times depends only on what it is a copy of
+-- all copies name edges so, and whether one is prescribed a negative number of times depends only on what it is a copy of
 pub record AreNamed (p q : Side) (cs : List Copy) : Type 0 where
   pub lower : All (λ c. NamesLower p q c.origin) cs
   pub sign : Origin → Bool

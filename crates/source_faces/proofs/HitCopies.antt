@@ -9,7 +9,7 @@ use Rattle.mb_base.specs.declared.op.Op.{Op}
 use Rattle.mb_base.specs.declared.results.Hit.{Hit}
 use Rattle.mb_base.specs.declared.results.Origin.{Origin}
 use Rattle.side_terms.specs.Lists.{Copy, no_copy, standing}
-use Rattle.side_terms.specs.Prescribed.{Included, copy_of, hit_number_of, included_hits}
+use Rattle.side_terms.specs.Prescribed.{Prescription, copy_of, hit_number_of, prescribed_hits}
 use Rattle.source_faces.specs.Agreement.{IsHitCopy, StandsAs, list_name}
 use Rattle.source_faces.specs.Stands.{hit_stands}
 use Rattle.source_faces.specs.declared.lists.stands.Stand.{Stand}
@@ -17,8 +17,8 @@ use Rattle.source_faces.proofs.Blocks.{before}
 use Rattle.source_faces.proofs.Listed.{hit_listed, no_hit, of_hit, six_of, times_of}
 use Rattle.source_faces.proofs.Sights.{IsSeen, SaysHow, is_one_of_six, six_say}
 
--- what a hit is included as
-abbrev pub hit_as : Op → (ℕ → ℕ → Origin) → Hit → Included
+-- what a hit is prescribed as
+abbrev pub hit_as : Op → (ℕ → ℕ → Origin) → Hit → Prescription
 hit_as op origin h = record { origin = origin h.edge h.face; number = hit_number_of op h.number; point = h.at }
 
 -- a number that is not 0 is above 0 or below it
@@ -27,7 +27,7 @@ one_sign (pos zero) some = absurd (omega (arith, some))
 one_sign (pos (suc n)) some = le-ltb (suc n) 0 (omega arith) ∙ sym (ap not (lt-ltb 0 (suc n) (omega arith)))
 one_sign (negsuc n) some = refl
 
--- a copy of a hit, by whether that is included a positive number of times
+-- a copy of a hit, by whether that is prescribed a positive number of times
 abbrev pub copy_as : Op → (ℕ → ℕ → Origin) → Hit → Copy
 copy_as op origin h = record { origin = origin h.edge h.face; negative = not (int_lt (pos 0) (hit_number_of op h.number)); point = h.at }
 
@@ -38,7 +38,7 @@ is_copy_as op origin h some =
 
 -- the number of a copy of a hit, where they are numbered from k
 abbrev pub copy_number : Op → (ℕ → ℕ → Origin) → ℕ → List Hit → (j i : ℕ) → ℕ
-copy_number op origin k hs j i = k + (before (included_hits origin (hit_number_of op) hs) j + i)
+copy_number op origin k hs j i = k + (before (prescribed_hits origin (hit_number_of op) hs) j + i)
 
 module _ (op : Op) (P Q : List (ℕ × ℕ)) (faces : ℕ) (cs : List Copy) (es : List (ℕ × ℕ)) (Own Other : ℕ → Type 0) (own other : ℕ)
     (origin : ℕ → ℕ → Origin) (k : ℕ) (hs : List Hit) where

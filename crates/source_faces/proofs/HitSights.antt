@@ -23,7 +23,7 @@ list_is n x l s t a b =
     (if nat_lt l 3 then HalfQ (3 * (x - n) + l) else PairQ (x - n) (l - 3))) a
     ∙ ap (λ u. if s then (if u then HalfP (3 * x + l) else PairP x (l - 3)) else (if u then HalfQ (3 * (x - n) + l) else PairQ (x - n) (l - 3))) b
 
--- the number of a copy that is included a positive number of times, or of one that is not, from that of its origin: along a half-edge
+-- the number of a copy that is prescribed a positive number of times, or of one that is not, from that of its origin: along a half-edge
 half_value : (positive : Bool) (w : ℤ) (u d : ℕ) → w ≡ pos u -ℤ pos d → cond (not positive) (neg_ℤ (neg_ℤ w)) (neg_ℤ w) ≡ between (not positive) u d
 half_value true w u d h = omega (arith, ints, h)
 half_value false w u d h = omega (arith, ints, h)

@@ -7,7 +7,7 @@ use Rattle.chain_terms.specs.Sums.{up_from}
 use Rattle.mb_base.specs.declared.op.Op.{Op}
 use Rattle.mb_base.specs.declared.results.Hit.{Hit}
 use Rattle.mb_base.specs.declared.results.Origin.{Origin}
-use Rattle.side_terms.specs.Prescribed.{hit_number_of, included_hits}
+use Rattle.side_terms.specs.Prescribed.{hit_number_of, prescribed_hits}
 use Rattle.source_faces.specs.Stands.{hit_stands, one_hit_stands, six_stands}
 use Rattle.source_faces.specs.declared.lists.stands.Stand.{Stand}
 use Rattle.source_faces.proofs.Blocks.{before}
@@ -58,7 +58,7 @@ module _ (op : Op) (es : List (ℕ × ℕ)) (own other : ℕ) (origin : ℕ → 
     pub turn : ℕ
     pub within : hit < length hs
     pub inside : turn < times_of op (get_or hs hit no_hit)
-    pub one : Contains (six_of op es own other (get_or hs hit no_hit) (k + (before (included_hits origin (hit_number_of op) hs) hit + turn))) s
+    pub one : Contains (six_of op es own other (get_or hs hit no_hit) (k + (before (prescribed_hits origin (hit_number_of op) hs) hit + turn))) s
 
   pub of_hit : (k : ℕ) (hs : List Hit) (s : Stand) → Contains (hit_stands op es own other k hs) s → IsOfHit k hs s
   of_hit k [] s (i, l, e) = absurd (omega (arith, l))
@@ -79,7 +79,7 @@ module _ (op : Op) (es : List (ℕ × ℕ)) (own other : ℕ) (origin : ℕ → 
             }
         | inr b ↦
             let r = of_hit (k + size) hs s b in
-            let blocks = before (included_hits origin (hit_number_of op) hs) r.hit in
+            let blocks = before (prescribed_hits origin (hit_number_of op) hs) r.hit in
             let more : k + size + (blocks + r.turn) ≡ k + (size + blocks + r.turn) = omega arith in
             record {
               hit = suc r.hit;
@@ -93,7 +93,7 @@ module _ (op : Op) (es : List (ℕ × ℕ)) (own other : ℕ) (origin : ℕ → 
 
   -- and each such record is listed
   pub hit_listed : (k : ℕ) (hs : List Hit) (s : Stand) (j i : ℕ) → j < length hs → i < times_of op (get_or hs j no_hit) →
-      Contains (six_of op es own other (get_or hs j no_hit) (k + (before (included_hits origin (hit_number_of op) hs) j + i))) s →
+      Contains (six_of op es own other (get_or hs j no_hit) (k + (before (prescribed_hits origin (hit_number_of op) hs) j + i))) s →
       Contains (hit_stands op es own other k hs) s
   hit_listed k [] s j i l m c = absurd (omega (arith, l))
   hit_listed k (h ∷ hs) s zero i l m c =
@@ -103,7 +103,7 @@ module _ (op : Op) (es : List (ℕ × ℕ)) (own other : ℕ) (origin : ℕ → 
       (copy_listed (six_of op es own other h) k size i s m (subst (λ v. Contains (six_of op es own other h v) s) here c))
   hit_listed k (h ∷ hs) s (suc j) i l m c =
       let size = times_of op h in
-      let blocks = before (included_hits origin (hit_number_of op) hs) j in
+      let blocks = before (prescribed_hits origin (hit_number_of op) hs) j in
       let more : k + (size + blocks + i) ≡ k + size + (blocks + i) = omega arith in
       Contains-append_right (one_hit_stands op es own other k h) (hit_stands op es own other (k + size) hs) s
       (hit_listed (k + size) hs s j i (omega (arith, l)) m (subst (λ v. Contains (six_of op es own other (get_or hs j no_hit) v) s) more c))

@@ -11,32 +11,32 @@ use Rattle.mb_base.specs.declared.results.Hit.{Hit}
 use Rattle.mb_base.specs.declared.results.Origin.{Origin}
 use Rattle.mb_base.specs.declared.results.Origin.TheVariants.{PEdge, QEdge}
 use Rattle.side_terms.specs.Lists.{Copy, no_copy}
-use Rattle.side_terms.specs.Prescribed.{Included, copies_of, copy_of, hit_count, hit_number_of, included_hits, included_vertices}
+use Rattle.side_terms.specs.Prescribed.{Prescription, copies_of, copy_of, hit_count, hit_number_of, prescribed_hits, prescribed_vertices}
 use Rattle.source_faces.specs.Agreement.{IsHitCopy}
-use Rattle.source_faces.proofs.Blocks.{all_copies, before, copy_in, length-copies_of, lies_in, no_included}
+use Rattle.source_faces.proofs.Blocks.{all_copies, before, copy_in, length-copies_of, lies_in, no_prescription}
 use Rattle.source_faces.proofs.HitCopies.{copy_as, copy_number, hit_as, is_copy_as}
 use Rattle.source_faces.proofs.Listed.{no_hit, times_of}
 use Rattle.source_faces.proofs.Middle.{before_middle, before_right, copy_middle}
 use Rattle.source_faces.proofs.VertexRuns.{length-vertices, vertex_at}
 
 module _ (op : Op) (origin : ℕ → ℕ → Origin) where
-  -- what is included for hits
-  abbrev pub included : List Hit → List Included
-  included hs = included_hits origin (hit_number_of op) hs
+  -- what is prescribed for hits
+  abbrev pub hit_prescriptions : List Hit → List Prescription
+  hit_prescriptions hs = prescribed_hits origin (hit_number_of op) hs
 
-  pub hit_at : (hs : List Hit) (j : ℕ) → j < length hs → get_or (included hs) j no_included ≡ hit_as op origin (get_or hs j no_hit)
-  hit_at hs j l = get_or-map (hit_as op origin) hs j no_hit no_included l
+  pub hit_at : (hs : List Hit) (j : ℕ) → j < length hs → get_or (hit_prescriptions hs) j no_prescription ≡ hit_as op origin (get_or hs j no_hit)
+  hit_at hs j l = get_or-map (hit_as op origin) hs j no_hit no_prescription l
 
-  pub length-hits : (hs : List Hit) → length (included hs) ≡ length hs
+  pub length-hits : (hs : List Hit) → length (hit_prescriptions hs) ≡ length hs
   length-hits hs = length-map hs (hit_as op origin)
 
-  pub length-hit_copies : (hs : List Hit) → length (all_copies (included hs)) ≡ hit_count op hs
+  pub length-hit_copies : (hs : List Hit) → length (all_copies (hit_prescriptions hs)) ≡ hit_count op hs
   length-hit_copies [] = refl
   length-hit_copies (h ∷ hs) =
       let i = hit_as op origin h in
       omega (
         arith,
-        length-append (copies_of i) (all_copies (included hs)),
+        length-append (copies_of i) (all_copies (hit_prescriptions hs)),
         length-copies_of i,
         length-hit_copies hs,
         sum_by-cons (λ g. nat_abs (hit_number_of op g.number)) h hs,
@@ -47,13 +47,13 @@ module _ (op : Op) (origin : ℕ → ℕ → Origin) where
     pub within : v < length cs
     pub copy : get_or cs v no_copy ≡ copy_as op origin h
 
-  -- the copies of hits in the middle of what is included
-  pub has_copy : (xs ys : List Included) (hs : List Hit) (k : ℕ) → length (all_copies xs) ≡ k → (j i : ℕ) → j < length hs →
+  -- the copies of hits in the middle of what is prescribed
+  pub has_copy : (xs ys : List Prescription) (hs : List Hit) (k : ℕ) → length (all_copies xs) ≡ k → (j i : ℕ) → j < length hs →
       i < times_of op (get_or hs j no_hit) →
-      HasCopy (all_copies (xs ++ (included hs ++ ys))) (get_or hs j no_hit) (copy_number op origin k hs j i)
+      HasCopy (all_copies (xs ++ (hit_prescriptions hs ++ ys))) (get_or hs j no_hit) (copy_number op origin k hs j i)
   has_copy xs ys hs k size j i l m =
       let h = get_or hs j no_hit in
-      let ms = included hs in
+      let ms = hit_prescriptions hs in
       let cs = all_copies (xs ++ (ms ++ ys)) in
       let item = hit_at hs j l in
       let number = ap (λ d. nat_abs d.number) item in
@@ -63,17 +63,17 @@ module _ (op : Op) (origin : ℕ → ℕ → Origin) where
       subst (λ b. HasCopy cs h (b + (before ms j + i))) size whole
 
   -- what holds of the origins of hits
-  pub all_hits : (hs : List Hit) (P : Origin → Type 0) → ((e f : ℕ) → P (origin e f)) → All (λ i. P i.origin) (included hs)
+  pub all_hits : (hs : List Hit) (P : Origin → Type 0) → ((e f : ℕ) → P (origin e f)) → All (λ i. P i.origin) (hit_prescriptions hs)
   all_hits hs P holds =
-      All-from_get_or (λ i. P i.origin) (included hs) no_included
+      All-from_get_or (λ i. P i.origin) (hit_prescriptions hs) no_prescription
       (λ j l. let h = get_or hs j no_hit in subst (λ i. P i.origin) (sym (hit_at hs j (omega (arith, l, length-hits hs)))) (holds h.edge h.face))
 
 -- and of vertices
 pub all_vertices : (origin : ℕ → Origin) (number : ℤ → ℤ) (ws : List ℤ) (points : List (List ℤ)) (n : ℕ) (P : Origin → Type 0) →
     ((v : ℕ) → P (origin v)) →
-    All (λ i. P i.origin) (included_vertices origin number ws points n)
+    All (λ i. P i.origin) (prescribed_vertices origin number ws points n)
 all_vertices origin number ws points n P holds =
-    All-from_get_or (λ i. P i.origin) (included_vertices origin number ws points n) no_included
+    All-from_get_or (λ i. P i.origin) (prescribed_vertices origin number ws points n) no_prescription
     (λ v l. subst (λ i. P i.origin)
     (sym (vertex_at origin number ws points n v (omega (arith, l, length-vertices origin number ws points n)))) (holds v))
 
@@ -86,14 +86,14 @@ pub record IsNumbered (op : Op) (origin : ℕ → ℕ → Origin) (k : ℕ) (hs 
   pub at : v ≡ copy_number op origin k hs hit turn
 
 -- copies of vertices, then those of the hits of the first mesh's edges and of the second's
-module _ (op : Op) (vs : List Included) (first second : List Hit) where
-  abbrev hs : List Included
-  hs = included op PEdge first
+module _ (op : Op) (vs : List Prescription) (first second : List Hit) where
+  abbrev hs : List Prescription
+  hs = hit_prescriptions op PEdge first
 
-  abbrev ks : List Included
-  ks = included op QEdge second
+  abbrev ks : List Prescription
+  ks = hit_prescriptions op QEdge second
 
-  abbrev is : List Included
+  abbrev is : List Prescription
   is = vs ++ (hs ++ ks)
 
   abbrev k : ℕ
@@ -103,15 +103,15 @@ module _ (op : Op) (vs : List Included) (first second : List Hit) where
   IsEither v = IsNumbered op PEdge k first v ⊎ IsNumbered op QEdge (k + hit_count op first) second v
 
   -- a copy in a block behind those of vertices
-  behind : (j i v : ℕ) → length vs + j < length is → i < nat_abs (get_or is (length vs + j) no_included).number →
+  behind : (j i v : ℕ) → length vs + j < length is → i < nat_abs (get_or is (length vs + j) no_prescription).number →
       v ≡ before is (length vs + j) + i → IsEither v
   behind j i v below inside at =
-      let there = get_or-append-add vs (hs ++ ks) j no_included in
+      let there = get_or-append-add vs (hs ++ ks) j no_prescription in
       elim (cases_lt j (length hs)) as (λ _. IsEither v) [
         | inl middle ↦
             let within : j < length first = omega (arith, middle, length-hits op PEdge first) in
             let size =
-            ap (λ (c : Included). nat_abs c.number) (there ∙ get_or_append_left hs ks no_included j middle ∙ hit_at op PEdge first j within) in
+            ap (λ (c : Prescription). nat_abs c.number) (there ∙ get_or_append_left hs ks no_prescription j middle ∙ hit_at op PEdge first j within) in
             inl (record {
               hit = j;
               turn = i;
@@ -127,9 +127,9 @@ module _ (op : Op) (vs : List Included) (first second : List Hit) where
             let within : m < length second =
             omega (arith, below, place, length-append vs (hs ++ ks), length-append hs ks, length-hits op QEdge second) in
             let item =
-            there ∙ ap (λ b. get_or (hs ++ ks) b no_included) (sym place) ∙ get_or-append-add hs ks m no_included
+            there ∙ ap (λ b. get_or (hs ++ ks) b no_prescription) (sym place) ∙ get_or-append-add hs ks m no_prescription
             ∙ hit_at op QEdge second m within in
-            let size = ap (λ (c : Included). nat_abs c.number) item in
+            let size = ap (λ (c : Prescription). nat_abs c.number) item in
             inr (record {
               hit = m;
               turn = i;
@@ -144,16 +144,16 @@ module _ (op : Op) (vs : List Included) (first second : List Hit) where
       IsHitCopy (get_or (all_copies is) v no_copy).origin → IsEither v
   numbered none v l hit =
       let r = lies_in is v l in
-      let copy : get_or (all_copies is) v no_copy ≡ copy_of (get_or is r.block no_included) =
+      let copy : get_or (all_copies is) v no_copy ≡ copy_of (get_or is r.block no_prescription) =
       ap (λ w. get_or (all_copies is) w no_copy) r.at ∙ copy_in is r.block r.place r.within r.inside in
-      let item : IsHitCopy (get_or is r.block no_included).origin = subst (λ (c : Copy). IsHitCopy c.origin) copy hit in
+      let item : IsHitCopy (get_or is r.block no_prescription).origin = subst (λ (c : Copy). IsHitCopy c.origin) copy hit in
       elim (cases_lt r.block (length vs)) as (λ _. IsEither v) [
         | inl low ↦
-            absurd (none r.block no_included low
-            (subst (λ (i : Included). IsHitCopy i.origin) (get_or_append_left vs (hs ++ ks) no_included r.block low) item))
+            absurd (none r.block no_prescription low
+            (subst (λ (i : Prescription). IsHitCopy i.origin) (get_or_append_left vs (hs ++ ks) no_prescription r.block low) item))
         | inr past ↦
             let block : r.block ≡ length vs + (r.block - length vs) = omega (arith, past) in
-            let size = ap (λ b. nat_abs (get_or is b no_included).number) block in
+            let size = ap (λ b. nat_abs (get_or is b no_prescription).number) block in
             behind (r.block - length vs) r.place v (omega (arith, r.within, block)) (omega (arith, r.inside, size))
             (omega (arith, r.at, ap (before is) block))
       ]

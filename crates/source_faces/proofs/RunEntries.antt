@@ -14,7 +14,7 @@ use Rattle.source_faces.proofs.Members.{comes_from, in_up_from, map_contains, up
 use Rattle.source_faces.proofs.Rising.{Rises, rises-up_from}
 use Rattle.source_faces.proofs.Told.{entry}
 
--- whether a copy that is included a negative number of times or not is a start
+-- whether a copy that is prescribed a negative number of times or not is a start
 abbrev pub side_of : Bool → Bool → Bool
 side_of at_start negative = cond at_start (not negative) negative
 

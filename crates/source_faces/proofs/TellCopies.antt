@@ -15,7 +15,7 @@ use Rattle.side_terms.specs.Hits.{AreHits}
 use Rattle.side_terms.specs.Sides.{IsSide, Side}
 use Rattle.side_terms.specs.Lists.{Copy, no_copy, standing}
 use Rattle.side_terms.specs.Points.{points_of}
-use Rattle.side_terms.specs.Prescribed.{Included, Numbers, copies_of, hit_count, p_hits, p_kept, p_number}
+use Rattle.side_terms.specs.Prescribed.{Prescription, Numbers, copies_of, hit_count, p_hits, p_kept, p_number}
 use Rattle.side_terms.specs.Prescribed.{p_vertices, prescribed, q_hits, q_kept, q_number, q_vertices}
 use Rattle.retained_verts.proofs.TwoLists.{two_faces}
 use Rattle.source_faces.specs.Agreement.{AreRunsOf, AreStandsOf, HaveLists, IsHitCopy, IsRunOf, StandsAs, list_name}
@@ -67,10 +67,10 @@ module _ (op : Op) (p q : Side) (n : Numbers) (p_known : IsSide p) (q_known : Is
   abbrev k : ℕ
   k = p_kept op n + q_kept op n
 
-  abbrev vertices : List Included
+  abbrev vertices : List Prescription
   vertices = p_vertices op p n ++ q_vertices op q n
 
-  abbrev hits : List Included
+  abbrev hits : List Prescription
   hits = p_hits op n ++ q_hits op n
 
   p_size : length (all_copies (p_vertices op p n)) ≡ p_kept op n

@@ -1,4 +1,4 @@
--- The runs that numbers give are the blocks of what is included so often, and follow one another.
+-- The runs that numbers give are the blocks of what is prescribed so often, and follow one another.
 use Rattle.std.proofs.Common.{◌≡◌, ℕ, zero, suc, ◌+◌, ◌<◌, ◌≤◌, ℤ, pos, List, [], ◌∷◌, map, length, get_or, nat_abs}
 use Rattle.std.proofs.Common.{int_lt, refl, sym, ap, ◌∙◌, arith}
 use Rattle.std.specs.List.{All}
@@ -8,58 +8,58 @@ use Rattle.std.proofs.lemmas.List.Sums.{sum_by-cons}
 use Rattle.chain_terms.specs.Sums.{upto}
 use Rattle.chain_laws.proofs.Places.{get_or-up_from, length-up_from}
 use Rattle.mb_base.specs.declared.results.Origin.{Origin}
-use Rattle.side_terms.specs.Prescribed.{Included, copies_of, included_vertices, vertex_count}
+use Rattle.side_terms.specs.Prescribed.{Prescription, copies_of, prescribed_vertices, vertex_count}
 use Rattle.source_faces.specs.Agreement.{AreInOrder}
 use Rattle.source_faces.specs.ListParts.{no_run}
 use Rattle.source_faces.specs.Runs.{runs_from}
 use Rattle.source_faces.specs.declared.lists.runs.CopyRange.{CopyRange}
-use Rattle.source_faces.proofs.Blocks.{all_copies, before, length-copies_of, no_included}
+use Rattle.source_faces.proofs.Blocks.{all_copies, before, length-copies_of, no_prescription}
 
--- how often each is included
-abbrev pub numbers_of : List Included → List ℤ
+-- how often each is prescribed
+abbrev pub numbers_of : List Prescription → List ℤ
 numbers_of is = map (λ i. i.number) is
 
--- the run of what is included, from number f on
-abbrev pub run_of : ℕ → Included → CopyRange
+-- the run of what is prescribed, from number f on
+abbrev pub run_of : ℕ → Prescription → CopyRange
 run_of f i = record { first = f; count = nat_abs i.number; negative = int_lt i.number (pos 0) }
 
 -- run j begins behind the copies before it
-pub run_at : (is : List Included) (k j : ℕ) → j < length is →
-    get_or (runs_from k (numbers_of is)) j no_run ≡ run_of (k + before is j) (get_or is j no_included)
+pub run_at : (is : List Prescription) (k j : ℕ) → j < length is →
+    get_or (runs_from k (numbers_of is)) j no_run ≡ run_of (k + before is j) (get_or is j no_prescription)
 run_at [] k j l = absurd (omega (arith, l))
 run_at (i ∷ is) k zero l = let here : k ≡ k + 0 = omega arith in ap (λ f. run_of f i) here
 run_at (i ∷ is) k (suc j) l =
-    let n = get_or is j no_included in
+    let n = get_or is j no_prescription in
     let shift : k + nat_abs i.number + before is j ≡ k + (nat_abs i.number + before is j) =
     omega arith in run_at is (k + nat_abs i.number) j (omega (arith, l)) ∙ ap (λ f. run_of f n) shift
 
--- what a vertex is included as
-abbrev pub vertex_as : (ℕ → Origin) → (ℤ → ℤ) → List ℤ → List (List ℤ) → ℕ → Included
+-- what a vertex is prescribed as
+abbrev pub vertex_as : (ℕ → Origin) → (ℤ → ℤ) → List ℤ → List (List ℤ) → ℕ → Prescription
 vertex_as origin number ws points v = record { origin = origin v; number = number (get_or ws v (pos 0)); point = get_or points v [] }
 
 module _ (origin : ℕ → Origin) (number : ℤ → ℤ) (ws : List ℤ) (points : List (List ℤ)) (n : ℕ) where
-  pub length-vertices : length (included_vertices origin number ws points n) ≡ n
+  pub length-vertices : length (prescribed_vertices origin number ws points n) ≡ n
   length-vertices = length-map (upto n) (vertex_as origin number ws points) ∙ length-up_from 0 n
 
   -- vertex v stands at place v
-  pub vertex_at : (v : ℕ) → v < n → get_or (included_vertices origin number ws points n) v no_included ≡ vertex_as origin number ws points v
+  pub vertex_at : (v : ℕ) → v < n → get_or (prescribed_vertices origin number ws points n) v no_prescription ≡ vertex_as origin number ws points v
   vertex_at v l =
       let place : get_or (upto n) v 0 ≡ v = omega (arith, get_or-up_from 0 n v 0 l) in
-      get_or-map (vertex_as origin number ws points) (upto n) v 0 no_included (omega (arith, l, length-up_from 0 n))
+      get_or-map (vertex_as origin number ws points) (upto n) v 0 no_prescription (omega (arith, l, length-up_from 0 n))
       ∙ ap (vertex_as origin number ws points) place
 
-  -- vertices are included by their winding numbers, in order
-  pub vertex_numbers : length ws ≡ n → numbers_of (included_vertices origin number ws points n) ≡ map number ws
+  -- vertices are prescribed by their winding numbers, in order
+  pub vertex_numbers : length ws ≡ n → numbers_of (prescribed_vertices origin number ws points n) ≡ map number ws
   vertex_numbers long =
-      let vs = included_vertices origin number ws points n in
+      let vs = prescribed_vertices origin number ws points n in
       same_lists (numbers_of vs) (map number ws) (omega (arith, length-map vs (λ i. i.number), length-vertices, length-map ws number, long))
       (λ k d l.
       let below : k < n = omega (arith, l, length-map vs (λ i. i.number), length-vertices) in
-      get_or-map (λ i. i.number) vs k no_included d (omega (arith, below, length-vertices)) ∙ ap (λ i. i.number) (vertex_at k below)
+      get_or-map (λ i. i.number) vs k no_prescription d (omega (arith, below, length-vertices)) ∙ ap (λ i. i.number) (vertex_at k below)
       ∙ sym (get_or-map number ws k (pos 0) d (omega (arith, below, long))))
 
 -- copies are as many as the sizes of the numbers
-pub length-all_copies : (is : List Included) (number : ℤ → ℤ) (ws : List ℤ) → numbers_of is ≡ map number ws →
+pub length-all_copies : (is : List Prescription) (number : ℤ → ℤ) (ws : List ℤ) → numbers_of is ≡ map number ws →
     length (all_copies is) ≡ vertex_count number ws
 length-all_copies [] number [] e = refl
 length-all_copies [] number (w ∷ ws) e = absurd (omega (arith, ap length e))

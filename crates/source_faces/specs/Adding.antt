@@ -47,7 +47,7 @@ is_flat side f =
     let n = cross_product (vertex_point side t.0) (vertex_point side t.1) (vertex_point side t.2) in
     int_eq (coordinate_of n 0) (pos 0) && int_eq (coordinate_of n 1) (pos 0) && int_eq (coordinate_of n 2) (pos 0)
 
--- its filling, where its vertices are included one number of times and it stands in no other lists
+-- its filling, where its vertices are prescribed one number of times and it stands in no other lists
 abbrev pub face_copies : Side → List CopyRange → ℕ → Cut
 face_copies side runs f =
     let t = get_or side.triples f (0, 0, 0) in

@@ -12,7 +12,7 @@ pub record LieAtVertices (side : Side) (runs : List CopyRange) (points : List (L
   pub lies : (v i : ℕ) → v < length side.corners → i < (get_or runs v no_run).count →
       get_or points ((get_or runs v no_run).first + i) [] ≡ vertex_point side v
 
--- where a face has no records and its vertices are included one number of times, its filling is copies of it
+-- where a face has no records and its vertices are prescribed one number of times, its filling is copies of it
 abbrev pub PlainFacesAreCopied : Type 0
 PlainFacesAreCopied =
     (side : Side) (runs : List CopyRange) (points : List (List ℤ)) (k : ℕ) → IsSide side → AreRuns side (length points) runs →

@@ -14,7 +14,7 @@ use ring_cutting::Filled;
 use std::alloc::Global;
 use triangulate::fill;
 
-/// Adds the triangles of a face with these records. Where it has none, and its three vertices are included one number of
+/// Adds the triangles of a face with these records. Where it has none, and its three vertices are prescribed one number of
 /// times, they are copies of the face.
 pub fn push_face(
     alloc: Global,

@@ -2,7 +2,7 @@
 
 ghost use Rattle.source_faces.specs.Plain.{PlainFacesAreCopied};
 
-/// Where a face has no records, and its vertices are included one number of times, its filling is copies of it.
+/// Where a face has no records, and its vertices are prescribed one number of times, its filling is copies of it.
 pub fn plain_faces_are_copied()
     ensures { PlainFacesAreCopied }
 {}

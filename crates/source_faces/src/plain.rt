@@ -1,6 +1,6 @@
 // Faces that no edge crosses, and that cross none: their triangles are copies of them.
 //
-// A face whose vertices are included one number of times, and which has no records, takes a short way: its triangles
+// A face whose vertices are prescribed one number of times, and which has no records, takes a short way: its triangles
 // are n copies of it, where n is that number. That this is what loops and filling would give is a law
 // (`plain_faces_are_copied`); nearly all faces of a large mesh are such.
 ghost use Rattle.std.specs.Prelude.{◌≡◌, ◌+◌, ◌<◌, ◌^◌, true, cond, OnOk, length, get_or};
@@ -16,7 +16,7 @@ use lean::Surface;
 use mb_base::{NoMemory, cross};
 use retained_verts::point_of;
 
-/// Whether the three vertices of a triangle are included one number of times.
+/// Whether the three vertices of a triangle are prescribed one number of times.
 pub fn are_equal(runs: &[CopyRange], triple: [u32; 3]) -> bool
     requires { IsBelow (length runs.now) (triple_of triple) }
     ensures { result ≡ are_equal_runs runs.now (triple_of triple) }
@@ -26,7 +26,7 @@ pub fn are_equal(runs: &[CopyRange], triple: [u32; 3]) -> bool
     are_alike(a, b) && are_alike(b, c)
 }
 
-// Whether two vertices are included one number of times.
+// Whether two vertices are prescribed one number of times.
 fn are_alike(one: CopyRange, other: CopyRange) -> bool
     ensures { result ≡ same_run one other }
 {

@@ -23,7 +23,7 @@ mod reading;
 mod welded;
 
 use mb_base::{Limits, Soup, TextFault};
-use reading::Reading;
+use reading::StlReader;
 use std::alloc::Global;
 
 /// The points and triangles of an ASCII STL file: points in grid steps, 10 to the power of `digits` a unit,
@@ -45,5 +45,5 @@ pub fn read_stl(alloc: Global, bytes: &[u8], digits: u8, limits: &Limits) -> Res
     ensures soup { IfOk result (λ soup. stl digits limits.now bytes.now ≡ Ok soup) }
     ensures fault { IfErr result (IsFaultOf (stl digits limits.now bytes.now)) }
 {
-    Reading::of(alloc, bytes, digits, limits)?.into_soup(alloc, bytes)
+    StlReader::of(alloc, bytes, digits, limits)?.into_soup(alloc, bytes)
 }

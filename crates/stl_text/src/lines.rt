@@ -8,11 +8,11 @@ use std::marker::Model;
 
 /// The words of a line from the first to the last.
 #[derive(Drop)]
-pub struct Words<'t> {
+pub struct StlWords<'t> {
     text: &'t [u8],
 }
 
-impl<'t> Model for Words<'t> {
+impl<'t> Model for StlWords<'t> {
     ghost use Rattle.std.specs.Prelude.{ℕ, List};
     ghost use Rattle.text_terms.specs.Lines.{words_of};
 
@@ -21,16 +21,16 @@ impl<'t> Model for Words<'t> {
     ghost view = { λ w. words_of w.text.now };
 }
 
-impl<'t> Words<'t> {
+impl<'t> StlWords<'t> {
     /// The words of this line.
-    pub fn of(line: &'t [u8]) -> Words<'t>
+    pub fn of(line: &'t [u8]) -> StlWords<'t>
         ensures { result ≡ words_of line.now }
     {
-        Words { text: line }
+        StlWords { text: line }
     }
 }
 
-impl<'t> Iterator for Words<'t> {
+impl<'t> Iterator for StlWords<'t> {
     type Item = &'t [u8];
 
     ghost use Rattle.std.specs.Iterator.{YieldsFirstRef, item_count};

@@ -10,7 +10,7 @@ ghost use Rattle.format_terms.specs.Stl.{at_end, end_facet, last_line, nothing_g
 ghost use Rattle.grid_number.specs.TextFaults.{IsFaultOf};
 
 use crate::grammar::{Place, after_turn, after_word};
-use crate::lines::{Words, last_line};
+use crate::lines::{StlWords, last_line};
 use crate::welded::Welded;
 use arrayvec::ArrayVec;
 use grid_number::{Lines, bad, coordinate, without_mark};
@@ -22,7 +22,7 @@ use unused_points::without_unused;
 /// The points and the triangles that the words so far gave, and of the present facet the corners so far and
 /// the numbers of the next.
 #[derive(Drop)]
-pub struct Reading {
+pub struct StlReader {
     points: Welded,
     triples: Vec<[u32; 3]>,
     corners: ArrayVec<u32, 3>,
@@ -30,7 +30,7 @@ pub struct Reading {
     place: Place,
 }
 
-impl Model for Reading {
+impl Model for StlReader {
     ghost use Rattle.std.specs.Prelude.{◌<◌, length};
     ghost use Rattle.std.specs.List.{All};
     ghost use Rattle.mesh_terms.specs.Meshes.{triples_of};
@@ -53,12 +53,12 @@ impl Model for Reading {
         All (λ v. v < length r.points) r.corners.items × All IsOnGrid r.numbers.items × HasCorners (place_of r.place) (length r.corners.items) };
 }
 
-impl Reading {
+impl StlReader {
     // Nothing so far.
-    fn new(alloc: Global) -> Reading
+    fn new(alloc: Global) -> StlReader
         ensures { result ≡ nothing_gathered }
     {
-        Reading {
+        StlReader {
             points: Welded::new(alloc),
             triples: Vec::new(alloc),
             corners: ArrayVec::new(),
@@ -73,14 +73,14 @@ impl Reading {
         bytes: &[u8],
         digits: u8,
         limits: &Limits,
-    ) -> Result<Reading, TextFault>
+    ) -> Result<StlReader, TextFault>
         requires { digits ≤ 6 }
         ensures read { IfOk result (λ r. stl_lines digits limits.now (word_lines (numbered 1 (lines_of (without_mark bytes.now)))) nothing_gathered ≡ Ok r) }
         ensures fault { IfErr result (IsFaultOf (stl_lines digits limits.now (word_lines (numbered 1 (lines_of (without_mark bytes.now)))) nothing_gathered)) }
     {
-        let mut reading = Reading::new(alloc);
+        let mut reading = StlReader::new(alloc);
         for (number, line) in Lines::of(without_mark(bytes)) {
-            reading.read_line(Words::of(line), number, digits, limits)?;
+            reading.read_line(StlWords::of(line), number, digits, limits)?;
         }
         Ok(reading)
     }
@@ -90,7 +90,7 @@ impl Reading {
         ensures soup { IfOk result (λ soup. at_end (last_line bytes.now) self self.place ≡ Ok soup) }
         ensures fault { IfErr result (IsFaultOf (at_end (last_line bytes.now) self self.place)) }
     {
-        let Reading {
+        let StlReader {
             points,
             triples,
             corners: _,
@@ -111,7 +111,7 @@ impl Reading {
     // Reads the words of the line with this number.
     fn read_line(
         &mut self,
-        words: Words<'_>,
+        words: StlWords<'_>,
         line: u64,
         digits: u8,
         limits: &Limits,

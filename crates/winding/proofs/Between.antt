@@ -8,12 +8,12 @@ use Rattle.side_terms.specs.Corners.{AllFine}
 use Rattle.side_terms.specs.Sides.{Side}
 use Rattle.lean.proofs.Apart.{boxes_apart}
 use Rattle.crossings.specs.Apart.{apart_back}
-use Rattle.crossings.specs.Hits.{CrossTest}
+use Rattle.crossings.specs.Hits.{CrossingTest}
 use Rattle.crossings.proofs.Nearby.{Separates}
 use Rattle.winding.specs.Lines.{HasShadowsIn}
 
 -- a segment has no number with a face whose box does not touch its own
-pub crosses_near : (test : CrossTest) → Separates test → (segment : List Corner) → length segment ≡ 2 → AllFine segment →
+pub crosses_near : (test : CrossingTest) → Separates test → (segment : List Corner) → length segment ≡ 2 → AllFine segment →
     HasShadowsIn (box_of segment) (λ face. number_of (test segment face))
 crosses_near test apart segment two fine = record {
   elsewhere = λ face three face_fine far.

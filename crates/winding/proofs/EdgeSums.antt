@@ -20,7 +20,7 @@ use Rattle.mb_base.specs.declared.results.Hit.{Hit}
 use Rattle.side_terms.specs.Conservation.{half_number, hit_number}
 use Rattle.side_terms.specs.Hits.{lower_halves}
 use Rattle.side_terms.specs.Sides.{Side, edge_at, face_at}
-use Rattle.crossings.specs.Hits.{CrossTest, hit_of, hits_along, hits_of}
+use Rattle.crossings.specs.Hits.{CrossingTest, hit_of, hits_along, hits_of}
 use Rattle.winding.specs.Along.{AreCrossed, edge_total, half_total, hits_on}
 
 -- what no member passes keeps none
@@ -207,7 +207,7 @@ pub few_on : (hits : List Hit) (e : ℕ) → length (hits_on hits e) ≤ length 
 few_on hits e = length-filter_le (λ h. h.edge == e) hits
 
 -- all hits of two meshes are few enough to count
-pub few_hits : (test : CrossTest) (edges faces : Side) → length edges.triples ≤ most_triangles → length faces.triples ≤ most_triangles →
+pub few_hits : (test : CrossingTest) (edges faces : Side) → length edges.triples ≤ most_triangles → length faces.triples ≤ most_triangles →
     length (hits_of test edges faces) ≤ 2 ^ 55
 few_hits test edges faces few_edges few_faces =
     let es = all_edges edges.triples in

@@ -19,7 +19,7 @@ use Rattle.mesh_terms.specs.Meshes.{Triple, IsBelow}
 use Rattle.side_terms.specs.Corners.{corner_at, blank_corner}
 use Rattle.side_terms.specs.Sides.{Side, IsSide}
 use Rattle.lean.proofs.Triangles.{start_below}
-use Rattle.crossings.specs.Hits.{CrossTest, hits_of}
+use Rattle.crossings.specs.Hits.{CrossingTest, hits_of}
 use Rattle.side_terms.specs.Conservation.{half_number, EdgeIdentity}
 use Rattle.crossings.proofs.Numbers.{edge_number, Turns, half_number_is}
 use Rattle.crossings.proofs.Rounds.{Lifts}
@@ -31,7 +31,7 @@ finish_below n ts h all below =
     omega (arith, next, start_below n ts (next_half h) all (omega (arith, next_below ts h below, length-all_edges ts)))
 
 -- between any two corners of a side the winding number changes by minus the numbers of the segment with all faces, whether it is an edge or not
-pub crossings_sum : (edges_side faces : Side) (test : CrossTest) (ends : Triple → ℕ → ℤ) (sides : ℕ → ℕ → (ℕ × ℕ) → ℤ) → IsSide faces → Lifts test edges_side faces ends sides →
+pub crossings_sum : (edges_side faces : Side) (test : CrossingTest) (ends : Triple → ℕ → ℤ) (sides : ℕ → ℕ → (ℕ × ℕ) → ℤ) → IsSide faces → Lifts test edges_side faces ends sides →
     ((a b : ℕ) → IsOdd (λ c d. sides a b (c, d))) → (a b : ℕ) →
     (neg_ℤ (total (λ t. ends t b) faces.triples) -ℤ neg_ℤ (total (λ t. ends t a) faces.triples)) ≡ neg_ℤ (total (λ t. edge_number test edges_side faces t a b) faces.triples)
 crossings_sum edges_side faces test ends sides known lifts odd a b =
@@ -40,7 +40,7 @@ crossings_sum edges_side faces test ends sides known lifts odd a b =
     ∙ ap neg_ℤ (total-same (crossing (λ v t. ends t v) (λ a b c d. sides a b (c, d)) a b) (λ t. edge_number test edges_side faces t a b) (λ t. sym (lifts t a b)) gs)
 
 -- along each half-edge, on the numbers that hits give
-pub edges_conserve : (edges_side faces : Side) (test : CrossTest) (ends : Triple → ℕ → ℤ) (sides : ℕ → ℕ → (ℕ × ℕ) → ℤ) (hits : List Hit) (w : ℕ → ℤ) →
+pub edges_conserve : (edges_side faces : Side) (test : CrossingTest) (ends : Triple → ℕ → ℤ) (sides : ℕ → ℕ → (ℕ × ℕ) → ℤ) (hits : List Hit) (w : ℕ → ℤ) →
     IsSide edges_side → IsSide faces →
     Turns test edges_side faces → Lifts test edges_side faces ends sides → ((a b : ℕ) → IsOdd (λ c d. sides a b (c, d))) → hits ≡ hits_of test edges_side faces →
     ((v : ℕ) → v < length edges_side.corners → w v ≡ neg_ℤ (total (λ t. ends t v) faces.triples)) →

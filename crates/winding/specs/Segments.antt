@@ -5,15 +5,15 @@ use Rattle.mb_base.specs.declared.point.Corner.{Corner}
 use Rattle.edge_face.specs.Crossings.{number_of}
 use Rattle.side_terms.specs.Corners.{IsFineCorner}
 use Rattle.side_terms.specs.Sides.{Side, face_of}
-use Rattle.crossings.specs.Hits.{CrossTest}
+use Rattle.crossings.specs.Hits.{CrossingTest}
 use Rattle.winding.specs.declared.jump.Known.{Known}
 
 -- the sum of the numbers of a segment with all faces of a side
-abbrev pub segment_total : CrossTest → List Corner → Side → ℤ
+abbrev pub segment_total : CrossingTest → List Corner → Side → ℤ
 segment_total test segment faces = total (λ t. number_of (test segment (face_of faces.corners t))) faces.triples
 
 -- that of the segment from one corner to another
-abbrev pub crossings_to : CrossTest → Side → Corner → Corner → ℤ
+abbrev pub crossings_to : CrossingTest → Side → Corner → Corner → ℤ
 crossings_to test faces a b = segment_total test (a ∷ b ∷ []) faces
 
 -- from any corner to any other the winding number changes by minus the numbers of the segment between them

@@ -25,8 +25,8 @@ pub fn windings<K: Kernels, L: Ledger>(
     kernels: &K,
     steps: &mut Steps<L>,
 ) -> Result<Windings, NoMemory>
-    requires x12 { hits.now.x12.items ≡ hits_of (⟦<K as Crosses<2, 3>>⟧.cross_of kernels.now) p.now q.now }
-    requires x21 { hits.now.x21.items ≡ hits_of (λ edge face. ⟦<K as Crosses<3, 2>>⟧.cross_of kernels.now face edge) q.now p.now }
+    requires x12 { hits.now.x12.items ≡ hits_of (⟦<K as Crosses<2, 3>>⟧.crossing_of kernels.now) p.now q.now }
+    requires x21 { hits.now.x21.items ≡ hits_of (λ edge face. ⟦<K as Crosses<3, 2>>⟧.crossing_of kernels.now face edge) q.now p.now }
     ensures w03 { IfOk result (λ w. w.w03.items ≡ map (λ c. winding (⟦<K as Meets<1, 3>>⟧.meet_of kernels.now) c q.now) p.now.corners) }
     ensures w30 { IfOk result (λ w. w.w30.items ≡ map (λ c. winding_back (⟦<K as Meets<3, 1>>⟧.meet_of kernels.now) p.now c) q.now.corners) }
 

@@ -18,7 +18,7 @@ pub fn crossings_between<C: EdgeFace>(segment: &[Corner; 2], faces: &Side, pairs
 {
     let mut sum: i64 = 0;
     for face in faces.tree().touching(box_of(segment)) {
-        sum += number_of(pairs.cross(segment, &faces.face(face)));
+        sum += number_of(pairs.crossing(segment, &faces.face(face)));
     }
     sum
 }

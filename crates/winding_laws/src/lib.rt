@@ -58,8 +58,8 @@ pub fn exact_windings<R: Rounding, L: Ledger>(
     kernels: &Exact<R>,
     steps: &mut Steps<L>,
 ) -> Result<Windings, NoMemory>
-    requires x12 { hits.now.x12.items ≡ hits_of (⟦<Exact<R> as Crosses<2, 3>>⟧.cross_of kernels.now) p.now q.now }
-    requires x21 { hits.now.x21.items ≡ hits_of (λ edge face. ⟦<Exact<R> as Crosses<3, 2>>⟧.cross_of kernels.now face edge) q.now p.now }
+    requires x12 { hits.now.x12.items ≡ hits_of (⟦<Exact<R> as Crosses<2, 3>>⟧.crossing_of kernels.now) p.now q.now }
+    requires x21 { hits.now.x21.items ≡ hits_of (λ edge face. ⟦<Exact<R> as Crosses<3, 2>>⟧.crossing_of kernels.now face edge) q.now p.now }
     ensures w03 { IfOk result (λ w. AreSolid p.now q.now w.w03.items) }
     ensures w30 { IfOk result (λ w. AreSolid q.now p.now w.w30.items) }
     ensures cost { steps.new ≤ steps.old + components_of p.now + components_of q.now }

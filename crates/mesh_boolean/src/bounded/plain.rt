@@ -9,7 +9,7 @@ ghost use Rattle.source_faces.specs.Adding.{are_equal_runs, copy_triple, face_co
 use lean::Surface;
 use source_faces::{CopyRange, are_equal, copy_triple};
 
-/// Whether the vertices of a face are included one number of times, and triangles are just its copies, in their order.
+/// Whether the vertices of a face are prescribed one number of times, and triangles are just its copies, in their order.
 pub fn are_copies(side: &Surface, runs: &[CopyRange], face: u32, part: &[[u32; 3]]) -> bool
     requires face { face < length side.now.triples }
     requires runs { AreRuns side.now most_points runs.now }

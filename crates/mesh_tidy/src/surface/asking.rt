@@ -3,13 +3,13 @@ ghost use Rattle.std.specs.Prelude.{◌≡◌, ◌==◌, ◌*◌, ◌<◌, ℕ, 
 ghost use Rattle.std.specs.List.{All};
 ghost use Rattle.chain_terms.specs.Chains.{all_edges, dir};
 ghost use Rattle.mesh_tidy.specs.Neighbours.{AreNeighboursMarked, MeetOnly, are_single, ends_at, meets_another};
-ghost use Rattle.mesh_tidy.specs.Surface.{Has, left_of, number_of};
+ghost use Rattle.mesh_tidy.specs.TidySurface.{Has, left_of, number_of};
 ghost use Rattle.tidy_terms.specs.Collapsible.{is_collapsible};
 
-use crate::surface::Surface;
+use crate::surface::TidySurface;
 use mb_base::Point;
 
-impl Surface {
+impl TidySurface {
     /// Whether the half-edge can be collapsed. `met` has a mark for each vertex, none of them set, before and after.
     pub fn can_collapse(&self, points: &[Point], half: u32, met: &mut [bool]) -> bool
         requires points { length points.now ≡ self.now.vertices }

@@ -5,15 +5,15 @@ ghost use Rattle.mesh_terms.specs.Halves.{next_half, prev_half};
 ghost use Rattle.mesh_terms.specs.Limits.{most_triangles};
 ghost use Rattle.mesh_terms.specs.Meshes.{triples_of};
 ghost use Rattle.mesh_tidy.specs.Pairs.{paired};
-ghost use Rattle.mesh_tidy.specs.Surface.{Has, HasCollapsed, IsRenamed, left_of, number_of};
+ghost use Rattle.mesh_tidy.specs.TidySurface.{Has, HasCollapsed, IsRenamed, left_of, number_of};
 ghost use Rattle.tidy_laws.specs.Conditions.{CanCollapse};
 
-use crate::surface::Surface;
+use crate::surface::TidySurface;
 use halfedge::halves::{next, previous, start};
 use mb_base::NoMemory;
 use std::alloc::Global;
 
-impl Surface {
+impl TidySurface {
     /// Collapses the half-edge: its triangle and that of its twin go, and its start is put for its end. The half-edges that
     /// were the twins of the other four of the two triangles become twins of each other. After want of memory nothing is
     /// changed.

@@ -1,10 +1,10 @@
 // What a surface keeps.
 ghost use Rattle.std.specs.Prelude.{◌≡◌};
-ghost use Rattle.mesh_tidy.specs.Surface.{IsSurface};
+ghost use Rattle.mesh_tidy.specs.TidySurface.{IsSurface};
 
-use crate::surface::Surface;
+use crate::surface::TidySurface;
 
-impl Surface {
+impl TidySurface {
     /// How many vertices there are, those counted that no triangle has any more.
     pub fn vertices(&self) -> usize
         ensures value { result ≡ self.now.vertices }

@@ -7,7 +7,7 @@ use crate::lists::stands::Stand;
 use mb_base::{Entry, NoMemory};
 
 /// Adds the copies of the vertex at which a half-edge starts, or of the one at which it ends: at the start they are starts
-/// where the vertex is included a positive number of times, at the end where it is a negative number.
+/// where the vertex is prescribed a positive number of times, at the end where it is a negative number.
 pub fn push_run(entries: &mut Vec<Entry>, run: CopyRange, at_start: bool) -> Result<(), NoMemory>
     requires fits { run.first + run.count < 2 ^ 32 }
     ensures { OnOk result (entries.new.items ≡ entries.old.items ++ run_entries run at_start) }

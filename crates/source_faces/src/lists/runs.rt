@@ -9,7 +9,7 @@ use mb_base::{NoMemory, Op};
 use retained_verts::Operand;
 use std::alloc::Global;
 
-/// The copies of a vertex: the number of the first, how many there are, and whether the vertex is included a negative number
+/// The copies of a vertex: the number of the first, how many there are, and whether the vertex is prescribed a negative number
 /// of times.
 #[derive(Clone, Copy, Debug, PartialEq, Eq, Drop)]
 pub struct CopyRange {

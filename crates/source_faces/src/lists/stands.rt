@@ -53,7 +53,7 @@ struct Bases {
     faces: u32,
 }
 
-// An edge with a face that it crosses: its half-edges, the face, and whether it is included a positive number of times.
+// An edge with a face that it crosses: its half-edges, the face, and whether it is prescribed a positive number of times.
 #[derive(Clone, Copy, Drop)]
 struct Crossing {
     lower: u32,
@@ -149,7 +149,7 @@ fn push_copies(
 }
 
 // The six lists in which a copy stands: those of its two half-edges, and those of its two faces with the face that is
-// crossed, seen from either. Along the lower half-edge it is an end where it is included a positive number of times, and
+// crossed, seen from either. Along the lower half-edge it is an end where it is prescribed a positive number of times, and
 // a start of the pair seen from that one's face; each of the others turns this.
 fn six_stands(bases: Bases, crossing: Crossing, copy: u32) -> [Stand; 6]
     requires few { AreFewFaces bases.edges bases.faces }

@@ -14,8 +14,8 @@ abbrev tests : (g : Over) → g.row.K.Denot → Tests
 tests g k = record {
   vertex_face = g.K.Meets-5.meet_of k;
   face_vertex = g.K.Meets-6.meet_of k;
-  edge_face = g.K.Crosses-1.cross_of k;
-  face_edge = g.K.Crosses-2.cross_of k;
+  edge_face = g.K.Crosses-1.crossing_of k;
+  face_edge = g.K.Crosses-2.crossing_of k;
 }
 
 pub agrees_with_sides-requires-clause-known : goal.agrees_with_sides-requires-clause-known

@@ -5,7 +5,7 @@ use Rattle.chain_terms.specs.Ranks.{start, finish, twin}
 use Rattle.mesh_check.specs.Opposites.{third_vertex}
 use Rattle.mesh_terms.specs.Halves.{next_half, prev_half}
 use Rattle.mesh_tidy.specs.Doubts.{AreHalves, HasLesser, lies_at_one}
-use Rattle.mesh_tidy.specs.Surface.{Surface, Has, IsTwin, left_of, number_of}
+use Rattle.mesh_tidy.specs.TidySurface.{TidySurface, Has, IsTwin, left_of, number_of}
 use Rattle.mesh_tidy.proofs.After.{AskedAgain, after_doubted}
 use Rattle.mesh_tidy.proofs.Again.{IsLeftAs, after_third, before_third, can_at, still_lesser, to_other, to_third}
 use Rattle.mesh_tidy.proofs.Left.{next_marked, prev_marked}

@@ -6,7 +6,7 @@ use Rattle.std.proofs.lemmas.List.{length-replicate, with_items_is}
 use Rattle.std.proofs.lemmas.List.Elements.{All-head, All-replicate, All-tail}
 use Rattle.tidy_terms.specs.Collapsible.{is_collapsible}
 use Rattle.mesh_tidy.specs.Doubts.{AreDoubted, AreHalves}
-use Rattle.mesh_tidy.specs.Surface.{Surface, Has, HasCollapsed, IsSurface, left_of, number_of}
+use Rattle.mesh_tidy.specs.TidySurface.{TidySurface, Has, HasCollapsed, IsSurface, left_of, number_of}
 use Rattle.mesh_tidy.proofs.Done.{HasCome, come_all, come_more, come_none, none_there, picked_most, two_fewer}
 use Rattle.mesh_tidy.proofs.DoubtSet.{least_first}
 use Rattle.mesh_tidy.proofs.Queue.{least_is, others_doubted, surface_good}
@@ -55,12 +55,12 @@ loop-half-preserved c =
     let same = stays.0 in
     let met = stays.1 in
     record {
-      vertices = ap (λ (v : Surface). v.vertices) same ∙ inv.vertices;
-      count = ap (λ (v : Surface). length v.triples) same ∙ inv.count;
+      vertices = ap (λ (v : TidySurface). v.vertices) same ∙ inv.vertices;
+      count = ap (λ (v : TidySurface). length v.triples) same ∙ inv.count;
       surface = subst IsSurface (sym same) inv.surface;
       doubts = subst (λ v. AreDoubted points v rest) (sym same) (others_doubted points c.requires.each s inv.surface.marks good half rest doubted stays.2);
-      halves = subst (λ (v : Surface). AreHalves v.triples rest) (sym same) (All-tail (λ h. h < 3 * length s.triples) half rest halves);
-      marks = ap length met ∙ inv.marks ∙ sym (ap (λ (v : Surface). v.vertices) same);
+      halves = subst (λ (v : TidySurface). AreHalves v.triples rest) (sym same) (All-tail (λ h. h < 3 * length s.triples) half rest halves);
+      marks = ap length met ∙ inv.marks ∙ sym (ap (λ (v : TidySurface). v.vertices) same);
       unmarked = subst (All (λ mark. mark ≡ false)) (sym met) inv.unmarked;
       come = subst (λ v. HasCome points c.args.surface v c.loop-half.collapsed) (sym same) inv.come;
       few = ap (λ v. 2 * c.loop-half.collapsed + length (left_of v)) same ∙ inv.few;
@@ -69,7 +69,7 @@ loop-half-preserved c =
 pub loop-half-smaller : goal.loop-half-smaller
 loop-half-smaller c =
     let s = c.loop-half.surface in
-    let Less : Surface → Type 0 = λ v. 2 * length (left_of v) + length c.pop_first.new.self.keys < 2 * length (left_of s) + length c.loop-half.doubts.keys in
+    let Less : TidySurface → Type 0 = λ v. 2 * length (left_of v) + length c.pop_first.new.self.keys < 2 * length (left_of s) + length c.loop-half.doubts.keys in
     let less : Less s = omega (arith, ap length c.in-Some.ensures.removal) in
     elim c.else-has.branch as (λ _. Less c.else-has.surface) [
       | else-has-via-then-has+else-is_collapsible w ↦ subst Less (sym (w.surface-is ∙ w.is_collapsible.ensures.surface)) less
@@ -98,7 +98,7 @@ pub is_collapsible-requires-clause-unmarked : goal.is_collapsible-requires-claus
 is_collapsible-requires-clause-unmarked c = subst (All (λ mark. mark ≡ false)) (sym c.deref_mut.ensures.value) c.loop-half.invariant.unmarked
 
 pub collapse-requires-clause-points : goal.collapse-requires-clause-points
-collapse-requires-clause-points c = c.requires.points ∙ sym c.loop-half.invariant.vertices ∙ sym (ap (λ (v : Surface). v.vertices) c.is_collapsible.ensures.surface)
+collapse-requires-clause-points c = c.requires.points ∙ sym c.loop-half.invariant.vertices ∙ sym (ap (λ (v : TidySurface). v.vertices) c.is_collapsible.ensures.surface)
 
 pub collapse-requires-clause-each : goal.collapse-requires-clause-each
 collapse-requires-clause-each c = c.requires.each
@@ -126,7 +126,7 @@ collapse-requires-clause-halves c =
     let s = c.loop-half.surface in
     let rest = c.pop_first.new.self.keys in
     let halves : AreHalves s.triples (c.in-Some.half ∷ rest) = subst (AreHalves s.triples) c.in-Some.ensures.removal c.loop-half.invariant.halves in
-    subst (λ (v : Surface). AreHalves v.triples rest) (sym c.is_collapsible.ensures.surface) (All-tail (λ h. h < 3 * length s.triples) c.in-Some.half rest halves)
+    subst (λ (v : TidySurface). AreHalves v.triples rest) (sym c.is_collapsible.ensures.surface) (All-tail (λ h. h < 3 * length s.triples) c.in-Some.half rest halves)
 
 pub collapse-requires-clause-surface : goal.collapse-requires-clause-surface
 collapse-requires-clause-surface c = subst IsSurface (sym c.is_collapsible.ensures.surface) c.loop-half.invariant.surface

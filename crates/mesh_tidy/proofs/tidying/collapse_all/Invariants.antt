@@ -1,7 +1,7 @@
 use Rattle.std.proofs.Common.{◌≡◌, ◌+◌, ◌*◌, false, length}
 use Rattle.std.specs.List.{All}
 use Rattle.mesh_tidy.specs.Doubts.{AreDoubted, AreHalves}
-use Rattle.mesh_tidy.specs.Surface.{IsSurface, left_of}
+use Rattle.mesh_tidy.specs.TidySurface.{IsSurface, left_of}
 use Rattle.mesh_tidy.proofs.Done.{HasCome}
 use Rattle.mesh_tidy.proofs.tidying.collapse_all.Given as goal
 

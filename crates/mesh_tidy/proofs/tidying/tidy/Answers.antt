@@ -6,7 +6,7 @@ use Rattle.mesh_terms.specs.Meshes.{IsAccepted, Mesh}
 use Rattle.tidy_terms.specs.Tidy.{Tidied, tidied, tidy_mesh}
 use Rattle.tidy_laws.specs.Laws.{IsTidyMesh}
 use Rattle.mesh_tidy.specs.Doubts.{AreDoubted, AreHalves, HasLesserAtOne}
-use Rattle.mesh_tidy.specs.Surface.{Surface, HasTidied, IsSurface, labels_of, left_of}
+use Rattle.mesh_tidy.specs.TidySurface.{TidySurface, HasTidied, IsSurface, labels_of, left_of}
 use Rattle.mesh_tidy.proofs.Done.{none_there}
 use Rattle.mesh_tidy.proofs.Doubted.{first_doubted}
 use Rattle.mesh_tidy.proofs.Finished.{made_count, made_mesh, nothing_done, same_mesh, sound_left, tidy_law}
@@ -72,7 +72,7 @@ pub collapse_all-requires-clause-halves : goal.collapse_all-requires-clause-halv
 collapse_all-requires-clause-halves c = subst (λ ts. AreHalves ts c.in_ok-doubts.doubts.keys) (sym c.in_ok-surface.ensures.triples) c.in_ok-doubts.ensures.halves
 
 -- each triangle of the surface has its label
-labels_before : (m : Mesh) (s : Surface) → IsSurface s → s.triples ≡ m.triples → AreLabels (length m.triples) m.labels → All (λ mark. mark ≡ true) s.left →
+labels_before : (m : Mesh) (s : TidySurface) → IsSurface s → s.triples ≡ m.triples → AreLabels (length m.triples) m.labels → All (λ mark. mark ≡ true) s.left →
     labels_of s m.labels ≡ m.labels
 labels_before m s surface same labels all = picked_true s.left m.labels (omega (arith, surface.marks, ap length same, labels.one_each)) all
 

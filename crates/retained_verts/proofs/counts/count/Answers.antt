@@ -5,11 +5,12 @@ use Rattle.retained_verts.specs.Handed.{numbers}
 use Rattle.retained_verts.proofs.Bounds.{few_between}
 use Rattle.retained_verts.proofs.counts.count.Goals as goal
 
-pub kept-p_kept-requires-clause-few : goal.kept-p_kept-requires-clause-few
-kept-p_kept-requires-clause-few c = omega (arith, c.deref.ensures.len, ap length c.deref.ensures.value, c.requires.fit.w03, c.triples-p_triples.ensures.side.accepted.mesh.few_points)
+pub vertex_count-p_kept-requires-clause-few : goal.vertex_count-p_kept-requires-clause-few
+vertex_count-p_kept-requires-clause-few c =
+    omega (arith, c.deref.ensures.len, ap length c.deref.ensures.value, c.requires.fit.w03, c.triples-p_triples.ensures.side.accepted.mesh.few_points)
 
-pub kept-q_kept-requires-clause-few : goal.kept-q_kept-requires-clause-few
-kept-q_kept-requires-clause-few c = omega (arith, ap length c.deref-2.ensures.value, c.requires.fit.w30, c.triples-q_triples.ensures.side.accepted.mesh.few_points)
+pub vertex_count-q_kept-requires-clause-few : goal.vertex_count-q_kept-requires-clause-few
+vertex_count-q_kept-requires-clause-few c = omega (arith, ap length c.deref-2.ensures.value, c.requires.fit.w30, c.triples-q_triples.ensures.side.accepted.mesh.few_points)
 
 pub hit_count-requires-clause-few : goal.hit_count-requires-clause-few
 hit_count-requires-clause-few c =

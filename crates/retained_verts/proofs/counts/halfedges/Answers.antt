@@ -14,16 +14,16 @@ loop-a-init c = record {
   small = omega arith;
 }
 
-pub kept_at-requires-clause-below : goal.kept_at-requires-clause-below
-kept_at-requires-clause-below c =
+pub count_at-requires-clause-below : goal.count_at-requires-clause-below
+count_at-requires-clause-below c =
     (triple_at (IsBelow (length c.args.windings.now)) (triples_of c.args.triples.now) c.args.triples.now c.loop-a.a-index refl c.requires.below c.loop-a-test.true).a
 
-pub kept_at-requires-in-loop-a-clause-below : goal.kept_at-requires-in-loop-a-clause-below
-kept_at-requires-in-loop-a-clause-below c =
+pub count_at-requires-in-loop-a-clause-below : goal.count_at-requires-in-loop-a-clause-below
+count_at-requires-in-loop-a-clause-below c =
     (triple_at (IsBelow (length c.args.windings.now)) (triples_of c.args.triples.now) c.args.triples.now c.loop-a.a-index refl c.requires.below c.loop-a-test.true).b
 
-pub kept_at-requires-in-loop-a-2-clause-below : goal.kept_at-requires-in-loop-a-2-clause-below
-kept_at-requires-in-loop-a-2-clause-below c =
+pub count_at-requires-in-loop-a-2-clause-below : goal.count_at-requires-in-loop-a-2-clause-below
+count_at-requires-in-loop-a-2-clause-below c =
     (triple_at (IsBelow (length c.args.windings.now)) (triples_of c.args.triples.now) c.args.triples.now c.loop-a.a-index refl c.requires.below c.loop-a-test.true).c
 
 pub loop-a-preserved : goal.loop-a-preserved
@@ -38,8 +38,8 @@ loop-a-preserved c =
     let more = corners_more s (length ws) (triples_of (take i xs)) t three below in
     let taken = ap (vertex_halfedges (vertex_number c.args.op c.args.operand) ws) (triples_more xs i c.loop-a-test.true) in
     record {
-      value = omega (arith, c.loop-a.invariant.value, c.kept_at.ensures.value, c.kept_at-in-loop-a.ensures.value, c.kept_at-in-loop-a-2.ensures.value, more, taken);
-      small = omega (arith, c.loop-a.invariant.small, c.kept_at.ensures.small, c.kept_at-in-loop-a.ensures.small, c.kept_at-in-loop-a-2.ensures.small);
+      value = omega (arith, c.loop-a.invariant.value, c.count_at.ensures.value, c.count_at-in-loop-a.ensures.value, c.count_at-in-loop-a-2.ensures.value, more, taken);
+      small = omega (arith, c.loop-a.invariant.small, c.count_at.ensures.small, c.count_at-in-loop-a.ensures.small, c.count_at-in-loop-a-2.ensures.small);
     }
 
 pub returns-clause-value : goal.returns-clause-value

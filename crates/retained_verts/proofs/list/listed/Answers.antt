@@ -7,7 +7,7 @@ use Rattle.mb_base.specs.declared.results.Origin.TheVariants.{PEdge, PVertex, QE
 use Rattle.side_terms.specs.Sides.{Side}
 use Rattle.side_terms.specs.Lists.{Copy}
 use Rattle.side_terms.specs.Points.{points_of}
-use Rattle.side_terms.specs.Prescribed.{Included, Numbers, copies_of, hit_number_of, included_hits, included_vertices, p_hits, p_number, p_vertices, prescribed, q_hits, q_number, q_vertices}
+use Rattle.side_terms.specs.Prescribed.{Prescription, Numbers, copies_of, hit_number_of, prescribed_hits, prescribed_vertices, p_hits, p_number, p_vertices, prescribed, q_hits, q_number, q_vertices}
 use Rattle.retained_verts.specs.Handed.{numbers}
 use Rattle.retained_verts.proofs.Growth.{in_order}
 use Rattle.retained_verts.proofs.list.listed.Goals as goal
@@ -24,17 +24,17 @@ record AreRead (p q : Side) (n : Numbers) (pw qw : List ℤ) (pc qc : List Corne
 -- a field of all copies, from what the four steps added
 all_added : {A : Type 0} (field : Copy → A) (op : Op) (p q : Side) (n : Numbers) (pw qw : List ℤ) (pc qc : List Corner) (ph qh : List Hit) →
     AreRead p q n pw qw pc qc ph qh → (a b c d e : List A) → a ≡ [] →
-    b ≡ a ++ map field (flat_map copies_of (included_vertices PVertex (p_number op) pw (points_of pc) (length pc))) →
-    c ≡ b ++ map field (flat_map copies_of (included_vertices QVertex (q_number op) qw (points_of qc) (length qc))) →
-    d ≡ c ++ map field (flat_map copies_of (included_hits PEdge (hit_number_of op) ph)) →
-    e ≡ d ++ map field (flat_map copies_of (included_hits QEdge (hit_number_of op) qh)) → e ≡ map field (prescribed op p q n)
+    b ≡ a ++ map field (flat_map copies_of (prescribed_vertices PVertex (p_number op) pw (points_of pc) (length pc))) →
+    c ≡ b ++ map field (flat_map copies_of (prescribed_vertices QVertex (q_number op) qw (points_of qc) (length qc))) →
+    d ≡ c ++ map field (flat_map copies_of (prescribed_hits PEdge (hit_number_of op) ph)) →
+    e ≡ d ++ map field (flat_map copies_of (prescribed_hits QEdge (hit_number_of op) qh)) → e ≡ map field (prescribed op p q n)
 all_added field op p q n pw qw pc qc ph qh read a b c d e none first second third fourth =
-    let at_p : List ℤ → List Corner → List Included = λ ws cs. included_vertices PVertex (p_number op) ws (points_of cs) (length cs) in
-    let at_q : List ℤ → List Corner → List Included = λ ws cs. included_vertices QVertex (q_number op) ws (points_of cs) (length cs) in
+    let at_p : List ℤ → List Corner → List Prescription = λ ws cs. prescribed_vertices PVertex (p_number op) ws (points_of cs) (length cs) in
+    let at_q : List ℤ → List Corner → List Prescription = λ ws cs. prescribed_vertices QVertex (q_number op) ws (points_of cs) (length cs) in
     let one : at_p pw pc ≡ p_vertices op p n = ap (λ ws. at_p ws pc) read.w03 ∙ ap (at_p n.w03) read.p_corners in
     let two : at_q qw qc ≡ q_vertices op q n = ap (λ ws. at_q ws qc) read.w30 ∙ ap (at_q n.w30) read.q_corners in
-    let three : included_hits PEdge (hit_number_of op) ph ≡ p_hits op n = ap (included_hits PEdge (hit_number_of op)) read.x12 in
-    let four : included_hits QEdge (hit_number_of op) qh ≡ q_hits op n = ap (included_hits QEdge (hit_number_of op)) read.x21 in
+    let three : prescribed_hits PEdge (hit_number_of op) ph ≡ p_hits op n = ap (prescribed_hits PEdge (hit_number_of op)) read.x12 in
+    let four : prescribed_hits QEdge (hit_number_of op) qh ≡ q_hits op n = ap (prescribed_hits QEdge (hit_number_of op)) read.x21 in
     in_order field (p_vertices op p n) (q_vertices op q n) (p_hits op n) (q_hits op n) a b c d e none
     (first ∙ ap (λ is. a ++ map field (flat_map copies_of is)) one)
     (second ∙ ap (λ is. b ++ map field (flat_map copies_of is)) two)

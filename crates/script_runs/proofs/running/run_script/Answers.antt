@@ -28,7 +28,7 @@ returns-in_err-bytes-clause-meets g c =
     let limits = c.args.settings.now.limits.now in
     let name = c.args.name.now in
     let before = on_shelf g.S.Shelf c.args.shelf.now in
-    let mid = on_shelf g.S.Shelf c.ask_bytes.new.shelf in
+    let mid = on_shelf g.S.Shelf c.read_named_file.new.shelf in
     let out = on_output g.O.Sink c.args.out.now in
     rw (e.1, e.2) (script_unread meanings k limits name before mid out _ c.in_err-bytes.ensures.meets)
 
@@ -38,10 +38,10 @@ returns-in-Err-clause-meets g c =
     let limits = c.args.settings.now.limits.now in
     let name = c.args.name.now in
     let before = on_shelf g.S.Shelf c.args.shelf.now in
-    let mid = on_shelf g.S.Shelf c.ask_bytes.new.shelf in
+    let mid = on_shelf g.S.Shelf c.read_named_file.new.shelf in
     let out = on_output g.O.Sink c.args.out.now in
     let bytes = c.in_ok-bytes.field-0.items in
-    let now = seen_of g.S.Shelf g.O.Sink c.ask_bytes.new.shelf c.args.out.now in
+    let now = seen_of g.S.Shelf g.O.Sink c.read_named_file.new.shelf c.args.out.now in
     let fault = subst (λ (b : Bytes). IsFaultOf (script k b) c.in-Err.fault) c.deref.ensures.value c.in-Err.ensures.fault in
     rw c.halt_of.ensures.why
     (script_read meanings k limits name bytes before mid out now _ c.in_ok-bytes.ensures.meets
@@ -50,7 +50,7 @@ returns-in-Err-clause-meets g c =
 pub loop-line-init : goal.loop-line-init
 loop-line-init g c =
     none_done meanings c.args.settings.now.digits c.args.settings.now.limits.now c.args.name.now (map line_of c.lines-line-items.result.now) (state_in Grid c.none-names.result)
-    (seen_of g.S.Shelf g.O.Sink c.ask_bytes.new.shelf c.args.out.now) c.args.sums.now (subst (AreSound []) (sym c.lines-line-items.ensures.lines) c.lines-line-items.ensures.sound)
+    (seen_of g.S.Shelf g.O.Sink c.read_named_file.new.shelf c.args.out.now) c.args.sums.now (subst (AreSound []) (sym c.lines-line-items.ensures.lines) c.lines-line-items.ensures.sound)
 
 pub do_step-requires-clause-taken : goal.do_step-requires-clause-taken
 do_step-requires-clause-taken g c =
@@ -61,7 +61,7 @@ do_step-requires-clause-taken g c =
     let x = c.line-item.result in
     let i = c.loop-line.line-index in
     let below : i < length c.lines-line-items.result.now = omega (arith, c.loop-line-test.true) in
-    let start = seen_of g.S.Shelf g.O.Sink c.ask_bytes.new.shelf c.args.out.now in
+    let start = seen_of g.S.Shelf g.O.Sink c.read_named_file.new.shelf c.args.out.now in
     let here = seen_of g.S.Shelf g.O.Sink c.loop-line.shelf c.loop-line.out in
     next_taken meanings k limits name lines (state_in Grid c.none-names.result) start c.args.sums.now
     i (line_of x) (state_in c.loop-line.kernels c.loop-line.names) here c.loop-line.sums
@@ -76,7 +76,7 @@ do_step-requires-clause-numbers g c =
     let x = c.line-item.result in
     let i = c.loop-line.line-index in
     let below : i < length c.lines-line-items.result.now = omega (arith, c.loop-line-test.true) in
-    let start = seen_of g.S.Shelf g.O.Sink c.ask_bytes.new.shelf c.args.out.now in
+    let start = seen_of g.S.Shelf g.O.Sink c.read_named_file.new.shelf c.args.out.now in
     let here = seen_of g.S.Shelf g.O.Sink c.loop-line.shelf c.loop-line.out in
     next_numbers meanings k limits name lines (state_in Grid c.none-names.result) start c.args.sums.now
     i (line_of x) (state_in c.loop-line.kernels c.loop-line.names) here c.loop-line.sums
@@ -89,7 +89,7 @@ returns-in_err-do_step-clause-meets g c =
     let limits = c.args.settings.now.limits.now in
     let name = c.args.name.now in
     let before = on_shelf g.S.Shelf c.args.shelf.now in
-    let mid = on_shelf g.S.Shelf c.ask_bytes.new.shelf in
+    let mid = on_shelf g.S.Shelf c.read_named_file.new.shelf in
     let out = on_output g.O.Sink c.args.out.now in
     let bytes = c.in_ok-bytes.field-0.items in
     let lines = map line_of c.lines-line-items.result.now in
@@ -97,7 +97,7 @@ returns-in_err-do_step-clause-meets g c =
     let x = c.line-item.result in
     let i = c.loop-line.line-index in
     let below : i < length c.lines-line-items.result.now = omega (arith, c.loop-line-test.true) in
-    let start = seen_of g.S.Shelf g.O.Sink c.ask_bytes.new.shelf c.args.out.now in
+    let start = seen_of g.S.Shelf g.O.Sink c.read_named_file.new.shelf c.args.out.now in
     let here = seen_of g.S.Shelf g.O.Sink c.loop-line.shelf c.loop-line.out in
     let there = seen_of g.S.Shelf g.O.Sink c.do_step.new.shelf c.do_step.new.out in
     rw (e.1, e.2)
@@ -114,7 +114,7 @@ returns-in_err-do_step-clause-cost g c =
     let limits = c.args.settings.now.limits.now in
     let name = c.args.name.now in
     let before = on_shelf g.S.Shelf c.args.shelf.now in
-    let mid = on_shelf g.S.Shelf c.ask_bytes.new.shelf in
+    let mid = on_shelf g.S.Shelf c.read_named_file.new.shelf in
     let out = on_output g.O.Sink c.args.out.now in
     let bytes = c.in_ok-bytes.field-0.items in
     let lines = map line_of c.lines-line-items.result.now in
@@ -122,7 +122,7 @@ returns-in_err-do_step-clause-cost g c =
     let x = c.line-item.result in
     let i = c.loop-line.line-index in
     let below : i < length c.lines-line-items.result.now = omega (arith, c.loop-line-test.true) in
-    let start = seen_of g.S.Shelf g.O.Sink c.ask_bytes.new.shelf c.args.out.now in
+    let start = seen_of g.S.Shelf g.O.Sink c.read_named_file.new.shelf c.args.out.now in
     let here = seen_of g.S.Shelf g.O.Sink c.loop-line.shelf c.loop-line.out in
     let there = seen_of g.S.Shelf g.O.Sink c.do_step.new.shelf c.do_step.new.out in
     script_spent meanings k limits name bytes before mid out c.args.sums.now c.do_step.new.sums c.in_ok-bytes.ensures.meets
@@ -141,7 +141,7 @@ loop-line-preserved g c =
     let x = c.line-item.result in
     let i = c.loop-line.line-index in
     let below : i < length c.lines-line-items.result.now = omega (arith, c.loop-line-test.true) in
-    let start = seen_of g.S.Shelf g.O.Sink c.ask_bytes.new.shelf c.args.out.now in
+    let start = seen_of g.S.Shelf g.O.Sink c.read_named_file.new.shelf c.args.out.now in
     let here = seen_of g.S.Shelf g.O.Sink c.loop-line.shelf c.loop-line.out in
     let there = seen_of g.S.Shelf g.O.Sink c.do_step.new.shelf c.do_step.new.out in
     let P : KernelKind → Type 0 = λ kernels. HasDone meanings k limits name lines (state_in Grid c.none-names.result) start c.args.sums.now
@@ -159,12 +159,12 @@ returns-clause-meets g c =
     let limits = c.args.settings.now.limits.now in
     let name = c.args.name.now in
     let before = on_shelf g.S.Shelf c.args.shelf.now in
-    let mid = on_shelf g.S.Shelf c.ask_bytes.new.shelf in
+    let mid = on_shelf g.S.Shelf c.read_named_file.new.shelf in
     let out = on_output g.O.Sink c.args.out.now in
     let bytes = c.in_ok-bytes.field-0.items in
     let lines = map line_of c.lines-line-items.result.now in
     let is : script k bytes ≡ Ok lines = ap (script k) (sym c.deref.ensures.value) ∙ c.in-Ok.ensures.script ∙ ap Ok (sym c.lines-line-items.ensures.lines) in
-    let start = seen_of g.S.Shelf g.O.Sink c.ask_bytes.new.shelf c.args.out.now in
+    let start = seen_of g.S.Shelf g.O.Sink c.read_named_file.new.shelf c.args.out.now in
     let here = seen_of g.S.Shelf g.O.Sink c.loop-line.shelf c.loop-line.out in
     script_read meanings k limits name bytes before mid out here _ c.in_ok-bytes.ensures.meets
     (text_done meanings k limits name bytes lines _ _ start here c.none-names.ensures is
@@ -178,12 +178,12 @@ returns-clause-cost g c =
     let limits = c.args.settings.now.limits.now in
     let name = c.args.name.now in
     let before = on_shelf g.S.Shelf c.args.shelf.now in
-    let mid = on_shelf g.S.Shelf c.ask_bytes.new.shelf in
+    let mid = on_shelf g.S.Shelf c.read_named_file.new.shelf in
     let out = on_output g.O.Sink c.args.out.now in
     let bytes = c.in_ok-bytes.field-0.items in
     let lines = map line_of c.lines-line-items.result.now in
     let is : script k bytes ≡ Ok lines = ap (script k) (sym c.deref.ensures.value) ∙ c.in-Ok.ensures.script ∙ ap Ok (sym c.lines-line-items.ensures.lines) in
-    let start = seen_of g.S.Shelf g.O.Sink c.ask_bytes.new.shelf c.args.out.now in
+    let start = seen_of g.S.Shelf g.O.Sink c.read_named_file.new.shelf c.args.out.now in
     let here = seen_of g.S.Shelf g.O.Sink c.loop-line.shelf c.loop-line.out in
     script_spent meanings k limits name bytes before mid out c.args.sums.now c.loop-line.sums c.in_ok-bytes.ensures.meets
     (λ told. text_spent meanings k limits name bytes lines _ mid.files c.args.sums.now c.loop-line.sums c.none-names.ensures is

@@ -6,15 +6,15 @@ use Rattle.script_runs.specs.Names.{named_in}
 use Rattle.script_runs.proofs.Stages.{save_told, save_unsaid, save_unwritten}
 use Rattle.script_runs.proofs.saving.save.Goals as goal
 
-pub returns-in_err-write-clause-meets : goal.returns-in_err-write-clause-meets
-returns-in_err-write-clause-meets g c =
+pub returns-in_err-save_named_mesh-clause-meets : goal.returns-in_err-save_named_mesh-clause-meets
+returns-in_err-save_named_mesh-clause-meets g c =
     let p = err_from_is_err_and c.from_residual.result c.from_residual.ensures.1 in
     let named = named_in c.args.names.now in
     let is = sym c.mesh_of-mesh.ensures in
     let out = on_output g.O.Sink c.args.out.now in
     rw (p.1, p.2)
     (save_unwritten c.args.digits c.args.name.now c.args.file.now (mesh_at named c.args.name.now) c.mesh_of-mesh.result.now
-    named is (on_shelf g.S.Shelf c.args.shelf.now) (on_shelf g.S.Shelf c.write.new.shelf) out out _ c.in_err-write.ensures.meets)
+    named is (on_shelf g.S.Shelf c.args.shelf.now) (on_shelf g.S.Shelf c.save_named_mesh.new.shelf) out out _ c.in_err-save_named_mesh.ensures.meets)
 
 pub returns-in_err-say_saved-clause-meets : goal.returns-in_err-say_saved-clause-meets
 returns-in_err-say_saved-clause-meets g c =
@@ -23,13 +23,13 @@ returns-in_err-say_saved-clause-meets g c =
     let is = sym c.mesh_of-mesh.ensures in
     rw (p.1, p.2)
     (save_unsaid c.args.digits c.args.name.now c.args.file.now (mesh_at named c.args.name.now)
-    c.mesh_of-mesh.result.now named is (on_shelf g.S.Shelf c.args.shelf.now) (on_shelf g.S.Shelf c.write.new.shelf)
-    (on_output g.O.Sink c.args.out.now) (on_output g.O.Sink c.say_saved.new.sink) _ c.in_ok-write.ensures.meets c.in_err-say_saved.ensures.meets)
+    c.mesh_of-mesh.result.now named is (on_shelf g.S.Shelf c.args.shelf.now) (on_shelf g.S.Shelf c.save_named_mesh.new.shelf)
+    (on_output g.O.Sink c.args.out.now) (on_output g.O.Sink c.say_saved.new.sink) _ c.in_ok-save_named_mesh.ensures.meets c.in_err-say_saved.ensures.meets)
 
 pub returns-clause-meets : goal.returns-clause-meets
 returns-clause-meets g c =
     let named = named_in c.args.names.now in
     let is = sym c.mesh_of-mesh.ensures in
     save_told c.args.digits c.args.name.now c.args.file.now (mesh_at named c.args.name.now)
-    c.mesh_of-mesh.result.now named is (on_shelf g.S.Shelf c.args.shelf.now) (on_shelf g.S.Shelf c.write.new.shelf)
-    (on_output g.O.Sink c.args.out.now) (on_output g.O.Sink c.say_saved.new.sink) c.in_ok-write.ensures.meets c.in_ok-say_saved.ensures.meets
+    c.mesh_of-mesh.result.now named is (on_shelf g.S.Shelf c.args.shelf.now) (on_shelf g.S.Shelf c.save_named_mesh.new.shelf)
+    (on_output g.O.Sink c.args.out.now) (on_output g.O.Sink c.say_saved.new.sink) c.in_ok-save_named_mesh.ensures.meets c.in_ok-say_saved.ensures.meets

@@ -15,9 +15,9 @@ pub returns-then-past_c : goal.returns-then-past_c
 returns-then-past_c g c =
     let k : Rule = g.K.Rules.rule_of c.args.kernel.now in
     let w : Between = g.K.Rounding.between_of c.args.kernel.now in
-    let value : Some c.met_in_y.result ≡ edge_meet c.args.edge k w c.args.vertex.now c.args.c.now c.args.d.now =
+    let value : Some c.meet_at_edge.result ≡ edge_meet c.args.edge k w c.args.vertex.now c.args.c.now c.args.d.now =
     made_at (at_first c.args.edge k w c.args.vertex.now c.args.c.now c.args.d.now
-    (first_alone c.is_past-past_c.ensures c.is_past-past_d.ensures c.if-past_c-past_d.false c.if-past_c.true)) c.met_in_y.ensures in
+    (first_alone c.is_past-past_c.ensures c.is_past-past_d.ensures c.if-past_c-past_d.false c.if-past_c.true)) c.meet_at_edge.ensures in
     record {
       value = value;
       fine =
@@ -29,9 +29,9 @@ pub returns-else-past_c : goal.returns-else-past_c
 returns-else-past_c g c =
     let k : Rule = g.K.Rules.rule_of c.args.kernel.now in
     let w : Between = g.K.Rounding.between_of c.args.kernel.now in
-    let value : Some c.met_in_y-else-past_c.result ≡ edge_meet c.args.edge k w c.args.vertex.now c.args.c.now c.args.d.now =
+    let value : Some c.meet_at_edge-else-past_c.result ≡ edge_meet c.args.edge k w c.args.vertex.now c.args.c.now c.args.d.now =
     made_at (at_second c.args.edge k w c.args.vertex.now c.args.c.now c.args.d.now
-    (second_alone c.is_past-past_c.ensures c.is_past-past_d.ensures c.if-past_c-past_d.false c.if-past_c.false)) c.met_in_y-else-past_c.ensures in
+    (second_alone c.is_past-past_c.ensures c.is_past-past_d.ensures c.if-past_c-past_d.false c.if-past_c.false)) c.meet_at_edge-else-past_c.ensures in
     record {
       value = value;
       fine =

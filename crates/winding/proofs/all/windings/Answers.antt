@@ -12,7 +12,7 @@ use Rattle.shadow_kernels.specs.Counts.{shadow_of}
 use Rattle.shadow_kernels.specs.FinePairs.{fine_one, fine_two}
 use Rattle.shadow_kernels.specs.Sizes.{turned_shadow}
 use Rattle.lean.proofs.Corners.{edge_fine, face_fine}
-use Rattle.crossings.specs.Hits.{CrossTest, hits_of}
+use Rattle.crossings.specs.Hits.{CrossingTest, hits_of}
 use Rattle.crossings.proofs.Rounds.{Lifts}
 use Rattle.crossings.proofs.Order.{all_listed, hits_in_order}
 use Rattle.winding.specs.Segments.{SegmentIdentity, crossings_to}
@@ -45,27 +45,27 @@ p_odd g k p q p_fine q_fine a b = record {
 }
 
 -- a number is what both leave over
-p_lifts : (g : Over) → (k : g.row.K.Denot) → (p q : Side) → AllFine p.corners → AllFine q.corners → Lifts (g.K.Crosses-1.cross_of k) p q (p_ends g k p q) (p_sides g k p q)
+p_lifts : (g : Over) → (k : g.row.K.Denot) → (p q : Side) → AllFine p.corners → AllFine q.corners → Lifts (g.K.Crosses-1.crossing_of k) p q (p_ends g k p q) (p_sides g k p q)
 p_lifts g k p q p_fine q_fine t a b =
     let pc = corner_at p.corners in
     let qc = corner_at q.corners in
     g.met.K.Kernels.lift_12 k (pc a) (pc b) (qc t.0) (qc t.1) (qc t.2) (edge_fine p.corners p_fine a b) (face_fine q.corners q_fine t)
 
 -- from any corner of P to any other the winding number changes by minus the numbers of the segment between them
-p_segments : (g : Over) → (k : g.row.K.Denot) → (q : Side) → IsSide q → SegmentIdentity (λ c. winding (g.K.Meets-5.meet_of k) c q) (crossings_to (g.K.Crosses-1.cross_of k) q)
+p_segments : (g : Over) → (k : g.row.K.Denot) → (q : Side) → IsSide q → SegmentIdentity (λ c. winding (g.K.Meets-5.meet_of k) c q) (crossings_to (g.K.Crosses-1.crossing_of k) q)
 p_segments g k q q_side = record {
   between = λ a b a_fine b_fine.
       let p = two_corners a b in
       let fine = fine_two a b a_fine b_fine in
-      crossings_sum p q (g.K.Crosses-1.cross_of k) (p_ends g k p q) (p_sides g k p q) q_side (p_lifts g k p q fine q_side.fine) (p_odd g k p q fine q_side.fine) 0 1;
+      crossings_sum p q (g.K.Crosses-1.crossing_of k) (p_ends g k p q) (p_sides g k p q) q_side (p_lifts g k p q fine q_side.fine) (p_odd g k p q fine q_side.fine) 0 1;
 }
 
 -- the winding numbers of a list, or the sums themselves, change along each half-edge of P by its crossings
-p_identity : (g : Over) → (k : g.row.K.Denot) → (p q : Side) → IsSide p → IsSide q → (hits : List Hit) → hits ≡ hits_of (g.K.Crosses-1.cross_of k) p q →
+p_identity : (g : Over) → (k : g.row.K.Denot) → (p q : Side) → IsSide p → IsSide q → (hits : List Hit) → hits ≡ hits_of (g.K.Crosses-1.crossing_of k) p q →
     (w : ℕ → ℤ) → ((v : ℕ) → v < length p.corners → w v ≡ winding (g.K.Meets-5.meet_of k) (corner_at p.corners v) q) →
     EdgeIdentity (all_edges p.triples) (length q.triples) w (half_number (all_edges p.triples) hits)
 p_identity g k p q p_side q_side hits found w each =
-    let test : CrossTest = g.K.Crosses-1.cross_of k in
+    let test : CrossingTest = g.K.Crosses-1.crossing_of k in
     edges_conserve p q test (p_ends g k p q) (p_sides g k p q) hits w p_side q_side
     (λ t a b. (g.met.K.Crosses-1.laws k).turn_p (edge_of p.corners a b) (face_of q.corners t) refl refl refl (edge_fine p.corners p_side.fine a b)
     (face_fine q.corners q_side.fine t))
@@ -93,7 +93,7 @@ q_odd g k p q p_fine q_fine a b = record {
 
 -- a number is what both leave over
 q_lifts : (g : Over) → (k : g.row.K.Denot) → (p q : Side) → AllFine p.corners → AllFine q.corners →
-    Lifts (λ edge face. g.K.Crosses-2.cross_of k face edge) q p (q_ends g k p q) (q_sides g k p q)
+    Lifts (λ edge face. g.K.Crosses-2.crossing_of k face edge) q p (q_ends g k p q) (q_sides g k p q)
 q_lifts g k p q p_fine q_fine t a b =
     let pc = corner_at p.corners in
     let qc = corner_at q.corners in
@@ -101,21 +101,21 @@ q_lifts g k p q p_fine q_fine t a b =
 
 -- from any corner of Q to any other
 q_segments : (g : Over) → (k : g.row.K.Denot) → (p : Side) → IsSide p →
-    SegmentIdentity (λ c. winding_back (g.K.Meets-6.meet_of k) p c) (crossings_to (λ edge face. g.K.Crosses-2.cross_of k face edge) p)
+    SegmentIdentity (λ c. winding_back (g.K.Meets-6.meet_of k) p c) (crossings_to (λ edge face. g.K.Crosses-2.crossing_of k face edge) p)
 q_segments g k p p_side = record {
   between = λ a b a_fine b_fine.
       let q = two_corners a b in
       let fine = fine_two a b a_fine b_fine in
-      crossings_sum q p (λ edge face. g.K.Crosses-2.cross_of k face edge) (q_ends g k p q) (q_sides g k p q) p_side (q_lifts g k p q p_side.fine fine)
+      crossings_sum q p (λ edge face. g.K.Crosses-2.crossing_of k face edge) (q_ends g k p q) (q_sides g k p q) p_side (q_lifts g k p q p_side.fine fine)
       (q_odd g k p q p_side.fine fine) 0 1;
 }
 
 -- and along each half-edge of Q
-q_identity : (g : Over) → (k : g.row.K.Denot) → (p q : Side) → IsSide p → IsSide q → (hits : List Hit) → hits ≡ hits_of (λ edge face. g.K.Crosses-2.cross_of k face edge) q p →
+q_identity : (g : Over) → (k : g.row.K.Denot) → (p q : Side) → IsSide p → IsSide q → (hits : List Hit) → hits ≡ hits_of (λ edge face. g.K.Crosses-2.crossing_of k face edge) q p →
     (w : ℕ → ℤ) → ((v : ℕ) → v < length q.corners → w v ≡ winding_back (g.K.Meets-6.meet_of k) p (corner_at q.corners v)) →
     EdgeIdentity (all_edges q.triples) (length p.triples) w (half_number (all_edges q.triples) hits)
 q_identity g k p q p_side q_side hits found w each =
-    let test : CrossTest = λ edge face. g.K.Crosses-2.cross_of k face edge in
+    let test : CrossingTest = λ edge face. g.K.Crosses-2.crossing_of k face edge in
     edges_conserve q p test (q_ends g k p q) (q_sides g k p q) hits w q_side p_side
     (λ t a b. (g.met.K.Crosses-2.laws k).turn_q (face_of p.corners t) (edge_of q.corners a b) refl refl refl (face_fine p.corners p_side.fine t)
     (edge_fine q.corners q_side.fine a b))
@@ -166,7 +166,7 @@ corner_windings-requires-clause-listed g c =
     let p = c.args.p.now in
     let q = c.args.q.now in
     let laws = g.met.K.Crosses-1.laws c.args.kernels.now in
-    let test : CrossTest = g.K.Crosses-1.cross_of c.args.kernels.now in
+    let test : CrossingTest = g.K.Crosses-1.crossing_of c.args.kernels.now in
     let listed = all_listed test p q c.twins.ensures.side.fine c.twins-2.ensures.side.fine (λ e f l m a b. (laws.present e f l m a b, laws.size e f l m a b)) in
     subst (AreHits (all_edges p.triples) (length q.triples)) (sym (c.deref.ensures.value ∙ c.requires.x12)) (hits_in_order test p q listed).0
 
@@ -174,7 +174,7 @@ pub corner_windings-requires-clause-few : goal.corner_windings-requires-clause-f
 corner_windings-requires-clause-few g c =
     let few_p = c.twins.ensures.side.accepted.mesh.few_triples in
     let few_q = c.twins-2.ensures.side.accepted.mesh.few_triples in
-    omega (arith, few_hits (g.K.Crosses-1.cross_of c.args.kernels.now) c.args.p.now c.args.q.now few_p few_q, ap length c.requires.x12)
+    omega (arith, few_hits (g.K.Crosses-1.crossing_of c.args.kernels.now) c.args.p.now c.args.q.now few_p few_q, ap length c.requires.x12)
 
 pub corner_windings-requires-clause-size : goal.corner_windings-requires-clause-size
 corner_windings-requires-clause-size g c = p_small g c.args.kernels.now c.args.p.now c.args.q.now c.twins.ensures.side c.twins-2.ensures.side
@@ -193,13 +193,13 @@ corner_windings-requires-2-clause-listed g c =
     let p = c.args.p.now in
     let q = c.args.q.now in
     let laws = g.met.K.Crosses-2.laws c.args.kernels.now in
-    let test : CrossTest = λ edge face. g.K.Crosses-2.cross_of c.args.kernels.now face edge in
+    let test : CrossingTest = λ edge face. g.K.Crosses-2.crossing_of c.args.kernels.now face edge in
     let listed = all_listed test q p c.twins-2.ensures.side.fine c.twins.ensures.side.fine (λ e f l m a b. (laws.present f e m l b a, laws.size f e m l b a)) in
     subst (AreHits (all_edges q.triples) (length p.triples)) (sym (c.deref-2.ensures.value ∙ c.requires.x21)) (hits_in_order test q p listed).0
 
 pub corner_windings-requires-2-clause-few : goal.corner_windings-requires-2-clause-few
 corner_windings-requires-2-clause-few g c =
-    let test : CrossTest = λ edge face. g.K.Crosses-2.cross_of c.args.kernels.now face edge in
+    let test : CrossingTest = λ edge face. g.K.Crosses-2.crossing_of c.args.kernels.now face edge in
     let few_p = c.twins.ensures.side.accepted.mesh.few_triples in
     let few_q = c.twins-2.ensures.side.accepted.mesh.few_triples in
     omega (arith, few_hits test c.args.q.now c.args.p.now few_q few_p, ap length c.requires.x21)

@@ -2,7 +2,7 @@ use Rattle.std.proofs.Common.{◌≡◌, ℕ, List, [], ◌+◌, ◌*◌, ◌/�
 use Rattle.std.proofs.lemmas.List.{length-set, take_all}
 use Rattle.std.proofs.lemmas.List.Elements.{All-from_get_or, All-get_or, All-set}
 use Rattle.mesh_terms.specs.Meshes.{triples_of}
-use Rattle.mesh_tidy.specs.Surface.{IsRenamed}
+use Rattle.mesh_tidy.specs.TidySurface.{IsRenamed}
 use Rattle.mesh_tidy.proofs.Renaming.{none_renamed, renamed_more, renamed_same, start_other, start_written, written}
 use Rattle.mesh_tidy.proofs.surface.collapsing.rename.Goals as goal
 use Rattle.mesh_tidy.proofs.surface.collapsing.rename.Goals.{then-start-old, else-start-old}

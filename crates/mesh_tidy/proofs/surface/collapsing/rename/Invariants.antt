@@ -1,7 +1,7 @@
 use Rattle.std.proofs.Common.{◌≡◌, length, take}
 use Rattle.std.specs.List.{All}
 use Rattle.mesh_terms.specs.Meshes.{triples_of}
-use Rattle.mesh_tidy.specs.Surface.{IsRenamed}
+use Rattle.mesh_tidy.specs.TidySurface.{IsRenamed}
 use Rattle.mesh_tidy.proofs.surface.collapsing.rename.Given as goal
 
 -- those so far

@@ -1,4 +1,0 @@
-use Rattle.crossings.proofs.pairs.PEdgesEdgeFace.cross.Goals as goal
-
-pub returns : goal.returns
-returns g c = c.cross.ensures
