@@ -15,9 +15,10 @@ use Rattle.operation_laws.specs.Laws.{OperationsAreReadable}
 use Rattle.operation_laws.specs.Results.{ScriptsGiveResults, ScriptsRemesh}
 use Rattle.play_terms.specs.Program.{command_task}
 use Rattle.play_laws.proofs.ScriptsReadingBack.{meshes_kept, script_keeps}
+use Rattle.stl_laws.proofs.ReadingBack.{copies_stl, gives_stl}
 use Rattle.program_runs.specs.Windings.{windings}
 use Rattle.program_runs.specs.Playing.{meanings}
-use Rattle.program_runs.specs.Results.{CommandGivesResults, CommandIsGeometric, CommandKeepsMeshes, CommandRemeshes}
+use Rattle.program_runs.specs.Results.{CommandGivesResults, CommandIsGeometric, CommandKeepsMeshes, CommandReadsStl, CommandRemeshes}
 
 -- ---- the digits of words are at most 6
 
@@ -131,3 +132,11 @@ keeps_meshes limits None lawful few law = tt
 keeps_meshes limits (Some (CopyFile k from to)) lawful few law = tt
 keeps_meshes limits (Some (InsideFile k file point)) lawful few law = tt
 keeps_meshes limits (Some (RunScript k script)) lawful few law = meshes_kept meanings.scripts k limits few lawful (law k limits few lawful) script
+
+-- what is read of their STL texts, by how they are read of their OBJ texts
+pub reads_stl : (limits : Limits) (what : Option Command) → IsLawful limits → digits_in what ≤ 6 → OperationsAreReadable → CommandReadsStl limits what
+reads_stl limits None lawful few law = tt
+reads_stl limits (Some (CopyFile k from to)) lawful few law = copies_stl k limits from few lawful (mesh_given k limits from few lawful)
+reads_stl limits (Some (InsideFile k file point)) lawful few law = tt
+reads_stl limits (Some (RunScript k script)) lawful few law =
+    gives_stl meanings.scripts k limits script few lawful (meshes_kept meanings.scripts k limits few lawful (law k limits few lawful) script)

@@ -14,14 +14,15 @@ use Rattle.program_runs.specs.Statuses.{IsDoneOrStarved, IsUsageOrStarved, statu
 use Rattle.program_runs.specs.declared.status.Status.{Status}
 use Rattle.program_runs.specs.declared.status.Status.TheVariants.{Done, Usage, WriteFault}
 use Rattle.program_runs.specs.Playing.{IsUntroubled, RiseOn, TellsEnd, TellsUnwritten, meanings}
-use Rattle.program_runs.specs.Results.{CommandGivesResults, CommandIsGeometric, CommandKeepsMeshes, CommandRemeshes}
+use Rattle.program_runs.specs.Results.{CommandGivesResults, CommandIsGeometric, CommandKeepsMeshes, CommandReadsStl, CommandRemeshes}
 use Rattle.program_runs.specs.Running.{IsRunOf}
 
--- whatever the files, how what the play writes is read again, what the names of a script hold, what its operations give and keep, and what remeshing keeps
+-- whatever the files, how what the play writes is read again, what the names of a script hold and what is read of their STL texts, what its operations give and keep, and what remeshing keeps
 pub record IsSoundPlay (limits : Limits) (words : List Bytes) : Type 0 where
   pub mesh_back : CopiesReadable limits (command words)
   pub back : (files : Files) → All (WritesReadable (digits_in (command words)) limits) (play meanings limits words files).actions
   pub held : CommandKeepsMeshes limits (command words)
+  pub stl : CommandReadsStl limits (command words)
   pub results : CommandGivesResults limits (command words)
   pub geometric : CommandIsGeometric limits (command words)
   pub remeshed : CommandRemeshes limits (command words)

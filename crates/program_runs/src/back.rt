@@ -6,18 +6,20 @@ ghost use Rattle.play_terms.specs.Program.{play};
 ghost use Rattle.run_terms.specs.Files.{Files};
 ghost use Rattle.program_runs.specs.Playing.{meanings};
 ghost use Rattle.program_runs.specs.Promises.{IsSoundPlay};
-ghost use Rattle.program_runs.specs.Results.{CommandGivesResults, CommandIsGeometric, CommandKeepsMeshes, CommandRemeshes};
+ghost use Rattle.program_runs.specs.Results.{CommandGivesResults, CommandIsGeometric, CommandKeepsMeshes, CommandReadsStl, CommandRemeshes};
 
 use geometric_laws::laws::operations_are_geometric;
 use mb_base::{ArgList, Limits};
 use operation_laws::laws::{operations_are_readable, operations_are_results};
 
 /// Whatever the words and the files, each file that their play writes holds the text of a mesh, which is read of its OBJ text, and so is the mesh that a copy
-/// reads. Of a script this mesh is the one that its name has then, and each such mesh is read of its OBJ text and, welded, of its STL text. The contract is
+/// reads. Of a script this mesh is the one that its name has then, and each such mesh is read of its OBJ text and, welded and closed again, of its STL text,
+/// wherever that stands. The contract is
 /// this law, and the call does nothing.
 pub fn plays_are_readable(limits: &Limits, words: &ArgList)
     ensures mesh_back { CopiesReadable limits.now (command words.now) }
     ensures held { CommandKeepsMeshes limits.now (command words.now) }
+    ensures stl { CommandReadsStl limits.now (command words.now) }
     ensures back { (files : Files) → All (WritesReadable (digits_in (command words.now)) limits.now) (play meanings limits.now words.now files).actions }
 {
     // The limits are lawful, and the law of what operations give.

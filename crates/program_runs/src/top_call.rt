@@ -33,16 +33,17 @@ use std::sync::ledger::Ledger;
 /// where the files are told, a run whose play gives no refusal, and in which no fault came, ends with 0, or for want of memory. Whatever the files and
 /// however the run ended, each file that the play writes holds the text of a mesh in the format of its name, and the mesh is read of its OBJ text under the
 /// same digits and limits; for a copy this mesh is the one that was read of IN, in either format, without its unused points. Whatever lines of a script
-/// were done, the mesh of each name is read of its OBJ text, with its labels; and of its STL text, welded, its points in another order, and without labels;
-/// and a line that saves a name writes the text of this mesh. The outline of each name has points of the grid, each in one loop, and loops of three points
+/// were done, the mesh of each name is read of its OBJ text, with its labels; and of its STL text, wherever this stands and is not too long, welded: no two
+/// points at one place, the triangles that have three different places, in order, closed again, and without labels; so is a mesh that is copied. A line
+/// that saves a name writes the text of this mesh. The outline of each name has points of the grid, each in one loop, and loops of three points
 /// or more. This holds of lines whose rings have 3 to 64 places on the grid and whose heights are on the grid; that the lines of each script that is read
 /// are such, under the digits of the run, is promised beside it. Whatever lines of a script were done, what the play has of an operation on the meshes of
 /// two names is a result of these, under the kernels chosen by then: along each half-edge of both, reduced, the winding number in the other changes by its
 /// signed crossings; the vertices, before pinched ones are split, are those that these numbers prescribe, each as often; the triangles made in each face of
 /// either are bounded by the segments prescribed there and have the label of that face; and half-edges pair, none with itself, with one fan at each vertex.
 /// Under exact kernels each vertex of one of the two, reduced, that lies in no closed triangle of the other is prescribed as often as the operation says
-/// for its geometric winding number. What it has of an operation on the outlines of two names is an outline of the prescribed vertices, along whose
-/// operands' edges winding numbers change by their crossings; and a solid of the outline of a name is accepted, and its volume is the height times the
+/// for its geometric winding number. What it has of an operation on the outlines of two names is an outline of the prescribed vertices, whose edges are
+/// the segments that pair these along its operands' edges, and along these winding numbers change by their crossings; and a solid of the outline of a name is accepted, and its volume is the height times the
 /// outline's area. And what it has of remeshing the mesh of a name is what `remesh` of `planar_patches` says: accepted, with one fan at each vertex, no
 /// more triangles and the same volume; and patch by patch the same boundary in the same plane.
 ///

@@ -1,5 +1,5 @@
 use Rattle.play_terms.specs.Words.{command}
-use Rattle.program_runs.proofs.WritesBack.{copies_back, few_digits, keeps_meshes, writes_back}
+use Rattle.program_runs.proofs.WritesBack.{copies_back, few_digits, keeps_meshes, reads_stl, writes_back}
 use Rattle.program_runs.proofs.back.plays_are_readable.Goals as goal
 
 pub returns-clause-mesh_back : goal.returns-clause-mesh_back
@@ -12,3 +12,7 @@ returns-clause-back c files =
 pub returns-clause-held : goal.returns-clause-held
 returns-clause-held c =
     keeps_meshes c.args.limits.now (command c.args.words.now) c.file_bytes.ensures.lawful (few_digits c.args.words.now) c.operations_are_readable.ensures.readable
+
+pub returns-clause-stl : goal.returns-clause-stl
+returns-clause-stl c =
+    reads_stl c.args.limits.now (command c.args.words.now) c.file_bytes.ensures.lawful (few_digits c.args.words.now) c.operations_are_readable.ensures.readable

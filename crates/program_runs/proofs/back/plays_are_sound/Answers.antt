@@ -5,6 +5,7 @@ returns c = record {
   mesh_back = c.plays_are_readable.ensures.mesh_back;
   back = c.plays_are_readable.ensures.back;
   held = c.plays_are_readable.ensures.held;
+  stl = c.plays_are_readable.ensures.stl;
   results = c.plays_give_results.ensures.results;
   geometric = c.plays_give_results.ensures.geometric;
   remeshed = c.plays_give_results.ensures.remeshed;
