@@ -77,7 +77,7 @@ fn three(line: &[u8], first: usize) -> [Corner; 3]
 
 /// The column at which the answer with this number begins.
 fn answer_column(number: usize) -> usize {
-    CORNERS * CORNER_COLUMNS + number.wrapping_mul(ANSWER_COLUMNS)
+    (CORNERS * CORNER_COLUMNS).wrapping_add(number.wrapping_mul(ANSWER_COLUMNS))
 }
 
 /// The digit of a line in the column so many after another.

@@ -54,7 +54,7 @@ fn copied<'a, S: Shelf, O: Sink>(
         (shelf.old, out.old) (shelf.new, out.new) result }
     ensures lawful { IsLawful settings.now.limits.now }
 {
-    let read = ask(
+    let read = read_named_mesh(
         settings.alloc,
         from,
         settings.digits,

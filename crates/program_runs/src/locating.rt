@@ -67,7 +67,7 @@ fn located<'a, S: Shelf, O: Sink, L: Ledger>(
     ensures counted { sums.new ≡ sums.old + sums_in result }
     ensures lawful { IsLawful settings.now.limits.now }
 {
-    let read = ask(
+    let read = read_named_mesh(
         settings.alloc,
         sought.file,
         settings.digits,

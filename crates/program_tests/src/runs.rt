@@ -5,6 +5,7 @@ mod files;
 mod hostile;
 mod made;
 mod remeshed;
+mod rows;
 mod scripts;
 mod solids;
 mod tidied;

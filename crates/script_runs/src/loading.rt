@@ -28,7 +28,7 @@ pub fn load<'a, S: Shelf, O: Sink>(
     ensures named { OnOk result (IsNamed name.now (named_in names.old) (named_in names.new)) }
     ensures kept { OnErr result (names.new ≡ names.old) }
 {
-    let read = ask(at.alloc, file, at.digits, at.limits, shelf)?;
+    let read = read_named_mesh(at.alloc, file, at.digits, at.limits, shelf)?;
     say_loaded(name, file, &read.mesh, read.unused, out)?;
     names.define(name, read.mesh)?;
     Ok(())
