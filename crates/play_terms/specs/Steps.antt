@@ -45,21 +45,6 @@ new_name (Combine2 op name left right) = Some name
 new_name (Extrude name old low high) = Some name
 new_name Exact = None
 
--- the step makes an outline of places
-abbrev pub draws : Step → Bool
-draws (Load name file) = false
-draws (Save name file) = false
-draws (Measure name) = false
-draws (Combine op name left right) = false
-draws (Make name solid) = false
-draws (Move name old motion) = false
-draws (Tidy name old) = false
-draws (Remesh name old) = false
-draws (Polygon name ring) = true
-draws (Combine2 op name left right) = false
-draws (Extrude name old low high) = false
-draws Exact = false
-
 abbrev pub is_that : Bytes → Option Bytes → Bool
 is_that w None = false
 is_that w (Some name) = bytes_eq w name
