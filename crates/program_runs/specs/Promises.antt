@@ -17,7 +17,7 @@ use Rattle.program_runs.specs.Playing.{IsUntroubled, RiseOn, TellsEnd, TellsUnwr
 use Rattle.program_runs.specs.Results.{CommandGivesResults, CommandIsGeometric, CommandKeepsMeshes, CommandReadsStl, CommandRemeshes}
 use Rattle.program_runs.specs.Running.{IsRunOf}
 
--- whatever the files, how what the play writes is read again, what the names of a script hold and what is read of their STL texts, what its operations give and keep, and what remeshing keeps
+-- whatever the files, how what the play writes is read again, what the names of a script hold, what is read of STL texts, what operations give and keep, and what remeshing keeps
 pub record IsSoundPlay (limits : Limits) (words : List Bytes) : Type 0 where
   pub mesh_back : CopiesReadable limits (command words)
   pub back : (files : Files) → All (WritesReadable (digits_in (command words)) limits) (play meanings limits words files).actions

@@ -13,9 +13,8 @@ use mb_base::{ArgList, Limits};
 use operation_laws::laws::{operations_are_readable, operations_are_results};
 
 /// Whatever the words and the files, each file that their play writes holds the text of a mesh, which is read of its OBJ text, and so is the mesh that a copy
-/// reads. Of a script this mesh is the one that its name has then, and each such mesh is read of its OBJ text and, welded and closed again, of its STL text,
-/// wherever that stands. The contract is
-/// this law, and the call does nothing.
+/// reads. Of a script this mesh is the one that its name has then, and each such mesh is read of its OBJ text. Each mesh of a script, and each that a copy
+/// reads, is read of its STL text too, welded and closed again, wherever that stands and is not too long. The contract is this law, and the call does nothing.
 pub fn plays_are_readable(limits: &Limits, words: &ArgList)
     ensures mesh_back { CopiesReadable limits.now (command words.now) }
     ensures held { CommandKeepsMeshes limits.now (command words.now) }

@@ -19,8 +19,8 @@ use std::sync::ledger::{Blank, Ledger};
 
 /// The program over the current folder, which counts its sums for nobody. What the folder holds can't be told. So of a run it says what needs no told
 /// files: the status with its line on `err`; that the faults of `out` rise with status 7 alone, and then the line is that of the report, and where they
-/// do not, that of a file; and of the play of the words, whatever the files, how what it writes is read again, what its operations give, and what
-/// remeshing keeps.
+/// do not, that of a file; and of the play of the words, whatever the files, how what it writes is read again, what its names hold and what is read of
+/// their STL texts, what its operations give and, under exact kernels, keep, and what remeshing keeps.
 pub fn start_here<R: Files, O: Sink, E: Sink, L: Ledger>(
     rt: &R,
     alloc: Global,

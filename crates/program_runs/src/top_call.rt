@@ -43,9 +43,10 @@ use std::sync::ledger::Ledger;
 /// either are bounded by the segments prescribed there and have the label of that face; and half-edges pair, none with itself, with one fan at each vertex.
 /// Under exact kernels each vertex of one of the two, reduced, that lies in no closed triangle of the other is prescribed as often as the operation says
 /// for its geometric winding number. What it has of an operation on the outlines of two names is an outline of the prescribed vertices, whose edges are
-/// the segments that pair these along its operands' edges, and along these winding numbers change by their crossings; and a solid of the outline of a name is accepted, and its volume is the height times the
-/// outline's area. And what it has of remeshing the mesh of a name is what `remesh` of `planar_patches` says: accepted, with one fan at each vertex, no
-/// more triangles and the same volume; and patch by patch the same boundary in the same plane.
+/// the segments that pair these along its operands' edges, and along these edges the winding number in the other outline changes by their crossings; and a
+/// solid of the outline of a name is accepted, and its volume is the height times the outline's area. And what it has of remeshing the mesh of a name is
+/// what `remesh` of `planar_patches` says: accepted, with one fan at each vertex, no more triangles and the same volume; and patch by patch the same
+/// boundary in the same plane.
 ///
 /// The read faults of the shelf rise with status 6 alone, its write faults and the faults of `out` with 7 alone, and one of the two does. With
 /// 6 the read faults rose, or the shelf tells no files and a read into some space gave nothing below the size that was stated. The shelf
