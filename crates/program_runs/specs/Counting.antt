@@ -1,8 +1,8 @@
 -- The most sums that a run counts.
-use Rattle.std.specs.Prelude.{ℕ, List, Option, Some, None}
+use Rattle.std.specs.Prelude.{ℕ, Option, Some, None}
 use Rattle.mesh_terms.specs.Limits.{Limits}
-use Rattle.run_terms.specs.Files.{Bytes, Files}
-use Rattle.play_terms.specs.Words.{Command, CopyFile, InsideFile, RunScript, command}
+use Rattle.run_terms.specs.Files.{Files}
+use Rattle.play_terms.specs.Words.{Command, CopyFile, InsideFile, RunScript}
 use Rattle.script_runs.specs.Costs.{script_cost}
 use Rattle.script_runs.specs.Operations.{meanings}
 
@@ -12,7 +12,3 @@ command_cost limits None files = 0
 command_cost limits (Some (CopyFile k from to)) files = 0
 command_cost limits (Some (InsideFile k file p)) files = 1
 command_cost limits (Some (RunScript k script)) files = script_cost meanings k limits script files
-
--- the command of the words over these files
-abbrev pub play_cost : Limits → List Bytes → Files → ℕ
-play_cost limits words files = command_cost limits (command words) files

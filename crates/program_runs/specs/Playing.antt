@@ -54,7 +54,3 @@ pub record IsUntroubled {S O : Type 0} (s : OfShelf S) (o : OfSink O) (limits : 
 -- a file of 2 GiB, 15,000,000 points, 10,000,000 triangles, and 6,000,000 half-edges of an operation
 abbrev pub program_limits : Limits
 program_limits = record { file_bytes = 2147483648; points = 15000000; triangles = 10000000; halfedges = 6000000 }
-
--- a run under the program's limits
-abbrev pub ProgramMeets : {S O E : Type 0} → OfShelf S → OfSink O → OfSink E → List Bytes → S × O × E → S × O × E → ℕ → Type 0
-ProgramMeets s o e words old new status = RunMeets s o e program_limits words old new status

@@ -72,7 +72,8 @@ module _ (ps : List (List ℤ)) (ts : List Triple) where
   same_corners t low = λ i. (there t.0 low.a i, there t.1 low.b i, there t.2 low.c i)
 
   -- the triangles over numbers that have three lie where those with three points lie
-  corners_over : (vs : List Triple) → All (λ t. IsBelow (length qs) (renamed_triple r t)) vs → map (corner_points qs) (over ps qs vs) ≡ filter are_apart (map (corner_points ps) vs)
+  corners_over : (vs : List Triple) → All (λ t. IsBelow (length qs) (renamed_triple r t)) vs →
+      map (corner_points qs) (over ps qs vs) ≡ filter are_apart (map (corner_points ps) vs)
   corners_over [] low = refl
   corners_over (v ∷ vs) low =
       let head = All-head (λ t. IsBelow (length qs) (renamed_triple r t)) v vs low in
@@ -126,7 +127,8 @@ used_all P ts k (p ∷ ps) all = by (is_used ts k) (used_all P ts (suc k) ps all
   by true rest = (all.0, rest)
   by false rest = rest
 
-with_first : (p : List ℤ) (rest : List (List ℤ)) (b : Bool) → AllByRecursion (λ q. same_point p q ≡ false) rest → IsDistinct same_point rest → IsDistinct same_point (cond b (p ∷ []) [] ++ rest)
+with_first : (p : List ℤ) (rest : List (List ℤ)) (b : Bool) → AllByRecursion (λ q. same_point p q ≡ false) rest →
+    IsDistinct same_point rest → IsDistinct same_point (cond b (p ∷ []) [] ++ rest)
 unfolding IsDistinct
 with_first p rest true apart distinct = (apart, distinct)
 with_first p rest false apart distinct = distinct
@@ -134,7 +136,8 @@ with_first p rest false apart distinct = distinct
 used_distinct : (ts : List Triple) (k : ℕ) (ps : List (List ℤ)) → IsDistinct same_point ps → IsDistinct same_point (used_from ts k ps)
 unfolding IsDistinct
 used_distinct ts k [] distinct = distinct
-used_distinct ts k (p ∷ ps) distinct = with_first p (used_from ts (suc k) ps) (is_used ts k) (used_all (λ q. same_point p q ≡ false) ts (suc k) ps distinct.0) (used_distinct ts (suc k) ps distinct.1)
+used_distinct ts k (p ∷ ps) distinct =
+    with_first p (used_from ts (suc k) ps) (is_used ts k) (used_all (λ q. same_point p q ≡ false) ts (suc k) ps distinct.0) (used_distinct ts (suc k) ps distinct.1)
 
 -- the mesh welded
 is_welded : (m : Mesh) → IsClosed (all_edges m.triples) → IsWeldedOf m (read_of_stl m)
@@ -155,9 +158,11 @@ stl_texts_read_back k limits m few lawful given = record { welded = welded; read
   text : Bytes
   text = stl_text k m.points m.triples
 
-  read : (name : Bytes) (files : Files) → is_stl name ≡ true → files name ≡ Some text → length text ≤ limits.file_bytes → (ask_mesh k limits name files).result ≡ Ok (read_of_stl m)
+  read : (name : Bytes) (files : Files) → is_stl name ≡ true → files name ≡ Some text → length text ≤ limits.file_bytes →
+      (ask_mesh k limits name files).result ≡ Ok (read_of_stl m)
   read name files stl is short =
-      let within : IsWithin limits m.points m.triples = record { on_grid = given.given.on_grid; mesh = given.given.accepted.mesh; few_points = given.few_points; few_triples = given.few_triples } in
+      let within : IsWithin limits m.points m.triples =
+      record { on_grid = given.given.on_grid; mesh = given.given.accepted.mesh; few_points = given.few_points; few_triples = given.few_triples } in
       let taken : Result Bytes Refusal → Result Soup Refusal = λ r. (joined (Ask name ∷ []) r (λ bytes. give (checked name (mesh_soup k limits name bytes)) files)).result in
       let reads : mesh_soup k limits name text ≡ Ok (read_of_stl m) =
       ap (λ b. soup_in (if b then Stl else Obj) k limits text) stl ∙ meshes_read_welded k few limits lawful m.points m.triples within in
