@@ -6,7 +6,7 @@ top=$(cd "$(dirname "$0")/.." && pwd) || exit 1
 copy=$(mktemp -d) || exit 1
 trap 'rm -rf "$copy"' EXIT
 git clone -q "$top" "$copy/here" && cd "$copy/here" || exit 1
-echo "audit_bench: mb_base mb_outside rounding shadow_kernels mesh_check mesh_files steps retained_verts mesh_boolean" >> crates.txt
+echo "audit_bench: mb_base mb_outside rounding shadow_kernels mesh_check mesh_files retained_verts mesh_boolean" >> crates.txt
 mkdir -p crates/audit_bench/src
 cp "$top/benches/audit/main.rt.txt" crates/audit_bench/src/main.rt
 mkdir -p crates/audit_bench/proofs/union_of

@@ -1,7 +1,8 @@
-// Stands before the allocator of a program, by LD_PRELOAD: the growth of memory whose number is in REFUSE is refused, which is told on standard output at once, and so is
+// Stands before the allocator of a program, by LD_PRELOAD: the growth of memory whose number is in REFUSE is refused, for which the file named in TOLD is made, and so is
 // the next, since a collection that is refused what it expects to need asks for one place.
 #define _GNU_SOURCE
 #include <dlfcn.h>
+#include <fcntl.h>
 #include <stdlib.h>
 #include <unistd.h>
 
@@ -19,8 +20,11 @@ __attribute__((constructor)) static void begin(void) {
 static int is_refused(void) {
     ++count;
     if (refused == 0 || count < refused || count > refused + 1) return 0;
-    static const char line[] = "refused\n";
-    if (count == refused && write(1, line, sizeof line - 1) < 0) abort();
+    if (count == refused) {
+        int file = open(getenv("TOLD"), O_CREAT | O_WRONLY, 0600);
+        if (file < 0) abort();
+        close(file);
+    }
     return 1;
 }
 
