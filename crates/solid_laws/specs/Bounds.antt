@@ -52,7 +52,7 @@ module _ (b : ℤ) (sized : pos 0 ≤ℤ b) where
   wide_great = omega (arith, ints, square)
 
   -- a distance
-  distance : (x y : ℤ) → IsUpTo b x → IsUpTo b y → IsUpTo (span b) (y -ℤ x)
+  pub distance : (x y : ℤ) → IsUpTo b x → IsUpTo b y → IsUpTo (span b) (y -ℤ x)
   distance x y h k = record { low = omega (arith, ints, h.high, k.low); high = omega (arith, ints, h.low, k.high) }
 
   -- a distance is under the wide number
@@ -64,7 +64,7 @@ module _ (b : ℤ) (sized : pos 0 ≤ℤ b) where
   near_by c d h k = record { x = under _ (distance _ _ h.x k.x); y = under _ (distance _ _ h.y k.y) }
 
   -- a number of a normal turned
-  minor_under : (e f g h : ℤ) → IsUpTo (span b) e → IsUpTo (span b) f → IsUpTo (span b) g → IsUpTo (span b) h → IsUnder (wide b) (neg_ℤ (e *ℤ f -ℤ g *ℤ h))
+  pub minor_under : (e f g h : ℤ) → IsUpTo (span b) e → IsUpTo (span b) f → IsUpTo (span b) g → IsUpTo (span b) h → IsUnder (wide b) (neg_ℤ (e *ℤ f -ℤ g *ℤ h))
   minor_under e f g h ie jf ig ih =
       let p = up_to_mul (span b) e f ie jf in
       let q = up_to_mul (span b) g h ig ih in

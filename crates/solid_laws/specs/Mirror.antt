@@ -65,13 +65,13 @@ shadow10_mirror w a b q =
     by false true x y = omega (arith, ints)
 
 -- a product of differences turned
-turned_product : (a b c d : ℤ) → (neg_ℤ a -ℤ neg_ℤ b) *ℤ (neg_ℤ c -ℤ neg_ℤ d) ≡ (a -ℤ b) *ℤ (c -ℤ d)
+pub turned_product : (a b c d : ℤ) → (neg_ℤ a -ℤ neg_ℤ b) *ℤ (neg_ℤ c -ℤ neg_ℤ d) ≡ (a -ℤ b) *ℤ (c -ℤ d)
 turned_product a b c d = by (a -ℤ b) (c -ℤ d) (neg_ℤ a -ℤ neg_ℤ b) (neg_ℤ c -ℤ neg_ℤ d) (omega (arith, ints)) (omega (arith, ints)) where
   by : (x y x' y' : ℤ) → x' ≡ neg_ℤ x → y' ≡ neg_ℤ y → x' *ℤ y' ≡ x *ℤ y
   by x y x' y' e f = rw (e, f) (omega (arith, ints, neg-mul x (neg_ℤ y), mul-neg x y))
 
 -- a normal stays
-same_vector : (x y z x' y' z' : ℤ) → x ≡ x' → y ≡ y' → z ≡ z' → ◌≡◌ {A = Vector} (record { x = x; y = y; z = z }) (record { x = x'; y = y'; z = z' })
+pub same_vector : (x y z x' y' z' : ℤ) → x ≡ x' → y ≡ y' → z ≡ z' → ◌≡◌ {A = Vector} (record { x = x; y = y; z = z }) (record { x = x'; y = y'; z = z' })
 same_vector x y z x' y' z' e f g = cc
 
 -- differences of equal numbers
@@ -79,7 +79,7 @@ minus : (a b c d : ℤ) → a ≡ b → c ≡ d → a -ℤ c ≡ b -ℤ d
 minus a b c d e f = cc
 
 -- the normal of turned corners
-normal_mirror : (u v t : Corner) → face_normal (position (mirror u)) (position (mirror v)) (position (mirror t)) ≡ face_normal (position u) (position v) (position t)
+pub normal_mirror : (u v t : Corner) → face_normal (position (mirror u)) (position (mirror v)) (position (mirror t)) ≡ face_normal (position u) (position v) (position t)
 normal_mirror u v t =
     same_vector _ _ _ _ _ _
     (minus _ _ _ _ (turned_product (axis 1 v) (axis 1 u) (axis 2 t) (axis 2 u)) (turned_product (axis 2 v) (axis 2 u) (axis 1 t) (axis 1 u)))

@@ -14,7 +14,7 @@ use Rattle.space_laws.specs.Space.{Seen}
 use Rattle.solid_laws.specs.Moved.{moved_volume}
 
 -- the number that decides has the normal's sign in z, or has not
-pull : (n : Vector) (h : ℤ) → is_above n h ≡ same_sign (height_or_lead n h) n.z
+pub pull : (n : Vector) (h : ℤ) → is_above n h ≡ same_sign (height_or_lead n h) n.z
 pull n h = by (int_eq h (pos 0)) where
   by : (b : Bool) → (if b then same_sign (leading n) n.z else same_sign h n.z) ≡ same_sign (if b then leading n else h) n.z
   by true = refl
@@ -76,12 +76,12 @@ scaled c a b b' h e (both_zero i k) = both_zero i (e ∙ ap (λ (t : ℤ). c *�
   nothing c = omega (arith, ints)
 
 -- tests of numbers with one sign
-record SameTests (a b : ℤ) : Type 0 where
-  above : int_lt (pos 0) a ≡ int_lt (pos 0) b
-  below : int_lt a (pos 0) ≡ int_lt b (pos 0)
+pub record SameTests (a b : ℤ) : Type 0 where
+  pub above : int_lt (pos 0) a ≡ int_lt (pos 0) b
+  pub below : int_lt a (pos 0) ≡ int_lt b (pos 0)
 
 -- and they come out alike
-same_tests : (a b : ℤ) → OneSign a b → SameTests a b
+pub same_tests : (a b : ℤ) → OneSign a b → SameTests a b
 same_tests a b (both_above h k) = record { above = yes a h ∙ sym (yes b k); below = no a h ∙ sym (no b k) } where
   yes : (z : ℤ) → pos 0 <ℤ z → int_lt (pos 0) z ≡ true
   yes z h = grind (arith, ints)

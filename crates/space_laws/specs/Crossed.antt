@@ -52,7 +52,7 @@ pub record Mark (areas : Bool → Type 0) (n v h : ℤ) : Type 0 where
   pub shadow : h +ℤ h ≡ n -ℤ unit sight
 
 -- a pair is met or not
-pub Pair : (Bool → Type 0) → ℤ → ℤ → ℤ → Type 0
+unfoldable pub Pair : (Bool → Type 0) → ℤ → ℤ → ℤ → Type 0
 Pair areas n v h = ((n ≡ pos 0) × (h ≡ pos 0)) ⊎ Mark areas n v h
 
 -- three areas of one sign, moved on

@@ -1,0 +1,10 @@
+pub mod Backwards
+pub mod EdgeHair
+pub mod EdgePairs
+pub mod Fine
+pub mod FiveSigns
+pub mod Laws
+pub mod Numbers
+pub mod PlainWays
+pub mod Through
+pub mod Ways
