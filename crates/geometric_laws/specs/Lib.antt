@@ -1,2 +1,3 @@
 pub mod Geometric
 pub mod Laws
+pub mod Outcomes

@@ -4,4 +4,7 @@
 //! The definitions stand in `specs/Geometric.antt`, over those of `solid_terms`. The function of `laws` does nothing, and its contract is the law.
 #![tactic(auto)]
 
+mod calls;
 pub mod laws;
+
+pub use calls::exact_boolean;
