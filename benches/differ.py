@@ -45,7 +45,7 @@ class Guarded(program.Program):
     def do(self, step, digits):
         """One line of a script, if it is not too much."""
         sizes = [len(getattr(held, "triples", None) or held.points) for held in map(self.held.get, step.operands[1:3])
-                 if held is not None] if step.command not in (b"save", b"measure", b"load") else []
+                 if held is not None] if step.command not in (b"save", b"measure", b"inspect", b"load") else []
         if len(sizes) == 2 and sizes[0] * sizes[1] > MOST_PAIRS or step.command in (b"tidy", b"remesh") and sizes[0] > 1500:
             raise TooMuch
         super().do(step, digits)

@@ -25,6 +25,7 @@ box c 1 1 -1 3 3 5
 subtract d a c
 union e d b
 measure e
+inspect e
 mirror f e x
 exact
 intersect g e a

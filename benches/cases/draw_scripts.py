@@ -7,7 +7,7 @@ from mesh import Mesh
 NAMES = ["a", "b", "c", "d", "e", "A", "x_1", "long_name_of_thirty_two_bytes_ab"]
 BAD_LINES = [
     "cut a b", "Union a a b", "load", "load a", "load a b c.obj", "load 1a m0.obj", "load a m0.ply", "load a m0",
-    "load a .obj", "load a none.obj", "save zz o.obj", "measure zz", "measure", "measure a b", "union zz a nope",
+    "load a .obj", "load a none.obj", "save zz o.obj", "measure zz", "measure", "measure a b", "inspect zz", "inspect", "inspect a b", "union zz a nope",
     "union u 9 a", "box a 0 0 0 1 1", "box a 0 0 0 1 1 x", "box a 0 0 0 1 1 99999999999", "box a 0 0 0 0 1 1",
     "box a 1 1 1 0 0 0", "box a 0 0 0 1 1 1.5e", "tetra a 0 0 0 0", "tetra a 0 0 0 -1", "tetra a 1073741824e-6 0 0 1",
     "prism a 0 0 0 1 0", "prism a 0 0 0 0 1", "lattice a 0 0", "lattice a 61 0", "lattice a 1 1000000", "lattice a +1 0",
@@ -16,7 +16,7 @@ BAD_LINES = [
     "shift a a 1 2 3 4", "exact now", "exact", "tidy a", "remesh a", "remesh a zz", "remesh a a a", "polygon a 0 0 1 1",
     "polygon a 0 0 1 0 1", "polygon a 0 0 1 0 1 y", "polygon", "polygon a " + "1 " * 128, "polygon a " + "1 " * 130,
     "union2 a a a", "extrude a a 0 1", "extrude a a 1 1", "name_that_is_much_too_long_for_this 1",
-    "measure name_that_is_much_too_long_for_this_", "measure a#b", "# only a comment", "measure a # tail", "tidy zz zz",
+    "measure name_that_is_much_too_long_for_this_", "measure a#b", "inspect 1", "# only a comment", "measure a # tail", "tidy zz zz",
 ]
 
 
@@ -106,10 +106,12 @@ class Script:
         self.give("%s %s %s" % (self.draw.choice(["tidy", "remesh", "remesh"]), name, old), name, self.weight[old])
 
     def tell(self):
-        """A mesh measured or saved."""
+        """A mesh measured, inspected or saved."""
         draw, old = self.draw, self.old(most=5000)
         if old is None:
             self.make()
+        elif draw.random() < 0.4 and self.weight[old] <= 300:
+            self.lines.append("inspect " + old)
         elif draw.random() < 0.6:
             self.lines.append("measure " + old)
         else:
@@ -188,6 +190,8 @@ class Script:
         for name, kind in self.holds.items():
             if kind == "mesh" and draw.random() < 0.7 and self.weight[name] <= 5000:
                 self.lines.append("measure " + name)
+                if self.weight[name] <= 300:
+                    self.lines.append("inspect " + name)
                 self.lines.append("save %s end_%s.%s" % (name, name, "obj" if draw.random() < 0.9 else "stl"))
         if draw.random() < 0.08:
             self.lines.insert(draw.randint(0, len(self.lines)), draw.choice(BAD_LINES))

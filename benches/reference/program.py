@@ -1,6 +1,8 @@
 """The program: copy, inside and run, over a folder."""
 from faults import KINDS, Ended, Failed, NotMade, OpenEdge, Over, ScriptFault, TextFault
 from command_line import parsed
+from grid import written
+import inspections
 from kernels import Exact, Grid
 from limits import Limits
 from mesh import checked
@@ -101,7 +103,7 @@ class Program:
     def do(self, step, digits):
         """One line of a script."""
         command, words = step.command, step.operands
-        if command in (b"load", b"save", b"measure"):
+        if command in (b"load", b"save", b"measure", b"inspect"):
             self.show(command, words, digits)
         elif command == b"exact":
             self.kernels = Exact()
@@ -115,7 +117,7 @@ class Program:
             self.held[words[0]] = self.made(command, words[1:])
 
     def show(self, command, words, digits):
-        """Loads, saves or measures a mesh."""
+        """Loads, saves, measures or inspects a mesh."""
         if command == b"load":
             name, file = words
             mesh = self.held[name] = self.read_mesh(file, digits)
@@ -126,6 +128,11 @@ class Program:
             mesh = self.held[name]
             self.write_mesh(file, mesh, digits)
             self.say(b"save %s %s: points %d, triangles %d" % (name, file, len(mesh.points), len(mesh.triples)))
+        elif command == b"inspect":
+            mesh = self.held[words[0]]
+            low, high, *counts = inspections.inspect(mesh.points, mesh.triples)
+            box = [written(coordinate, digits) for coordinate in low + high]
+            self.say(b"%s: low %s %s %s, high %s %s %s, flat %d, doubled %d, touching %d, cuts %d" % (words[0], *box, *counts))
         else:
             self.say(b"%s: points %d, triangles %d, components %d, euler %d, volume6 %d"
                      % (words[0], *solids.measure(self.held[words[0]])))

@@ -14,7 +14,8 @@ RANGES = {"N": (1, 60), "SEED": (0, 999999), "FACTOR": (1, 1000000)}
 # Of each command its operands, and what the name that it gives then has. NAME is a new name, MESH and OUTLINE are the
 # name of one, NUM is a number in units.
 COMMANDS = {
-    b"load": ("NAME FILE", "MESH"), b"save": ("MESH FILE", None), b"measure": ("MESH", None), b"exact": ("", None),
+    b"load": ("NAME FILE", "MESH"), b"save": ("MESH FILE", None), b"measure": ("MESH", None),
+    b"inspect": ("MESH", None), b"exact": ("", None),
     b"union": ("NAME MESH MESH", "MESH"), b"intersect": ("NAME MESH MESH", "MESH"),
     b"subtract": ("NAME MESH MESH", "MESH"), b"box": ("NAME NUM NUM NUM NUM NUM NUM", "MESH"),
     b"tetra": ("NAME NUM NUM NUM NUM", "MESH"), b"prism": ("NAME NUM NUM NUM NUM NUM", "MESH"),

@@ -1,6 +1,7 @@
 """Rows of crates/mesh_tests, crates/text_tests and crates/outline_tests."""
 from faults import NotANumber, OffGrid
 from grid import read_number, written
+from inspections import inspect
 from kernels import Exact, Grid
 from mesh import reduced, split
 import outlines
@@ -27,6 +28,13 @@ def remeshed(line):
     words = line.split(" ")[:2]
     done, patches, kept = remesh(mesh_of(*words))
     return " ".join(words + [word(done.points), word(done.triples), str(patches), str(kept)])
+
+
+def inspections(line):
+    """A mesh, and the same one the other way round; then the four counts of both."""
+    words = line.split(" ")[:4]
+    mesh = mesh_of(*words[:2])
+    return " ".join(words + [str(count) for count in inspect(mesh.points, mesh.triples)[2:]])
 
 
 def read(line):
@@ -90,6 +98,7 @@ def outline(line):
 TABLES = {
     "acceptance": ("mesh_tests/src/acceptance/table.rt", ["ROWS"], 1, acceptance),
     "pinches": ("mesh_tests/src/pinches/table.rt", ["ROWS"], 1, pinches),
+    "inspections": ("mesh_tests/src/inspections/table.rt", ["ROWS"], 1, inspections),
     "remeshing": ("mesh_tests/src/remeshing/table.rt", ["ROWS"], 1, remeshed),
     "numbers read": ("text_tests/src/decimals/table.rt", ["READ"], 1, read),
     "numbers written": ("text_tests/src/decimals/table.rt", ["WRITTEN"], 1, shown),

@@ -1,11 +1,7 @@
 """Draws the flat figures of docs/GUIDE.md and docs/METHOD.md. Usage: figures.py FOLDER BEFORE AFTER
 
-BEFORE and AFTER are the plate of "A part for the printer" without and with its line `remesh`, files that examples/flat.py reads."""
+BEFORE and AFTER are the plate of "A part for the printer" without and with its line `remesh`, OBJ files of triangles."""
 import math, os, sys
-
-sys.dont_write_bytecode = True  # beside the examples
-sys.path.insert(0, os.path.join(os.path.dirname(os.path.abspath(__file__)), "../../examples"))
-import flat
 
 INK, SOFT, P, Q, GOOD, BAD = "#1d2733", "#8a94a0", "#2f6db3", "#c07a1e", "#3d8b40", "#d00000"
 
@@ -329,18 +325,30 @@ def pinching(folder):
     f.save(folder, "pinching.svg")
 
 
+def read(name):
+    """The points and the triangles of an OBJ file."""
+    with open(name) as file:
+        lines = [line.split() for line in file]
+    points = [tuple(map(float, words[1:])) for words in lines if words[:1] == ["v"]]
+    return points, [tuple(int(word) - 1 for word in words[1:]) for words in lines if words[:1] == ["f"]]
+
+
+def turns_up(a, b, c):
+    """Whether a triangle in a plane of one height turns its outside upwards."""
+    return (b[0] - a[0]) * (c[1] - a[1]) > (b[1] - a[1]) * (c[0] - a[0])
+
+
 def underside(f, left, top, unit, name):
-    """The lowest face of a mesh, as it is seen from below: its triangles, those that are folded in red, and its points."""
-    points, triangles = flat.read(name)
-    normals = [flat.normal(*(points[v] for v in t)) for t in triangles]
-    folded = set(flat.folded(points, triangles, normals))
+    """The lowest face of a mesh, as it is seen from below: its triangles, those that are turned over in red, and its points."""
+    points, triangles = read(name)
     low = min(p[2] for p in points)
-    face = [k for k, t in enumerate(triangles) if all(points[v][2] == low for v in t)]
-    at = [(left + float(p[0]) * unit, top + float(p[1]) * unit) for p in points]
+    face = [t for t in triangles if all(points[v][2] == low for v in t)]
+    at = [(left + p[0] * unit, top + p[1] * unit) for p in points]
     for is_over, colour, fill in ((False, INK, "#dbe8f6"), (True, BAD, "#ee9c9c")):
-        for k in (k for k in face if (k in folded) == is_over):
-            f.line([at[v] for v in triangles[k]], colour, 1.5, "", fill, True)
-    for v in sorted({v for k in face for v in triangles[k]}):
+        for t in face:
+            if turns_up(*(points[v] for v in t)) == is_over:
+                f.line([at[v] for v in t], colour, 1.5, "", fill, True)
+    for v in sorted({v for t in face for v in t}):
         f.dot(at[v], INK, 3)
 
 

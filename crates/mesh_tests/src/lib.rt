@@ -1,8 +1,10 @@
-//! Tests of twins, of accepted meshes and their reduction, of sides, pinches, made solids and remeshed results, by the public calls.
+//! Tests of twins, of accepted meshes and their reduction, of inspections, sides, pinches, made solids and remeshed results, by the public calls.
 #![tactic(auto)]
 
 #[cfg(test)]
 mod acceptance;
+#[cfg(test)]
+mod inspections;
 #[cfg(test)]
 mod lines;
 #[cfg(test)]

@@ -1,6 +1,7 @@
--- Operations under the kernels that a script may choose, and remeshing.
+-- Operations under the kernels that a script may choose, remeshing, and how many pairs of triangles cut one another.
 use Rattle.edge_face.specs.Crossings.{Settle, edge_face_crossing, face_edge_crossing}
 use Rattle.exact_kernels.specs.Exact.{exact}
+use Rattle.inspection_laws.specs.Counts.{cuts_of}
 use Rattle.mb_base.specs.declared.kernel_kind.KernelKind.{KernelKind}
 use Rattle.mb_base.specs.declared.kernel_kind.KernelKind.TheVariants.{Exact, Grid}
 use Rattle.mesh_boolean.specs.Operation.{Outcome, Tests, operation}
@@ -68,6 +69,7 @@ meanings_under kernels =
     record {
       operation = λ op p q. told_of (operation (tests_under kernels) op p q);
       remeshing = told_remeshed;
+      cuts = cuts_of;
       outlines = λ op p q. told2_of (outcome_of op p q (flat_numbers_under kernels op p q));
       extrusion = λ o low high. record { mesh = extruded o low high; forced = (filling_of o).forced };
     }

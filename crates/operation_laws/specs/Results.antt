@@ -1,5 +1,5 @@
--- What an operation gives of two meshes, or of two outlines, under the kernels that a script may choose, and an extrusion of an outline: a result of them; and what
--- remeshing keeps of the meshes of a script.
+-- What an operation gives of two meshes, or of two outlines, under the kernels that a script may choose, and an extrusion of an outline: a result of them; what
+-- remeshing keeps of the meshes of a script; and what an inspection counts.
 use Rattle.std.specs.Prelude.{◌≡◌, ◌≤◌, ℕ, ℤ, pos, ◌-ℤ◌, ◌*ℤ◌, min, length, List, None, Ok, map}
 use Rattle.std.specs.List.Sorted.{IsPermutation}
 use Rattle.mb_base.specs.declared.kernel_kind.KernelKind.{KernelKind}
@@ -20,6 +20,7 @@ use Rattle.pinch_split.specs.Back.{ComeFrom}
 use Rattle.play_terms.specs.Plays.{State, at_first, extrusion_fault, mesh_at, outline_at, steps_task, vertex_count}
 use Rattle.play_terms.specs.Sound.{HavePlaces}
 use Rattle.play_terms.specs.Steps.{Line}
+use Rattle.inspection_terms.specs.Inspected.{IsCutCount}
 use Rattle.mesh_boolean.specs.Operation.{Outcome, face_labels, first_side, operation, second_side}
 use Rattle.mesh_boolean.specs.Results.{AreBounded, ConserveIn, IsCleanOver, copies_in}
 use Rattle.operation_laws.specs.Kernels.{flat_numbers_under, meanings_under, tests_under}
@@ -102,3 +103,7 @@ GivesRemeshed k limits script =
 
 abbrev pub ScriptsRemesh : Type 0
 ScriptsRemesh = (k : ℕ) (limits : Limits) → k ≤ 6 → IsLawful limits → (script : Bytes) → GivesRemeshed k limits script
+
+-- and the number of cuts that an inspection says of a mesh, whichever kernels the lines chose, is that of the pairs of its triangles that cut one another
+abbrev pub CutsAreCounted : Type 0
+CutsAreCounted = (kernels : KernelKind) (m : Mesh) → IsCutCount m ((meanings_under kernels).cuts m)

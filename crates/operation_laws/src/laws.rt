@@ -1,7 +1,7 @@
 //! The laws, each as the contract of a function that does nothing.
 
 ghost use Rattle.operation_laws.specs.Laws.{OperationsAreAccepted, OperationsAreReadable};
-ghost use Rattle.operation_laws.specs.Results.{OperationsAreResults, ScriptsGiveResults, ScriptsRemesh};
+ghost use Rattle.operation_laws.specs.Results.{CutsAreCounted, OperationsAreResults, ScriptsGiveResults, ScriptsRemesh};
 
 use remesh_laws::laws::{patches_are_kept, patches_are_patches, remeshing_remeshes, welding_keeps};
 use source_face_laws::of_fillings::{faces_are_filled, fillings_close};
@@ -21,11 +21,13 @@ pub fn operations_are_readable()
 /// `most_halfedges`, which no lawful limit passes: along each half-edge of both, reduced, the winding number in the other changes by its signed
 /// crossings; the vertices, before pinched ones are split, are the prescribed ones, each as often; the triangles of each source face are bounded
 /// by its segments and have its label; and the mesh is closed, its half-edges are paired, and each vertex has one fan. The meshes of the names of a script are such
-/// meshes, whatever lines of it were done; and remeshing keeps of the mesh of a name what `remesh` says.
+/// meshes, whatever lines of it were done; and remeshing keeps of the mesh of a name what `remesh` says. The number of cuts that an inspection says of a mesh is
+/// that of the pairs of its triangles that cut one another.
 pub fn operations_are_results()
     ensures results { OperationsAreResults }
     ensures scripts { ScriptsGiveResults }
     ensures remeshed { ScriptsRemesh }
+    ensures inspected { CutsAreCounted }
 {
     // The laws of fillings, and of remeshing.
     faces_are_filled();

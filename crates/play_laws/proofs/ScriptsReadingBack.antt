@@ -18,16 +18,16 @@ use Rattle.play_terms.specs.Formats.{mesh_text}
 use Rattle.play_terms.specs.ReadingBack.{IsReadable, WritesReadable}
 use Rattle.play_laws.proofs.ReadingBack.{mesh_asked, read_again}
 use Rattle.play_terms.specs.Combined.{Combined, Combined2, Extruded}
-use Rattle.play_terms.specs.ScriptLines.{load_line, save_line, measure_line, combine_line, tidy_line, remesh_line, combine2_line, extrude_line}
+use Rattle.play_terms.specs.ScriptLines.{load_line, save_line, measure_line, inspect_line, combine_line, tidy_line, remesh_line, combine2_line, extrude_line}
 use Rattle.made_terms.specs.Making.{solid_fault, solid_mesh}
 use Rattle.made_terms.specs.Motions.{motion_fault, moved_mesh}
 use Rattle.made_terms.specs.declared.motion.Motion.{Motion}
 use Rattle.made_terms.specs.declared.solid.Solid.{Solid}
 use Rattle.play_terms.specs.Plays.{Held, Meanings, Named, OfMesh, OfOutline, with_held, with_name, with_outline, mesh_at, mesh_held, mesh_or_none, outline_at, outline_held, outline_or_none, within, made}
-use Rattle.play_terms.specs.Plays.{load_task, save_task, measure_task, combine_task, polygon_task, combine2_task, extrude_task, extruded, extrusion_fault, vertex_count, within2}
+use Rattle.play_terms.specs.Plays.{load_task, save_task, measure_task, inspect_task, combine_task, polygon_task, combine2_task, extrude_task, extruded, extrusion_fault, vertex_count, within2}
 use Rattle.play_terms.specs.Plays.{State, at_first, line_task, make_task, move_task, script_checked, script_task, remesh_task, state_after, step_task, steps_task, tidy_task}
 use Rattle.play_terms.specs.Scripts.{script}
-use Rattle.play_terms.specs.Steps.{Line, Step, Load, Save, Measure, Combine, Make, Move, Tidy, Remesh, Polygon, Combine2, Extrude, Exact}
+use Rattle.play_terms.specs.Steps.{Line, Step, Load, Save, Measure, Inspect, Combine, Make, Move, Tidy, Remesh, Polygon, Combine2, Extrude, Exact}
 use Rattle.play_terms.specs.Sound.{HasPlaces, HavePlaces, IsRing}
 use Rattle.play_terms.proofs.Soundness.{script_sound, sound_places}
 use Rattle.mesh_terms.specs.Points.{IsOnGrid}
@@ -142,6 +142,9 @@ module _ (means : KernelKind → Meanings) (k : ℕ) (limits : Limits) (few : k 
   measure_keeps : (name : Bytes) (m : Mesh) (named : Named) → Names named → Keeps Writes Names (measure_task name m named)
   measure_keeps name m named all = told (measure_line name m) named all
 
+  inspect_keeps : (kernels : KernelKind) (name : Bytes) (m : Mesh) (named : Named) → Names named → Keeps Writes Names (inspect_task (means kernels) k name m named)
+  inspect_keeps kernels name m named all = told (inspect_line k name m ((means kernels).cuts m)) named all
+
   combine_keeps : (kernels : KernelKind) (op : Op) (name left right : Bytes) (named : Named) → Names named →
       Keeps Writes Names (combine_task (means kernels) limits op name left right named)
   combine_keeps kernels op name left right named all =
@@ -219,6 +222,7 @@ module _ (means : KernelKind → Meanings) (k : ℕ) (limits : Limits) (few : k 
   step_keeps kernels script line (Load name file) named places all = load_keeps name file named all
   step_keeps kernels script line (Save name file) named places all = save_keeps name file (mesh_at named name) named all (all.meshes name)
   step_keeps kernels script line (Measure name) named places all = measure_keeps name (mesh_at named name) named all
+  step_keeps kernels script line (Inspect name) named places all = inspect_keeps kernels name (mesh_at named name) named all
   step_keeps kernels script line (Combine op name left right) named places all = combine_keeps kernels op name left right named all
   step_keeps kernels script line (Make name solid) named places all = make_keeps script line name solid named all
   step_keeps kernels script line (Move name old motion) named places all = move_keeps script line name old motion named all

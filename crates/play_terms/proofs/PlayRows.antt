@@ -72,6 +72,7 @@ abbrev table : KernelKind → Meanings
 table kernels = record {
   operation = λ op p q. tabled p q;
   remeshing = λ m. record { mesh = m; patches = 0; kept = 0 };
+  cuts = λ m. 0;
   outlines = λ op p q. record { outline = p; p_kept = 0; q_kept = 0; crossings = 0 };
   extrusion = λ o low high. record { mesh = record { points = []; triples = []; labels = [] }; forced = 0 };
 }
@@ -173,6 +174,7 @@ abbrev first : KernelKind → Meanings
 first kernels = record {
   operation = λ op p q. record { mesh = p; p_kept = told_kept kernels (length p.points); q_kept = 0; crossings = 0; forced = 0; halfedges = 36 };
   remeshing = λ m. record { mesh = m; patches = length m.points; kept = length m.triples };
+  cuts = λ m. 0;
   outlines = λ op p q. record { outline = p; p_kept = told_kept kernels (length p.points); q_kept = 1; crossings = 2 };
   extrusion
       = λ o low high. record { mesh = record { points = extruded_points low high o.points; triples = []; labels = [] }; forced = 3 };

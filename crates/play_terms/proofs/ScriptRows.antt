@@ -11,7 +11,7 @@ use Rattle.made_terms.specs.declared.motion.Motion.TheVariants.{Shift, Scale, Mi
 use Rattle.made_terms.specs.declared.solid.Solid.TheVariants.{Box, Tetra, Prism, Lattice}
 use Rattle.play_terms.specs.Operands.{number_of, number_fault}
 use Rattle.play_terms.specs.Scripts.{script}
-use Rattle.play_terms.specs.Steps.{Line, Load, Save, Measure, Combine, Make, Move, Tidy, Remesh, Exact}
+use Rattle.play_terms.specs.Steps.{Line, Load, Save, Measure, Inspect, Combine, Make, Move, Tidy, Remesh, Exact}
 
 -- each of the scripts is refused on line n with this kind
 abbrev AreBad : ℕ → ℕ → List Bytes → Type 0
@@ -53,9 +53,10 @@ one rest = codes "tetra t 0 0 0 6\n" ++ rest
 abbrev after_one : List Line → List Line
 after_one lines = (1, Make (codes "t") (Tetra (point (pos 0) (pos 0) (pos 0)) (pos 6))) ∷ lines
 
--- solids, motions and measures under no digits, and numbers under four
+-- solids, motions, measures and inspections under no digits, and numbers under four
 record AreMade : Type 0 where
   measure : Gives (after_one ((2, Measure (codes "t")) ∷ [])) (one (codes "measure t"))
+  inspect : Gives (after_one ((2, Inspect (codes "t")) ∷ (3, Inspect (codes "t")) ∷ [])) (one (codes "inspect t\ninspect t"))
   box : Gives ((1, Make (codes "a") (Box (point (neg_ℤ (pos 1)) (pos 2) (pos 3)) (point (pos 40) (pos 5) (pos 6)))) ∷ []) (codes "box a -1 2. 3.4 +4e1 05 5.5")
   tetra : Gives (after_one []) (one [])
   exact : Gives ((1, Exact) ∷ (2, Make (codes "t") (Tetra (point (pos 0) (pos 0) (pos 0)) (pos 6))) ∷ (4, Exact) ∷ []) (codes "exact # kernels\ntetra t 0 0 0 6\n\nexact\n")
@@ -75,6 +76,7 @@ are_made : AreMade
 unfolding chars is_utf8 encode_utf8 number_of number_fault
 are_made = record {
   measure = refl;
+  inspect = refl;
   box = refl;
   tetra = refl;
   exact = refl;
@@ -99,11 +101,11 @@ record HaveNoValue : Type 0 where
       "lattice l 1 1000000" ∷ [])
   factors : AreBad 2 24 (one (codes "scale s t 0") ∷ one (codes "scale s t 1000001") ∷ [])
   axes : AreBad 2 24 (one (codes "mirror m t X") ∷ one (codes "turn m t w") ∷ one (codes "turn m t xy") ∷ [])
-  counts : AreBad 1 21 (codes "box a 0 0 0 1 1" ∷ codes "tetra t 0 0 0 6 6" ∷ codes "measure" ∷ codes "exact a" ∷ codes "tidy a" ∷ codes "tidy a b c" ∷ codes "remesh a" ∷ [])
+  counts : AreBad 1 21 (codes "box a 0 0 0 1 1" ∷ codes "tetra t 0 0 0 6 6" ∷ codes "measure" ∷ codes "inspect" ∷ codes "inspect a a" ∷ codes "exact a" ∷ codes "tidy a" ∷ codes "tidy a b c" ∷ codes "remesh a" ∷ [])
   name_first : AreBad 1 22 (codes "lattice 1 0 0" ∷ [])
   old_first : AreBad 1 23 (codes "scale s t 0" ∷ codes "tidy t t" ∷ codes "remesh t t" ∷ [])
   old_name_first : AreBad 2 22 (one (codes "mirror m 1 w") ∷ [])
-  measured : AreBad 2 23 (one (codes "measure T") ∷ [])
+  measured : AreBad 2 23 (one (codes "measure T") ∷ one (codes "inspect T") ∷ [])
 
 have_no_value : HaveNoValue
 unfolding chars is_utf8 encode_utf8 number_of number_fault

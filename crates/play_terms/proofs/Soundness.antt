@@ -12,7 +12,7 @@ use Rattle.mb_base.specs.declared.op.Op.{Op}
 use Rattle.mb_base.specs.declared.op.Op.TheVariants.{Union, Intersect, Subtract}
 use Rattle.text_terms.specs.FirstFault.{then_read, on_line}
 use Rattle.run_terms.specs.Files.{Bytes}
-use Rattle.play_terms.specs.ScriptCommands.{ScriptCommand, at, load, save, measure, combine, tidy, remesh, polygon, combine2, extrude, exact, box, tetra, prism, lattice, shift, scale, mirror, turn, commands, motions, outlines, solids, named_in, command_named, number_at, pair_at, ring_at, ring_numbers}
+use Rattle.play_terms.specs.ScriptCommands.{ScriptCommand, at, load, save, measure, inspect, combine, tidy, remesh, polygon, combine2, extrude, exact, box, tetra, prism, lattice, shift, scale, mirror, turn, commands, motions, outlines, solids, named_in, command_named, number_at, pair_at, ring_at, ring_numbers}
 use Rattle.play_terms.specs.Formats.{is_mesh_name}
 use Rattle.made_terms.specs.declared.motion.Motion.{Motion}
 use Rattle.made_terms.specs.declared.solid.Solid.{Solid}
@@ -21,7 +21,7 @@ use Rattle.play_terms.specs.Scripts.{unless_refused, command_step, step_by, scri
 use Rattle.made_terms.specs.Making.{IsSolid}
 use Rattle.made_terms.specs.Motions.{IsMotion}
 use Rattle.play_terms.specs.Sound.{IsSound, AreSound, HasNumbers, HasPlaces, HavePlaces}
-use Rattle.play_terms.specs.Steps.{Line, Step, Load, Save, Measure, Combine, Make, Move, Tidy, Remesh, Polygon, Combine2, Extrude, Exact, is_given, mesh_of, outline_of}
+use Rattle.play_terms.specs.Steps.{Line, Step, Load, Save, Measure, Inspect, Combine, Make, Move, Tidy, Remesh, Polygon, Combine2, Extrude, Exact, is_given, mesh_of, outline_of}
 use Rattle.play_terms.specs.declared.held.HeldKind.{HeldKind}
 use Rattle.play_terms.specs.declared.held.HeldKind.TheVariants as held
 use Rattle.play_terms.proofs.Taken.{both, name_taken, old_taken, file_taken, number_taken, within_taken, axis_taken, point_taken, none_at}
@@ -72,6 +72,11 @@ save_sound k before ws count none =
 
 measure_sound : GivesSound measure
 measure_sound k before ws count none =
+    let old = old_taken held.Mesh before (at ws 0) (none 0 (omega arith)) in
+    record { given = one (IsGiven before) (mesh_of (at ws 0)) old.1; names = one IsNamed (at ws 0) old.0; files = All-nil IsFile; numbers = tt }
+
+inspect_sound : GivesSound inspect
+inspect_sound k before ws count none =
     let old = old_taken held.Mesh before (at ws 0) (none 0 (omega arith)) in
     record { given = one (IsGiven before) (mesh_of (at ws 0)) old.1; names = one IsNamed (at ws 0) old.0; files = All-nil IsFile; numbers = tt }
 
@@ -258,8 +263,34 @@ all_sound : Each GivesSound commands
 all_sound =
     let drawing : Each GivesSound outlines = (polygon_sound, (combine2_sound Union, (combine2_sound Intersect, (combine2_sound Subtract, (extrude_sound, tt))))) in
     let making : Each GivesSound (solids ++ (motions ++ outlines)) =
-    (box_sound, (tetra_sound, (prism_sound, (lattice_sound, (shift_sound, (scale_sound, (mirror_sound, (turn_sound, drawing)))))))) in
-    (load_sound, (save_sound, (measure_sound, (combine_sound Union, (combine_sound Intersect, (combine_sound Subtract, (tidy_sound, (remesh_sound, (exact_sound, making)))))))))
+    (box_sound, (tetra_sound, (prism_sound, (lattice_sound, (shift_sound, (scale_sound, (mirror_sound, (turn_sound, drawing)))))))) in (
+      load_sound,
+      (
+        save_sound,
+        (
+          measure_sound,
+          (
+            inspect_sound,
+            (
+              combine_sound Union,
+              (
+                combine_sound Intersect,
+                (
+                  combine_sound Subtract,
+                  (
+                    tidy_sound,
+                    (
+                      remesh_sound,
+                      (exact_sound, making),
+                    ),
+                  ),
+                ),
+              ),
+            ),
+          ),
+        ),
+      ),
+    )
 
 -- the step of a command whose steps are sound
 command_sound : (k : ℕ) (before : List Line) (ws : List Bytes) (c : ScriptCommand) (step : Step) → GivesSound c → command_step k before ws c ≡ Ok step → IsSound before step
@@ -324,6 +355,7 @@ numbers_places : (step : Step) → HasNumbers step → HasPlaces step
 numbers_places (Load name file) such = tt
 numbers_places (Save name file) such = tt
 numbers_places (Measure name) such = tt
+numbers_places (Inspect name) such = tt
 numbers_places (Combine op name left right) such = tt
 numbers_places (Make name solid) such = tt
 numbers_places (Move name old motion) such = tt

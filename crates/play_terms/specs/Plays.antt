@@ -14,20 +14,21 @@ use Rattle.mb_base.specs.declared.op.Op.{Op}
 use Rattle.play_terms.specs.declared.held.HeldKind.{HeldKind}
 use Rattle.play_terms.specs.declared.held.HeldKind.TheVariants as held
 use Rattle.play_terms.specs.Combined.{Combined, Remeshed, Combined2, Extruded}
-use Rattle.play_terms.specs.ScriptLines.{load_line, save_line, measure_line, combine_line, tidy_line, remesh_line, combine2_line, extrude_line}
+use Rattle.play_terms.specs.ScriptLines.{load_line, save_line, measure_line, inspect_line, combine_line, tidy_line, remesh_line, combine2_line, extrude_line}
 use Rattle.made_terms.specs.Making.{solid_fault, solid_mesh}
 use Rattle.made_terms.specs.Motions.{motion_fault, moved_mesh}
 use Rattle.made_terms.specs.declared.motion.Motion.{Motion}
 use Rattle.made_terms.specs.declared.solid.Solid.{Solid}
 use Rattle.play_terms.specs.Scripts.{script}
-use Rattle.play_terms.specs.Steps.{Line, Step, Load, Save, Measure, Combine, Make, Move, Tidy, Remesh, Polygon, Combine2, Extrude, Exact, kernels_after}
+use Rattle.play_terms.specs.Steps.{Line, Step, Load, Save, Measure, Inspect, Combine, Make, Move, Tidy, Remesh, Polygon, Combine2, Extrude, Exact, kernels_after}
 use Rattle.tidy_terms.specs.Tidy.{tidied, tidy_mesh}
 
--- what the steps need of geometry: what an operation gives of two meshes, what remeshing gives of one, what an operation gives of two outlines, and what an
--- outline between two heights is. Solids, motions, tidying and measures are definitions
+-- what the steps need of geometry: what an operation gives of two meshes, what remeshing gives of one, how many pairs of its triangles cut one another, what an
+-- operation gives of two outlines, and what an outline between two heights is. Solids, motions, tidying, measures and what else is inspected are definitions
 pub record Meanings : Type 0 where
   pub operation : Op → Mesh → Mesh → Combined
   pub remeshing : Mesh → Remeshed
+  pub cuts : Mesh → ℕ
   pub outlines : Op → Outline → Outline → Combined2
   pub extrusion : Outline → ℤ → ℤ → Extruded
 
@@ -105,6 +106,12 @@ save_task k name file m named =
 abbrev pub measure_task : Bytes → Mesh → Named → Task Named
 measure_task name m named =
     then_task (say_line (measure_line name m)) (λ _.
+    give (Ok named))
+
+-- the mesh of a name is inspected, and that is told; the names stay
+abbrev pub inspect_task : Meanings → ℕ → Bytes → Mesh → Named → Task Named
+inspect_task means k name m named =
+    then_task (say_line (inspect_line k name m (means.cuts m))) (λ _.
     give (Ok named))
 
 -- refused where more half-edges are prescribed than the limit
@@ -194,6 +201,7 @@ abbrev pub step_task : Meanings → ℕ → Limits → Bytes → ℕ → Step �
 step_task means k limits script line (Load name file) named = load_task k limits name file named
 step_task means k limits script line (Save name file) named = save_task k name file (mesh_at named name) named
 step_task means k limits script line (Measure name) named = measure_task name (mesh_at named name) named
+step_task means k limits script line (Inspect name) named = inspect_task means k name (mesh_at named name) named
 step_task means k limits script line (Combine op name left right) named = combine_task means limits op name left right named
 step_task means k limits script line (Make name solid) named = make_task limits script line name solid named
 step_task means k limits script line (Move name old motion) named = move_task script line name old motion named

@@ -11,7 +11,7 @@ use Rattle.made_terms.specs.declared.motion.Motion.TheVariants.{Shift, Scale, Mi
 use Rattle.made_terms.specs.declared.solid.Solid.{Solid}
 use Rattle.made_terms.specs.declared.solid.Solid.TheVariants.{Box, Tetra, Prism, Lattice}
 use Rattle.play_terms.specs.Operands.{Operand, NewName, OldMesh, OldOutline, FileName, Number, Within, Axis, axis, number_of}
-use Rattle.play_terms.specs.Steps.{Step, Load, Save, Measure, Combine, Make, Move, Tidy, Remesh, Polygon, Combine2, Extrude, Exact}
+use Rattle.play_terms.specs.Steps.{Step, Load, Save, Measure, Inspect, Combine, Make, Move, Tidy, Remesh, Polygon, Combine2, Extrude, Exact}
 
 -- a command: its word, what words stand after it where they are so many, and the step of such words under so many digits
 pub record ScriptCommand : Type 0 where
@@ -46,6 +46,9 @@ save = record { word = codes "save"; operands = λ n. OldMesh ∷ FileName ∷ [
 
 abbrev pub measure : ScriptCommand
 measure = record { word = codes "measure"; operands = λ n. OldMesh ∷ []; step = λ k ws. Measure (at ws 0) }
+
+abbrev pub inspect : ScriptCommand
+inspect = record { word = codes "inspect"; operands = λ n. OldMesh ∷ []; step = λ k ws. Inspect (at ws 0) }
 
 -- the word of an operation
 abbrev pub op_word : Op → Bytes
@@ -151,7 +154,7 @@ outlines = polygon ∷ combine2 Union ∷ combine2 Intersect ∷ combine2 Subtra
 
 abbrev pub commands : List ScriptCommand
 commands =
-    load ∷ save ∷ measure ∷ combine Union ∷ combine Intersect ∷ combine Subtract ∷ tidy ∷ remesh ∷ exact ∷
+    load ∷ save ∷ measure ∷ inspect ∷ combine Union ∷ combine Intersect ∷ combine Subtract ∷ tidy ∷ remesh ∷ exact ∷
     (solids ++ (motions ++ outlines))
 
 -- the first of some commands whose word is this

@@ -3,10 +3,11 @@ use Rattle.std.specs.Prelude.{ℕ, ◌++◌, ◌==◌, if◌then◌else◌, leng
 use Rattle.std.specs.Fmt.{signed_decimal}
 use Rattle.chain_terms.specs.Chains.{all_edges}
 use Rattle.component_terms.specs.Counts.{component_count}
+use Rattle.inspection_terms.specs.Inspected.{doubled_count, flat_count, high_corner, low_corner, touching_count}
 use Rattle.mesh_terms.specs.Euler.{euler_of}
 use Rattle.mesh_terms.specs.Meshes.{Mesh, Soup}
 use Rattle.mesh_terms.specs.Volume.{volume6_of}
-use Rattle.text_terms.specs.Written.{line_of}
+use Rattle.text_terms.specs.Written.{line_of, three_numbers}
 use Rattle.run_terms.specs.Files.{Bytes}
 use Rattle.play_terms.specs.Lines.{counts_text}
 use Rattle.mb_base.specs.declared.op.Op.{Op}
@@ -35,6 +36,20 @@ measures_text m =
 -- NAME: points P, triangles T, components C, euler E, volume6 V
 abbrev pub measure_line : Bytes → Mesh → Bytes
 measure_line name m = line_of (name ++ size_text m ++ measures_text m)
+
+-- : low X Y Z, high X Y Z
+abbrev pub corners_text : ℕ → Mesh → Bytes
+corners_text k m = codes ": low " ++ three_numbers k (low_corner m.points) ++ codes ", high " ++ three_numbers k (high_corner m.points)
+
+-- , flat F, doubled D, touching E, cuts C
+abbrev pub inspected_text : Mesh → ℕ → Bytes
+inspected_text m cuts =
+    codes ", flat " ++ decimal (flat_count m) ++ codes ", doubled " ++ decimal (doubled_count m.points) ++ codes ", touching " ++ decimal (touching_count m)
+    ++ codes ", cuts " ++ decimal cuts
+
+-- NAME: low X Y Z, high X Y Z, flat F, doubled D, touching E, cuts C
+abbrev pub inspect_line : ℕ → Bytes → Mesh → ℕ → Bytes
+inspect_line k name m cuts = line_of (name ++ corners_text k m ++ inspected_text m cuts)
 
 -- OP LEFT RIGHT
 abbrev pub operation_text : Op → Bytes → Bytes → Bytes

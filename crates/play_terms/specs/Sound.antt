@@ -6,7 +6,7 @@ use Rattle.play_terms.specs.Formats.{is_mesh_name}
 use Rattle.made_terms.specs.Making.{IsSolid}
 use Rattle.made_terms.specs.Motions.{IsMotion}
 use Rattle.play_terms.specs.Operands.{is_name}
-use Rattle.play_terms.specs.Steps.{Line, Step, Load, Save, Measure, Combine, Make, Move, Tidy, Remesh, Polygon, Combine2, Extrude, Exact, files_in, is_given, names_in, taken}
+use Rattle.play_terms.specs.Steps.{Line, Step, Load, Save, Measure, Inspect, Combine, Make, Move, Tidy, Remesh, Polygon, Combine2, Extrude, Exact, files_in, is_given, names_in, taken}
 
 -- from 3 to 64 places in the plane, on the grid
 pub record IsRing (ring : List (List ℤ)) : Type 0 where
@@ -19,6 +19,7 @@ abbrev pub HasPlaces : Step → Type 0
 HasPlaces (Load name file) = Unit {0}
 HasPlaces (Save name file) = Unit {0}
 HasPlaces (Measure name) = Unit {0}
+HasPlaces (Inspect name) = Unit {0}
 HasPlaces (Combine op name left right) = Unit {0}
 HasPlaces (Make name solid) = Unit {0}
 HasPlaces (Move name old motion) = Unit {0}
@@ -38,6 +39,7 @@ abbrev pub HasNumbers : Step → Type 0
 HasNumbers (Load name file) = Unit {0}
 HasNumbers (Save name file) = Unit {0}
 HasNumbers (Measure name) = Unit {0}
+HasNumbers (Inspect name) = Unit {0}
 HasNumbers (Combine op name left right) = Unit {0}
 HasNumbers (Make name solid) = IsSolid solid
 HasNumbers (Move name old motion) = IsMotion motion

@@ -9,13 +9,14 @@ use Rattle.made_terms.specs.declared.solid.Solid.{Solid}
 use Rattle.play_terms.specs.declared.held.HeldKind.{HeldKind}
 use Rattle.play_terms.specs.declared.held.HeldKind.TheVariants as held
 
--- a mesh of a file gets a name, the mesh of a name is written to a file or measured, a name gets the result of an operation, a solid, or the moved, tidied or
+-- a mesh of a file gets a name, the mesh of a name is written to a file, measured or inspected, a name gets the result of an operation, a solid, or the moved, tidied or
 -- remeshed mesh of a name; a name gets an outline of one loop, what an operation makes of two outlines, or the solid between an outline at two heights; or
 -- the operations after it are taken under exact kernels
 pub data Step : Type 0 where
   Load : (name file : Bytes) → Step
   Save : (name file : Bytes) → Step
   Measure : (name : Bytes) → Step
+  Inspect : (name : Bytes) → Step
   Combine : (op : Op) → (name left right : Bytes) → Step
   Make : (name : Bytes) → (solid : Solid) → Step
   Move : (name old : Bytes) → (motion : Motion) → Step
@@ -35,6 +36,7 @@ abbrev pub new_name : Step → Option Bytes
 new_name (Load name file) = Some name
 new_name (Save name file) = None
 new_name (Measure name) = None
+new_name (Inspect name) = None
 new_name (Combine op name left right) = Some name
 new_name (Make name solid) = Some name
 new_name (Move name old motion) = Some name
@@ -54,6 +56,7 @@ abbrev pub new_kind : Step → HeldKind
 new_kind (Load name file) = held.Mesh
 new_kind (Save name file) = held.Mesh
 new_kind (Measure name) = held.Mesh
+new_kind (Inspect name) = held.Mesh
 new_kind (Combine op name left right) = held.Mesh
 new_kind (Make name solid) = held.Mesh
 new_kind (Move name old motion) = held.Mesh
@@ -105,6 +108,7 @@ abbrev pub taken : Step → List (HeldKind × Bytes)
 taken (Load name file) = []
 taken (Save name file) = mesh_of name ∷ []
 taken (Measure name) = mesh_of name ∷ []
+taken (Inspect name) = mesh_of name ∷ []
 taken (Combine op name left right) = mesh_of left ∷ mesh_of right ∷ []
 taken (Make name solid) = []
 taken (Move name old motion) = mesh_of old ∷ []
@@ -120,6 +124,7 @@ abbrev pub names_in : Step → List Bytes
 names_in (Load name file) = name ∷ []
 names_in (Save name file) = name ∷ []
 names_in (Measure name) = name ∷ []
+names_in (Inspect name) = name ∷ []
 names_in (Combine op name left right) = name ∷ left ∷ right ∷ []
 names_in (Make name solid) = name ∷ []
 names_in (Move name old motion) = name ∷ old ∷ []
@@ -135,6 +140,7 @@ abbrev pub files_in : Step → List Bytes
 files_in (Load name file) = file ∷ []
 files_in (Save name file) = file ∷ []
 files_in (Measure name) = []
+files_in (Inspect name) = []
 files_in (Combine op name left right) = []
 files_in (Make name solid) = []
 files_in (Move name old motion) = []
@@ -151,6 +157,7 @@ kernels_after Exact kernels = kinds.Exact
 kernels_after (Load name file) kernels = kernels
 kernels_after (Save name file) kernels = kernels
 kernels_after (Measure name) kernels = kernels
+kernels_after (Inspect name) kernels = kernels
 kernels_after (Combine op name left right) kernels = kernels
 kernels_after (Make name solid) kernels = kernels
 kernels_after (Move name old motion) kernels = kernels

@@ -3,6 +3,7 @@ ghost use Rattle.std.specs.Prelude.{All};
 ghost use Rattle.play_terms.specs.ReadingBack.{CopiesReadable, WritesReadable, digits_in};
 ghost use Rattle.play_terms.specs.Words.{command};
 ghost use Rattle.play_terms.specs.Program.{play};
+ghost use Rattle.operation_laws.specs.Results.{CutsAreCounted};
 ghost use Rattle.run_terms.specs.Files.{Files};
 ghost use Rattle.program_runs.specs.Playing.{meanings};
 ghost use Rattle.program_runs.specs.Promises.{IsSoundPlay};
@@ -27,12 +28,13 @@ pub fn plays_are_readable(limits: &Limits, words: &ArgList)
 }
 
 /// Whatever lines of the script that the words ask for were done, over whatever files, an operation on the meshes of two names is a result of these, which
-/// under exact kernels keeps their vertices by their geometric winding numbers, and remeshing keeps of the mesh of a name what it says. The contract is this
-/// law, and the call does nothing.
+/// under exact kernels keeps their vertices by their geometric winding numbers, and remeshing keeps of the mesh of a name what it says. The number of cuts that
+/// an inspection says of a mesh is that of the pairs of its triangles that cut one another. The contract is this law, and the call does nothing.
 pub fn plays_give_results(limits: &Limits, words: &ArgList)
     ensures results { CommandGivesResults limits.now (command words.now) }
     ensures geometric { CommandIsGeometric limits.now (command words.now) }
     ensures remeshed { CommandRemeshes limits.now (command words.now) }
+    ensures inspected { CutsAreCounted }
 {
     // The limits are lawful, and the laws of operations in scripts.
     let _ = limits.file_bytes();

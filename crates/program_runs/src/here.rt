@@ -1,12 +1,7 @@
 // The start of the program in the current folder.
-ghost use Rattle.std.specs.Prelude.{◌≡◌, ◌<◌, ◌^◌, ◌-◌, [], IfOk, IfErr};
-ghost use Rattle.play_terms.specs.Ends.{why_line, why_status};
-ghost use Rattle.mb_outside.specs.Seen.{on_output};
-ghost use Rattle.mesh_files.specs.Reasons.{why_of};
-ghost use Rattle.report_lines.specs.Reports.{IsReported};
-ghost use Rattle.program_runs.specs.Statuses.{status_number};
+ghost use Rattle.std.specs.Prelude.{◌≡◌, ◌<◌, ◌^◌, ◌-◌, IfOk, IfErr};
 ghost use Rattle.program_runs.specs.Playing.{program_limits};
-ghost use Rattle.program_runs.specs.Promises.{IsHeard, IsSoundPlay};
+ghost use Rattle.program_runs.specs.Promises.{IsHeard, IsSoundPlay, IsUnread};
 
 use crate::Status;
 use crate::starting::start;
@@ -36,8 +31,7 @@ pub fn start_here<R: Files, O: Sink, E: Sink, L: Ledger>(
     requires some { 0 < blank.parts }
     ensures heard { IfOk words (λ words. IsHeard O.Sink E.Sink words (out.old, err.old) (out.new, err.new) result) }
     ensures sound { IfOk words (λ words. IsSoundPlay program_limits words) }
-    ensures status { IfErr words (λ stop. status_number result ≡ why_status (why_of [] stop)) }
-    ensures report { IfErr words (λ stop. IsReported (why_line (why_of [] stop)) (on_output E.Sink err.old) (on_output E.Sink err.new)) }
+    ensures unread { IfErr words (λ stop. IsUnread E.Sink stop err.old err.new result) }
     ensures alone { IfErr words (λ _. out.new ≡ out.old) }
 {
     keep_freed(alloc);

@@ -1,12 +1,7 @@
 // The start of the program, over any shelf and any outputs.
-ghost use Rattle.std.specs.Prelude.{◌≡◌, ◌<◌, ◌^◌, ◌-◌, [], IfOk, IfErr};
-ghost use Rattle.play_terms.specs.Ends.{why_line, why_status};
-ghost use Rattle.mb_outside.specs.Seen.{on_output};
-ghost use Rattle.mesh_files.specs.Reasons.{why_of};
-ghost use Rattle.report_lines.specs.Reports.{IsReported};
-ghost use Rattle.program_runs.specs.Statuses.{status_number};
+ghost use Rattle.std.specs.Prelude.{◌≡◌, ◌<◌, ◌^◌, ◌-◌, IfOk, IfErr};
 ghost use Rattle.program_runs.specs.Playing.{program_limits};
-ghost use Rattle.program_runs.specs.Promises.{IsSoundRun};
+ghost use Rattle.program_runs.specs.Promises.{IsSoundRun, IsUnread};
 
 use crate::top_call::run;
 use crate::{Status, status_at};
@@ -33,8 +28,7 @@ pub fn start<S: Shelf, O: Sink, E: Sink, L: Ledger>(
     requires errs { E.faults err.old < 2 ^ 64 - 1 }
     ensures run { IfOk words (λ words. IsSoundRun S.Shelf O.Sink E.Sink program_limits words
         (shelf.old, out.old, err.old) (shelf.new, out.new, err.new) sums.old sums.new result) }
-    ensures status { IfErr words (λ stop. status_number result ≡ why_status (why_of [] stop)) }
-    ensures report { IfErr words (λ stop. IsReported (why_line (why_of [] stop)) (on_output E.Sink err.old) (on_output E.Sink err.new)) }
+    ensures unread { IfErr words (λ stop. IsUnread E.Sink stop err.old err.new result) }
     ensures alone { IfErr words (λ _. (shelf.new ≡ shelf.old) × (out.new ≡ out.old) × (sums.new ≡ sums.old)) }
 {
     match words {

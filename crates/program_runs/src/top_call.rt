@@ -19,10 +19,10 @@ use std::sync::ledger::Ledger;
 /// memory aside, and nothing is done but the usage line on `err`. A unit of the files has 10^K steps of the grid, where K are the digits. `copy` reads and
 /// checks the mesh of IN, saves it to OUT and reports that on `out` in one line. `inside` reads and checks the mesh of FILE and reports the winding number
 /// of the point in it, and counts one sum; a run that ends before the number is found counts none. `run` reads the whole script of SCRIPT, whose lines
-/// load meshes or make solids and give them names, move, tidy and remesh them, unite, intersect and subtract them, measure and save them, make outlines,
-/// combine these and make solids of them, or choose exact kernels; a faulty line is `BadScript`, and then no line is done. Operations before the first
+/// load meshes or make solids and give them names, move, tidy and remesh them, unite, intersect and subtract them, measure, inspect and save them, make
+/// outlines, combine these and make solids of them, or choose exact kernels; a faulty line is `BadScript`, and then no line is done. Operations before the first
 /// line that chooses exact kernels are taken under the kernels of the grid, and those after it under exact ones, all with rounding to the nearest. It then
-/// does its lines in order, and reports each that loads, combines, tidies, remeshes, extrudes, measures or saves on `out` in one line. A solid without a
+/// does its lines in order, and reports each that loads, combines, tidies, remeshes, extrudes, measures, inspects or saves on `out` in one line. A solid without a
 /// volume or a height, and a solid or a moved mesh that would leave the grid, is `BadMesh`. What was saved before a stop stays. Of a script only
 /// operations count sums; where the shelf tells its files these are at most one for each connected component of their meshes, reduced. Whatever goes
 /// wrong first ends the run with its status and one line on `err`, and a fault of `err` changes no status. A run that ends well leaves `err` as it was.
@@ -46,7 +46,9 @@ use std::sync::ledger::Ledger;
 /// the segments that pair these along its operands' edges, and along these edges the winding number in the other outline changes by their crossings; and a
 /// solid of the outline of a name is accepted, and its volume is the height times the outline's area. And what it has of remeshing the mesh of a name is
 /// what `remesh` of `planar_patches` says: accepted, with one fan at each vertex, no more triangles and the same volume; and patch by patch the same
-/// boundary in the same plane.
+/// boundary in the same plane. The number of cuts that it says in inspecting a mesh is that of the pairs of triangles, neither of them flat, that lie on
+/// the same three places, or of which an edge of one has a point in the other, with rational coordinates, that is not in the hull of the places that are
+/// corners of both.
 ///
 /// The read faults of the shelf rise with status 6 alone, its write faults and the faults of `out` with 7 alone, and one of the two does. With
 /// 6 the read faults rose, or the shelf tells no files and a read into some space gave nothing below the size that was stated. The shelf

@@ -3,6 +3,7 @@ mod drawn_flat;
 mod faults;
 mod files;
 mod hostile;
+mod inspected;
 mod made;
 mod remeshed;
 mod rows;

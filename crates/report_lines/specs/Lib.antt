@@ -1,4 +1,5 @@
 pub mod Counts
+pub mod Inspections
 pub mod Measures
 pub mod Reports
 pub mod Taken

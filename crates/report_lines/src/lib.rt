@@ -3,6 +3,7 @@
 #![tactic(auto)]
 
 mod fault_names;
+mod inspection_tail;
 mod report;
 mod script_report;
 mod script_tail;
@@ -10,6 +11,6 @@ mod tail;
 
 pub use report::{say_copied, say_winding, tell_halt, tell_stop};
 pub use script_report::{
-    OperationCounts, OutlineCounts, say_combined, say_combined2, say_extruded, say_loaded,
-    say_measured, say_remeshed, say_saved, say_tidied,
+    OperationCounts, OutlineCounts, say_combined, say_combined2, say_extruded, say_inspected,
+    say_loaded, say_measured, say_remeshed, say_saved, say_tidied,
 };

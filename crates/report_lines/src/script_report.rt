@@ -1,17 +1,19 @@
 // The lines that the steps of a script say on the output.
-ghost use Rattle.std.specs.Prelude.{◌≡◌, ◌++◌, codes};
+ghost use Rattle.std.specs.Prelude.{◌≡◌, ◌≤◌, ◌++◌, ℕ, codes};
 ghost use Rattle.mb_outside.specs.Seen.{MeetsOnOutput};
 ghost use Rattle.play_terms.specs.Commands.{say_line};
 ghost use Rattle.play_terms.specs.Combined.{Combined, Combined2};
 ghost use Rattle.play_terms.specs.ScriptCommands.{op_word, op2_word};
-ghost use Rattle.play_terms.specs.ScriptLines.{combine2_line, combine_line, extrude_line, load_line, measure_line, remesh_line, save_line, tidy_line};
+ghost use Rattle.play_terms.specs.ScriptLines.{combine2_line, combine_line, extrude_line, inspect_line, load_line, measure_line, remesh_line, save_line, tidy_line};
 ghost use Rattle.mesh_terms.specs.Meshes.{Mesh as TheMesh};
 ghost use Rattle.mesh_files.specs.Reasons.{soup_of};
 ghost use Rattle.report_lines.specs.Counts.{counts2_of, counts_of};
+ghost use Rattle.report_lines.specs.Inspections.{IsInspectionOf};
 ghost use Rattle.report_lines.specs.Measures.{IsMeasureOf};
 ghost use Rattle.report_lines.specs.Reports.{said};
 ghost use Rattle.report_lines.specs.Taken.{Takes};
 
+use crate::inspection_tail::{corners_tail, inspected_tail};
 use crate::report::say;
 use crate::script_tail::{
     combined_tail, combined2_tail, extruded_tail, measured_tail, remeshed_tail, saved_tail,
@@ -22,6 +24,7 @@ use mb_base::Op;
 use mb_outside::{Failed, Sink};
 use mesh_check::Mesh;
 use mesh_make::Measure;
+use self_cuts::Inspection;
 
 /// The numbers of an operation: how many vertices of each mesh were kept, how many crossings there are, and how many cuts were forced.
 #[derive(Clone, Copy, Debug, PartialEq, Eq, Drop)]
@@ -80,6 +83,28 @@ pub fn say_measured<K: Sink>(name: &str, measure: &Measure, sink: &mut K) -> Res
     let size = size_tail(measure.points, measure.triangles);
     let tail = measured_tail(measure.components, measure.euler, measure.volume6);
     say(&[name.as_bytes(), size.as_slice(), tail.as_slice()], sink)
+}
+
+/// Reports the inspection of a mesh: `NAME: low X Y Z, high X Y Z, flat F, doubled D, touching E, cuts C`, with the corners of its box under
+/// so many digits. After `Failed`, which comes only where the sink's count rose, it has a first part of the line.
+pub fn say_inspected<K: Sink>(
+    name: &str,
+    digits: u8,
+    seen: &Inspection,
+    sink: &mut K,
+) -> Result<(), Failed>
+    requires { digits ≤ 6 }
+    ensures meets { (m : TheMesh) (cuts : ℕ) → IsInspectionOf m cuts seen.now →
+        MeetsOnOutput K.Sink (say_line (inspect_line digits name.now m cuts)) sink.old sink.new (said result) }
+    ensures takes { (m : TheMesh) (cuts : ℕ) → IsInspectionOf m cuts seen.now →
+        Takes K.Sink (inspect_line digits name.now m cuts) sink.old sink.new result }
+{
+    let corners = corners_tail(&seen.low, &seen.high, digits);
+    let counts = inspected_tail(seen.flat, seen.doubled, seen.touching, seen.cuts);
+    say(
+        &[name.as_bytes(), corners.as_slice(), counts.as_slice()],
+        sink,
+    )
 }
 
 /// Reports a tidied mesh: `NAME = tidy OLD: collapsed N`. After `Failed`, which comes only where the sink's count rose, it has a first

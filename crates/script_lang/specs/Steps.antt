@@ -3,15 +3,15 @@ use Rattle.made_terms.specs.declared.motion.Motion.TheVariants as moves
 use Rattle.made_terms.specs.declared.solid.Solid.TheVariants as makes
 use Rattle.play_terms.specs.ScriptCommands as named
 use Rattle.play_terms.specs.Steps as terms
-use Rattle.script_lang.specs.declared.commands.Command.{Command}
-use Rattle.script_lang.specs.declared.commands.Command.TheVariants as commands
+use Rattle.script_lang.specs.declared.commands.CommandWord.{CommandWord}
+use Rattle.script_lang.specs.declared.commands.CommandWord.TheVariants as commands
 use Rattle.script_lang.specs.declared.motions.MotionCommand.{MotionCommand}
 use Rattle.script_lang.specs.declared.motions.MotionCommand.TheVariants as motions
 use Rattle.script_lang.specs.declared.solids.SolidCommand.{SolidCommand}
 use Rattle.script_lang.specs.declared.solids.SolidCommand.TheVariants as solids
 use Rattle.script_lang.specs.declared.steps.Line.{Line}
 use Rattle.script_lang.specs.declared.steps.Step.{Step}
-use Rattle.script_lang.specs.declared.steps.Step.TheVariants.{Load, Save, Measure, Combine, MakeBox, MakeTetra, MakePrism, MakeLattice, Shift, Scale, Mirror, Turn, Tidy, Remesh, Polygon, Combine2, Extrude, Exact}
+use Rattle.script_lang.specs.declared.steps.Step.TheVariants.{Load, Save, Measure, Inspect, Combine, MakeBox, MakeTetra, MakePrism, MakeLattice, Shift, Scale, Mirror, Turn, Tidy, Remesh, Polygon, Combine2, Extrude, Exact}
 
 abbrev pub making : SolidCommand → named.ScriptCommand
 making solids.Box = named.box
@@ -25,10 +25,11 @@ moving motions.Scale = named.scale
 moving motions.Mirror = named.mirror
 moving motions.Turn = named.turn
 
-abbrev pub command_of : Command → named.ScriptCommand
+abbrev pub command_of : CommandWord → named.ScriptCommand
 command_of commands.Load = named.load
 command_of commands.Save = named.save
 command_of commands.Measure = named.measure
+command_of commands.Inspect = named.inspect
 command_of (commands.Combine op) = named.combine op
 command_of (commands.Make solid) = making solid
 command_of (commands.Move motion) = moving motion
@@ -43,6 +44,7 @@ abbrev pub step_of : Step → terms.Step
 step_of (Load name file) = terms.Load name file
 step_of (Save name file) = terms.Save name file
 step_of (Measure name) = terms.Measure name
+step_of (Inspect name) = terms.Inspect name
 step_of (Combine op name left right) = terms.Combine op name left right
 step_of (MakeBox name low high) = terms.Make name (makes.Box low high)
 step_of (MakeTetra name at size) = terms.Make name (makes.Tetra at size)

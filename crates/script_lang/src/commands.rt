@@ -10,10 +10,11 @@ use mb_base::Op;
 
 /// A command.
 #[derive(Clone, Copy, Drop)]
-pub enum Command {
+pub enum CommandWord {
     Load,
     Save,
     Measure,
+    Inspect,
     Combine(Op),
     Make(SolidCommand),
     Move(MotionCommand),
@@ -25,29 +26,31 @@ pub enum Command {
     Exact,
 }
 
-impl Command {
+impl CommandWord {
     /// The command of this word, if there is one.
-    pub fn named(word: &[u8]) -> Option<Command>
+    pub fn named(word: &[u8]) -> Option<CommandWord>
         ensures { option_map command_of result ≡ command_named word.now }
     {
         if word == b"load".as_slice() {
-            Some(Command::Load)
+            Some(CommandWord::Load)
         } else if word == b"save".as_slice() {
-            Some(Command::Save)
+            Some(CommandWord::Save)
         } else if word == b"measure".as_slice() {
-            Some(Command::Measure)
+            Some(CommandWord::Measure)
+        } else if word == b"inspect".as_slice() {
+            Some(CommandWord::Inspect)
         } else if word == b"union".as_slice() {
-            Some(Command::Combine(Op::Union))
+            Some(CommandWord::Combine(Op::Union))
         } else if word == b"intersect".as_slice() {
-            Some(Command::Combine(Op::Intersect))
+            Some(CommandWord::Combine(Op::Intersect))
         } else if word == b"subtract".as_slice() {
-            Some(Command::Combine(Op::Subtract))
+            Some(CommandWord::Combine(Op::Subtract))
         } else if word == b"tidy".as_slice() {
-            Some(Command::Tidy)
+            Some(CommandWord::Tidy)
         } else if word == b"remesh".as_slice() {
-            Some(Command::Remesh)
+            Some(CommandWord::Remesh)
         } else if word == b"exact".as_slice() {
-            Some(Command::Exact)
+            Some(CommandWord::Exact)
         } else {
             making_or_moving(word)
         }
@@ -55,39 +58,39 @@ impl Command {
 }
 
 // The command of this word that makes a solid, moves a mesh or is one of outlines, if there is one.
-fn making_or_moving(word: &[u8]) -> Option<Command>
+fn making_or_moving(word: &[u8]) -> Option<CommandWord>
     ensures { option_map command_of result ≡ named_in (solids ++ (motions ++ outlines)) word.now }
 {
     match SolidCommand::named(word) {
-        Some(solid) => Some(Command::Make(solid)),
+        Some(solid) => Some(CommandWord::Make(solid)),
         None => moving_by(word),
     }
 }
 
 // The command of this word that moves a mesh, or is one of outlines, if there is one.
-fn moving_by(word: &[u8]) -> Option<Command>
+fn moving_by(word: &[u8]) -> Option<CommandWord>
     ensures { option_map command_of result ≡ named_in (motions ++ outlines) word.now }
 {
     match MotionCommand::named(word) {
-        Some(motion) => Some(Command::Move(motion)),
+        Some(motion) => Some(CommandWord::Move(motion)),
         None => of_outlines(word),
     }
 }
 
 // The command of this word that makes an outline, or a solid of one, if there is one.
-fn of_outlines(word: &[u8]) -> Option<Command>
+fn of_outlines(word: &[u8]) -> Option<CommandWord>
     ensures { option_map command_of result ≡ named_in outlines word.now }
 {
     if word == b"polygon".as_slice() {
-        Some(Command::Polygon)
+        Some(CommandWord::Polygon)
     } else if word == b"union2".as_slice() {
-        Some(Command::Combine2(Op::Union))
+        Some(CommandWord::Combine2(Op::Union))
     } else if word == b"intersect2".as_slice() {
-        Some(Command::Combine2(Op::Intersect))
+        Some(CommandWord::Combine2(Op::Intersect))
     } else if word == b"subtract2".as_slice() {
-        Some(Command::Combine2(Op::Subtract))
+        Some(CommandWord::Combine2(Op::Subtract))
     } else if word == b"extrude".as_slice() {
-        Some(Command::Extrude)
+        Some(CommandWord::Extrude)
     } else {
         None
     }

@@ -13,11 +13,11 @@ use std::marker::Model;
 
 /// Names, each once, with the kind of what it holds.
 #[derive(Drop)]
-pub struct Names<'a> {
+pub struct KnownNames<'a> {
     kinds: IndexMap<&'a str, HeldKind>,
 }
 
-impl<'a> Model for Names<'a> {
+impl<'a> Model for KnownNames<'a> {
     ghost use Rattle.std.specs.Prelude.{ℕ, List, map};
     ghost use Rattle.play_terms.specs.declared.held.HeldKind.{HeldKind};
 
@@ -26,12 +26,12 @@ impl<'a> Model for Names<'a> {
     ghost view = { λ n. map (λ e. (e.0.now, e.1)) n.kinds.entries };
 }
 
-impl<'a> Names<'a> {
+impl<'a> KnownNames<'a> {
     /// No names.
-    pub fn new(alloc: Global) -> Names<'a>
+    pub fn new(alloc: Global) -> KnownNames<'a>
         ensures { result ≡ [] }
     {
-        Names {
+        KnownNames {
             kinds: IndexMap::new(alloc),
         }
     }

@@ -1,7 +1,7 @@
 // The lines of a script, read one after the other.
 ghost use Rattle.std.specs.Prelude.{ℕ, ◌≡◌, ◌≤◌, ◌++◌, ◌∷◌, [], map, None, Some, Ok, Err, IfOk, OnOk, IfErr};
 ghost use Rattle.play_terms.specs.Operands.{old_name_fault};
-ghost use Rattle.play_terms.specs.ScriptCommands.{combine, combine2, exact, extrude, load, measure, remesh, save, tidy};
+ghost use Rattle.play_terms.specs.ScriptCommands.{combine, combine2, exact, extrude, inspect, load, measure, remesh, save, tidy};
 ghost use Rattle.play_terms.specs.Scripts.{command_step, numbered_words, script_line, script_lines, step_by};
 ghost use Rattle.play_terms.specs.Sound.{AreSound};
 ghost use Rattle.play_terms.specs.Steps.{given_kind, gives};
@@ -9,9 +9,9 @@ ghost use Rattle.script_lang.specs.Faults.{IsFaultOf};
 ghost use Rattle.text_terms.specs.FirstFault.{on_line};
 ghost use Rattle.script_lang.specs.Steps.{command_of, line_of, step_of};
 
-use crate::commands::Command;
+use crate::commands::CommandWord;
 use crate::fault::{BAD_WORD, NAME_NOT_DEFINED, ScriptFault, WRONG_COUNT, bad};
-use crate::names::Names;
+use crate::names::KnownNames;
 use crate::operands::{file_text, name_text, number, taken};
 use crate::polygons::polygon_step;
 use crate::solids::solid_step;
@@ -27,7 +27,7 @@ use std::marker::Model;
 #[derive(Drop)]
 pub struct Reading<'a> {
     lines: Vec<Line<'a>>,
-    names: Names<'a>,
+    names: KnownNames<'a>,
 }
 
 impl<'a> Model for Reading<'a> {
@@ -52,7 +52,7 @@ impl<'a> Reading<'a> {
     {
         let mut reading = Reading {
             lines: Vec::new(alloc),
-            names: Names::new(alloc),
+            names: KnownNames::new(alloc),
         };
         for (number, line) in Lines::of(without_mark(bytes)) {
             reading.read_line(alloc, Words::of(line), number, digits)?;
@@ -84,7 +84,7 @@ impl<'a> Reading<'a> {
         let Some(word) = words.next() else {
             return Ok(());
         };
-        let Some(command) = Command::named(word) else {
+        let Some(command) = CommandWord::named(word) else {
             return Err(bad(number, BAD_WORD));
         };
         let step = self.step(alloc, command, words, number, digits)?;
@@ -95,7 +95,7 @@ impl<'a> Reading<'a> {
     fn step(
         &self,
         alloc: Global,
-        command: Command,
+        command: CommandWord,
         words: Words<'a>,
         number: u64,
         digits: u8,
@@ -114,7 +114,7 @@ impl<'a> Reading<'a> {
     fn step_of_words(
         &self,
         alloc: Global,
-        command: Command,
+        command: CommandWord,
         operands: &[&'a [u8]],
         number: u64,
         digits: u8,
@@ -123,7 +123,7 @@ impl<'a> Reading<'a> {
         ensures step { IfOk result (λ step. command_step digits self.now (map (λ w. w.now) operands.now) (command_of command) ≡ Ok (step_of step)) }
         ensures fault { IfErr result (IsFaultOf (on_line number (command_step digits self.now (map (λ w. w.now) operands.now) (command_of command)))) }
     {
-        if let Command::Polygon = command {
+        if let CommandWord::Polygon = command {
             return polygon_step(alloc, operands, number, digits);
         }
         match self.step_with(command, operands, digits) {
@@ -133,25 +133,31 @@ impl<'a> Reading<'a> {
     }
 
     // The step of a command other than `polygon` with these operands; else the kind of the line's fault.
-    fn step_with(&self, command: Command, operands: &[&'a [u8]], digits: u8) -> Result<Step<'a>, u8>
+    fn step_with(
+        &self,
+        command: CommandWord,
+        operands: &[&'a [u8]],
+        digits: u8,
+    ) -> Result<Step<'a>, u8>
         requires digits { digits ≤ 6 }
-        requires other { command ≡ Command.Polygon → ⊥ }
+        requires other { command ≡ CommandWord.Polygon → ⊥ }
         ensures step { IfOk result (λ step. command_step digits self.now (map (λ w. w.now) operands.now) (command_of command) ≡ Ok (step_of step)) }
         ensures fault { IfErr result (λ kind. command_step digits self.now (map (λ w. w.now) operands.now) (command_of command) ≡ Err kind) }
     {
         match command {
-            Command::Load => self.load_step(operands),
-            Command::Save => self.save_step(operands),
-            Command::Measure => self.measure_step(operands),
-            Command::Combine(op) => self.combine_step(op, operands),
-            Command::Make(solid) => solid_step(solid, operands, digits),
-            Command::Move(motion) => self.motion_step(motion, operands, digits),
-            Command::Tidy => self.tidy_step(operands),
-            Command::Remesh => self.remesh_step(operands),
-            Command::Polygon => unreachable!(),
-            Command::Combine2(op) => self.combine2_step(op, operands),
-            Command::Extrude => self.extrude_step(operands, digits),
-            Command::Exact => self.exact_step(operands),
+            CommandWord::Load => self.load_step(operands),
+            CommandWord::Save => self.save_step(operands),
+            CommandWord::Measure => self.measure_step(operands),
+            CommandWord::Inspect => self.inspect_step(operands),
+            CommandWord::Combine(op) => self.combine_step(op, operands),
+            CommandWord::Make(solid) => solid_step(solid, operands, digits),
+            CommandWord::Move(motion) => self.motion_step(motion, operands, digits),
+            CommandWord::Tidy => self.tidy_step(operands),
+            CommandWord::Remesh => self.remesh_step(operands),
+            CommandWord::Polygon => unreachable!(),
+            CommandWord::Combine2(op) => self.combine2_step(op, operands),
+            CommandWord::Extrude => self.extrude_step(operands, digits),
+            CommandWord::Exact => self.exact_step(operands),
         }
     }
 
@@ -190,6 +196,19 @@ impl<'a> Reading<'a> {
     {
         match operands {
             &[name] => Ok(Step::Measure {
+                name: Word::of(self.mesh_text(name)?),
+            }),
+            _ => Err(WRONG_COUNT),
+        }
+    }
+
+    // The step that inspects one.
+    fn inspect_step(&self, operands: &[&'a [u8]]) -> Result<Step<'a>, u8>
+        ensures step { (k : ℕ) → IfOk result (λ step. command_step k self.now (map (λ w. w.now) operands.now) inspect ≡ Ok (step_of step)) }
+        ensures fault { (k : ℕ) → IfErr result (λ kind. command_step k self.now (map (λ w. w.now) operands.now) inspect ≡ Err kind) }
+    {
+        match operands {
+            &[name] => Ok(Step::Inspect {
                 name: Word::of(self.mesh_text(name)?),
             }),
             _ => Err(WRONG_COUNT),

@@ -56,6 +56,10 @@ pub enum Step<'a> {
     Measure {
         name: Word<'a>,
     },
+    /// Inspects the mesh of a name.
+    Inspect {
+        name: Word<'a>,
+    },
     /// Gives a name what an operation makes of two meshes, of which `left` is the first.
     Combine {
         op: Op,
@@ -151,7 +155,7 @@ impl<'a> Step<'a> {
         ensures { option_copied result ≡ new_name (step_of self.now) }
     {
         match self {
-            Step::Save { .. } | Step::Measure { .. } | Step::Exact => None,
+            Step::Save { .. } | Step::Measure { .. } | Step::Inspect { .. } | Step::Exact => None,
             Step::Load { name, .. }
             | Step::Combine { name, .. }
             | Step::MakeBox { name, .. }

@@ -8,8 +8,8 @@ use Rattle.run_terms.specs.Files.{Bytes}
 use Rattle.run_terms.specs.Meets.{Meets, Seen, Starved, Why}
 use Rattle.run_terms.specs.Tasks.{Refusal, Task, give, then_task}
 use Rattle.play_laws.proofs.Tasks.{meets_given, meets_starved, meets_stop, meets_then}
-use Rattle.play_terms.specs.ScriptLines.{load_line, measure_line, remesh_line, save_line, tidy_line}
-use Rattle.play_terms.specs.Plays.{Held, Meanings, Named, OfMesh, load_task, measure_task, remesh_task, save_task, tidy_task, with_held, with_name}
+use Rattle.play_terms.specs.ScriptLines.{inspect_line, load_line, measure_line, remesh_line, save_line, tidy_line}
+use Rattle.play_terms.specs.Plays.{Held, Meanings, Named, OfMesh, inspect_task, load_task, measure_task, remesh_task, save_task, tidy_task, with_held, with_name}
 use Rattle.tidy_terms.specs.Tidy.{tidied, tidy_mesh}
 
 -- the shelf and the output together
@@ -133,6 +133,25 @@ module _ (name : Bytes) (of m : Mesh) (named : Named) (is : of ≡ m) (out told 
   measure_told line on =
       let P : Mesh → Type 0 = λ mesh. Meets (measuring mesh) (beside on out) (beside on told) (Ok named) in
       subst P (sym is) (output_then (say_line (measure_line name m)) (λ _. give (Ok named)) tt (Ok named) on out told (beside on told) line
+      (meets_given (Ok named) named (beside on told) refl))
+
+-- the mesh of a name, which is this one, is inspected
+module _ (means : Meanings) (k : ℕ) (name : Bytes) (of m : Mesh) (named : Named) (is : of ≡ m) (out told : OnOutput) where
+  abbrev inspecting : Mesh → Task Named
+  inspecting mesh = inspect_task means k name mesh named
+
+  abbrev inspect_says : Bytes
+  inspect_says = inspect_line k name m (means.cuts m)
+
+  pub inspect_unsaid : (why : Why) → OutputMeets (say_line inspect_says) out told (Err why) → OutputMeets (inspecting of) out told (Err why)
+  inspect_unsaid why line on =
+      let P : Mesh → Type 0 = λ mesh. Meets (inspecting mesh) (beside on out) (beside on told) (Err why) in
+      subst P (sym is) (output_stop (say_line inspect_says) (λ _. give (Ok named)) why on out told line)
+
+  pub inspect_told : OutputMeets (say_line inspect_says) out told (Ok tt) → OutputMeets (inspecting of) out told (Ok named)
+  inspect_told line on =
+      let P : Mesh → Type 0 = λ mesh. Meets (inspecting mesh) (beside on out) (beside on told) (Ok named) in
+      subst P (sym is) (output_then (say_line inspect_says) (λ _. give (Ok named)) tt (Ok named) on out told (beside on told) line
       (meets_given (Ok named) named (beside on told) refl))
 
 -- the mesh of a name, which is this one, is tidied, by so many collapses

@@ -10,7 +10,7 @@ use Rattle.run_terms.specs.Tasks.{Part, Refusal, Task, changed_all}
 use Rattle.play_terms.specs.Commands.{ask_file}
 use Rattle.play_terms.specs.Plays.{Meanings, Named, State, at_first, line_task, mesh_at, script_checked}
 use Rattle.play_terms.specs.Scripts.{script}
-use Rattle.play_terms.specs.Steps.{Combine, Combine2, Exact, Extrude, Line, Load, Make, Measure, Move, Polygon, Remesh, Save, Step, Tidy}
+use Rattle.play_terms.specs.Steps.{Combine, Combine2, Exact, Extrude, Inspect, Line, Load, Make, Measure, Move, Polygon, Remesh, Save, Step, Tidy}
 use Rattle.winding.specs.Windings.{components_of}
 
 -- an operation counts at most one for each connected component of its two reduced meshes
@@ -22,6 +22,7 @@ abbrev pub step_cost : Step → Named → ℕ
 step_cost (Load name file) named = 0
 step_cost (Save name file) named = 0
 step_cost (Measure name) named = 0
+step_cost (Inspect name) named = 0
 step_cost (Combine op name left right) named = operation_cost op (mesh_at named left) (mesh_at named right)
 step_cost (Make name solid) named = 0
 step_cost (Move name old motion) named = 0

@@ -13,7 +13,7 @@ ghost use Rattle.script_runs.specs.Operations.{meanings};
 ghost use Rattle.script_runs.specs.Outcomes.{IsOutcome};
 ghost use Rattle.play_terms.specs.Plays.{combine_task, mesh_at, mesh_held, within};
 
-use crate::names::Names;
+use crate::names::HeldNames;
 use crate::settings::AtLine;
 use edge_face::Kernels;
 use exact_kernels::Exact;
@@ -107,7 +107,7 @@ fn operate_under<'a, K: Kernels, L: Ledger>(
 pub fn combine<'a, O: Sink, L: Ledger>(
     at: &AtLine<'_, 'a>,
     what: &Combining<'a>,
-    names: &mut Names<'a>,
+    names: &mut HeldNames<'a>,
     out: &mut O,
     sums: &mut Steps<L>,
 ) -> Result<(), Halt<'a>>

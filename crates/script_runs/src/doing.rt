@@ -11,11 +11,12 @@ ghost use Rattle.play_terms.specs.Plays.{step_task};
 ghost use Rattle.play_terms.specs.Sound.{HasNumbers};
 
 use crate::combining::{Combining, combine};
+use crate::inspecting::inspect_mesh;
 use crate::loading::load;
 use crate::making::make;
 use crate::measuring::measure_mesh;
 use crate::moving::move_mesh;
-use crate::names::Names;
+use crate::names::HeldNames;
 use crate::outlining::{Heights, combine2, extrude_outline, polygon};
 use crate::remeshing::remesh_mesh;
 use crate::saving::save;
@@ -32,7 +33,7 @@ use std::sync::ledger::Ledger;
 pub fn do_step<'a, S: Shelf, O: Sink, L: Ledger>(
     at: &AtLine<'_, 'a>,
     step: &Step<'a>,
-    names: &mut Names<'a>,
+    names: &mut HeldNames<'a>,
     shelf: &mut S,
     out: &mut O,
     sums: &mut Steps<L>,
@@ -54,6 +55,7 @@ pub fn do_step<'a, S: Shelf, O: Sink, L: Ledger>(
             save(at.digits, name.as_str(), file.as_str(), names, shelf, out)
         }
         Step::Measure { name } => measure_mesh(at.alloc, name.as_str(), names, out),
+        Step::Inspect { name } => inspect_mesh(at.alloc, at.digits, name.as_str(), names, out),
         Step::Combine {
             op,
             name,

@@ -6,7 +6,7 @@ ghost use Rattle.script_runs.specs.Halts.{IsHaltOfStep};
 ghost use Rattle.script_runs.specs.Names.{IsNamed, named_in};
 ghost use Rattle.play_terms.specs.Plays.{load_task};
 
-use crate::names::Names;
+use crate::names::HeldNames;
 use crate::settings::AtLine;
 use mb_outside::{Shelf, Sink};
 use mesh_files::{Halt, read_named_mesh};
@@ -17,7 +17,7 @@ pub fn load<'a, S: Shelf, O: Sink>(
     at: &AtLine<'_, 'a>,
     name: &'a str,
     file: &'a str,
-    names: &mut Names<'a>,
+    names: &mut HeldNames<'a>,
     shelf: &mut S,
     out: &mut O,
 ) -> Result<(), Halt<'a>>

@@ -8,7 +8,7 @@ ghost use Rattle.script_runs.specs.Names.{IsNamed, named_in};
 ghost use Rattle.play_terms.specs.Plays.{make_task};
 ghost use Rattle.made_terms.specs.Making.{IsSolid};
 
-use crate::names::Names;
+use crate::names::HeldNames;
 use crate::settings::AtLine;
 use mesh_files::{Halt, Stop};
 use mesh_make::{MakeFault, Solid, make_solid};
@@ -32,7 +32,7 @@ pub fn make<'a>(
     at: &AtLine<'_, 'a>,
     name: &'a str,
     solid: Solid,
-    names: &mut Names<'a>,
+    names: &mut HeldNames<'a>,
 ) -> Result<(), Halt<'a>>
     requires { IsSolid solid }
     ensures meets { (now : Seen) → Meets (make_task at.now.limits.now at.now.script.now at.now.line name.now solid (named_in names.old)) now now

@@ -6,7 +6,7 @@ ghost use Rattle.script_runs.specs.Halts.{IsHaltOfStep};
 ghost use Rattle.script_runs.specs.Names.{named_in};
 ghost use Rattle.play_terms.specs.Plays.{measure_task, mesh_at, mesh_held};
 
-use crate::names::Names;
+use crate::names::HeldNames;
 use mb_outside::Sink;
 use mesh_files::Halt;
 use mesh_make::measure;
@@ -17,7 +17,7 @@ use std::alloc::Global;
 pub fn measure_mesh<'a, O: Sink>(
     alloc: Global,
     name: &'a str,
-    names: &Names<'a>,
+    names: &HeldNames<'a>,
     out: &mut O,
 ) -> Result<(), Halt<'a>>
     requires { IsSome (mesh_held (named_in names.now name.now)) }

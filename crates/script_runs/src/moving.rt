@@ -8,7 +8,7 @@ ghost use Rattle.play_terms.specs.Plays.{mesh_held, move_task};
 ghost use Rattle.made_terms.specs.Motions.{IsMotion};
 
 use crate::making::halt_at;
-use crate::names::Names;
+use crate::names::HeldNames;
 use crate::settings::AtLine;
 use mesh_files::Halt;
 use mesh_make::{Motion, move_by};
@@ -19,7 +19,7 @@ pub fn move_mesh<'a>(
     name: &'a str,
     source: &'a str,
     motion: Motion,
-    names: &mut Names<'a>,
+    names: &mut HeldNames<'a>,
 ) -> Result<(), Halt<'a>>
     requires source { IsSome (mesh_held (named_in names.old source.now)) }
     requires motion { IsMotion motion }

@@ -21,11 +21,11 @@ pub enum Held {
 
 /// What names hold, which the names own. A clause sees a list of names, each with what it holds.
 #[derive(Drop)]
-pub struct Names<'a> {
+pub struct HeldNames<'a> {
     held: IndexMap<&'a str, Held>,
 }
 
-impl<'a> Model for Names<'a> {
+impl<'a> Model for HeldNames<'a> {
     ghost use Rattle.std.specs.Prelude.{ℕ, List, map};
     ghost use Rattle.play_terms.specs.Plays.{Held as TheHeld};
     ghost use Rattle.script_runs.specs.Held.{held_of};
@@ -35,12 +35,12 @@ impl<'a> Model for Names<'a> {
     ghost view = { λ n. map (λ e. (e.0.now, held_of e.1)) n.held.entries };
 }
 
-impl<'a> Names<'a> {
+impl<'a> HeldNames<'a> {
     /// No name.
-    pub fn none(alloc: Global) -> Names<'a>
+    pub fn none(alloc: Global) -> HeldNames<'a>
         ensures { result ≡ [] }
     {
-        Names {
+        HeldNames {
             held: IndexMap::new(alloc),
         }
     }

@@ -20,7 +20,7 @@ ghost use Rattle.rounding.specs.Nearest.{settle_nearest};
 ghost use Rattle.script_runs.specs.Outcomes.{IsOutcome2};
 
 use crate::combining::Combining;
-use crate::names::Names;
+use crate::names::HeldNames;
 use crate::settings::AtLine;
 use cross_section::{ExtrudeFault, Extruded, Flat, OutlineFault, combine_outlines, extrude};
 use exact_kernels::Exact;
@@ -38,7 +38,7 @@ pub fn polygon<'a>(
     alloc: Global,
     name: &'a str,
     ring: &[[i32; 2]],
-    names: &mut Names<'a>,
+    names: &mut HeldNames<'a>,
 ) -> Result<(), Halt<'a>>
     requires { IsRing ring.now }
     ensures meets { (now : Seen) → Meets (polygon_task name.now ring.now (named_in names.old)) now now (halted_by (λ _. named_in names.new) result) }
@@ -108,7 +108,7 @@ fn counts_of(flat: &Flat) -> OutlineCounts
 pub fn combine2<'a, O: Sink>(
     at: &AtLine<'_, 'a>,
     what: &Combining<'a>,
-    names: &mut Names<'a>,
+    names: &mut HeldNames<'a>,
     out: &mut O,
 ) -> Result<(), Halt<'a>>
     requires left { IsSome (outline_held (named_in names.old what.now.left.now)) }
@@ -173,7 +173,7 @@ pub fn extrude_outline<'a, O: Sink>(
     name: &'a str,
     source: &'a str,
     heights: Heights,
-    names: &mut Names<'a>,
+    names: &mut HeldNames<'a>,
     out: &mut O,
 ) -> Result<(), Halt<'a>>
     requires source { IsSome (outline_held (named_in names.old source.now)) }

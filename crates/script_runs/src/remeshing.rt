@@ -8,7 +8,7 @@ ghost use Rattle.mb_base.specs.declared.kernel_kind.KernelKind.{KernelKind};
 ghost use Rattle.script_runs.specs.Operations.{meanings};
 ghost use Rattle.play_terms.specs.Plays.{mesh_at, mesh_held, remesh_task};
 
-use crate::names::Names;
+use crate::names::HeldNames;
 use mb_outside::Sink;
 use mesh_files::Halt;
 use planar_patches::remesh;
@@ -21,7 +21,7 @@ pub fn remesh_mesh<'a, O: Sink>(
     alloc: Global,
     name: &'a str,
     source: &'a str,
-    names: &mut Names<'a>,
+    names: &mut HeldNames<'a>,
     out: &mut O,
 ) -> Result<(), Halt<'a>>
     requires { IsSome (mesh_held (named_in names.old source.now)) }

@@ -14,7 +14,7 @@ ghost use Rattle.script_runs.specs.Texts.{why_of_fault};
 ghost use Rattle.play_terms.specs.Plays.{script_task};
 
 use crate::doing::do_step;
-use crate::names::Names;
+use crate::names::HeldNames;
 use crate::settings::{AtLine, Settings};
 use mb_base::{KernelKind, Steps};
 use mb_outside::{Shelf, Sink};
@@ -51,7 +51,7 @@ pub fn run_script<'a, S: Shelf, O: Sink, L: Ledger>(
         Ok(script) => script,
         Err(fault) => return Err(halt_of(name, fault)),
     };
-    let mut names = Names::none(settings.alloc);
+    let mut names = HeldNames::none(settings.alloc);
     let mut kernels = KernelKind::Grid;
     for line in script.lines() {
         let at = AtLine {

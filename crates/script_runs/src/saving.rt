@@ -6,7 +6,7 @@ ghost use Rattle.script_runs.specs.Halts.{IsHaltOfStep};
 ghost use Rattle.script_runs.specs.Names.{named_in};
 ghost use Rattle.play_terms.specs.Plays.{mesh_at, mesh_held, save_task};
 
-use crate::names::Names;
+use crate::names::HeldNames;
 use mb_outside::{Shelf, Sink};
 use mesh_files::{Halt, save_named_mesh};
 use report_lines::say_saved;
@@ -16,7 +16,7 @@ pub fn save<'a, S: Shelf, O: Sink>(
     digits: u8,
     name: &'a str,
     file: &'a str,
-    names: &Names<'a>,
+    names: &HeldNames<'a>,
     shelf: &mut S,
     out: &mut O,
 ) -> Result<(), Halt<'a>>

@@ -6,7 +6,7 @@ ghost use Rattle.script_runs.specs.Halts.{IsHaltOfStep};
 ghost use Rattle.script_runs.specs.Names.{IsNamed, named_in};
 ghost use Rattle.play_terms.specs.Plays.{mesh_at, mesh_held, tidy_task};
 
-use crate::names::Names;
+use crate::names::HeldNames;
 use mb_outside::Sink;
 use mesh_files::Halt;
 use mesh_tidy::tidy;
@@ -18,7 +18,7 @@ pub fn tidy_mesh<'a, O: Sink>(
     alloc: Global,
     name: &'a str,
     source: &'a str,
-    names: &mut Names<'a>,
+    names: &mut HeldNames<'a>,
     out: &mut O,
 ) -> Result<(), Halt<'a>>
     requires { IsSome (mesh_held (named_in names.old source.now)) }

@@ -15,6 +15,7 @@ fn words_of<'a>(step: &Step<'a>) -> (&'static str, [&'a str; 3]) {
         Step::Load { name, file } => ("load", [name.as_str(), file.as_str(), ""]),
         Step::Save { name, file } => ("save", [name.as_str(), file.as_str(), ""]),
         Step::Measure { name } => ("measure", [name.as_str(), "", ""]),
+        Step::Inspect { name } => ("inspect", [name.as_str(), "", ""]),
         Step::Combine {
             op,
             name,
@@ -169,9 +170,9 @@ const NONE: [i64; 6] = [0; 6];
 
 // Steps in order.
 const STEPS: &[u8] =
-    b"load a cube.obj\nload b b.obj\nunion u a b\nmeasure u\nsave u u.obj\nexact # from here on\ntidy v u\ntidy v v\nremesh w v\n";
+    b"load a cube.obj\nload b b.obj\nunion u a b\nmeasure u\nsave u u.obj\nexact # from here on\ntidy v u\ntidy v v\nremesh w v\ninspect w\n";
 
-const STEPS_ROWS: [Row<'static>; 9] = [
+const STEPS_ROWS: [Row<'static>; 10] = [
     (1, "load", ["a", "cube.obj", ""], NONE),
     (2, "load", ["b", "b.obj", ""], NONE),
     (3, "union", ["u", "a", "b"], NONE),
@@ -181,6 +182,7 @@ const STEPS_ROWS: [Row<'static>; 9] = [
     (7, "tidy", ["v", "u", ""], NONE),
     (8, "tidy", ["v", "v", ""], NONE),
     (9, "remesh", ["w", "v", ""], NONE),
+    (10, "inspect", ["w", "", ""], NONE),
 ];
 
 // A mark, comments, blanks and ends of lines, which are passed over.
@@ -265,7 +267,7 @@ fn the_steps_stand_in_order_with_their_lines_and_numbers(rt: HostRuntime) {
     }
 }
 
-static LINES: [Refused; 34] = [
+static LINES: [Refused; 35] = [
     (b"cut a b", 1, 20),
     (b"Load a c.obj", 1, 20),
     (b"measures a", 1, 20),
@@ -278,6 +280,7 @@ static LINES: [Refused; 34] = [
     (b"tidy a", 1, 21),
     (b"tidy a b c", 1, 21),
     (b"remesh a", 1, 21),
+    (b"inspect", 1, 21),
     (b"box a 0 0 0 1 1", 1, 21),
     (b"box a 0 0 0 1 1 1 1 1", 1, 21),
     (b"union u 1 c.ply 2", 1, 21),
@@ -307,7 +310,7 @@ fn the_first_fault_of_a_line_refuses_it(rt: HostRuntime) {
     refuses(&rt, rt.alloc(), &LINES);
 }
 
-static OPERANDS: [Refused; 22] = [
+static OPERANDS: [Refused; 23] = [
     (b"box a 0 0 0 1 1 1e", 1, 24),
     (b"tetra t nan 0 0 6", 1, 24),
     (b"tetra t 0 0 0 \xff", 1, 24),
@@ -330,6 +333,7 @@ static OPERANDS: [Refused; 22] = [
     (b"tetra t 0 0 0 6\nturn m t 0", 2, 24),
     (b"tetra t 0 0 0 6\nturn 1 t 0", 2, 22),
     (b"tetra t 0 0 0 6\nmeasure T", 2, 23),
+    (b"tetra t 0 0 0 6\ninspect t t", 2, 21),
 ];
 
 #[test]
@@ -337,7 +341,7 @@ fn operands_without_a_value_refuse_a_line(rt: HostRuntime) {
     refuses(&rt, rt.alloc(), &OPERANDS);
 }
 
-static OUTLINES: [Refused; 17] = [
+static OUTLINES: [Refused; 18] = [
     (b"polygon", 1, 21),
     (b"polygon a", 1, 21),
     (b"polygon a 0 0 1 0", 1, 21),
@@ -351,6 +355,7 @@ static OUTLINES: [Refused; 17] = [
     (b"union2 u a", 1, 21),
     (b"polygon a 0 0 1 0 0 1\nunion2 u a b", 2, 23),
     (b"polygon a 0 0 1 0 0 1\nmeasure a", 2, 23),
+    (b"polygon a 0 0 1 0 0 1\ninspect a", 2, 23),
     (b"polygon a 0 0 1 0 0 1\nremesh b a", 2, 23),
     (b"box a 0 0 0 1 1 1\nextrude b a 0 1", 2, 23),
     (b"polygon a 0 0 1 0 0 1\nextrude b a 0", 2, 21),

@@ -1,5 +1,5 @@
 // Whole runs of scripts that remesh. Lines and files that are expected were made by a reference program, in plain Python over sums of all pairs; its
-// remeshing is that of `benches/remesh_reference.py`. Flat and folded triangles were counted by `examples/flat.py`, in the results before and after.
+// remeshing is that of `benches/remesh_reference.py`. Flat and folded triangles were counted by a script, in the results before and after.
 use super::made::shelf_of;
 use super::{expect_run, is_same};
 use mb_base::{Limits, NoMemory};

@@ -1,3 +1,4 @@
+use Rattle.inspection_laws.proofs.Counted.{cuts_are_counted}
 use Rattle.operation_laws.proofs.Results.{operations_are_results, scripts_give_results, scripts_remesh}
 use Rattle.operation_laws.proofs.laws.operations_are_results.Goals as goal
 
@@ -13,3 +14,6 @@ pub returns-clause-remeshed : goal.returns-clause-remeshed
 returns-clause-remeshed c =
     scripts_remesh (record { accepted = c.fillings_close.ensures.accepted; few = c.fillings_close.ensures.few })
     c.welding_keeps.ensures c.patches_are_patches.ensures c.patches_are_kept.ensures c.remeshing_remeshes.ensures
+
+pub returns-clause-inspected : goal.returns-clause-inspected
+returns-clause-inspected c kernels m = cuts_are_counted m

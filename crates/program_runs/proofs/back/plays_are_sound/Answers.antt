@@ -9,4 +9,5 @@ returns c = record {
   results = c.plays_give_results.ensures.results;
   geometric = c.plays_give_results.ensures.geometric;
   remeshed = c.plays_give_results.ensures.remeshed;
+  inspected = c.plays_give_results.ensures.inspected;
 }

@@ -7,4 +7,5 @@ returns c = record {
   results = gives_results c.args.limits.now (command c.args.words.now) c.file_bytes.ensures.lawful (few_digits c.args.words.now) c.operations_are_results.ensures.scripts;
   geometric = gives_geometric c.args.limits.now (command c.args.words.now) c.file_bytes.ensures.lawful (few_digits c.args.words.now) c.operations_are_geometric.ensures.scripts;
   remeshed = remeshes c.args.limits.now (command c.args.words.now) c.file_bytes.ensures.lawful (few_digits c.args.words.now) c.operations_are_results.ensures.remeshed;
+  inspected = c.operations_are_results.ensures.inspected;
 }

@@ -16,11 +16,8 @@ returns-in-Ok-clause-run g c =
     (c.run.new.shelf, c.run.new.out, c.run.new.err) c.args.sums.now c.run.new.steps c.run.result)
     c.program.ensures.value c.run.ensures)
 
-pub returns-in-Ok-clause-status : goal.returns-in-Ok-clause-status
-returns-in-Ok-clause-status g c = rw c.in-Ok.is tt
-
-pub returns-in-Ok-clause-report : goal.returns-in-Ok-clause-report
-returns-in-Ok-clause-report g c = rw c.in-Ok.is tt
+pub returns-in-Ok-clause-unread : goal.returns-in-Ok-clause-unread
+returns-in-Ok-clause-unread g c = rw c.in-Ok.is tt
 
 pub returns-in-Ok-clause-alone : goal.returns-in-Ok-clause-alone
 returns-in-Ok-clause-alone g c = rw c.in-Ok.is tt

@@ -5,7 +5,7 @@ use Rattle.made_terms.specs.declared.solid.Solid.TheVariants.{Prism, Tetra}
 use Rattle.mb_outside.specs.Seen.{on_shelf, seen_of}
 use Rattle.play_laws.proofs.Tasks.{meets_given}
 use Rattle.play_terms.specs.Sound.{HasNumbers}
-use Rattle.play_terms.specs.Steps.{Combine, Combine2, Load, Measure, Remesh, Save, Tidy, new_name}
+use Rattle.play_terms.specs.Steps.{Combine, Combine2, Inspect, Load, Measure, Remesh, Save, Tidy, new_name}
 use Rattle.script_lang.specs.Steps.{step_of}
 use Rattle.script_runs.specs.Names.{named_in}
 use Rattle.script_runs.specs.Operations.{meanings}
@@ -30,6 +30,12 @@ returns-in-Measure-clause-meets g c =
     let at = c.args.at.now in
     stepped (meanings at.kernels) at.digits at.limits.now at.script.now at.line (named_in c.args.names.now)
     (with_one Measure (ap step_of c.in-Measure.is) c.as_str-in-Measure.ensures) (c.measure_mesh.ensures.meets (on_shelf g.S.Shelf c.args.shelf.now))
+
+pub returns-in-Inspect-clause-meets : goal.returns-in-Inspect-clause-meets
+returns-in-Inspect-clause-meets g c =
+    let at = c.args.at.now in
+    stepped (meanings at.kernels) at.digits at.limits.now at.script.now at.line (named_in c.args.names.now)
+    (with_one Inspect (ap step_of c.in-Inspect.is) c.as_str-in-Inspect.ensures) (c.inspect_mesh.ensures.meets at.kernels (on_shelf g.S.Shelf c.args.shelf.now))
 
 pub returns-in-Combine-clause-meets : goal.returns-in-Combine-clause-meets
 returns-in-Combine-clause-meets g c =
@@ -251,6 +257,10 @@ save-requires-clause-named g c =
 pub measure_mesh-requires : goal.measure_mesh-requires
 measure_mesh-requires g c =
     taken_one (named_in c.args.names.now) (with_one Measure (ap step_of c.in-Measure.is) c.as_str-in-Measure.ensures) refl c.requires.taken
+
+pub inspect_mesh-requires-clause-named : goal.inspect_mesh-requires-clause-named
+inspect_mesh-requires-clause-named g c =
+    taken_one (named_in c.args.names.now) (with_one Inspect (ap step_of c.in-Inspect.is) c.as_str-in-Inspect.ensures) refl c.requires.taken
 
 pub combine-requires-clause-left : goal.combine-requires-clause-left
 combine-requires-clause-left g c =

@@ -18,6 +18,12 @@ returns-in-Measure-clause-step c = rw c.in-Measure.is (c.measure_step.ensures.st
 pub returns-in-Measure-clause-fault : goal.returns-in-Measure-clause-fault
 returns-in-Measure-clause-fault c = rw c.in-Measure.is (c.measure_step.ensures.fault c.args.digits)
 
+pub returns-in-Inspect-clause-step : goal.returns-in-Inspect-clause-step
+returns-in-Inspect-clause-step c = rw c.in-Inspect.is (c.inspect_step.ensures.step c.args.digits)
+
+pub returns-in-Inspect-clause-fault : goal.returns-in-Inspect-clause-fault
+returns-in-Inspect-clause-fault c = rw c.in-Inspect.is (c.inspect_step.ensures.fault c.args.digits)
+
 pub returns-in-Combine-clause-step : goal.returns-in-Combine-clause-step
 returns-in-Combine-clause-step c = rw c.in-Combine.is (c.combine_step.ensures.step c.args.digits)
 

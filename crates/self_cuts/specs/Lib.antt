@@ -1,0 +1,4 @@
+pub mod Faces
+pub mod Hands
+pub mod Heights
+pub mod Places
