@@ -1,4 +1,4 @@
-"""Random chains of operations on small solids, remeshed by benches/remesh_reference.py.
+"""Random chains of operations on small solids, remeshed by benches/reference/remeshing.py.
 
 Usage: remesh_rows.py PROGRAM COUNT [SEED] has PROGRAM do the operations and the remeshing, and compares byte for byte.
        remesh_rows.py --table PROGRAM COUNT [SEED] has it do the operations alone, and prints rows for crates/mesh_tests/src/remeshing/table.rt."""
@@ -8,7 +8,11 @@ import subprocess
 import sys
 import tempfile
 
-import remesh_reference
+sys.path.insert(0, os.path.join(os.path.dirname(os.path.abspath(__file__)), "reference"))
+from limits import Limits
+from mesh import cross
+from obj import obj_text, read_obj
+from remeshing import remesh
 
 DIGITS = "0123456789abcdefghijklmnopqrstuvwxyzABCDEFGHIJKLMNOPQRSTUVWXYZ"
 
@@ -49,6 +53,10 @@ def read(folder, name):
         return file.read()
 
 
+def mesh_in(folder, name):
+    return read_obj(read(folder, name).encode(), 0, Limits())
+
+
 def word(rows):
     return "".join(DIGITS[number] for row in rows for number in row)
 
@@ -59,30 +67,30 @@ def compare(program, count, seed):
         for k in range(count):
             lines = chain(random.Random("%d %d" % (seed, k))) + ["save a a.obj", "remesh r a", "save r r.obj"]
             said = run(program, folder, lines)
-            mesh = remesh_reference.read_obj(read(folder, "a.obj"))
-            done, patches, stayed = remesh_reference.remesh(mesh)
-            if said[-2] != "r = remesh a: patches %d, kept %d" % (patches, stayed) or read(folder, "r.obj") != remesh_reference.obj_text(done):
+            mesh = mesh_in(folder, "a.obj")
+            done, planes, stayed = remesh(mesh)
+            if said[-2] != "r = remesh a: planes %d, kept %d" % (planes, stayed) or read(folder, "r.obj").encode() != obj_text(done, 0):
                 sys.exit("another mesh:\n" + "\n".join(lines))
             kept += stayed
             triangles += len(mesh.triples)
-    print("%d meshes of %d triangles are the same, %d patches stayed" % (count, triangles, kept))
+    print("%d meshes of %d triangles are the same, %d triangles were kept" % (count, triangles, kept))
 
 
 def table(program, count, seed):
-    """Rows of meshes with something to do, whose numbers have one digit each. Half of the meshes in which all is filled anew and no triangle was flat go."""
+    """Rows of meshes with something to do, whose numbers have one digit each. Half of the meshes in which nothing is kept and no triangle was flat go."""
     made, k = 0, 0
     with tempfile.TemporaryDirectory() as folder:
         while made < count:
             draw = random.Random("%d %d" % (seed, k))
             k += 1
             run(program, folder, chain(draw) + ["save a a.obj"])
-            mesh = remesh_reference.read_obj(read(folder, "a.obj"))
-            done, patches, kept = remesh_reference.remesh(mesh)
-            flat = remesh_reference.quality(mesh)[0]
+            mesh = mesh_in(folder, "a.obj")
+            done, planes, kept = remesh(mesh)
+            flat = sum(cross(*[mesh.points[v] for v in t]) == (0, 0, 0) for t in mesh.triples)
             numbers = [c for p in mesh.points for c in p] + [len(mesh.points) - 1]
             if not done.triples or min(numbers) < 0 or max(numbers) > 61 or (kept == 0 and flat == 0 and draw.random() < 0.5):
                 continue
-            print("%s %s %s %s %d %d" % (word(mesh.points), word(mesh.triples), word(done.points), word(done.triples), patches, kept))
+            print("%s %s %s %s %d %d" % (word(mesh.points), word(mesh.triples), word(done.points), word(done.triples), planes, kept))
             made += 1
 
 

@@ -9,5 +9,5 @@ $shapes hole.obj cylinder 3.3 10 16 shift 0 0 -1
     for at in '31 0' '15.5 26.847' '-15.5 26.847' '-31 0' '-15.5 -26.847' '15.5 -26.847'; do
         printf 'shift bolt hole %s 0\nunion tools tools bolt\n' "$at"
     done
-    printf 'union flange disc hub\nsubtract flange flange tools\nmeasure flange\nsave tools tools.obj\nsave flange flange.obj\n'
+    printf 'union flange disc hub\nsubtract flange flange tools\nremesh flange flange\nmeasure flange\nsave tools tools.obj\nsave flange flange.obj\n'
 } > flange.txt

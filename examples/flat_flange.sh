@@ -16,5 +16,5 @@ ring() {
         ring bolt 16 3.3 $at
         echo 'union2 tools tools bolt'
     done
-    printf 'subtract2 flat disc tools\nextrude flange flat 0 6\nmeasure flange\nsave flange flat_flange.obj\n'
+    printf 'subtract2 flat disc tools\nextrude flange flat 0 6\nremesh flange flange\nmeasure flange\nsave flange flat_flange.obj\n'
 } > flat_flange.txt

@@ -29,7 +29,7 @@ lines = ["load wheel rim.obj", "load hub hub.obj", "load key key.obj", "shift ke
 for k in range(SPOKES):
     shapes.write("spoke%d.obj" % k, shapes.shift(shapes.turn(spoke, "z", 360 * k / SPOKES + 10), 0, 0, 1))
     lines += ["load spoke spoke%d.obj" % k, "union wheel wheel spoke"]
-lines += ["subtract wheel wheel key", "measure wheel", "save wheel wheel.obj"]
+lines += ["subtract wheel wheel key", "remesh wheel wheel", "measure wheel", "save wheel wheel.obj"]
 
 said = run(lines, "wheel.txt")
 forced = sum(int(line.rsplit(" ", 1)[1]) for line in said if ", forced " in line)

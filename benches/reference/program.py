@@ -4,7 +4,7 @@ from command_line import parsed
 from grid import written
 import inspections
 from kernels import Exact, Grid
-from limits import Limits
+from limits import Limits, keep_within
 from mesh import checked
 from obj import obj_text, read_obj
 import operations
@@ -158,8 +158,11 @@ class Program:
             self.held[name], count = tidy(self.held[old])
             self.say(b"%s = tidy %s: collapsed %d" % (name, old, count))
         elif command == b"remesh":
-            self.held[name], patches, kept = remesh(self.held[old])
-            self.say(b"%s = remesh %s: patches %d, kept %d" % (name, old, patches, kept))
+            mesh, planes, kept = remesh(self.held[old])
+            keep_within(self.limits, "points", len(mesh.points))
+            keep_within(self.limits, "triangles", len(mesh.triples))
+            self.held[name] = mesh
+            self.say(b"%s = remesh %s: planes %d, kept %d" % (name, old, planes, kept))
         else:
             self.held[name], forced = outlines.extrude(self.held[old], *words[2:], self.limits)
             self.say(b"%s = extrude %s: forced %d" % (name, old, forced))

@@ -1,98 +1,79 @@
-"""Remeshing: points at one place are joined, and each flat patch is filled anew where that makes it better."""
-from filling import FLAT, area, dropped_axis, fill_flat, turn
-from mesh import cross, dot, next_half, reduced, split, without_unused
-
-MOST_PLACES = 60000000
+"""Remeshing plane by plane: at each point of a plane as many sheets as the triangles that face front, less those that
+face back, say. Where edges of a plane cross, the triangles at them are kept."""
+from edge_twins import parted
+from filling import fill
+from mesh import Mesh, cross, without_unused
+from planes import ORIGIN, chain_of, crossing_points, free_and_kept, minus, pairs_round, planes_of
+from regions import neighbours, regions_of, started, walks_of
 
 
 def welded(mesh):
-    """Points at one place become the first of them; triples that then repeat a point go."""
-    first = {}
-    name = [first.setdefault(p, v) for v, p in enumerate(mesh.points)]
-    kept = [(tuple(name[v] for v in t), label) for t, label in zip(mesh.triples, mesh.labels)]
-    kept = [(t, label) for t, label in kept if len(set(t)) == 3]
-    return without_unused(mesh.points, [t for t, _ in kept], [label for _, label in kept])
+    """The places, which are the different points by their first vertex, and the triangles with three of them."""
+    place = {}
+    names = [place.setdefault(p, len(place)) for p in mesh.points]
+    faces = [(tuple(names[v] for v in t), label) for t, label in zip(mesh.triples, mesh.labels)]
+    faces = [face for face in faces if len(set(face[0])) == 3]
+    return list(place), [t for t, _ in faces], [label for _, label in faces]
 
 
-def patch_of(mesh, seed, taken):
-    """The triples in the plane of the seed and with its label that edges over such triples join to it."""
-    points, triples = mesh.points, mesh.triples
-    normal = cross(*[points[v] for v in triples[seed]])
-    level = dot(normal, points[triples[seed][0]])
-    taken[seed], reached = True, [seed]
-    for t in reached:
-        for h in (3 * t, 3 * t + 1, 3 * t + 2):
-            u = mesh.twins[h] // 3
-            if (not taken[u] and mesh.labels[u] == mesh.labels[seed]
-                    and all(dot(normal, points[v]) == level for v in triples[u])):
-                taken[u] = True
-                reached.append(u)
-    return sorted(reached)
+def pieces_of(plane, points):
+    """What is to be filled in a plane, and how many triangles are kept. A piece has the first triangle of its side, 1 for a
+    kept triangle, the label, the plane, the side and the walks."""
+    at, labels, pieces = plane.front(points), plane.labels(), []
+    free, kept = free_and_kept(plane, at)
+    first = {side: min((face[0] for face in plane.faces if face[2] == side), default=-1) for side in (1, -1)}
+    regions = regions_of(chain_of(free, labels), free, labels, at)
+    for side, k, level in sorted(regions, key=lambda r: (first[r[0]], r[1], r[2])):
+        edges = regions[side, k, level]
+        seen = plane.flat(points, {v for e in edges for v in e}, side)
+        pieces.append((first[side], 0, labels[k], plane, side, walks_of(edges, seen)))
+    pieces += [(first[side], 1, label, plane, side, [rim]) for _, rim, side, label in kept]
+    return pieces, len(kept)
 
 
-def patches_of(mesh):
-    """Pairs of a seed and the triples of its patch, and the flat triples that are in none."""
-    taken, patches = [False] * len(mesh.triples), []
-    for seed, t in enumerate(mesh.triples):
-        if not taken[seed] and cross(*[mesh.points[v] for v in t]) != (0, 0, 0):
-            patches.append((seed, patch_of(mesh, seed, taken)))
-    return patches, [t for t in range(len(mesh.triples)) if not taken[t]]
+def needless_places(pieces, points):
+    """The places at which the edges of all walks lead to two places only, which lie on one line with it."""
+    ends = neighbours([edge for piece in pieces for walk in piece[5] for edge in pairs_round(walk)])
+    found = set()
+    for v, others in ends.items():
+        others = set(others)
+        if len(others) == 2:
+            p, q = [minus(points[w], points[v]) for w in others]
+            if cross(ORIGIN, p, q) == ORIGIN:
+                found.add(v)
+    return found
 
 
-def rim_loops(members, twins):
-    """The loops of the half-edges whose twins are outside. Each is followed by the first outside on the way round its
-    end, inside the patch."""
-    inside, used, loops = set(members), set(), []
-    for start in (h for t in members for h in (3 * t, 3 * t + 1, 3 * t + 2) if twins[h] // 3 not in inside):
-        loop, h = [], start
-        while h not in used:
-            used.add(h)
-            loop.append(h)
-            h = next_half(h)
-            while twins[h] // 3 in inside:
-                h = next_half(twins[h])
-        if loop:
-            loops.append(loop)
-    return loops
-
-
-def is_better(new, forced, members, bad):
-    """Whether a filling is taken: no point twice in a triple, no more triples, and fewer of them forced."""
-    if len(new) > len(members) or any(len(set(t)) < 3 for t in new):
-        return False
-    return forced == 0 or forced < bad or (forced == bad and len(new) < len(members))
-
-
-def refilled(mesh, seed, members):
-    """The triples of a patch anew; none where it stays. Its rim is filled with half-edges as places."""
-    points, triples = mesh.points, mesh.triples
-    loops = rim_loops(members, mesh.twins)
-    if sum(map(len, loops)) > MOST_PLACES:
-        return None
-    loops = [loop for loop in loops if len(loop) > 2]
-    vertices = [triples[h // 3][h % 3] for loop in loops for h in loop]
-    numbers = iter(range(len(vertices)))
-    loops = [[next(numbers) for _ in loop] for loop in loops]
-    flat = FLAT[dropped_axis(*[points[v] for v in triples[seed]])]
-    at = [flat(points[v]) for v in vertices]
-    way = -1 if sum(area(loop, at) for loop in loops) < 0 else 1
-    new, forced = fill_flat(loops, at)
-    new = [tuple(vertices[i] for i in t) for t in new]
-    bad = sum(way * turn(*[flat(points[v]) for v in triples[t]]) <= 0 for t in members)
-    return new if is_better(new, forced, members, bad) else None
+def filled(piece, points, gone):
+    """The triangles of a piece, and how many were forced."""
+    _, _, _, plane, side, walks = piece
+    at = plane.flat(points, {v for walk in walks for v in walk}, side)
+    loops = sorted(started([v for v in walk if v not in gone], at) for walk in walks)
+    return fill(plane.axis, loops, points)
 
 
 def remesh(mesh):
-    """The mesh, the number of patches, and how many of them stayed."""
-    whole, _ = split(reduced(welded(mesh)))
-    patches, alone = patches_of(whole)
-    triples, labels, kept = [], [], 0
-    for seed, members in sorted(patches + [(t, None) for t in alone]):
-        new = [whole.triples[seed]] if members is None else refilled(whole, seed, members)
-        if new is None:
-            kept += 1
-            new = [whole.triples[t] for t in members]
-        triples += new
-        labels += [whole.labels[seed]] * len(new)
-    done, _ = split(without_unused(whole.points, triples, labels))
-    return done, len(patches), kept
+    """The mesh, the number of planes, and how many triangles were kept."""
+    points, triples, labels = welded(mesh)
+    planes = planes_of(points, triples, labels)
+    more = crossing_points(planes, points)
+    if more:
+        points = points + more
+        planes = planes_of(points, triples, labels)
+    pieces, kept = [], 0
+    for plane in planes:
+        some, count = pieces_of(plane, points)
+        pieces += some
+        kept += count
+    pieces.sort(key=lambda piece: piece[:2])
+    gone, new, names = needless_places(pieces, points), [], []
+    for piece in pieces:
+        more, forced = filled(piece, points, gone)
+        if forced:                              # never seen: the mesh stays
+            return mesh, len(planes), len(mesh.triples)
+        new += more
+        names += [piece[2]] * len(more)
+    if not new:
+        return Mesh([], []), len(planes), kept
+    whole = without_unused(points, new, names)
+    return parted(whole.points, whole.triples, whole.labels), len(planes), kept

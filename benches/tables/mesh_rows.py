@@ -24,10 +24,10 @@ def pinches(line):
 
 
 def remeshed(line):
-    """A mesh; then that remeshed, the patches, and those that stayed."""
+    """A mesh; then that remeshed, the planes, and the triangles that were kept."""
     words = line.split(" ")[:2]
-    done, patches, kept = remesh(mesh_of(*words))
-    return " ".join(words + [word(done.points), word(done.triples), str(patches), str(kept)])
+    done, planes, kept = remesh(mesh_of(*words))
+    return " ".join(words + [word(done.points), word(done.triples), str(planes), str(kept)])
 
 
 def inspections(line):

@@ -27,8 +27,8 @@ use Rattle.mesh_boolean.specs.Operation.{first_side, numbers_of, operation, redu
 use Rattle.play_laws.proofs.Readable.{within_of_readable}
 use Rattle.play_laws.proofs.ScriptsReadingBack.{steps_keep}
 use Rattle.play_terms.specs.Plays.{mesh_at}
-use Rattle.remesh_laws.proofs.Making.{reduced_given}
-use Rattle.remesh_laws.specs.Laws.{RemeshingRemeshes}
+use Rattle.split_laws.proofs.Reduced.{reduced_given}
+use Rattle.sheet_laws.specs.Promises.{RemeshedIsGiven}
 use Rattle.operation_laws.proofs.Made.{AreFilled}
 use Rattle.operation_laws.proofs.ReducedSides.{side_is}
 use Rattle.operation_laws.proofs.Results.{length-leans, results_readable}
@@ -151,7 +151,7 @@ pub operations_are_geometric : OperationsAreGeometric
 operations_are_geometric w settle op p q p_given q_given = is_geometric w settle op p q p_given q_given
 
 -- and that of scripts: the meshes of the names are accepted, at points of the grid
-pub scripts_are_geometric : AreFilled → RemeshingRemeshes → ScriptsAreGeometric
+pub scripts_are_geometric : AreFilled → RemeshedIsGiven → ScriptsAreGeometric
 scripts_are_geometric laws remeshes k limits few lawful script files lines state places is exactly op left right =
     let p = mesh_at state.named left in
     let q = mesh_at state.named right in

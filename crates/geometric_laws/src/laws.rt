@@ -2,7 +2,7 @@
 
 ghost use Rattle.geometric_laws.specs.Laws.{OperationsAreGeometric, ScriptsAreGeometric};
 
-use remesh_laws::laws::remeshing_remeshes;
+use sheet_laws::laws::remeshed_is_given;
 use source_face_laws::of_fillings::fillings_close;
 
 /// Under exact kernels, with whatever rounding, an operation on two accepted meshes prescribes each vertex of one, reduced, that lies in no
@@ -15,5 +15,5 @@ pub fn operations_are_geometric()
 {
     // The laws of fillings, and of remeshing.
     fillings_close();
-    remeshing_remeshes();
+    remeshed_is_given();
 }

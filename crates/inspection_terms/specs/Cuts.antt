@@ -58,8 +58,9 @@ pub record AreOnSamePlaces (t o : Corners) : Type 0 where
   pub b : HasCorner o t.1
   pub c : HasCorner o t.2
 
--- neither is flat, and they lie on the same three places, or an edge of one has a point in the other that is not in the hull of what both share.
--- (Of two such triangles with a common point one has an edge with a common point: so it is enough to look at edges.)
+-- two triangles cut one another: neither is flat, and they lie on the same three places, or an edge of the first has a point in the second, or an edge of the second has
+-- one in the first, that is not in the hull of the corners that they share. Points inside both need no case of their own: where two triangles that are not flat, on
+-- different places, have a point in common beyond that hull, they have one on an edge of one of them, as the ends of what they have in common lie on edges.
 pub record AreCutting (t o : Corners) : Type 0 where
   pub first : is_flat t ≡ false
   pub second : is_flat o ≡ false

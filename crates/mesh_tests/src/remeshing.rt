@@ -2,8 +2,9 @@
 mod table;
 
 use crate::lines::are_same;
+use mb_base::Limits;
 use mesh_check::Mesh;
-use planar_patches::remesh;
+use plane_remesh::remesh;
 use std::alloc::Global;
 use std::process::Abort;
 use table::ROWS;
@@ -23,7 +24,7 @@ fn counts(tens: u8, ones: u8, kept: u8) -> Option<(u64, u64)> {
     Some((10 * tens + ones, (kept & 15) as u64))
 }
 
-// The numbers of patches and of those that stayed, which end a line, a blank before each: the first of one or two digits, the
+// The numbers of planes and of triangles that were kept, which end a line, a blank before each: the first of one or two digits, the
 // second of one.
 fn counts_of(line: &str) -> Option<(u64, u64)> {
     match line.as_bytes() {
@@ -33,7 +34,7 @@ fn counts_of(line: &str) -> Option<(u64, u64)> {
     }
 }
 
-// Whether remeshing makes this of a mesh, and counts so many patches and so many that stayed.
+// Whether remeshing makes this of a mesh, and counts so many planes and so many triangles that were kept.
 fn is_remeshed_to(
     rt: &impl Abort,
     alloc: Global,
@@ -41,8 +42,8 @@ fn is_remeshed_to(
     wanted: &Mesh,
     counts: (u64, u64),
 ) -> bool {
-    let done = remesh(alloc, mesh).expect(rt, "memory");
-    are_same(&done.mesh, wanted) && done.patches == counts.0 && done.kept == counts.1
+    let done = remesh(alloc, mesh, &Limits::program()).expect(rt, "within the limits");
+    are_same(&done.mesh, wanted) && done.planes == counts.0 && done.kept == counts.1
 }
 
 // Whether the first mesh of a line is remeshed to the second, with the line's counts.

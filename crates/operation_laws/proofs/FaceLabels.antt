@@ -5,7 +5,7 @@ use Rattle.mesh_boolean.specs.Operation.{face_labels, reduced_mesh}
 use Rattle.mesh_terms.specs.Given.{IsGiven}
 use Rattle.mesh_terms.specs.Labels.{IsLabel}
 use Rattle.mesh_terms.specs.Meshes.{Mesh}
-use Rattle.remesh_laws.proofs.Labels.{kept_labels}
+use Rattle.split_laws.proofs.Labels.{kept_labels}
 
 -- those of the source faces are labels
 pub face_labels-are : (p q : Mesh) → IsGiven p → IsGiven q → All IsLabel (face_labels p q)

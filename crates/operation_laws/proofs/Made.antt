@@ -32,9 +32,9 @@ use Rattle.source_face_laws.specs.FillingLaws.{FillingsAreAccepted, FillingsAreF
 use Rattle.mesh_boolean.specs.Operation.{Outcome, outcome_of}
 use Rattle.mesh_boolean.proofs.Parts.{length-sources}
 use Rattle.pinch_split.specs.Split.{split_points, split_triples}
-use Rattle.remesh_laws.proofs.Labels.{of_sources}
+use Rattle.split_laws.proofs.Labels.{of_sources}
 use Rattle.operation_laws.proofs.ReducedSides.{IsKnown}
-use Rattle.remesh_laws.proofs.SplitMesh.{IsSplit, is_split}
+use Rattle.split_laws.proofs.SplitMesh.{IsSplit, is_split}
 
 -- what the numbers of two sides are known to be
 pub record AreNumbersOf (p q : Side) (n : Numbers) : Type 0 where

@@ -16,7 +16,7 @@ use Rattle.lean.proofs.Corners.{corners_long, corners_whole}
 use Rattle.side_terms.specs.PointLaws.{corners_points}
 use Rattle.side_terms.specs.Points.{points_of}
 use Rattle.mesh_boolean.specs.Operation.{reduced_mesh}
-use Rattle.remesh_laws.proofs.Making.{reduced_given}
+use Rattle.split_laws.proofs.Reduced.{reduced_given}
 
 -- a side at points of the grid, without opposite triples
 pub record IsKnown (side : Side) : Type 0 where

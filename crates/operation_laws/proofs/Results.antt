@@ -1,6 +1,7 @@
 -- Operations under the kernels that a script may choose on accepted meshes give accepted meshes within lawful limits, which are read of their texts, and are results
 -- of these meshes.
-use Rattle.std.proofs.Common.{◌≡◌, ◌≤◌, ℕ, min, false, [], ◌∷◌, length, replicate, map, refl, ◌∙◌, arith}
+use Rattle.std.proofs.Common.{◌≡◌, ◌≤◌, ℕ, Bool, min, true, false, [], ◌∷◌, Ok, Err, length, replicate, map, refl, ◌∙◌, arith}
+use Rattle.std.specs.Prelude.{if◌then◌else◌, nat_lt}
 use Rattle.std.proofs.lemmas.Bool.{ltb-false}
 use Rattle.std.proofs.lemmas.List.{length-map, length-replicate}
 use Rattle.chain_terms.specs.Sums.{upto}
@@ -9,6 +10,7 @@ use Rattle.exact_kernels.specs.ExactRule.{exact_rule}
 use Rattle.mb_base.specs.declared.kernel_kind.KernelKind.{KernelKind}
 use Rattle.mb_base.specs.declared.kernel_kind.KernelKind.TheVariants.{Exact, Grid}
 use Rattle.mb_base.specs.declared.op.Op.{Op}
+use Rattle.mesh_terms.specs.Faults.{Points, Triangles}
 use Rattle.mesh_terms.specs.Given.{IsGiven, IsGivenWithin}
 use Rattle.mesh_terms.specs.Limits.{IsLawful, Limits, most_halfedges}
 use Rattle.mesh_terms.specs.Meshes.{Mesh}
@@ -23,18 +25,20 @@ use Rattle.source_face_laws.specs.FillingLaws.{FacesAreFilled}
 use Rattle.play_laws.specs.ScriptsReadingBack.{MeshReadable, MeshesReadable}
 use Rattle.play_laws.proofs.Readable.{readable_within, within_of_readable}
 use Rattle.play_laws.proofs.ScriptsReadingBack.{steps_keep}
-use Rattle.play_terms.specs.Plays.{mesh_at, outline_at, vertex_count}
+use Rattle.play_terms.specs.Combined.{Remeshed}
+use Rattle.play_terms.specs.Plays.{mesh_at, outline_at, vertex_count, within_remeshed}
+use Rattle.run_terms.specs.Tasks.{PastLimit}
 use Rattle.cross_section.specs.Extruded.{extruded}
 use Rattle.outline_terms.specs.Outlines.{most_vertices}
 use Rattle.operation_laws.proofs.OutlinesGiven.{outline_made, outline_result, solid_given, solid_result}
 use Rattle.mesh_boolean.specs.Operation.{Outcome, face_labels, first_side, numbers_of, operation, reduced_mesh, second_side}
-use Rattle.operation_laws.specs.Kernels.{meanings_under, rule_under, tests_under, told_of}
+use Rattle.operation_laws.specs.Kernels.{meanings_under, rule_under, tests_under, told_of, told_remeshed}
 use Rattle.operation_laws.specs.Laws.{OperationsAreAccepted, OperationsAreReadable}
-use Rattle.operation_laws.specs.Results.{GivesMeshes, OperationsAreResults, ScriptsGiveResults, ScriptsRemesh}
-use Rattle.remesh_laws.specs.Laws.{IsRemeshed, PatchesAreKept, RemeshingRemeshes, WeldingKeeps}
-use Rattle.remesh_laws.specs.Patches.{PatchesArePatches}
-use Rattle.remesh_terms.specs.Remesh.{remeshed}
-use Rattle.remesh_terms.specs.Welded.{welded_mesh}
+use Rattle.operation_laws.specs.Results.{GivesMeshes, OperationsAreResults, ScriptsGiveResults, ScriptsRemesh, faces_of, sides_of}
+use Rattle.sheet_laws.specs.Planes.{SoundPlanesAreKept, SoundRegionsTurnLeft}
+use Rattle.sheet_laws.specs.Promises.{RemeshedIsGiven, SoundPlanesDoNotFold}
+use Rattle.sheet_terms.specs.Crossings.{all_points}
+use Rattle.sheet_terms.specs.Remesh.{remeshed}
 use Rattle.operation_laws.proofs.OfSides.{result_of_sides}
 use Rattle.operation_laws.proofs.GridNumbers.{are_numbers}
 use Rattle.operation_laws.proofs.Made.{AreFilled, IsMade, is_made}
@@ -118,21 +122,30 @@ meshes_readable laws k limits few lawful kernels op p q p_readable q_readable wi
     (within_of_readable k limits q lawful q_readable).given
     (ltb-false limits.halfedges (operation (tests_under kernels) op p q).halfedges within)
 
--- a remeshed mesh is within the limits of the mesh: it has no more triangles, and at most three points for two of them
-remeshed_within : (limits : Limits) (m : Mesh) → IsLawful limits → IsRemeshed m (remeshed m) → IsGivenWithin limits m → IsGivenWithin limits (remeshed m).mesh
-remeshed_within limits m lawful is within = record {
-  given = is.given;
-  few_points = omega (arith, is.few, is.few_points, within.few_triples, lawful.points_enough);
-  few_triples = omega (arith, is.few, within.few_triples);
-}
+-- a remeshed mesh that is not refused has few points and triangles
+few_remeshed : (limits : Limits) (r : Remeshed) → within_remeshed limits r ≡ Ok r → (length r.mesh.points ≤ limits.points) × (length r.mesh.triples ≤ limits.triangles)
+few_remeshed limits r e = by (nat_lt limits.points (length r.mesh.points)) (nat_lt limits.triangles (length r.mesh.triples)) refl refl e
+  where
+    by : (b c : Bool) → nat_lt limits.points (length r.mesh.points) ≡ b → nat_lt limits.triangles (length r.mesh.triples) ≡ c →
+        (if b then Err (PastLimit Points (length r.mesh.points)) else if c then Err (PastLimit Triangles (length r.mesh.triples)) else Ok r) ≡ Ok r →
+        (length r.mesh.points ≤ limits.points) × (length r.mesh.triples ≤ limits.triangles)
+    by true c points triangles e = absurd (cc)
+    by false true points triangles e = absurd (cc)
+    by false false points triangles e = (ltb-false limits.points (length r.mesh.points) points, ltb-false limits.triangles (length r.mesh.triples) triangles)
+
+-- so it is within the limits
+remeshed_within : (limits : Limits) (m : Mesh) → IsLawful limits → RemeshedIsGiven → IsGiven m → within_remeshed limits (told_remeshed m) ≡ Ok (told_remeshed m) →
+    IsGivenWithin limits (remeshed m).mesh
+remeshed_within limits m lawful remeshes given taken =
+    let few = few_remeshed limits (told_remeshed m) taken in
+    record { given = (remeshes m given (omega (arith, few.1, lawful.few_triangles))).given; few_points = few.0; few_triples = few.1 }
 
 -- so is what it makes by remeshing; and so are its outlines, and its solids of these
-pub results_readable : AreFilled → RemeshingRemeshes → OperationsAreReadable
+pub results_readable : AreFilled → RemeshedIsGiven → OperationsAreReadable
 results_readable laws remeshes k limits few lawful kernels = record {
   meshes = meshes_readable laws k limits few lawful kernels;
-  remeshings = λ m readable.
-      let within = within_of_readable k limits m lawful readable in
-      readable_within k limits (remeshed m).mesh few lawful (remeshed_within limits m lawful (remeshes m within.given) within);
+  remeshings = λ m readable taken.
+      readable_within k limits (remeshed m).mesh few lawful (remeshed_within limits m lawful remeshes (within_of_readable k limits m lawful readable).given taken);
   outlines = λ op p q p_given q_given within.
       let o = (meanings_under kernels).outlines op p q in
       outline_made kernels (lawful_under kernels) op p q p_given q_given (omega (arith, ltb-false (min limits.points most_vertices) (vertex_count o) within));
@@ -151,7 +164,7 @@ operations_are_results laws filled kernels op p q p_given q_given few =
     record { conserved = known.conserved; prescribed = refl; from = made.from; faces = made.faces; clean = made.clean; labels = refl }
 
 -- so is what a script has of an operation on the meshes of two names
-scripts_give_meshes : AreFilled → FacesAreFilled → RemeshingRemeshes → (k : ℕ) (limits : Limits) → k ≤ 6 → IsLawful limits → (script : Bytes) → GivesMeshes k limits script
+scripts_give_meshes : AreFilled → FacesAreFilled → RemeshedIsGiven → (k : ℕ) (limits : Limits) → k ≤ 6 → IsLawful limits → (script : Bytes) → GivesMeshes k limits script
 scripts_give_meshes laws filled remeshes k limits few lawful script files lines state places is op left right within =
     let kernels = state.kernels in
     let p = mesh_at state.named left in
@@ -161,7 +174,7 @@ scripts_give_meshes laws filled remeshes k limits few lawful script files lines 
     (few_halfedges limits (operation (tests_under kernels) op p q).halfedges lawful within)
 
 -- and of one on the outlines of two names, and of a solid of the outline of one
-pub scripts_give_results : AreFilled → FacesAreFilled → RemeshingRemeshes → ScriptsGiveResults
+pub scripts_give_results : AreFilled → FacesAreFilled → RemeshedIsGiven → ScriptsGiveResults
 scripts_give_results laws filled remeshes k limits few lawful script = record {
   meshes = scripts_give_meshes laws filled remeshes k limits few lawful script;
   outlines = λ files lines state places is op left right few_vertices.
@@ -174,15 +187,12 @@ scripts_give_results laws filled remeshes k limits few lawful script = record {
 }
 
 -- and remeshing keeps all of the mesh of a name
-pub scripts_remesh : AreFilled → WeldingKeeps → PatchesArePatches → PatchesAreKept → RemeshingRemeshes → ScriptsRemesh
-scripts_remesh laws welds patches kept remeshes k limits few lawful script files lines state places is name =
+pub scripts_remesh : AreFilled → SoundPlanesAreKept → SoundRegionsTurnLeft → SoundPlanesDoNotFold → RemeshedIsGiven → ScriptsRemesh
+scripts_remesh laws kept left flush remeshes k limits few lawful script files lines state places is name =
     let m = mesh_at state.named name in
+    let points = all_points m in
     let all = (steps_keep meanings_under k limits few lawful (results_readable laws remeshes k limits few lawful) script lines places).value files state is in
-    let given = (within_of_readable k limits m lawful (all.meshes name)).given in
-    let w = welds m given in
     record {
-      welded = w;
-      told = patches (welded_mesh m) w.given.accepted.mesh.three w.given.accepted.closed;
-      filled = kept (welded_mesh m) w.given;
-      remeshed = remeshes m given;
+      planes = λ taken. record { kept = kept points m taken; left = left points (faces_of m) (sides_of m) taken; flush = flush points m taken };
+      remeshed = remeshes m (within_of_readable k limits m lawful (all.meshes name)).given;
     }

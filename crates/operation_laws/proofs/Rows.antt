@@ -64,7 +64,7 @@ extruded = refl
 remeshed : mesh_at (named_after solids) (codes "c") ≡
     record {
       points = at_height 0 0 0 ∷ at_height 4 0 0 ∷ at_height 0 4 0 ∷ at_height 0 0 1 ∷ at_height 4 0 1 ∷ at_height 0 4 1 ∷ [];
-      triples = (1, 0, 2) ∷ (4, 5, 3) ∷ (3, 0, 1) ∷ (1, 4, 3) ∷ (4, 1, 2) ∷ (2, 5, 4) ∷ (5, 2, 0) ∷ (0, 3, 5) ∷ [];
+      triples = (0, 2, 1) ∷ (3, 4, 5) ∷ (3, 0, 1) ∷ (1, 4, 3) ∷ (4, 1, 2) ∷ (2, 5, 4) ∷ (2, 0, 3) ∷ (3, 5, 2) ∷ [];
       labels = replicate 8 [];
     }
 remeshed = refl

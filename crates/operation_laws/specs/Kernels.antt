@@ -12,7 +12,7 @@ use Rattle.outline_pair_terms.specs.Numbers.{FlatNumbers, FlatTests, flat_number
 use Rattle.outline_terms.specs.Outlines.{Outline}
 use Rattle.mb_base.specs.declared.op.Op.{Op}
 use Rattle.mesh_terms.specs.Meshes.{Mesh}
-use Rattle.remesh_terms.specs.Remesh.{remeshed}
+use Rattle.sheet_terms.specs.Remesh.{remeshed}
 use Rattle.play_terms.specs.Combined.{Combined, Combined2}
 use Rattle.play_terms.specs.Combined as told
 use Rattle.play_terms.specs.Plays.{Meanings}
@@ -49,7 +49,7 @@ told_of o =
 
 -- what remeshing gives of a mesh, as a script tells it
 abbrev pub told_remeshed : Mesh → told.Remeshed
-told_remeshed m = let r = remeshed m in record { mesh = r.mesh; patches = r.patches; kept = r.kept }
+told_remeshed m = let r = remeshed m in record { mesh = r.mesh; planes = r.planes; kept = r.kept }
 
 -- the tests of outlines under a rule, with a rounding
 abbrev pub flat_tests_of : Rule → Between → FlatTests

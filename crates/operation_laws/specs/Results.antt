@@ -1,12 +1,13 @@
 -- What an operation gives of two meshes, or of two outlines, under the kernels that a script may choose, and an extrusion of an outline: a result of them; what
 -- remeshing keeps of the meshes of a script; and what an inspection counts.
-use Rattle.std.specs.Prelude.{◌≡◌, ◌≤◌, ℕ, ℤ, pos, ◌-ℤ◌, ◌*ℤ◌, min, length, List, None, Ok, map}
+use Rattle.std.specs.Prelude.{◌≡◌, ◌≤◌, ℕ, ℤ, pos, ◌-ℤ◌, ◌*ℤ◌, min, length, List, None, Ok, map, true}
+use Rattle.std.specs.List.{All, flat_map}
 use Rattle.std.specs.List.Sorted.{IsPermutation}
 use Rattle.mb_base.specs.declared.kernel_kind.KernelKind.{KernelKind}
 use Rattle.mb_base.specs.declared.op.Op.{Op}
 use Rattle.mesh_terms.specs.Given.{IsGiven}
 use Rattle.mesh_terms.specs.Labels.{label_at}
-use Rattle.mesh_terms.specs.Limits.{IsLawful, Limits, most_halfedges}
+use Rattle.mesh_terms.specs.Limits.{IsLawful, Limits, most_halfedges, most_triangles}
 use Rattle.mesh_terms.specs.Meshes.{IsAccepted, Mesh}
 use Rattle.mesh_terms.specs.Points.{IsOnGrid}
 use Rattle.mesh_terms.specs.Volume.{volume6_of}
@@ -24,7 +25,13 @@ use Rattle.inspection_terms.specs.Inspected.{IsCutCount}
 use Rattle.mesh_boolean.specs.Operation.{Outcome, face_labels, first_side, operation, second_side}
 use Rattle.mesh_boolean.specs.Results.{AreBounded, ConserveIn, IsCleanOver, copies_in}
 use Rattle.operation_laws.specs.Kernels.{flat_numbers_under, meanings_under, tests_under}
-use Rattle.remesh_laws.specs.Laws.{KeepsAll}
+use Rattle.sheet_terms.specs.Crossings.{all_points}
+use Rattle.sheet_terms.specs.Faces.{Face, faces, planes, seen}
+use Rattle.sheet_terms.specs.Needless.{side_edges}
+use Rattle.sheet_terms.specs.Regions.{Side, all_sides}
+use Rattle.sheet_terms.specs.Remesh.{remeshed}
+use Rattle.sheet_laws.specs.Planes.{FillsLeft, KeepsPlane, new_in_plane, old_in_plane}
+use Rattle.sheet_laws.specs.Promises.{HasNoFolds, IsRemeshed, is_taken}
 
 -- a result of an operation on two meshes: winding numbers change along the half-edges of both, reduced, by their signed crossings; its copies
 -- are the prescribed vertices, each as often; each of its vertices comes from one of these and lies there, and each of these stays; the
@@ -94,6 +101,28 @@ pub record GivesResults (k : ℕ) (limits : Limits) (script : Bytes) : Type 0 wh
 
 abbrev pub ScriptsGiveResults : Type 0
 ScriptsGiveResults = (k : ℕ) (limits : Limits) → k ≤ 6 → IsLawful limits → (script : Bytes) → GivesResults k limits script
+
+-- the triangles of a mesh over its places, and the sides of their planes
+abbrev pub faces_of : Mesh → List Face
+faces_of m = faces (all_points m) m
+
+abbrev pub sides_of : Mesh → List Side
+sides_of m = all_sides (all_points m) (faces_of m)
+
+-- what remeshing keeps in each plane of a mesh: the boundary, once edges are cut where places lie on them; how often each point is covered, those that face one
+-- side less those that face the other; and the area. Each new triangle of a region turns left in its plane, so none is flat; and where all new triangles of a
+-- plane face the side of its first old one, each point off their edges lies in just as many of them
+pub record KeepsPlanes (m : Mesh) : Type 0 where
+  pub kept : (let points = all_points m in
+      All (λ s. KeepsPlane points (seen points s) (new_in_plane points (sides_of m) s) (old_in_plane points (faces_of m) s)) (planes points (faces_of m)))
+  pub left : All (λ s. All (FillsLeft (all_points m) (flat_map side_edges (sides_of m)) s) s.regions) (sides_of m)
+  pub flush : All (HasNoFolds (all_points m) (faces_of m) (sides_of m)) (planes (all_points m) (faces_of m))
+
+-- all that remeshing keeps of a mesh: its planes, where what fills them is taken; and, where it has not more triangles than any mesh, it is a mesh that a run may
+-- hold, with one fan at each vertex and each directed edge at most once, or the given one
+pub record KeepsAll (m : Mesh) : Type 0 where
+  pub planes : is_taken m ≡ true → KeepsPlanes m
+  pub remeshed : length (remeshed m).mesh.triples ≤ most_triangles → IsRemeshed m (remeshed m)
 
 -- and what remeshing keeps holds of the mesh of each name
 abbrev pub GivesRemeshed : ℕ → Limits → Bytes → Type 0

@@ -3,7 +3,7 @@
 ghost use Rattle.operation_laws.specs.Laws.{OperationsAreAccepted, OperationsAreReadable};
 ghost use Rattle.operation_laws.specs.Results.{CutsAreCounted, OperationsAreResults, ScriptsGiveResults, ScriptsRemesh};
 
-use remesh_laws::laws::{patches_are_kept, patches_are_patches, remeshing_remeshes, welding_keeps};
+use sheet_laws::laws::{planes_are_kept, planes_do_not_fold, regions_turn_left, remeshed_is_given};
 use source_face_laws::of_fillings::{faces_are_filled, fillings_close};
 
 /// Under the kernels of the grid and under exact ones an operation on two accepted meshes makes an accepted mesh, within lawful
@@ -14,7 +14,7 @@ pub fn operations_are_readable()
 {
     // The laws of fillings, and of remeshing.
     fillings_close();
-    remeshing_remeshes();
+    remeshed_is_given();
 }
 
 /// Under the kernels of the grid and under exact ones what an operation gives of two accepted meshes is a result of them, where its half-edges are at most
@@ -32,8 +32,8 @@ pub fn operations_are_results()
     // The laws of fillings, and of remeshing.
     faces_are_filled();
     fillings_close();
-    welding_keeps();
-    patches_are_patches();
-    patches_are_kept();
-    remeshing_remeshes();
+    planes_are_kept();
+    regions_turn_left();
+    planes_do_not_fold();
+    remeshed_is_given();
 }

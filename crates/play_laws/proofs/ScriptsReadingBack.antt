@@ -1,9 +1,9 @@
 -- What a script writes is read again.
-use Rattle.std.proofs.Common.{◌≡◌, ◌≤◌, ℕ, ℤ, min, Bool, true, false, List, [], Some, None, Ok, Err, refl, subst}
+use Rattle.std.proofs.Common.{◌≡◌, ◌≤◌, ℕ, ℤ, min, Bool, true, false, List, [], Some, None, Ok, Err, refl, subst, sym, length}
 use Rattle.std.specs.Prelude.{nat_lt, bytes_eq, if◌then◌else◌, None, Option, Result}
 use Rattle.std.proofs.lemmas.List.Elements.{All-nil, All-cons}
 use Rattle.made_terms.specs.Refusals.{MadeFault}
-use Rattle.mesh_terms.specs.Faults.{Halfedges, Points, Fault, Bad, Over}
+use Rattle.mesh_terms.specs.Faults.{Halfedges, Points, Triangles, Fault, Bad, Over}
 use Rattle.mesh_terms.specs.Limits.{Limits, IsLawful}
 use Rattle.mesh_terms.specs.Meshes.{Mesh}
 use Rattle.mb_base.specs.declared.kernel_kind.KernelKind.{KernelKind}
@@ -17,7 +17,7 @@ use Rattle.play_terms.specs.Commands.{ask_file, ask_mesh, say_line, write_mesh}
 use Rattle.play_terms.specs.Formats.{mesh_text}
 use Rattle.play_terms.specs.ReadingBack.{IsReadable, WritesReadable}
 use Rattle.play_laws.proofs.ReadingBack.{mesh_asked, read_again}
-use Rattle.play_terms.specs.Combined.{Combined, Combined2, Extruded}
+use Rattle.play_terms.specs.Combined.{Combined, Combined2, Extruded, Remeshed}
 use Rattle.play_terms.specs.ScriptLines.{load_line, save_line, measure_line, inspect_line, combine_line, tidy_line, remesh_line, combine2_line, extrude_line}
 use Rattle.made_terms.specs.Making.{solid_fault, solid_mesh}
 use Rattle.made_terms.specs.Motions.{motion_fault, moved_mesh}
@@ -25,7 +25,7 @@ use Rattle.made_terms.specs.declared.motion.Motion.{Motion}
 use Rattle.made_terms.specs.declared.solid.Solid.{Solid}
 use Rattle.play_terms.specs.Plays.{Held, Meanings, Named, OfMesh, OfOutline, with_held, with_name, with_outline, mesh_at, mesh_held, mesh_or_none, outline_at, outline_held, outline_or_none, within, made}
 use Rattle.play_terms.specs.Plays.{load_task, save_task, measure_task, inspect_task, combine_task, polygon_task, combine2_task, extrude_task, extruded, extrusion_fault, vertex_count, within2}
-use Rattle.play_terms.specs.Plays.{State, at_first, line_task, make_task, move_task, script_checked, script_task, remesh_task, state_after, step_task, steps_task, tidy_task}
+use Rattle.play_terms.specs.Plays.{State, at_first, line_task, make_task, move_task, script_checked, script_task, remesh_task, state_after, step_task, steps_task, tidy_task, within_remeshed}
 use Rattle.play_terms.specs.Scripts.{script}
 use Rattle.play_terms.specs.Steps.{Line, Step, Load, Save, Measure, Inspect, Combine, Make, Move, Tidy, Remesh, Polygon, Combine2, Extrude, Exact}
 use Rattle.play_terms.specs.Sound.{HasPlaces, HavePlaces, IsRing}
@@ -71,6 +71,16 @@ taken_within2 limits o a e = by_limit (nat_lt (min limits.points most_vertices) 
         (o ≡ a) × (nat_lt (min limits.points most_vertices) (vertex_count o) ≡ false)
     by_limit true past e = absurd (cc)
     by_limit false is e = (cc, is)
+
+-- of a remeshed mesh
+taken_remeshed : (limits : Limits) (r a : Remeshed) → within_remeshed limits r ≡ Ok a → r ≡ a
+taken_remeshed limits r a e = by_limits (nat_lt limits.points (length r.mesh.points)) (nat_lt limits.triangles (length r.mesh.triples)) e
+  where
+    by_limits : (b c : Bool)
+        → (if b then Err (PastLimit Points (length r.mesh.points)) else if c then Err (PastLimit Triangles (length r.mesh.triples)) else Ok r) ≡ Ok a → r ≡ a
+    by_limits true c e = absurd (cc)
+    by_limits false true e = absurd (cc)
+    by_limits false false e = cc
 
 -- and of a solid of one
 taken_extruded : (script : Bytes) (line : ℕ) (fault : Option MadeFault) (e a : Extruded) → extruded script line fault e ≡ Ok a → (fault ≡ None) × (e ≡ a)
@@ -185,10 +195,14 @@ module _ (means : KernelKind → Meanings) (k : ℕ) (limits : Limits) (few : k 
       (readable_within k limits (tidy_mesh m) few lawful (tidied_given limits m (within_of_readable k limits m lawful such)))
 
   remesh_keeps : (kernels : KernelKind) (name old : Bytes) (m : Mesh) (named : Named) → Names named → MeshReadable k limits m
-      → Keeps Writes Names (remesh_task (means kernels) name old m named)
+      → Keeps Writes Names (remesh_task (means kernels) limits name old m named)
   remesh_keeps kernels name old m named all such =
       let r = (means kernels).remeshing m in
-      told_and_named (remesh_line name old r.patches r.kept) name r.mesh named all ((results kernels).remeshings m such)
+      let R : Remeshed → Type 0 = λ a. MeshReadable k limits a.mesh in
+      keeps_then Writes R Names (give (within_remeshed limits r)) (λ a. then_task (say_line (remesh_line name old a.planes a.kept)) (λ _. give (Ok (with_name name a.mesh named))))
+      (keeps_give Writes R (within_remeshed limits r)
+      (λ a is. let same = taken_remeshed limits r a is in subst R same ((results kernels).remeshings m such (subst (λ x. within_remeshed limits r ≡ Ok x) (sym same) is))))
+      (λ a more. told_and_named (remesh_line name old a.planes a.kept) name a.mesh named all more)
 
   polygon_keeps : (name : Bytes) (ring : List (List ℤ)) (named : Named) → IsRing ring → Names named → Keeps Writes Names (polygon_task name ring named)
   polygon_keeps name ring named such all = keeps_value Writes Names (with_outline name (ring_of ring) named) (outlined_more name (ring_of ring) named all (ring_given ring such))

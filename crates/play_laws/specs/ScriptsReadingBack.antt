@@ -13,7 +13,7 @@ use Rattle.play_terms.specs.ReadingBack.{IsReadable}
 use Rattle.run_terms.specs.Files.{Bytes, Files}
 use Rattle.run_terms.specs.Runs.{Write, Say}
 use Rattle.play_terms.specs.ScriptLines.{save_line}
-use Rattle.play_terms.specs.Plays.{Meanings, Named, State, at_first, extrusion_fault, line_task, mesh_at, outline_at, steps_task, vertex_count}
+use Rattle.play_terms.specs.Plays.{Meanings, Named, State, at_first, extrusion_fault, line_task, mesh_at, outline_at, steps_task, vertex_count, within_remeshed}
 use Rattle.play_terms.specs.Scripts as scripts
 use Rattle.play_terms.specs.Sound.{HavePlaces}
 use Rattle.play_terms.specs.Steps.{Line, Save}
@@ -42,11 +42,12 @@ MeshesReadable means k limits =
     (op : Op) (p q : Mesh) → MeshReadable k limits p → MeshReadable k limits q → nat_lt limits.halfedges (means.operation op p q).halfedges ≡ false
     → MeshReadable k limits (means.operation op p q).mesh
 
--- so it is of meshes; the remeshed mesh of one that is read where it is written is too; a result of two such outlines within the limits is one; and a solid of
+-- so it is of meshes; the remeshed mesh of one that is read where it is written is too, where it is within the limits; a result of two such outlines within the limits is one; and a solid of
 -- one between two heights, where it is not refused, is read where it is written
 pub record ResultsReadable (means : Meanings) (k : ℕ) (limits : Limits) : Type 0 where
   pub meshes : MeshesReadable means k limits
-  pub remeshings : (m : Mesh) → MeshReadable k limits m → MeshReadable k limits (means.remeshing m).mesh
+  pub remeshings : (m : Mesh) → MeshReadable k limits m → within_remeshed limits (means.remeshing m) ≡ Ok (means.remeshing m)
+      → MeshReadable k limits (means.remeshing m).mesh
   pub outlines : (op : Op) (p q : Outline) → IsGivenOutline p → IsGivenOutline q → nat_lt (min limits.points most_vertices) (vertex_count (means.outlines op p q)) ≡ false
       → IsGivenOutline (means.outlines op p q).outline
   pub solids : (o : Outline) (low high : ℤ) → IsGivenOutline o → IsOnGrid low → IsOnGrid high → extrusion_fault limits low high (means.extrusion o low high).mesh ≡ None

@@ -71,7 +71,7 @@ tabled p q =
 abbrev table : KernelKind → Meanings
 table kernels = record {
   operation = λ op p q. tabled p q;
-  remeshing = λ m. record { mesh = m; patches = 0; kept = 0 };
+  remeshing = λ m. record { mesh = m; planes = 0; kept = 0 };
   cuts = λ m. 0;
   outlines = λ op p q. record { outline = p; p_kept = 0; q_kept = 0; crossings = 0 };
   extrusion = λ o low high. record { mesh = record { points = []; triples = []; labels = [] }; forced = 0 };
@@ -169,12 +169,12 @@ abbrev told_kept : KernelKind → ℕ → ℕ
 told_kept Grid n = n
 told_kept Exact n = 0
 
--- an operation that gives its first mesh, and remeshing that gives the mesh, and tells its points as patches and its triangles as kept ones
+-- an operation that gives its first mesh, and remeshing that gives the mesh, and tells its points as planes and its triangles as kept ones, as cuts are told too
 abbrev first : KernelKind → Meanings
 first kernels = record {
   operation = λ op p q. record { mesh = p; p_kept = told_kept kernels (length p.points); q_kept = 0; crossings = 0; forced = 0; halfedges = 36 };
-  remeshing = λ m. record { mesh = m; patches = length m.points; kept = length m.triples };
-  cuts = λ m. 0;
+  remeshing = λ m. record { mesh = m; planes = length m.points; kept = length m.triples };
+  cuts = λ m. length m.triples;
   outlines = λ op p q. record { outline = p; p_kept = told_kept kernels (length p.points); q_kept = 1; crossings = 2 };
   extrusion
       = λ o low high. record { mesh = record { points = extruded_points low high o.points; triples = []; labels = [] }; forced = 3 };
@@ -230,9 +230,25 @@ tidies : script_task first 0 program (codes "s.txt") (put (codes "t.obj") split_
 unfolding digits chars is_utf8 encode_utf8
 tidies = refl
 
-remeshes : alone program (codes "tetra t 0 0 0 6\nremesh u t\n") ≡ says (codes "u = remesh t: patches 4, kept 4" ∷ [])
+remeshes : alone program (codes "tetra t 0 0 0 6\nremesh u t\n") ≡ says (codes "u = remesh t: planes 4, kept 4" ∷ [])
 unfolding digits chars is_utf8 encode_utf8 number_of number_fault
 remeshes = refl
+
+-- a tetrahedron with two flat triangles whose last corner stands twice, and one beyond an edge of it, with points of its own
+abbrev touching_tetras : Bytes
+touching_tetras =
+    split_tetra ++ codes "v 0 0 0\nv 1 0 0\nv 0 -1.5 0\nv 0 0 -1\nf 6 8 7\nf 6 7 9\nf 7 8 9\nf 8 6 9\n"
+
+-- at one digit after the point
+inspects : script_task first 1 program (codes "s.txt") (put (codes "t.obj") touching_tetras (beside (codes "load a t.obj\ninspect a\n")))
+    ≡ record {
+      actions =
+          Ask (codes "s.txt") ∷ Ask (codes "t.obj") ∷ Say (line_of (codes "load a t.obj: points 9, triangles 10, unused 0")) ∷ Say
+          (line_of (codes "a: low 0 -1.5 -1, high 1 1 1, flat 2, doubled 3, touching 1, cuts 10")) ∷ [];
+      result = Ok tt;
+    }
+unfolding digits chars is_utf8 encode_utf8
+inspects = refl
 
 -- where the coordinates go is seen in what is saved
 saves_moved_points : (alone program (codes "tetra t 1 2 3 6\nmirror m t y\nturn a m x\nturn b a y\nsave b b.obj\n")).actions

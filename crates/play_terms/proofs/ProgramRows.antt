@@ -48,7 +48,7 @@ told = record {
   points = record { winding = λ p m. get_or p 0 (pos 0) };
   scripts = λ kernels. record {
     operation = λ op p q. record { mesh = record { points = []; triples = []; labels = [] }; p_kept = 0; q_kept = 0; crossings = 0; forced = 0; halfedges = 0 };
-    remeshing = λ m. record { mesh = m; patches = 0; kept = 0 };
+    remeshing = λ m. record { mesh = m; planes = 0; kept = 0 };
     cuts = λ m. 0;
     outlines = λ op p q. record { outline = p; p_kept = 0; q_kept = 0; crossings = 0 };
     extrusion = λ o low high. record { mesh = record { points = []; triples = []; labels = [] }; forced = 0 };

@@ -13,10 +13,10 @@ pub record Combined : Type 0 where
   pub forced : ℕ
   pub halfedges : ℕ
 
--- the mesh, how many patches there were, and how many of them stayed as they were
+-- the mesh, how many planes have triangles, and how many triangles were kept
 pub record Remeshed : Type 0 where
   pub mesh : Mesh
-  pub patches : ℕ
+  pub planes : ℕ
   pub kept : ℕ
 
 -- the outline, how many vertices of each operand were kept, and how many crossings

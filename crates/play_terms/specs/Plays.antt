@@ -1,6 +1,6 @@
 -- What a script does: its file is asked for and read, and then its steps are done in order, over the names and files as they are by then.
 use Rattle.std.specs.Prelude.{ℕ, ◌+◌, ℤ, min, int_le, length, List, [], ◌∷◌, if◌then◌else◌, nat_lt, bytes_eq, Option, Some, None, Result, Ok, Err}
-use Rattle.mesh_terms.specs.Faults.{Halfedges, Points, Fault, Bad, Over}
+use Rattle.mesh_terms.specs.Faults.{Halfedges, Points, Triangles, Fault, Bad, Over}
 use Rattle.mesh_terms.specs.Limits.{Limits}
 use Rattle.mesh_terms.specs.Meshes.{Mesh}
 use Rattle.made_terms.specs.Refusals.{MadeFault, Flat, Outside, Exceeds, excess}
@@ -154,11 +154,19 @@ tidy_task name old m named =
     then_task (say_line (tidy_line name old (tidied m.points m.triples m.labels).collapses)) (λ _.
     give (Ok (with_name name (tidy_mesh m) named)))
 
+-- refused where it has more points or triangles than the limits, points asked first
+abbrev pub within_remeshed : Limits → Remeshed → Result Remeshed Refusal
+within_remeshed limits r =
+    if nat_lt limits.points (length r.mesh.points) then Err (PastLimit Points (length r.mesh.points))
+    else if nat_lt limits.triangles (length r.mesh.triples) then Err (PastLimit Triangles (length r.mesh.triples))
+    else Ok r
+
 -- a name gets what remeshing gives of the mesh of a name, and that is told
-abbrev pub remesh_task : Meanings → Bytes → Bytes → Mesh → Named → Task Named
-remesh_task means name old m named =
-    then_task (say_line (remesh_line name old (means.remeshing m).patches (means.remeshing m).kept)) (λ _.
-    give (Ok (with_name name (means.remeshing m).mesh named)))
+abbrev pub remesh_task : Meanings → Limits → Bytes → Bytes → Mesh → Named → Task Named
+remesh_task means limits name old m named =
+    then_task (give (within_remeshed limits (means.remeshing m))) (λ r.
+    then_task (say_line (remesh_line name old r.planes r.kept)) (λ _.
+    give (Ok (with_name name r.mesh named))))
 
 -- a name gets the outline of one loop through these places, and nothing is told
 abbrev pub polygon_task : Bytes → List (List ℤ) → Named → Task Named
@@ -206,7 +214,7 @@ step_task means k limits script line (Combine op name left right) named = combin
 step_task means k limits script line (Make name solid) named = make_task limits script line name solid named
 step_task means k limits script line (Move name old motion) named = move_task script line name old motion named
 step_task means k limits script line (Tidy name old) named = tidy_task name old (mesh_at named old) named
-step_task means k limits script line (Remesh name old) named = remesh_task means name old (mesh_at named old) named
+step_task means k limits script line (Remesh name old) named = remesh_task means limits name old (mesh_at named old) named
 step_task means k limits script line (Polygon name ring) named = polygon_task name ring named
 step_task means k limits script line (Combine2 op name left right) named = combine2_task means limits op name left right named
 step_task means k limits script line (Extrude name old low high) named = extrude_task means limits script line name old low high named

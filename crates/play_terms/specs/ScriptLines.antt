@@ -72,13 +72,13 @@ collapsed_text collapses = codes ": collapsed " ++ decimal collapses
 abbrev pub tidy_line : Bytes → Bytes → ℕ → Bytes
 tidy_line name old collapses = line_of (name ++ codes " = tidy " ++ old ++ collapsed_text collapses)
 
--- : patches P, kept K
+-- : planes P, kept K
 abbrev pub remeshed_text : ℕ → ℕ → Bytes
-remeshed_text patches kept = codes ": patches " ++ decimal patches ++ codes ", kept " ++ decimal kept
+remeshed_text planes kept = codes ": planes " ++ decimal planes ++ codes ", kept " ++ decimal kept
 
--- NAME = remesh OLD: patches P, kept K
+-- NAME = remesh OLD: planes P, kept K
 abbrev pub remesh_line : Bytes → Bytes → ℕ → ℕ → Bytes
-remesh_line name old patches kept = line_of (name ++ codes " = remesh " ++ old ++ remeshed_text patches kept)
+remesh_line name old planes kept = line_of (name ++ codes " = remesh " ++ old ++ remeshed_text planes kept)
 
 -- : kept N M, crossings X
 abbrev pub combined2_text : Combined2 → Bytes

@@ -45,10 +45,12 @@ use std::sync::ledger::Ledger;
 /// for its geometric winding number. What it has of an operation on the outlines of two names is an outline of the prescribed vertices, whose edges are
 /// the segments that pair these along its operands' edges, and along these edges the winding number in the other outline changes by their crossings; and a
 /// solid of the outline of a name is accepted, and its volume is the height times the outline's area. And what it has of remeshing the mesh of a name is
-/// what `remesh` of `planar_patches` says: accepted, with one fan at each vertex, no more triangles and the same volume; and patch by patch the same
-/// boundary in the same plane. The number of cuts that it says in inspecting a mesh is that of the pairs of triangles, neither of them flat, that lie on
-/// the same three places, or of which an edge of one has a point in the other, with rational coordinates, that is not in the hull of the places that are
-/// corners of both.
+/// what `remesh` of `plane_remesh` says: accepted, with the same volume, labels of that mesh, one fan at each vertex and each directed edge at most once;
+/// in each plane the boundary, once edges are cut where places lie on them, the area, and how often each point is covered, those triangles that face one
+/// side less those that face the other; no new triangle of a region is flat, and where all new ones of a plane face the side of its first old one, each point
+/// off their edges lies in just as many. Where the filling isn't taken, it is that mesh. The number of cuts that it says in inspecting a mesh is that of the pairs of
+/// triangles, neither of them flat, that lie on the same three places, or of which an edge of one has a point in the other, with rational coordinates,
+/// that is not in the hull of the places that are corners of both.
 ///
 /// The read faults of the shelf rise with status 6 alone, its write faults and the faults of `out` with 7 alone, and one of the two does. With
 /// 6 the read faults rose, or the shelf tells no files and a read into some space gave nothing below the size that was stated. The shelf

@@ -123,19 +123,19 @@ pub fn say_tidied<K: Sink>(
     say(&[name, b" = tidy ", source, tail.as_slice()], sink)
 }
 
-/// Reports a remeshed mesh: `NAME = remesh OLD: patches P, kept K`. After `Failed`, which comes only where the sink's count rose, it has a
+/// Reports a remeshed mesh: `NAME = remesh OLD: planes P, kept K`. After `Failed`, which comes only where the sink's count rose, it has a
 /// first part of the line.
 pub fn say_remeshed<K: Sink>(
     name: &str,
     source: &str,
-    patches: u64,
+    planes: u64,
     kept: u64,
     sink: &mut K,
 ) -> Result<(), Failed>
-    ensures meets { MeetsOnOutput K.Sink (say_line (remesh_line name.now source.now patches kept)) sink.old sink.new (said result) }
-    ensures takes { Takes K.Sink (remesh_line name.now source.now patches kept) sink.old sink.new result }
+    ensures meets { MeetsOnOutput K.Sink (say_line (remesh_line name.now source.now planes kept)) sink.old sink.new (said result) }
+    ensures takes { Takes K.Sink (remesh_line name.now source.now planes kept) sink.old sink.new result }
 {
-    let tail = remeshed_tail(patches, kept);
+    let tail = remeshed_tail(planes, kept);
     let (name, source) = (name.as_bytes(), source.as_bytes());
     say(&[name, b" = remesh ", source, tail.as_slice()], sink)
 }

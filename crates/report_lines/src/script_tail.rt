@@ -50,11 +50,11 @@ pub fn tidied_tail(collapsed: u64) -> Tail
 }
 
 /// The end of the line that reports a remeshed mesh.
-pub fn remeshed_tail(patches: u64, kept: u64) -> Tail
-    ensures { result.items ≡ line_of (codes ": patches " ++ decimal patches ++ codes ", kept " ++ decimal kept) }
+pub fn remeshed_tail(planes: u64, kept: u64) -> Tail
+    ensures { result.items ≡ line_of (codes ": planes " ++ decimal planes ++ codes ", kept " ++ decimal kept) }
 {
     let mut tail = Tail::new();
-    put_pair(&mut tail, b": patches ", patches);
+    put_pair(&mut tail, b": planes ", planes);
     put_pair(&mut tail, b", kept ", kept);
     put(&mut tail, b"\n");
     tail

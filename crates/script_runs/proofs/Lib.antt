@@ -5,6 +5,7 @@ mod Operated
 mod OutlineStages
 pub mod Progress
 pub mod Reading
+mod RemeshStages
 pub mod Stages
 pub mod Steps
 mod WritesBack

@@ -8,8 +8,8 @@ use Rattle.run_terms.specs.Files.{Bytes}
 use Rattle.run_terms.specs.Meets.{Meets, Seen, Starved, Why}
 use Rattle.run_terms.specs.Tasks.{Refusal, Task, give, then_task}
 use Rattle.play_laws.proofs.Tasks.{meets_given, meets_starved, meets_stop, meets_then}
-use Rattle.play_terms.specs.ScriptLines.{inspect_line, load_line, measure_line, remesh_line, save_line, tidy_line}
-use Rattle.play_terms.specs.Plays.{Held, Meanings, Named, OfMesh, inspect_task, load_task, measure_task, remesh_task, save_task, tidy_task, with_held, with_name}
+use Rattle.play_terms.specs.ScriptLines.{inspect_line, load_line, measure_line, save_line, tidy_line}
+use Rattle.play_terms.specs.Plays.{Held, Meanings, Named, OfMesh, inspect_task, load_task, measure_task, save_task, tidy_task, with_held, with_name}
 use Rattle.tidy_terms.specs.Tidy.{tidied, tidy_mesh}
 
 -- the shelf and the output together
@@ -180,36 +180,6 @@ module _ (name old : Bytes) (of m : Mesh) (named : Named) (is : of ≡ m) (colla
   pub tidy_named : (after : Named) → after ≡ with_name name (tidy_mesh m) named → OutputMeets (say_line (tidy_line name old collapses)) out told (Ok tt)
       → OutputMeets (tidying of) out told (Ok after)
   tidy_named after same met = of_name (Ok after) (λ on. named_so line name (OfMesh (tidy_mesh m)) named on out told after same (line_met (Ok tt) met))
-
--- the mesh of a name, which is this one, is remeshed, with so many patches, of which so many stayed
-module _ (means : Meanings) (name old : Bytes) (of m : Mesh) (named : Named) (is : of ≡ m) (patches kept : ℕ)
-    (patches_are : patches ≡ (means.remeshing m).patches) (kept_are : kept ≡ (means.remeshing m).kept) (out told : OnOutput) where
-  abbrev remeshing : Mesh → Task Named
-  remeshing mesh = remesh_task means name old mesh named
-
-  abbrev remesh_says : Bytes
-  remesh_says = remesh_line name old (means.remeshing m).patches (means.remeshing m).kept
-
-  -- what is met for this mesh is met for that of the name
-  of_its_name : (r : Result Named Why) → OutputMeets (remeshing m) out told r → OutputMeets (remeshing of) out told r
-  of_its_name r met = let P : Mesh → Type 0 = λ mesh. OutputMeets (remeshing mesh) out told r in subst P (sym is) met
-
-  -- a line with these numbers is that of the mesh
-  says_met : (r : Result (Unit {0}) Why) → OutputMeets (say_line (remesh_line name old patches kept)) out told r → OutputMeets (say_line remesh_says) out told r
-  says_met r met =
-      let P : ℕ × ℕ → Type 0 = λ n. OutputMeets (say_line (remesh_line name old n.0 n.1)) out told r in
-      let same : (patches, kept) ≡ ((means.remeshing m).patches, (means.remeshing m).kept) = λ i. (patches_are i, kept_are i) in
-      subst P same met
-
-  pub remesh_unsaid : (why : Why) → OutputMeets (say_line (remesh_line name old patches kept)) out told (Err why) → OutputMeets (remeshing of) out told (Err why)
-  remesh_unsaid why met = of_its_name (Err why) (λ on. unsaid remesh_says name (OfMesh (means.remeshing m).mesh) named on out told why (says_met (Err why) met))
-
-  pub remesh_unnamed : OutputMeets (say_line (remesh_line name old patches kept)) out told (Ok tt) → OutputMeets (remeshing of) out told (Err Starved)
-  remesh_unnamed met = of_its_name (Err Starved) (λ on. unnamed remesh_says name (OfMesh (means.remeshing m).mesh) named on out told (says_met (Ok tt) met))
-
-  pub remesh_named : (after : Named) → after ≡ with_name name (means.remeshing m).mesh named → OutputMeets (say_line (remesh_line name old patches kept)) out told (Ok tt)
-      → OutputMeets (remeshing of) out told (Ok after)
-  remesh_named after same met = of_its_name (Ok after) (λ on. named_so remesh_says name (OfMesh (means.remeshing m).mesh) named on out told after same (says_met (Ok tt) met))
 
 -- a task without actions ended so: with what is given, with its refusal, or otherwise
 abbrev pub Ends : {A : Type 0} → Result A Refusal → Result A Why → Type 0

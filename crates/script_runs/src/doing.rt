@@ -129,7 +129,7 @@ pub fn do_step<'a, S: Shelf, O: Sink, L: Ledger>(
             tidy_mesh(at.alloc, name.as_str(), source.as_str(), names, out)
         }
         Step::Remesh { name, source } => {
-            remesh_mesh(at.alloc, name.as_str(), source.as_str(), names, out)
+            remesh_mesh(at, name.as_str(), source.as_str(), names, out)
         }
         Step::Polygon { name, ring } => polygon(at.alloc, name.as_str(), ring.points(), names),
         Step::Combine2 {

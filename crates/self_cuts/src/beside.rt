@@ -1,4 +1,4 @@
-// Triangles beside another.
+// Triangles beside another: over its plane or under it, but for corners that both share.
 ghost use Rattle.std.specs.Prelude.{◌≡◌, ◌||◌, int_lt, pos};
 ghost use Rattle.inspection_terms.specs.Inspected.{has_corner};
 ghost use Rattle.inspection_laws.specs.Signs.{lies_beside, lies_over, lies_under};
@@ -109,7 +109,10 @@ fn is_under(t: &Triangle, heights: &Heights, o: &Face) -> bool
     is_under_by(t, heights, o)
 }
 
-/// Whether one or the other holds: then they have nothing in common but the corners that they share.
+/// Whether the first triangle lies over the plane of the second or under it: some corner of the first lies off that
+/// plane, and each other corner lies off it to the same side or is a corner of the second. Then they have nothing in
+/// common beyond the hull of the corners that they share, so they do not cut one another. The second may lie beside the
+/// first without the first lying beside the second, so a caller may ask both ways.
 #[inline]
 pub fn is_beside(t: &Triangle, o: &Face) -> bool
     ensures { result ≡ lies_beside (places t.now) (corners o.now) }

@@ -1,3 +1,4 @@
+mod Dropping
 mod Numbered
 pub mod ReadingBack
 mod Welded

@@ -14,8 +14,7 @@ use Rattle.mesh_terms.specs.Faults.{FileBytes}
 use Rattle.mesh_terms.specs.Limits.{IsLawful, Limits}
 use Rattle.mesh_terms.specs.Meshes.{IsBelow, Mesh, Soup, Triple, is_used, new_number, used_from}
 use Rattle.halfedge.proofs.OpenPair.{open_pair_closed}
-use Rattle.remesh_terms.specs.Derived.{has_three}
-use Rattle.remesh_laws.proofs.Dropping.{kept_chain}
+use Rattle.stl_laws.proofs.Dropping.{has_three, kept_chain}
 use Rattle.tidy_laws.proofs.KeptPoints.{kept_point}
 use Rattle.unused_points.proofs.Numbers.{AreUsed, all_used}
 use Rattle.format_terms.specs.Stl.{same_point}

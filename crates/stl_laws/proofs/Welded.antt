@@ -7,7 +7,7 @@ use Rattle.std.proofs.lemmas.List.Elements.{All-cons, All-nil}
 use Rattle.std.proofs.lemmas.Map.Keys.{IsDistinct-push}
 use Rattle.chain_laws.specs.Triples.{renamed_triple}
 use Rattle.mesh_terms.specs.Meshes.{IsBelow, Triple}
-use Rattle.remesh_terms.specs.Derived.{has_three}
+use Rattle.stl_laws.proofs.Dropping.{has_three}
 use Rattle.format_terms.specs.Stl.{repeats, same_point}
 use Rattle.format_laws.specs.Welding.{WeldedMesh, placed, welded_mesh, welded_onto, with_corners}
 use Rattle.stl_laws.proofs.Numbered.{IsLonger, is_longer, longer_placed, longer_self, longer_still, none_there, number_below, number_stays, point_laws}

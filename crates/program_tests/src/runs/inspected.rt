@@ -47,7 +47,7 @@ const ROWS: [Row; 6] = [
         b"box a 0 0 0 10 10 10\nbox b 10 10 0 20 20 10\nintersect e a b\ninspect e\nunion c a b\ninspect c\nremesh c c\ninspect c\n",
         b"e = intersect a b: kept 0 0, crossings 0, forced 0\ne: low 0 0 0, high 0 0 0, flat 0, doubled 0, touching 0, cuts 0\n\
         c = union a b: kept 8 6, crossings 10, forced 25\nc: low 0 0 0, high 20 20 10, flat 20, doubled 10, touching 1, cuts 0\n\
-        c = remesh c: patches 12, kept 0\nc: low 0 0 0, high 20 20 10, flat 0, doubled 2, touching 1, cuts 0\n",
+        c = remesh c: planes 8, kept 0\nc: low 0 0 0, high 20 20 10, flat 0, doubled 2, touching 1, cuts 0\n",
     ),
     // A bore through a slanted side, where rounded points leave cuts.
     (
@@ -55,8 +55,8 @@ const ROWS: [Row; 6] = [
         b"",
         b"polygon side 0 0 22 0 22 6\nextrude wedge side 0 10\nbox bore 4 1 3 7 6 7\nsubtract part wedge bore\ninspect part\nremesh part part\ninspect part\n",
         b"wedge = extrude side: forced 0\npart = subtract wedge bore: kept 6 4, crossings 10, forced 25\n\
-        part: low 0 0 0, high 22 6 10, flat 17, doubled 7, touching 0, cuts 8\npart = remesh part: patches 13, kept 0\n\
-        part: low 0 0 0, high 22 6 10, flat 0, doubled 1, touching 0, cuts 7\n",
+        part: low 0 0 0, high 22 6 10, flat 17, doubled 7, touching 0, cuts 8\npart = remesh part: planes 13, kept 0\n\
+        part: low 0 0 0, high 22 6 10, flat 0, doubled 1, touching 0, cuts 5\n",
     ),
     // All at one point.
     (

@@ -1,5 +1,5 @@
-// Whole runs of scripts that remesh. Lines and files that are expected were made by a reference program, in plain Python over sums of all pairs; its
-// remeshing is that of `benches/remesh_reference.py`. Flat and folded triangles were counted by a script, in the results before and after.
+// Whole runs of scripts that remesh. Lines and files that are expected were made by the reference program, `benches/reference`, in plain Python. Flat and folded
+// triangles were counted by a script, in the results before and after.
 use super::made::shelf_of;
 use super::{expect_run, is_same};
 use mb_base::{Limits, NoMemory};
@@ -27,17 +27,16 @@ const PLATE_SCRIPT: &[u8] =
     b"box p 0 0 0 40 40 3\nbox h 10 10 -1 30 30 4\nsubtract a p h\nremesh r a\nmeasure r\nsave r r.obj\nremesh r r\n";
 
 const PLATE_TOLD: &[u8] =
-    b"a = subtract p h: kept 8 0, crossings 20, forced 17\nr = remesh a: patches 10, kept 0\n\
-r: points 24, triangles 48, components 1, euler 0, volume6 21600\nsave r r.obj: points 24, triangles 48\nr = remesh r: patches 10, kept 0\n";
+    b"a = subtract p h: kept 8 0, crossings 20, forced 17\nr = remesh a: planes 10, kept 0\n\
+r: points 16, triangles 32, components 1, euler 0, volume6 21600\nsave r r.obj: points 16, triangles 32\n\
+r = remesh r: planes 10, kept 0\n";
 
 const PLATE: &[u8] =
-    b"v 0 0 0\nv 40 0 0\nv 0 40 0\nv 40 40 0\nv 0 0 3\nv 40 0 3\nv 0 40 3\nv 40 40 3\nv 10 10 0\nv 30 30 0\nv 10 10 3\n\
-v 30 30 3\nv 26 10 0\nv 14 10 3\nv 30 10 0\nv 30 10 3\nv 30 14 0\nv 30 26 3\nv 10 30 0\nv 10 30 3\nv 26 30 0\n\
-v 14 30 3\nv 10 14 0\nv 10 26 3\nf 3 4 10\nf 3 10 21\nf 3 21 19\nf 1 3 19\nf 1 19 23\nf 1 23 9\nf 2 1 9\nf 2 9 13\n\
-f 2 13 15\nf 4 2 15\nf 4 15 17\nf 17 10 4\nf 6 8 12\nf 6 12 18\nf 6 18 16\nf 5 6 16\nf 5 16 14\nf 5 14 11\n\
-f 7 5 11\nf 7 11 24\nf 7 24 20\nf 7 20 22\nf 7 22 12\nf 12 8 7\nf 5 1 2\nf 2 6 5\nf 6 2 4\nf 4 8 6\nf 8 4 3\n\
-f 3 7 8\nf 3 1 5\nf 5 7 3\nf 9 11 14\nf 9 14 16\nf 16 15 13\nf 16 13 9\nf 18 12 10\nf 16 18 10\nf 16 10 17\n\
-f 17 15 16\nf 22 20 19\nf 12 22 19\nf 12 19 21\nf 21 10 12\nf 24 11 9\nf 20 24 9\nf 20 9 23\nf 23 19 20\n";
+    b"v 0 0 0\nv 40 0 0\nv 0 40 0\nv 40 40 0\nv 0 0 3\nv 40 0 3\nv 0 40 3\nv 40 40 3\nv 10 10 0\nv 30 30 0\n\
+v 10 10 3\nv 30 30 3\nv 30 10 0\nv 30 10 3\nv 10 30 0\nv 10 30 3\nf 3 4 10\nf 3 10 15\nf 1 3 15\nf 1 15 9\nf 2 1 9\n\
+f 2 9 13\nf 2 13 10\nf 10 4 2\nf 6 8 12\nf 6 12 14\nf 5 6 14\nf 5 14 11\nf 7 5 11\nf 7 11 16\nf 7 16 12\nf 12 8 7\n\
+f 5 1 2\nf 2 6 5\nf 6 2 4\nf 4 8 6\nf 4 3 7\nf 7 8 4\nf 3 1 5\nf 5 7 3\nf 13 9 11\nf 11 14 13\nf 12 10 13\n\
+f 13 14 12\nf 15 10 12\nf 12 16 15\nf 11 9 15\nf 15 16 11\n";
 
 #[test]
 fn a_folded_plate_is_filled_anew(rt: HostRuntime) -> Result<(), Fail> {
@@ -52,9 +51,8 @@ g side\nf 1 4 2\nf 1 3 4\nf 1 2 5\nf 2 6 5\nf 2 4 8\nf 2 8 6\nf 4 3 7\nf 4 7 8\n
 f 7 5 9\ng right\nf 6 8 10\nf 8 7 10\ng seam\nf 9 6 10\nf 7 9 10\n";
 
 const WELDED_CUBE: &[u8] =
-    b"v 0 0 0\nv 4 0 0\nv 0 4 0\nv 4 4 0\nv 0 0 4\nv 4 0 4\nv 0 4 4\nv 4 4 4\nv 2 2 4\ng side\nf 3 4 2\nf 2 1 3\n\
-f 5 1 2\nf 2 6 5\nf 6 2 4\nf 4 8 6\nf 8 4 3\nf 3 7 8\nf 3 1 5\nf 5 7 3\ng left\nf 5 6 9\nf 5 9 7\ng right\n\
-f 9 6 8\nf 8 7 9\n";
+    b"v 0 0 0\nv 4 0 0\nv 0 4 0\nv 4 4 0\nv 0 0 4\nv 4 0 4\nv 0 4 4\nv 4 4 4\ng side\nf 2 1 3\nf 3 4 2\nf 5 1 2\n\
+f 2 6 5\nf 6 2 4\nf 4 8 6\nf 4 3 7\nf 7 8 4\nf 3 1 5\nf 5 7 3\ng left\nf 5 6 7\ng right\nf 6 8 7\n";
 
 #[test]
 fn groups_stay_apart_in_one_plane(rt: HostRuntime) -> Result<(), Fail> {
@@ -62,7 +60,7 @@ fn groups_stay_apart_in_one_plane(rt: HostRuntime) -> Result<(), Fail> {
         &rt,
         b"load a m.obj\nremesh r a\nsave r r.obj\n",
         SEAMED_CUBE,
-        b"load a m.obj: points 10, triangles 16, unused 0\nr = remesh a: patches 7, kept 0\nsave r r.obj: points 9, triangles 14\n",
+        b"load a m.obj: points 10, triangles 16, unused 0\nr = remesh a: planes 6, kept 0\nsave r r.obj: points 8, triangles 12\n",
         Some(WELDED_CUBE),
     )?;
     Ok(())
@@ -73,15 +71,15 @@ const CUT_TETRAHEDRON: &[u8] =
     b"v 0 0 0\nv 4 0 0\nv 0 4 0\nv 0 0 4\nv 2 0 0\ng side\nf 1 3 2\nf 1 5 4\ng seam\nf 1 2 5\ng side\nf 5 2 4\nf 2 3 4\nf 3 1 4\n";
 
 const REMESHED_TETRAHEDRON: &[u8] =
-    b"v 0 0 0\nv 4 0 0\nv 0 4 0\nv 0 0 4\nv 2 0 0\ng side\nf 1 3 2\nf 4 1 5\nf 5 2 4\ng seam\nf 1 2 5\ng side\nf 2 3 4\nf 3 1 4\n";
+    b"v 0 0 0\nv 4 0 0\nv 0 4 0\nv 0 0 4\ng side\nf 1 3 2\nf 1 2 4\nf 2 3 4\nf 1 4 3\n";
 
 #[test]
-fn a_flat_triangle_in_no_patch_stays_at_its_place(rt: HostRuntime) -> Result<(), Fail> {
+fn a_flat_triangle_goes(rt: HostRuntime) -> Result<(), Fail> {
     remeshes(
         &rt,
         b"load a m.obj\nremesh r a\nsave r r.obj\n",
         CUT_TETRAHEDRON,
-        b"load a m.obj: points 5, triangles 6, unused 0\nr = remesh a: patches 4, kept 0\nsave r r.obj: points 5, triangles 6\n",
+        b"load a m.obj: points 5, triangles 6, unused 0\nr = remesh a: planes 4, kept 0\nsave r r.obj: points 4, triangles 4\n",
         Some(REMESHED_TETRAHEDRON),
     )?;
     Ok(())
@@ -92,47 +90,39 @@ const BORED_SCRIPT: &[u8] =
     b"box plate 0 0 0 40 30 3\nprism wedge 4 4 2 12 7\nunion blank plate wedge\nbox bore 20 10 -1 26 16 4\nsubtract part blank bore\nmeasure part\n\
 remesh r part\nmeasure r\nsave r r.obj\n";
 
-const BORED_TOLD: &[u8] =
-    b"blank = union plate wedge: kept 8 3, crossings 8, forced 0\npart = subtract blank bore: kept 19 0, crossings 20, forced 9\n\
-part: points 39, triangles 78, components 1, euler 0, volume6 23544\nr = remesh part: patches 14, kept 0\n\
-r: points 37, triangles 74, components 1, euler 0, volume6 23544\nsave r r.obj: points 37, triangles 74\n";
+const BORED_TOLD: &[u8] = b"blank = union plate wedge: kept 8 3, crossings 8, forced 0\n\
+part = subtract blank bore: kept 19 0, crossings 20, forced 9\n\
+part: points 39, triangles 78, components 1, euler 0, volume6 23544\nr = remesh part: planes 14, kept 0\n\
+r: points 22, triangles 44, components 1, euler 0, volume6 23544\nsave r r.obj: points 22, triangles 44\n";
 
 const BORED: &[u8] =
-    b"v 0 0 0\nv 40 0 0\nv 0 30 0\nv 40 30 0\nv 0 0 3\nv 40 0 3\nv 0 30 3\nv 40 30 3\nv 4 4 9\nv 16 4 9\nv 4 16 9\nv 5 4 3\n\
-v 11 9 3\nv 16 4 3\nv 6 4 3\nv 4 4 3\nv 4 16 3\nv 14 6 3\nv 4 14 3\nv 21 16 0\nv 20 15 0\nv 21 16 3\nv 20 16 3\n\
-v 25 10 0\nv 21 10 3\nv 20 10 0\nv 20 10 3\nv 26 10 0\nv 26 10 3\nv 26 16 0\nv 26 16 3\nv 26 11 0\nv 26 15 3\n\
-v 20 16 0\nv 25 16 0\nv 20 11 0\nv 20 15 3\nf 3 4 30\nf 3 30 35\nf 3 35 20\nf 3 20 34\nf 1 3 34\nf 1 34 21\n\
-f 1 21 36\nf 1 36 26\nf 2 1 26\nf 2 26 24\nf 2 24 28\nf 4 2 28\nf 4 28 32\nf 32 30 4\nf 6 8 31\nf 6 31 33\nf 6 33 29\n\
-f 6 29 25\nf 6 25 27\nf 6 27 14\nf 5 6 14\nf 5 14 15\nf 5 15 12\nf 5 12 16\nf 7 5 16\nf 7 16 19\nf 7 19 17\n\
-f 7 17 13\nf 7 13 18\nf 7 18 14\nf 7 14 27\nf 7 27 37\nf 7 37 23\nf 7 23 22\nf 7 22 31\nf 31 8 7\nf 5 1 2\nf 2 6 5\n\
-f 6 2 4\nf 4 8 6\nf 8 4 3\nf 3 7 8\nf 3 1 5\nf 5 7 3\nf 9 10 11\nf 15 14 10\nf 15 10 9\nf 9 16 12\nf 9 12 15\n\
-f 13 17 11\nf 18 13 11\nf 18 11 10\nf 10 14 18\nf 19 16 9\nf 19 9 11\nf 11 17 19\nf 26 27 25\nf 26 25 29\nf 29 28 24\n\
-f 29 24 26\nf 33 31 30\nf 29 33 30\nf 29 30 32\nf 32 28 29\nf 22 23 34\nf 22 34 20\nf 22 20 35\nf 22 35 30\n\
-f 30 31 22\nf 37 27 26\nf 23 37 26\nf 23 26 36\nf 23 36 21\nf 21 34 23\n";
+    b"v 0 0 0\nv 40 0 0\nv 0 30 0\nv 40 30 0\nv 0 0 3\nv 40 0 3\nv 0 30 3\nv 40 30 3\nv 4 4 9\nv 16 4 9\nv 4 16 9\n\
+v 16 4 3\nv 4 4 3\nv 4 16 3\nv 20 16 3\nv 20 10 0\nv 20 10 3\nv 26 10 0\nv 26 10 3\nv 26 16 0\nv 26 16 3\nv 20 16 0\n\
+f 3 4 20\nf 3 20 22\nf 1 3 22\nf 1 22 16\nf 2 1 16\nf 2 16 18\nf 2 18 20\nf 20 4 2\nf 6 8 21\nf 6 21 19\nf 6 19 17\n\
+f 6 17 12\nf 5 6 12\nf 5 12 13\nf 7 5 13\nf 7 13 14\nf 7 14 12\nf 7 12 17\nf 7 17 15\nf 7 15 21\nf 21 8 7\nf 5 1 2\n\
+f 2 6 5\nf 6 2 4\nf 4 8 6\nf 4 3 7\nf 7 8 4\nf 3 1 5\nf 5 7 3\nf 9 10 11\nf 10 9 13\nf 13 12 10\nf 11 10 12\n\
+f 12 14 11\nf 13 9 11\nf 11 14 13\nf 18 16 17\nf 17 19 18\nf 20 18 19\nf 19 21 20\nf 21 15 22\nf 22 20 21\n\
+f 22 15 17\nf 17 16 22\n";
 
-// The same with the bore elsewhere: 6 flat triangles and 5 folded ones, and then none. The upper mouth of the bore stays covered by triangles of two patches
-// that share no edge, one turned up and one down, so the Euler characteristic is no longer that of a plate with a hole.
+// The same with the bore elsewhere: 6 flat triangles and 5 folded ones, and then none. The upper mouth of the bore is covered by triangles that share no edge, one
+// turned up and one down: these cancel.
 const COVERED_SCRIPT: &[u8] =
     b"box plate 0 0 0 40 30 3\nprism wedge 4 4 2 12 7\nunion blank plate wedge\nbox bore 26 14 -1 32 20 4\nsubtract part blank bore\nmeasure part\n\
 remesh r part\nmeasure r\nsave r r.obj\n";
 
-const COVERED_TOLD: &[u8] =
-    b"blank = union plate wedge: kept 8 3, crossings 8, forced 0\npart = subtract blank bore: kept 19 0, crossings 20, forced 18\n\
-part: points 39, triangles 78, components 1, euler 0, volume6 23544\nr = remesh part: patches 15, kept 0\n\
-r: points 36, triangles 68, components 1, euler 2, volume6 23544\nsave r r.obj: points 36, triangles 68\n";
+const COVERED_TOLD: &[u8] = b"blank = union plate wedge: kept 8 3, crossings 8, forced 0\n\
+part = subtract blank bore: kept 19 0, crossings 20, forced 18\n\
+part: points 39, triangles 78, components 1, euler 0, volume6 23544\nr = remesh part: planes 14, kept 0\n\
+r: points 22, triangles 44, components 1, euler 0, volume6 23544\nsave r r.obj: points 22, triangles 44\n";
 
 const COVERED: &[u8] =
-    b"v 0 0 0\nv 40 0 0\nv 0 30 0\nv 40 30 0\nv 0 0 3\nv 40 0 3\nv 0 30 3\nv 40 30 3\nv 4 4 9\nv 16 4 9\nv 4 16 9\nv 5 4 3\n\
-v 11 9 3\nv 16 4 3\nv 6 4 3\nv 4 4 3\nv 4 16 3\nv 14 6 3\nv 4 14 3\nv 27 20 0\nv 26 20 0\nv 26 20 3\nv 31 14 0\n\
-v 27 14 3\nv 26 14 0\nv 26 14 3\nv 32 14 0\nv 32 14 3\nv 32 20 0\nv 32 20 3\nv 32 15 0\nv 32 19 3\nv 31 20 0\n\
-v 27 20 3\nv 26 15 0\nv 26 19 3\nf 2 1 3\nf 3 4 29\nf 3 29 33\nf 3 33 20\nf 3 20 21\nf 3 21 35\nf 3 35 25\nf 2 3 25\n\
-f 2 25 23\nf 2 23 27\nf 4 2 27\nf 4 27 31\nf 31 29 4\nf 5 14 15\nf 5 15 12\nf 5 12 16\nf 7 5 16\nf 7 16 19\n\
-f 7 19 17\nf 7 17 13\nf 7 13 18\nf 7 18 14\nf 14 5 6\nf 7 14 6\nf 6 8 7\nf 36 22 34\nf 36 34 30\nf 36 30 32\n\
-f 36 32 28\nf 36 28 24\nf 24 26 36\nf 5 1 2\nf 2 6 5\nf 6 2 4\nf 4 8 6\nf 8 4 3\nf 3 7 8\nf 3 1 5\nf 5 7 3\n\
-f 9 10 11\nf 15 14 10\nf 15 10 9\nf 9 16 12\nf 9 12 15\nf 13 17 11\nf 18 13 11\nf 18 11 10\nf 10 14 18\nf 19 16 9\n\
-f 19 9 11\nf 11 17 19\nf 25 26 24\nf 25 24 28\nf 28 27 23\nf 28 23 25\nf 32 30 29\nf 28 32 29\nf 28 29 31\n\
-f 31 27 28\nf 33 29 30\nf 20 33 30\nf 21 20 30\nf 21 30 34\nf 34 22 21\nf 36 26 25\nf 22 36 25\nf 22 25 35\n\
-f 35 21 22\n";
+    b"v 0 0 0\nv 40 0 0\nv 0 30 0\nv 40 30 0\nv 0 0 3\nv 40 0 3\nv 0 30 3\nv 40 30 3\nv 4 4 9\nv 16 4 9\nv 4 16 9\n\
+v 16 4 3\nv 4 4 3\nv 4 16 3\nv 26 20 0\nv 26 20 3\nv 26 14 0\nv 26 14 3\nv 32 14 0\nv 32 14 3\nv 32 20 0\nv 32 20 3\n\
+f 2 1 3\nf 3 4 21\nf 3 21 15\nf 3 15 17\nf 2 3 17\nf 2 17 19\nf 2 19 21\nf 21 4 2\nf 6 8 22\nf 6 22 20\nf 6 20 18\n\
+f 6 18 12\nf 5 6 12\nf 5 12 13\nf 7 5 13\nf 7 13 14\nf 7 14 12\nf 7 12 18\nf 7 18 16\nf 7 16 22\nf 22 8 7\nf 5 1 2\n\
+f 2 6 5\nf 6 2 4\nf 4 8 6\nf 4 3 7\nf 7 8 4\nf 3 1 5\nf 5 7 3\nf 9 10 11\nf 10 9 13\nf 13 12 10\nf 11 10 12\n\
+f 12 14 11\nf 13 9 11\nf 11 14 13\nf 19 17 18\nf 18 20 19\nf 21 19 20\nf 20 22 21\nf 16 15 21\nf 21 22 16\n\
+f 17 15 16\nf 16 18 17\n";
 
 // A hollow box with a flush lid: 60 flat triangles, and then none.
 const LID_SCRIPT: &[u8] =
@@ -140,16 +130,14 @@ const LID_SCRIPT: &[u8] =
 
 const LID_TOLD: &[u8] =
     b"a = subtract a h: kept 8 4, crossings 10, forced 17\nc = union a b: kept 18 4, crossings 30, forced 70\n\
-c: points 52, triangles 96, components 2, euler 4, volume6 57312\nr = remesh c: patches 12, kept 0\n\
-r: points 22, triangles 36, components 2, euler 4, volume6 57312\nsave r r.obj: points 22, triangles 36\n";
+c: points 52, triangles 96, components 2, euler 4, volume6 57312\nr = remesh c: planes 12, kept 0\n\
+r: points 16, triangles 24, components 2, euler 4, volume6 57312\nsave r r.obj: points 16, triangles 24\n";
 
 const LID: &[u8] =
-    b"v 0 0 0\nv 40 0 0\nv 0 30 0\nv 40 30 0\nv 0 0 20\nv 40 0 20\nv 0 30 20\nv 40 30 20\nv 2 2 2\nv 38 2 2\nv 2 28 2\n\
-v 38 28 2\nv 2 2 20\nv 38 28 20\nv 2 28 20\nv 0 0 22\nv 40 0 22\nv 0 30 22\nv 40 30 22\nv 37 28 20\nv 3 2 20\n\
-v 38 2 20\nf 3 4 2\nf 2 1 3\nf 5 1 2\nf 5 2 6\nf 5 6 17\nf 17 16 5\nf 6 2 4\nf 6 4 8\nf 6 8 19\nf 19 17 6\nf 8 4 3\n\
-f 8 3 7\nf 8 7 18\nf 18 19 8\nf 3 1 5\nf 3 5 16\nf 16 18 7\nf 16 7 3\nf 11 9 10\nf 10 12 11\nf 22 10 9\nf 9 13 21\n\
-f 9 21 22\nf 22 14 12\nf 12 10 22\nf 20 15 11\nf 20 11 12\nf 12 14 20\nf 15 13 9\nf 9 11 15\nf 20 14 22\nf 15 20 22\n\
-f 15 22 21\nf 21 13 15\nf 18 16 17\nf 17 19 18\n";
+    b"v 0 0 0\nv 40 0 0\nv 0 30 0\nv 40 30 0\nv 2 2 2\nv 38 2 2\nv 2 28 2\nv 38 28 2\nv 2 2 20\nv 38 28 20\n\
+v 2 28 20\nv 0 0 22\nv 40 0 22\nv 0 30 22\nv 40 30 22\nv 38 2 20\nf 2 1 3\nf 3 4 2\nf 12 1 2\nf 2 13 12\nf 13 2 4\n\
+f 4 15 13\nf 4 3 14\nf 14 15 4\nf 3 1 12\nf 12 14 3\nf 7 5 6\nf 6 8 7\nf 6 5 9\nf 9 16 6\nf 8 6 16\nf 16 10 8\n\
+f 11 7 8\nf 8 10 11\nf 9 5 7\nf 7 11 9\nf 16 9 11\nf 11 10 16\nf 14 12 13\nf 13 15 14\n";
 
 #[test]
 fn bored_plates_and_a_flush_lid_are_filled_anew(rt: HostRuntime) -> Result<(), Fail> {
@@ -169,11 +157,11 @@ const HOLES_TOLD: &[u8] =
     b"u = union t s: kept 8 8, crossings 0, forced 0\nt = union u s: kept 16 16, crossings 0, forced 0\nt = union t s: kept 32 32, crossings 0, forced 0\n\
 t = union t s: kept 64 16, crossings 0, forced 0\nu = union t s: kept 80 80, crossings 0, forced 0\nt = union u s: kept 160 160, crossings 0, forced 0\n\
 t = union t s: kept 320 320, crossings 0, forced 0\nt = union t s: kept 640 160, crossings 0, forced 0\na = subtract p t: kept 8 0, crossings 1640, forced 450\n\
-a: points 1648, triangles 3692, components 1, euler -198, volume6 720000\nr = remesh a: patches 406, kept 0\n\
-r: points 1608, triangles 3612, components 1, euler -198, volume6 720000\n";
+a: points 1648, triangles 3692, components 1, euler -198, volume6 720000\nr = remesh a: planes 46, kept 0\n\
+r: points 808, triangles 2012, components 1, euler -198, volume6 720000\n";
 
 // Fifty boxes of side 10, one in a corner and the others at random multiples of 5, united one after the other: 6,031 flat triangles and 89 folded ones, and
-// then 17 and 42. Of the seven components six lay in one point each, and went.
+// then none. Of the seven components six lay in one point each, and went.
 const BOXES_SCRIPT: &[u8] =
     b"box u 0 0 0 10 10 10\nbox b 20 10 25 30 20 35\nunion u u b\nbox b 10 25 25 20 35 35\nunion u u b\nbox b 25 20 0 35 30 10\nunion u u b\nbox b 15 5 25 25 15 35\n\
 union u u b\nbox b 0 5 0 10 15 10\nunion u u b\nbox b 10 15 5 20 25 15\nunion u u b\nbox b 15 20 0 25 30 10\nunion u u b\nbox b 20 5 0 30 15 10\nunion u u b\n\
@@ -210,12 +198,72 @@ u = union u b: kept 2383 0, crossings 280, forced 4887\nu = union u b: kept 2613
 u = union u b: kept 2793 2, crossings 117, forced 5366\nu = union u b: kept 2854 0, crossings 123, forced 5475\n\
 u = union u b: kept 2888 5, crossings 109, forced 5528\nu = union u b: kept 2999 5, crossings 78, forced 5678\n\
 u = union u b: kept 2872 4, crossings 365, forced 5986\nu = union u b: kept 3233 4, crossings 45, forced 6050\n\
-u: points 3282, triangles 6644, components 7, euler -40, volume6 168000\nr = remesh u: patches 112, kept 11\n\
-r: points 266, triangles 536, components 1, euler -2, volume6 168000\n";
+u: points 3282, triangles 6644, components 7, euler -40, volume6 168000\nr = remesh u: planes 24, kept 0\n\
+r: points 182, triangles 360, components 1, euler 2, volume6 168000\n";
 
 #[test]
 fn many_holes_and_flush_boxes_are_filled_anew(rt: HostRuntime) -> Result<(), Fail> {
     remeshes(&rt, HOLES_SCRIPT, b"", HOLES_TOLD, None)?;
     remeshes(&rt, BOXES_SCRIPT, b"", BOXES_TOLD, None)?;
+    Ok(())
+}
+
+// Two bars, one across the other and on it, apart as meshes. Where they touch there are edges then, and four points more.
+const CROSSED_BARS: &[u8] =
+    b"v 0 0 0\nv 30 0 0\nv 0 10 0\nv 30 10 0\nv 0 0 10\nv 30 0 10\nv 0 10 10\nv 30 10 10\nv 10 -10 10\n\
+v 20 -10 10\nv 10 20 10\nv 20 20 10\nv 10 -10 20\nv 20 -10 20\nv 10 20 20\nv 20 20 20\nf 1 4 2\nf 1 3 4\n\
+f 5 6 8\nf 5 8 7\nf 1 2 5\nf 2 6 5\nf 2 4 8\nf 2 8 6\nf 4 3 7\nf 4 7 8\nf 1 5 7\nf 1 7 3\nf 9 12 10\nf 9 11 12\n\
+f 13 14 16\nf 13 16 15\nf 9 10 13\nf 10 14 13\nf 10 12 16\nf 10 16 14\nf 12 11 15\nf 12 15 16\nf 9 13 15\n\
+f 9 15 11\n";
+
+#[test]
+fn a_remeshed_mesh_may_exceed_the_limits(rt: HostRuntime) -> Result<(), Fail> {
+    let script = b"load a m.obj\nremesh r a\n";
+    let words = ["run", "s.txt", "--digits", "0"];
+    let whole: [&[u8]; 2] = [
+        b"load a m.obj: points 16, triangles 24, unused 0\nr = remesh a: planes 11, kept 0\n",
+        b"",
+    ];
+    let mut shelf = shelf_of(rt.alloc(), script, CROSSED_BARS)?;
+    expect_run(&rt, &words, &Limits::program(), &mut shelf, 0, 0, whole)?;
+    let limits = Limits::of(4_815, 45, 30, 18).ok_or("these limits are lawful")?;
+    let refused: [&[u8]; 2] = [
+        b"load a m.obj: points 16, triangles 24, unused 0\n",
+        b"limit triangles 36\n",
+    ];
+    let mut shelf = shelf_of(rt.alloc(), script, CROSSED_BARS)?;
+    expect_run(&rt, &words, &limits, &mut shelf, 0, 5, refused)?;
+    Ok(())
+}
+
+// Parts whose faces lie on one another: two boxes side by side, bars that overlap lengthwise, a wall flush with three sides of its base, an L, a frame of four bars,
+// and two pockets with a common side; volumes are those of the drawings, times six.
+const FLUSH_SCRIPT: &[u8] =
+    b"box a 0 0 0 4 3 2\nbox b 4 0 0 7 3 2\nunion beside a b\nremesh beside beside\nmeasure beside\ninspect beside\nbox a 0 0 0 5 2 2\nbox b 3 0 0 9 2 2\n\
+union bars b a\nremesh bars bars\nmeasure bars\ninspect bars\nbox a 0 0 0 8 6 2\nbox b 0 0 0 3 6 7\nunion wall b a\nremesh wall wall\nmeasure wall\n\
+inspect wall\nexact\nbox a 0 0 0 9 2 1\nbox b 0 0 0 2 7 1\nunion corner a b\nremesh corner corner\nmeasure corner\ninspect corner\nbox a 0 0 0 9 2 3\n\
+box b 0 6 0 9 8 3\nbox c 0 0 0 2 8 3\nbox d 7 0 0 9 8 3\nunion frame a b\nunion frame frame c\nunion frame frame d\nremesh frame frame\n\
+measure frame\ninspect frame\nbox a 0 0 0 9 6 4\nbox b 2 2 1 4 4 5\nbox c 4 2 1 7 4 5\nsubtract pockets a b\nsubtract pockets pockets c\n\
+remesh pockets pockets\nmeasure pockets\ninspect pockets\n";
+
+const FLUSH_TOLD: &[u8] =
+    b"beside = union a b: kept 8 4, crossings 10, forced 24\nbeside = remesh beside: planes 7, kept 0\n\
+beside: points 8, triangles 12, components 1, euler 2, volume6 252\nbeside: low 0 0 0, high 7 3 2, flat 0, doubled 0, touching 0, cuts 0\n\
+bars = union b a: kept 8 4, crossings 10, forced 13\nbars = remesh bars: planes 7, kept 0\n\
+bars: points 8, triangles 12, components 1, euler 2, volume6 216\nbars: low 0 0 0, high 9 2 2, flat 0, doubled 0, touching 0, cuts 0\n\
+wall = union b a: kept 8 4, crossings 10, forced 16\nwall = remesh wall: planes 8, kept 0\n\
+wall: points 12, triangles 20, components 1, euler 2, volume6 1116\nwall: low 0 0 0, high 8 6 7, flat 0, doubled 0, touching 0, cuts 0\n\
+corner = union a b: kept 6 8, crossings 16, forced 39\ncorner = remesh corner: planes 8, kept 0\n\
+corner: points 12, triangles 20, components 1, euler 2, volume6 168\ncorner: low 0 0 0, high 9 7 1, flat 0, doubled 0, touching 0, cuts 0\n\
+frame = union a b: kept 8 8, crossings 0, forced 0\nframe = union frame c: kept 13 7, crossings 30, forced 65\n\
+frame = union frame d: kept 50 6, crossings 50, forced 158\nframe = remesh frame: planes 10, kept 0\n\
+frame: points 16, triangles 32, components 1, euler 0, volume6 936\nframe: low 0 0 0, high 9 8 3, flat 0, doubled 0, touching 0, cuts 0\n\
+pockets = subtract a b: kept 8 4, crossings 10, forced 15\npockets = subtract pockets c: kept 19 4, crossings 31, forced 62\n\
+pockets = remesh pockets: planes 11, kept 0\npockets: points 16, triangles 28, components 1, euler 2, volume6 1116\n\
+pockets: low 0 0 0, high 9 6 4, flat 0, doubled 0, touching 0, cuts 0\n";
+
+#[test]
+fn flush_parts_come_out_clean(rt: HostRuntime) -> Result<(), Fail> {
+    remeshes(&rt, FLUSH_SCRIPT, b"", FLUSH_TOLD, None)?;
     Ok(())
 }

@@ -6,4 +6,4 @@ returns-clause-meshes c = operations_are_geometric
 
 pub returns-clause-scripts : goal.returns-clause-scripts
 returns-clause-scripts c =
-    scripts_are_geometric (record { accepted = c.fillings_close.ensures.accepted; few = c.fillings_close.ensures.few }) c.remeshing_remeshes.ensures
+    scripts_are_geometric (record { accepted = c.fillings_close.ensures.accepted; few = c.fillings_close.ensures.few }) c.remeshed_is_given.ensures

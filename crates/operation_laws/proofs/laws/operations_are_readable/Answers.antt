@@ -5,4 +5,4 @@ pub returns-clause-accepted : goal.returns-clause-accepted
 returns-clause-accepted c = operations_are_accepted (record { accepted = c.fillings_close.ensures.accepted; few = c.fillings_close.ensures.few })
 
 pub returns-clause-readable : goal.returns-clause-readable
-returns-clause-readable c = results_readable (record { accepted = c.fillings_close.ensures.accepted; few = c.fillings_close.ensures.few }) c.remeshing_remeshes.ensures
+returns-clause-readable c = results_readable (record { accepted = c.fillings_close.ensures.accepted; few = c.fillings_close.ensures.few }) c.remeshed_is_given.ensures

@@ -8,12 +8,12 @@ returns-clause-results c = operations_are_results (record { accepted = c.filling
 pub returns-clause-scripts : goal.returns-clause-scripts
 returns-clause-scripts c =
     scripts_give_results (record { accepted = c.fillings_close.ensures.accepted; few = c.fillings_close.ensures.few })
-    c.faces_are_filled.ensures.filled c.remeshing_remeshes.ensures
+    c.faces_are_filled.ensures.filled c.remeshed_is_given.ensures
 
 pub returns-clause-remeshed : goal.returns-clause-remeshed
 returns-clause-remeshed c =
     scripts_remesh (record { accepted = c.fillings_close.ensures.accepted; few = c.fillings_close.ensures.few })
-    c.welding_keeps.ensures c.patches_are_patches.ensures c.patches_are_kept.ensures c.remeshing_remeshes.ensures
+    c.planes_are_kept.ensures c.regions_turn_left.ensures c.planes_do_not_fold.ensures c.remeshed_is_given.ensures
 
 pub returns-clause-inspected : goal.returns-clause-inspected
 returns-clause-inspected c kernels m = cuts_are_counted m

@@ -10,10 +10,10 @@ pub returns : goal.returns
 returns g c =
     let name = c.args.name.now in
     let source = c.args.source.now in
-    let text = remeshed_text c.args.patches c.args.kept in
+    let text = remeshed_text c.args.planes c.args.kept in
     let tail = c.as_slice.result.now in
     let is : tail ≡ line_of text = c.as_slice.ensures.value ∙ c.remeshed_tail-tail.ensures in
     let parts : Bytes → Bytes → Bytes = λ a b. a ++ (codes " = remesh " ++ (b ++ (tail ++ []))) in
     let line = (λ i. parts (c.as_bytes-name.ensures.value i) (c.as_bytes-source.ensures.value i)) ∙ four_before [] name (codes " = remesh ") source text tail is in
-    let takes = takes_as g.K.Sink (remesh_line name source c.args.patches c.args.kept) _ _ _ c.say.result line c.say.ensures in
-    record { meets = meets_by g.K.Sink (remesh_line name source c.args.patches c.args.kept) _ _ c.say.result takes; takes = takes }
+    let takes = takes_as g.K.Sink (remesh_line name source c.args.planes c.args.kept) _ _ _ c.say.result line c.say.ensures in
+    record { meets = meets_by g.K.Sink (remesh_line name source c.args.planes c.args.kept) _ _ c.say.result takes; takes = takes }

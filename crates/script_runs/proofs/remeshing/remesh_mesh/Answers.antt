@@ -1,54 +1,77 @@
-use Rattle.std.proofs.Common.{◌≡◌, ◌∙◌, ap, sym}
+use Rattle.std.proofs.Common.{◌≡◌, ◌∙◌, Result, ap, sym}
 use Rattle.std.proofs.lemmas.Result.{err_from_is_err_and}
 use Rattle.mb_outside.specs.Seen.{on_output}
-use Rattle.play_laws.proofs.Tasks.{meets_starved}
-use Rattle.play_terms.specs.Plays.{mesh_at, remesh_task, with_name}
+use Rattle.mesh_terms.specs.Meshes.{Mesh}
+use Rattle.operation_laws.specs.Kernels.{told_remeshed}
+use Rattle.run_terms.specs.Tasks.{Refusal}
+use Rattle.play_terms.specs.Combined.{Remeshed}
+use Rattle.play_terms.specs.Plays.{OfMesh, mesh_at, with_name, within_remeshed}
+use Rattle.play_terms.specs.ScriptLines.{remesh_line}
 use Rattle.script_runs.specs.Names.{named_in}
-use Rattle.script_runs.specs.Operations.{meanings}
-use Rattle.script_runs.proofs.Stages.{beside, remesh_named, remesh_unnamed, remesh_unsaid}
+use Rattle.script_runs.proofs.RemeshStages.{remeshed_as}
+use Rattle.script_runs.proofs.Stages.{for_one, given_named, given_stopped, given_unnamed, given_unsaid}
 use Rattle.script_runs.proofs.remeshing.remesh_mesh.Goals as goal
 
 pub returns-in_err-remeshed-clause-meets : goal.returns-in_err-remeshed-clause-meets
-returns-in_err-remeshed-clause-meets g c kernels on =
+returns-in_err-remeshed-clause-meets g c kernels =
     let e = err_from_is_err_and c.from_residual.result c.from_residual.ensures.1 in
     let named = named_in c.args.names.now in
+    let name = c.args.name.now in
+    let old = c.args.source.now in
+    let is = sym c.mesh_of-mesh.ensures in
+    let gives : Mesh → Result Remeshed Refusal = λ m. within_remeshed c.args.at.now.limits.now (told_remeshed m) in
+    let out = on_output g.O.Sink c.args.out.now in
     rw (e.1, e.2)
-    (meets_starved (remesh_task (meanings kernels) c.args.name.now c.args.source.now (mesh_at named c.args.source.now) named) (beside on (on_output g.O.Sink c.args.out.now)))
+    (given_stopped (gives (mesh_at named old)) (λ r. remesh_line name old r.planes r.kept) (λ r. OfMesh r.mesh) name named out out _
+    (for_one gives _ is c.in_err-remeshed.ensures.meets))
 
 pub returns-in_err-say_remeshed-clause-meets : goal.returns-in_err-say_remeshed-clause-meets
 returns-in_err-say_remeshed-clause-meets g c kernels =
     let e = err_from_is_err_and c.from_residual-in_err-say_remeshed.result c.from_residual-in_err-say_remeshed.ensures.1 in
     let named = named_in c.args.names.now in
-    let source = c.args.source.now in
-    let mesh = c.mesh_of-mesh.result.now in
+    let name = c.args.name.now in
+    let old = c.args.source.now in
     let is = sym c.mesh_of-mesh.ensures in
+    let r = told_remeshed c.mesh_of-mesh.result.now in
+    let gives : Mesh → Result Remeshed Refusal = λ m. within_remeshed c.args.at.now.limits.now (told_remeshed m) in
+    let out = on_output g.O.Sink c.args.out.now in
+    let told = on_output g.O.Sink c.say_remeshed.new.sink in
+    let done = for_one gives _ is c.in_ok-remeshed.ensures.meets in
     rw (e.1, e.2)
-    (remesh_unsaid (meanings kernels) c.args.name.now source (mesh_at named source) mesh named is
-    c.in_ok-remeshed.remeshed.patches c.in_ok-remeshed.remeshed.kept c.in_ok-remeshed.ensures.patches c.in_ok-remeshed.ensures.kept
-    (on_output g.O.Sink c.args.out.now) (on_output g.O.Sink c.say_remeshed.new.sink) _ c.in_err-say_remeshed.ensures.meets)
+    (given_unsaid (gives (mesh_at named old)) (λ s. remesh_line name old s.planes s.kept) (λ s. OfMesh s.mesh) name named out told r _ done
+    (remeshed_as name old _ _ r out told _ c.in_ok-remeshed.ensures.planes c.in_ok-remeshed.ensures.kept c.in_err-say_remeshed.ensures.meets))
 
 pub returns-in_err-define-clause-meets : goal.returns-in_err-define-clause-meets
 returns-in_err-define-clause-meets g c kernels =
     let e = err_from_is_err_and c.from_residual-in_err-define.result c.from_residual-in_err-define.ensures.1 in
     let named = named_in c.args.names.now in
-    let source = c.args.source.now in
-    let mesh = c.mesh_of-mesh.result.now in
+    let name = c.args.name.now in
+    let old = c.args.source.now in
     let is = sym c.mesh_of-mesh.ensures in
+    let r = told_remeshed c.mesh_of-mesh.result.now in
+    let gives : Mesh → Result Remeshed Refusal = λ m. within_remeshed c.args.at.now.limits.now (told_remeshed m) in
+    let out = on_output g.O.Sink c.args.out.now in
+    let told = on_output g.O.Sink c.say_remeshed.new.sink in
+    let done = for_one gives _ is c.in_ok-remeshed.ensures.meets in
     rw (e.1, e.2)
-    (remesh_unnamed (meanings kernels) c.args.name.now source (mesh_at named source) mesh named is
-    c.in_ok-remeshed.remeshed.patches c.in_ok-remeshed.remeshed.kept c.in_ok-remeshed.ensures.patches c.in_ok-remeshed.ensures.kept
-    (on_output g.O.Sink c.args.out.now) (on_output g.O.Sink c.say_remeshed.new.sink) c.in_ok-say_remeshed.ensures.meets)
+    (given_unnamed (gives (mesh_at named old)) (λ s. remesh_line name old s.planes s.kept) (λ s. OfMesh s.mesh) name named out told r done
+    (remeshed_as name old _ _ r out told _ c.in_ok-remeshed.ensures.planes c.in_ok-remeshed.ensures.kept c.in_ok-say_remeshed.ensures.meets))
 
 pub returns-clause-meets : goal.returns-clause-meets
 returns-clause-meets g c kernels =
     let named = named_in c.args.names.now in
-    let source = c.args.source.now in
-    let mesh = c.mesh_of-mesh.result.now in
+    let name = c.args.name.now in
+    let old = c.args.source.now in
     let is = sym c.mesh_of-mesh.ensures in
-    let after = c.in_ok-define.ensures.named ∙ ap (λ m. with_name c.args.name.now m named) c.in_ok-remeshed.ensures.mesh in
-    remesh_named (meanings kernels) c.args.name.now source (mesh_at named source) mesh named is
-    c.in_ok-remeshed.remeshed.patches c.in_ok-remeshed.remeshed.kept c.in_ok-remeshed.ensures.patches c.in_ok-remeshed.ensures.kept
-    (on_output g.O.Sink c.args.out.now) (on_output g.O.Sink c.say_remeshed.new.sink) (named_in c.define.new.self) after c.in_ok-say_remeshed.ensures.meets
+    let r = told_remeshed c.mesh_of-mesh.result.now in
+    let gives : Mesh → Result Remeshed Refusal = λ m. within_remeshed c.args.at.now.limits.now (told_remeshed m) in
+    let out = on_output g.O.Sink c.args.out.now in
+    let told = on_output g.O.Sink c.say_remeshed.new.sink in
+    let done = for_one gives _ is c.in_ok-remeshed.ensures.meets in
+    let after = c.in_ok-define.ensures.named ∙ ap (λ m. with_name name m named) c.in_ok-remeshed.ensures.mesh in
+    given_named (gives (mesh_at named old)) (λ s. remesh_line name old s.planes s.kept) (λ s. OfMesh s.mesh) name named out told r
+    (named_in c.define.new.self) after done
+    (remeshed_as name old _ _ r out told _ c.in_ok-remeshed.ensures.planes c.in_ok-remeshed.ensures.kept c.in_ok-say_remeshed.ensures.meets)
 
 pub returns-clause-named : goal.returns-clause-named
 returns-clause-named g c = (c.in_ok-remeshed.remeshed.mesh, c.in_ok-define.ensures.named)

@@ -50,7 +50,8 @@ returns-in-Err-clause-meets g c =
 pub loop-line-init : goal.loop-line-init
 loop-line-init g c =
     none_done meanings c.args.settings.now.digits c.args.settings.now.limits.now c.args.name.now (map line_of c.lines-line-items.result.now) (state_in Grid c.none-names.result)
-    (seen_of g.S.Shelf g.O.Sink c.read_named_file.new.shelf c.args.out.now) c.args.sums.now (subst (AreSound []) (sym c.lines-line-items.ensures.lines) c.lines-line-items.ensures.sound)
+    (seen_of g.S.Shelf g.O.Sink c.read_named_file.new.shelf c.args.out.now) c.args.sums.now
+    (subst (AreSound []) (sym c.lines-line-items.ensures.lines) c.lines-line-items.ensures.sound)
 
 pub do_step-requires-clause-taken : goal.do_step-requires-clause-taken
 do_step-requires-clause-taken g c =

@@ -1,0 +1,11 @@
+pub mod Bracketing
+pub mod Changing
+pub mod Firsts
+pub mod Groups
+pub mod Labelling
+pub mod Lists
+pub mod Numbering
+pub mod Pairing
+pub mod Relabelling
+pub mod Seating
+pub mod Whole

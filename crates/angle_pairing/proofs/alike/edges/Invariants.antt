@@ -1,0 +1,7 @@
+use Rattle.std.proofs.Common.{◌≡◌, take}
+use Rattle.chain_terms.specs.Chains.{all_edges}
+use Rattle.mesh_terms.specs.Meshes.{triples_of}
+use Rattle.angle_pairing.proofs.alike.edges.Given as goal
+
+abbrev pub invariant-loop-a : goal.invariant-loop-a
+invariant-loop-a l = l.edges.items ≡ all_edges (triples_of (take l.a-index l.triples))

@@ -1,0 +1,4 @@
+pub mod Gathered
+pub mod Labels
+pub mod Numbers
+pub mod Seats

@@ -1,0 +1,14 @@
+pub mod Between
+pub mod Closing
+pub mod CommonDivisors
+pub mod Counting
+pub mod Gathering
+pub mod LongEdges
+pub mod Multiples
+pub mod Nearer
+pub mod Numbered
+pub mod OnLine
+pub mod Parts
+pub mod Pieced
+pub mod Rimmed
+pub mod Welded

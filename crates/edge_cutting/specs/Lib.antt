@@ -1,0 +1,9 @@
+pub mod Boxes
+pub mod Cut
+pub mod Divisors
+pub mod Edges
+pub mod Inside
+pub mod Overs
+pub mod Passed
+pub mod Pieces
+pub mod Spans

@@ -1,0 +1,15 @@
+pub mod Changes
+pub mod Cycles
+pub mod Exchanged
+pub mod FanLists
+pub mod Fanned
+pub mod Leaders
+pub mod Level
+pub mod Matching
+pub mod Members
+pub mod Numbers
+pub mod Parted
+pub mod Pending
+pub mod RoundEdges
+pub mod Settling
+pub mod Turns

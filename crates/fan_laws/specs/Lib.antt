@@ -1,0 +1,4 @@
+pub mod Circles
+pub mod Fanned
+pub mod Laws
+pub mod Pairs

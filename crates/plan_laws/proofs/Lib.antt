@@ -1,0 +1,11 @@
+pub mod Alone
+pub mod AloneFilled
+pub mod Beside
+pub mod Edges
+pub mod Needless
+pub mod Ordered
+pub mod Placed
+pub mod Sorting
+pub mod Standing
+pub mod Twice
+pub mod Whole

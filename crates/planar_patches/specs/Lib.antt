@@ -1,6 +1,0 @@
-pub mod Corners
-pub mod Found
-pub mod Growth
-pub mod Loops
-pub mod Pieces
-pub mod Welds

@@ -1,0 +1,13 @@
+pub mod EdgeBoxes
+pub mod Listed
+pub mod Lists
+pub mod Nets
+pub mod Opposites
+pub mod Pairs
+pub mod Parts
+pub mod Placed
+pub mod Sizes
+pub mod Stored
+pub mod Tellings
+pub mod Ways
+pub mod Webs

@@ -1,0 +1,11 @@
+pub mod Added
+pub mod Definition
+pub mod Edges
+pub mod Fillable
+pub mod Noted
+pub mod Short
+pub mod Sorted
+pub mod Stored
+pub mod Tests
+pub mod Unforced
+pub mod Walking

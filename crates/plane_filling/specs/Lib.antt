@@ -1,0 +1,6 @@
+pub mod Begun
+pub mod Cuttings
+pub mod Pieces
+pub mod Regions
+pub mod Rounds
+pub mod Ways

@@ -1,0 +1,3 @@
+pub mod Grouped
+pub mod Keys
+pub mod Numbers

@@ -1,0 +1,9 @@
+pub mod Excess
+pub mod Placed
+pub mod Plans
+pub mod PlansTo
+pub mod Pushed
+pub mod Rising
+pub mod Rules
+pub mod Surfaces
+pub mod Works

@@ -1,0 +1,18 @@
+use Rattle.std.proofs.Common.{◌≡◌, ◌<◌, ◌++◌, ℕ, length, map}
+use Rattle.std.specs.List.{All}
+use Rattle.plane_sheets.specs.Found.{IsWithin, label_regions, shown}
+use Rattle.plane_sheets.specs.Seen.{seen_in}
+use Rattle.plane_sheets.proofs.Ties.{StepsBy}
+use Rattle.plane_sheets.proofs.regions.push_label.Given as goal
+
+abbrev pub invariant-loop-first : goal.invariant-loop-first
+invariant-loop-first l = record {
+  steps : StepsBy (λ e. e.level) 0 l.rest;
+  places : All (λ e. All (λ v. v < length l.flat.points.now) e.ends) l.rest;
+  inside : (n most : ℕ) → All (IsWithin n most) l.fn.edges → All (IsWithin n most) l.rest;
+  made : (n most : ℕ) → All (IsWithin n most) l.fn.edges →
+      map shown l.regions.items ++ label_regions (seen_in l.flat) most l.label l.rest ≡ map shown l.fn.regions.items ++ label_regions (seen_in l.flat) most l.label l.fn.edges;
+}
+
+abbrev pub decreases-loop-first : goal.decreases-loop-first
+decreases-loop-first l = length l.rest

@@ -1,0 +1,9 @@
+pub mod Boxed
+pub mod Crossed
+pub mod Dealt
+pub mod Found
+pub mod Leaving
+pub mod Rounds
+pub mod Seen
+pub mod Sided
+pub mod Sides

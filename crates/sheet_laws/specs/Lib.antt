@@ -1,0 +1,3 @@
+pub mod Lines
+pub mod Planes
+pub mod Promises

@@ -1,0 +1,14 @@
+pub mod Chains
+pub mod Crossings
+pub mod Cuts
+pub mod Faces
+pub mod Filled
+pub mod Kept
+pub mod Needless
+pub mod Numbers
+pub mod Places
+pub mod Regions
+pub mod Remesh
+pub mod Twins
+pub mod Vertices
+pub mod Walks

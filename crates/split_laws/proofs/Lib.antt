@@ -1,0 +1,5 @@
+pub mod FanLists
+pub mod FanNumbers
+pub mod Labels
+pub mod Reduced
+pub mod SplitMesh
